@@ -1,6 +1,6 @@
 // One connection of a node.
 
-ghost use Rattle.std.specs.Prelude.{◌≡◌, ◌++◌, false, true, OnOk, OnErr};
+ghost use Rattle.std.specs.Prelude.{◌≡◌, ◌++◌, [], false, true, IsOk, OnOk, OnErr};
 ghost use Rattle.node_connections.specs.Connections.{asked, closed, failing, fresh, has_failed, put_out, handed, holding, is_at, is_first, is_listed, is_open_at, is_open_named, is_over, is_proposed, is_silent, putting};
 ghost use Rattle.node_connections.specs.Pending.{answer_of, is_idle};
 ghost use Rattle.node_connections.specs.Inside.{TakesFront};
@@ -260,10 +260,11 @@ impl Connection {
     }
 
     /// Hands over what was put out, after what `out` holds. Where `out` is empty no byte is copied. If memory runs out,
-    /// nothing changes.
+    /// nothing changes; it does not where nothing was put out.
     pub fn outgoing(&mut self, out: &mut Vec<u8>) -> Result<(), Memory>
         ensures bytes { OnOk result (out.new.items ≡ out.old.items ++ self.old.pending) }
         ensures ok { OnOk result (self.new ≡ handed self.old) }
+        ensures nothing { self.old.pending ≡ [] → IsOk result }
         ensures err { OnErr result (out.new.items ≡ out.old.items) }
         ensures same { OnErr result (self.new ≡ self.old) }
     {

@@ -1,6 +1,6 @@
 // Bytes in their order.
 
-ghost use Rattle.std.specs.Prelude.{◌≡◌, ◌==◌, ◌+◌, ◌++◌, true, false, [], length, nat_le, if◌then◌else◌, IfOk, OnErr, OnOk};
+ghost use Rattle.std.specs.Prelude.{◌≡◌, ◌==◌, ◌+◌, ◌++◌, true, false, [], length, nat_le, if◌then◌else◌, IfOk, IsOk, OnErr, OnOk};
 ghost use Rattle.packet.specs.Spelling.{IsPacket, spelling};
 
 use machine::Memory;
@@ -90,13 +90,17 @@ impl Piece {
     }
 
     /// Moves all bytes to the end of `out`. Where `out` is empty no byte is copied: the two change places. The only error is
-    /// that memory runs out, and then nothing changes.
+    /// that memory runs out, and then nothing changes. No bytes take no memory.
     pub fn move_to(&mut self, out: &mut Vec<u8>) -> Result<(), Memory>
         ensures moved { OnOk result (out.new.items ≡ out.old.items ++ self.old) }
         ensures emptied { OnOk result (self.new ≡ []) }
+        ensures nothing { self.old ≡ [] → IsOk result }
         ensures same { OnErr result (self.new ≡ self.old) }
         ensures err { OnErr result (out.new.items ≡ out.old.items) }
     {
+        if self.bytes.is_empty() {
+            return Ok(());
+        }
         if out.is_empty() {
             mem::swap(&mut self.bytes, out);
             return Ok(());

@@ -1,5 +1,5 @@
 -- Idle.antt: an item that does nothing is a step that does nothing, exact or not.
-use Rattle.std.proofs.Common.{◌≡◌, ◌⊎◌, inl, inr, ◌↔◌, ℕ, zero, suc, Bool, true, false, if◌then◌else◌, Option, Some, None, is_some, not, List, [], ◌∷◌, ◌++◌, refl, sym, ap, subst, ◌∙◌}
+use Rattle.std.proofs.Common.{◌≡◌, inl, inr, ◌↔◌, ℕ, zero, suc, Bool, true, false, if◌then◌else◌, Option, Some, None, is_some, not, List, [], ◌∷◌, refl, sym, ap, subst, ◌∙◌}
 use Rattle.std.specs.List.{find, position}
 use Rattle.broker_base.specs.State.{State}
 use Rattle.broker_model.specs.declared.command.Command.{Command}
@@ -13,15 +13,15 @@ use Rattle.node_connections.specs.declared.port.Port.{Port}
 use Rattle.world_base.specs.declared.item.Item.{Item}
 use Rattle.world_base.specs.declared.item.Item.TheVariants.{Peer, Tick, Opened, Bytes, Ended, Expel, Cut, Crash}
 use Rattle.node_connections.specs.declared.connection.Connection.{Connection}
-use Rattle.node_connections.specs.Connections.{changed, has_failed, holding, is_open_at}
+use Rattle.node_connections.specs.Connections.{changed, closed, has_failed, holding, is_open_at, is_proposed}
 use Rattle.world_base.specs.Core.{CoreState, Turn}
 use Rattle.world_base.specs.Failing.{loses_all_failed}
-use Rattle.world_base.specs.Inside.{Ran, Running, Turns}
-use Rattle.world_base.specs.KeepAlive.{ends_all_silent, ends_silent, lowest_silent}
-use Rattle.world_base.specs.Losses.{DoesNothing, IsIgnored}
-use Rattle.world_base.specs.Lossy.{Account, Drives, Repeated, Then, quietly}
+use Rattle.world_base.specs.Inside.{IsCalm, Ran, Running, Turns}
+use Rattle.world_base.specs.KeepAlive.{ends_all_silent, ends_silent}
+use Rattle.world_base.specs.Losses.{DoesNothing, IsIgnored, TakesNoMemory, is_told}
+use Rattle.world_base.specs.Lossy.{Account, Drives, Repeated, quietly}
 use Rattle.world_base.specs.Lossy.Delivers.{nothing}
-use Rattle.world_base.specs.LossyStep.{ActsOn, EndsAllSilent, EndsSilent, Holds, LosesAllFailed, ReadsAll, ReadsNext, TakesIn}
+use Rattle.world_base.specs.LossyStep.{ActsOn, EndsSilent, LosesAllFailed, ReadsAll, ReadsNext, TakesIn}
 use Rattle.ballot.specs.Cutting.{can_cut}
 use Rattle.world_base.specs.Lossy.Declines.{no_room}
 use Rattle.world_base.specs.LossyStep.Cuts.{nothing_to_cut}
@@ -37,7 +37,7 @@ use Rattle.world_base.proofs.Silences.{silent_none}
 
 -- ---- nothing, several times
 
-quiet_repeated : (next : CoreState → Turn) (n : ℕ) (core : CoreState) → next core ≡ quiet core → repeated n next core ≡ quiet core
+pub quiet_repeated : (next : CoreState → Turn) (n : ℕ) (core : CoreState) → next core ≡ quiet core → repeated n next core ≡ quiet core
 unfolding repeated
 quiet_repeated next zero core e = refl
 quiet_repeated next (suc n) core e = ap (λ (t : Turn). then_also t (repeated n next)) e ∙ quiet_repeated next n core e
@@ -78,11 +78,18 @@ unchanged test change (c ∷ cs) e = by (test c) (unchanged test change cs) e
     by true ih f = absurd cc
     by false ih f = ap (λ (l : List Connection). c ∷ l) (ih f)
 
-nothing_changes : (port : Port) (change : Connection → Connection) (core : CoreState) → open_at port core ≡ None →
+pub nothing_changes : (port : Port) (change : Connection → Connection) (core : CoreState) → open_at port core ≡ None →
     changes port change core ≡ core
 unfolding changes
 nothing_changes port change core none =
     ap (λ (l : List Connection). record core { connections = l }) (unchanged (is_open_at port) change core.connections none)
+
+pub closes_nothing : (port : Port) (r : Running) → open_at port r.core ≡ None → r ≡ record r { core = changes port closed r.core }
+closes_nothing port r none = ap (λ (k : CoreState). let r2 : Running = record r { core = k } in r2) (sym (nothing_changes port closed r.core none))
+
+-- one of which the broker heard is told
+pub told_then : {X : Type 0} (o : Option Connection) (c : Connection) → o ≡ Some c → is_proposed c.stage ≡ true → is_told o ≡ false → X
+told_then o c is proposed untold = (let e : is_told o ≡ true = rw is proposed in absurd cc)
 
 nothing_is_read : (now : ℕ) (port : Port) (core : CoreState) → open_at port core ≡ None → reads_all now port core ≡ quiet core
 unfolding repeated
@@ -107,7 +114,7 @@ cuts_nothing core none = rw none refl
 
 -- ---- an item
 
-takes_nothing : (item : Item) (core : CoreState) → DoesNothing item core → takes_in item core ≡ quiet core
+pub takes_nothing : (item : Item) (core : CoreState) → DoesNothing item core → takes_in item core ≡ quiet core
 takes_nothing (Peer message) core ignored = drives_nothing (Receives message) core ignored.0
 takes_nothing (Tick now) core ignored =
     ap (λ (t : Turn). then_also t (ends_all_silent now)) (drives_nothing Ticks core ignored.0)
@@ -170,11 +177,45 @@ pub quiet_ignored : (a b : Running) → (find has_failed a.core.connections ≡ 
     b.wanting ≡ a.wanting
 quiet_ignored a b none failed = ap (λ (r : Running). r.wanting) (none failed)
 
-pub quiet_crashed : (item : Item) (a b c : Running) (ignored : Bool) → ignored ≡ false → (ignored ≡ true) ↔ DoesNothing item a.core →
-    (item ≡ Crash → (b.wanting ≡ a.wanting) × (b.core.connections ≡ a.core.connections)) →
-    (find has_failed b.core.connections ≡ None → c ≡ b) → DoesNothing item a.core ⊎ (item ≡ Crash) →
-    find has_failed a.core.connections ≡ None → c.wanting ≡ a.wanting
-quiet_crashed item a b c ignored is decides crash none (inl idle) failed = (let e = decides.1 idle in absurd cc)
-quiet_crashed item a b c ignored is decides crash none (inr crashed) failed =
-    let kept = crash crashed in
-    ap (λ (r : Running). r.wanting) (none (ap (λ (l : List Connection). find has_failed l) kept.1 ∙ failed)) ∙ kept.0
+calm_then : (a b c : Running) → IsCalm a b → (find has_failed b.core.connections ≡ None → c ≡ b) → find has_failed a.core.connections ≡ None →
+    c.wanting ≡ a.wanting
+calm_then a b c calm none failed = ap (λ (r : Running). r.wanting) (none (calm.failed failed)) ∙ calm.wanting
+
+heeded : (item : Item) (a c : Running) (ignored : Bool) → ignored ≡ false → (ignored ≡ true) ↔ DoesNothing item a.core → DoesNothing item a.core →
+    c.wanting ≡ a.wanting
+heeded item a c ignored is decides idle = (let e = decides.1 idle in absurd cc)
+
+-- what takes no memory, and does something, is a crash or the end of a connection of which the broker did not hear
+pub quiet_otherwise : (item : Item) (a b c : Running) (ignored : Bool) → ignored ≡ false → (ignored ≡ true) ↔ DoesNothing item a.core →
+    (item ≡ Crash → IsCalm a b) → ((port : Port) → item ≡ Ended port → is_told (open_at port a.core) ≡ false → IsCalm a b) →
+    (find has_failed b.core.connections ≡ None → c ≡ b) → TakesNoMemory item a.core → find has_failed a.core.connections ≡ None → c.wanting ≡ a.wanting
+quiet_otherwise (Peer message) a b c ignored is decides crash ended none takes failed = heeded (Peer message) a c ignored is decides takes
+quiet_otherwise (Tick now) a b c ignored is decides crash ended none takes failed = heeded (Tick now) a c ignored is decides takes
+quiet_otherwise (Opened port now) a b c ignored is decides crash ended none takes failed = heeded (Opened port now) a c ignored is decides takes
+quiet_otherwise (Bytes port piece now) a b c ignored is decides crash ended none takes failed = heeded (Bytes port piece now) a c ignored is decides takes
+quiet_otherwise (Ended port) a b c ignored is decides crash ended none takes failed = calm_then a b c (ended port refl takes) none failed
+quiet_otherwise (Expel client) a b c ignored is decides crash ended none takes failed = heeded (Expel client) a c ignored is decides takes
+quiet_otherwise Cut a b c ignored is decides crash ended none takes failed = heeded Cut a c ignored is decides takes
+quiet_otherwise Crash a b c ignored is decides crash ended none takes failed = calm_then a b c (crash refl) none failed
+
+-- no other connection fails where one is closed
+pub closing_fails_none : (test : Connection → Bool) (cs : List Connection) → find has_failed cs ≡ None → find has_failed (changed test closed cs) ≡ None
+closing_fails_none test [] none = refl
+closing_fails_none test (c ∷ cs) none = by (test c) (has_failed c) refl (closing_fails_none test cs) none
+  where
+    by : (b failed : Bool) → has_failed c ≡ failed → (find has_failed cs ≡ None → find has_failed (changed test closed cs) ≡ None) →
+        (if failed then Some c else find has_failed cs) ≡ None → find has_failed (if b then closed c ∷ cs else c ∷ changed test closed cs) ≡ None
+    by b true is rest some = absurd cc
+    by true false is rest e = e
+    by false false is rest e = rw is (rest e)
+
+pub ended_calmly : (port q : Port) (item : Item) (a b : Running) → item ≡ Ended q → item ≡ Ended port →
+    (is_told (open_at q a.core) ≡ false → b ≡ record a { core = changes q closed a.core }) → is_told (open_at port a.core) ≡ false → IsCalm a b
+unfolding changes
+ended_calmly port q item a b is same closes untold =
+    let e : q ≡ port = cc in
+    let done = closes (subst (λ (p : Port). is_told (open_at p a.core) ≡ false) (sym e) untold) in
+    record {
+      wanting = ap (λ (r : Running). r.wanting) done;
+      failed = λ none. ap (λ (r : Running). find has_failed r.core.connections) done ∙ closing_fails_none (is_open_at q) a.core.connections none;
+    }

@@ -14,7 +14,7 @@ use Rattle.world_base.specs.declared.item.Item.TheVariants.{Opened, Cut, Crash}
 use Rattle.node_connections.specs.Connections.{has_failed}
 use Rattle.world_base.specs.Core.{CoreState, CountedCore, Turn, rules}
 use Rattle.world_base.specs.Inside.{Ran, Running, Turns}
-use Rattle.world_base.specs.Losses.{DoesNothing, IsExactly, Stepped, Steps}
+use Rattle.world_base.specs.Losses.{IsExactly, Stepped, Steps, TakesNoMemory}
 use Rattle.world_base.specs.Lossy.{quietly}
 use Rattle.world_base.specs.LossyStep.{ActsOn, Cuts, Opens, RunsOn, TakesIn}
 use Rattle.world_base.specs.Step.{acts_on, node_step, opens, settled}
@@ -60,7 +60,7 @@ steps_by old a b turn new losses x y turns settles false e counted = inl (exactl
 pub stepped_by : (old : CountedCore) (item : Item) (a b : Running) (new : CoreState) (losses : ℕ) (x y : List (Effect Command Output)) →
     a.core ≡ old.core → Turns a b x y (acts_on item a.core) → Ran (ActsOn item) a.core b.core x y → new ≡ settled b.core →
     losses ≡ (if b.wanting then one_more old.losses else old.losses) → a.wanting ≡ false →
-    (DoesNothing item a.core ⊎ (item ≡ Crash) → find has_failed a.core.connections ≡ None → b.wanting ≡ a.wanting) →
+    (TakesNoMemory item a.core → find has_failed a.core.connections ≡ None → b.wanting ≡ a.wanting) →
     Stepped old item (record { core = new; losses = losses }) x y
 stepped_by old item a b new losses x y same turns ran settles counted calm quiet =
     record {
@@ -68,7 +68,7 @@ stepped_by old item a b new losses x y same turns ran settles counted calm quiet
       appended = turns.appended;
       steps = subst (λ (k : CoreState). Steps old (node_step item k) (record { core = new; losses = losses }) turns.given) same
           (steps_by old a b (acts_on item a.core) new losses x y turns settles b.wanting refl counted);
-      uncounted = subst (λ (k : CoreState). DoesNothing item k ⊎ (item ≡ Crash) → find has_failed k.connections ≡ None →
+      uncounted = subst (λ (k : CoreState). TakesNoMemory item k → find has_failed k.connections ≡ None →
           IsExactly old (node_step item k) (record { core = new; losses = losses }) turns.given) same
           (λ idle failed. let whole = quiet idle failed ∙ calm in
           exactly_by old a b (acts_on item a.core) new losses x y turns settles whole

@@ -1,4 +1,5 @@
 pub mod Crossing
+pub mod Calmly
 mod Accounts
 mod Answering
 mod Asked

@@ -1,5 +1,6 @@
 -- What the helpers of a step say of it.
-use Rattle.std.specs.Prelude.{◌≡◌, Bool, true, false, List, [], ◌++◌}
+use Rattle.std.specs.Prelude.{◌≡◌, Bool, true, false, List, [], ◌++◌, None}
+use Rattle.std.specs.List.{find}
 use Rattle.broker_base.specs.State.{State}
 use Rattle.broker_model.specs.Connection.{ConnectionName}
 use Rattle.broker_model.specs.declared.command.Command.{Command}
@@ -13,6 +14,7 @@ use Rattle.ballot.specs.Serving.{added}
 use Rattle.packet.specs.declared.packet.Packet.{Packet}
 use Rattle.world_base.specs.Core.{CoreState, Turn, rules}
 use Rattle.node_connections.specs.declared.port.Port.{Port}
+use Rattle.node_connections.specs.Connections.{has_failed}
 use Rattle.world_base.specs.LossyStep.{Begins, Says}
 use Rattle.world_base.specs.Lossy.{Account, Declines, Delivers, Proposes, Takes, quietly}
 use Rattle.world_base.specs.Turns.{has_room}
@@ -21,6 +23,11 @@ use Rattle.world_base.specs.Turns.{has_room}
 pub record Running : Type 0 where
   pub core : CoreState
   pub wanting : Bool
+
+-- no memory was asked, and no connection failed
+pub record IsCalm (old new : Running) : Type 0 where
+  pub wanting : new.wanting ≡ old.wanting
+  pub failed : find has_failed old.core.connections ≡ None → find has_failed new.core.connections ≡ None
 
 -- this is what was done, unless memory was wanting
 abbrev pub Does : Running → Running → CoreState → Type 0

@@ -1,6 +1,7 @@
 -- How the steps of a node are counted in which memory was wanting, and which never are.
-use Rattle.std.specs.Prelude.{◌≡◌, ◌⊎◌, false, List, ◌++◌, None}
+use Rattle.std.specs.Prelude.{◌≡◌, ◌⊎◌, Bool, false, List, [], ◌++◌, Option, Some, None}
 use Rattle.std.specs.List.{find}
+use Rattle.lists.specs.Lists.{Each}
 use Rattle.broker_model.specs.declared.command.Command.{Command}
 use Rattle.broker_model.specs.declared.command.Output.{Output}
 use Rattle.ballot.specs.Effect.{Effect}
@@ -11,7 +12,8 @@ use Rattle.ballot.specs.Protocol.Input.{Receives, Ticks}
 use Rattle.ballot.specs.Sending.{nothing_done}
 use Rattle.world_base.specs.declared.item.Item.{Item}
 use Rattle.world_base.specs.declared.item.Item.TheVariants.{Peer, Tick, Opened, Bytes, Ended, Expel, Cut, Crash}
-use Rattle.node_connections.specs.Connections.{has_failed}
+use Rattle.node_connections.specs.declared.connection.Connection.{Connection}
+use Rattle.node_connections.specs.Connections.{has_failed, is_proposed}
 use Rattle.ballot.specs.Message.{Message}
 use Rattle.ballot.specs.Unread.{is_unread}
 use Rattle.world_base.specs.Core.{CoreState, CountedCore, Turn, rules}
@@ -44,6 +46,22 @@ DoesNothing (Expel client) core = has_room core ≡ false
 DoesNothing Cut core = can_cut core.replica.state ≡ false
 DoesNothing Crash core = ⊥
 
+-- whether the broker heard of a connection, and it is open
+abbrev pub is_told : Option Connection → Bool
+is_told None = false
+is_told (Some c) = is_proposed c.stage
+
+-- An item takes no memory where it does nothing. So does a crash, and so does the end of a connection of which the broker did not
+-- hear: that is closed, and no more.
+abbrev pub TakesNoMemory : Item → CoreState → Type 0
+TakesNoMemory (Ended port) core = is_told (open_at port core) ≡ false
+TakesNoMemory Crash core = Unit {0}
+TakesNoMemory item core = DoesNothing item core
+
+-- nothing that was put out for a connection waits to be handed over
+abbrev pub WaitsNothing : CoreState → Type 0
+WaitsNothing core = Each (λ (c : Connection). c.pending ≡ []) core.connections
+
 -- ---- what is counted
 
 abbrev pub IsExactly : CountedCore → Turn → CountedCore → List (Effect Command Output) → Type 0
@@ -53,14 +71,14 @@ IsExactly old turn new given = (new.core ≡ turn.core) × (given ≡ turn.messa
 abbrev pub Steps : CountedCore → Turn → CountedCore → List (Effect Command Output) → Type 0
 Steps old turn new given = IsExactly old turn new given ⊎ (new.losses ≡ one_more old.losses)
 
--- What a step hands out was appended behind what was there. It is exactly the step, or counted; one on an item that does
--- nothing, or on a crash, is never counted, while there is no connection of whose failing the broker is still to hear. In
--- any case it did no more than the step may where memory is wanting.
+-- What a step hands out was appended behind what was there. It is exactly the step, or counted; one on an item that takes no
+-- memory is never counted, while there is no connection of whose failing the broker is still to hear. In any case it did no
+-- more than the step may where memory is wanting.
 pub record Stepped (old : CountedCore) (item : Item) (new : CountedCore)
     (before behind : List (Effect Command Output)) : Type 0 where
   pub given : List (Effect Command Output)
   pub appended : behind ≡ before ++ given
   pub steps : Steps old (node_step item old.core) new given
-  pub uncounted : DoesNothing item old.core ⊎ (item ≡ Crash) → find has_failed old.core.connections ≡ None →
+  pub uncounted : TakesNoMemory item old.core → find has_failed old.core.connections ≡ None →
       IsExactly old (node_step item old.core) new given
   pub run : RunsOn item old.core new.core given

@@ -1,6 +1,6 @@
 // The bytes that a node put out for its connections.
 
-ghost use Rattle.std.specs.Prelude.{◌≡◌, ◌++◌, IfOk, OnErr, OnOk};
+ghost use Rattle.std.specs.Prelude.{◌≡◌, ◌++◌, [], IfOk, IsOk, OnErr, OnOk};
 ghost use Rattle.std.specs.List.{position};
 ghost use Rattle.node_connections.specs.Connections.{is_at};
 ghost use Rattle.node_connections.specs.Stands.{standing_of};
@@ -12,8 +12,8 @@ use ballot::Memory;
 use node_connections::{Handed, Port, Standing, keep_listed, push_idle};
 
 impl Serving {
-    /// Appends what was put out for a port and not handed over before. Where memory is wanting
-    /// nothing changes.
+    /// Appends what was put out for a port and not handed over before. If memory runs out, nothing changes; it does not
+    /// where nothing was put out.
     pub fn outgoing(&mut self, port: Port, out: &mut Vec<u8>) -> Result<Handed, Memory>
         ensures ok { OnOk result
             (self.new ≡ record self.old { core = hands_over port self.old.core }) }
@@ -21,6 +21,7 @@ impl Serving {
             (out.new.items ≡ out.old.items ++ bytes_of (listed_at port self.old.core)) }
         ensures answer { IfOk result (λ handed.
             handed ≡ answer_of (listed_at port self.old.core)) }
+        ensures nothing { bytes_of (listed_at port self.old.core) ≡ [] → IsOk result }
         ensures err { OnErr result (self.new ≡ self.old) }
         ensures same { OnErr result (out.new.items ≡ out.old.items) }
     {

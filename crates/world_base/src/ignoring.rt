@@ -26,8 +26,8 @@ impl Serving {
         }
     }
 
-    // Whether the replica does anything with a message of another node, or has to read a snapshot for it.
-    fn heeds(&self, message: &Message<Command>) -> bool
+    /// Whether the replica does anything with a message of another node, or has to read a snapshot for it.
+    pub fn heeds(&self, message: &Message<Command>) -> bool
         ensures { (result ≡ false) ↔ (IsIgnored (Receives message.now) self.now.core
             × ReadsNone message.now self.now.core) }
     {

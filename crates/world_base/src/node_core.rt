@@ -1,22 +1,24 @@
 // A replica with its connections.
 
-ghost use Rattle.std.specs.Prelude.{◌≡◌, ◌≤◌, ◌↔◌, ◌++◌, false, [], if◌then◌else◌, IfOk, IsErrOf, OnErr, OnOk};
+ghost use Rattle.std.specs.Prelude.{◌≡◌, ◌≤◌, ◌↔◌, ◌++◌, false, not, [], if◌then◌else◌, IfOk, IsOk, IsErrOf, OnErr, OnOk};
 ghost use Rattle.std.specs.Option.{is_some};
 ghost use Rattle.ballot.specs.LawfulConfig.{is_lawful};
 ghost use Rattle.ballot.specs.Cutting.{can_cut};
 ghost use Rattle.ballot.specs.Logs.{places};
 ghost use Rattle.ballot.specs.Losses.{one_more};
 ghost use Rattle.ballot.specs.Replica.{status_of};
+ghost use Rattle.broker_model.specs.Connection.{is_connection_name};
 ghost use Rattle.world_base.specs.Core.{opening_core};
+ghost use Rattle.world_base.specs.Step.{next_name};
 ghost use Rattle.lists.specs.Lists.{IsPrefixOf};
 ghost use Rattle.world_base.specs.Handing.{answer_of, bytes_of, hands_over, idle_ports, listed_at};
 ghost use Rattle.node_connections.specs.Stands.{standing_of};
 ghost use Rattle.world_base.specs.Turns.{has_room};
-ghost use Rattle.world_base.specs.Losses.{Stepped};
+ghost use Rattle.world_base.specs.Losses.{DoesNothing, Stepped};
 
 use crate::item::Item;
 use crate::serving::Serving;
-use ballot::{Config, Effect, Memory, OpeningError, Status};
+use ballot::{Config, Effect, Memory, Message, OpeningError, Status};
 use broker_model::{Command, Output};
 use node_connections::{Handed, Port, Standing};
 use std::alloc::Global;
@@ -117,6 +119,36 @@ impl NodeCore {
         self.serving.standing(port)
     }
 
+    /// Returns whether the numbers of the ballot are spent, so that no further connection is accepted in it.
+    pub fn is_full(&self) -> bool
+        ensures { result ≡ not (is_connection_name (next_name self.now.core)) }
+    {
+        self.serving.is_full()
+    }
+
+    /// Returns whether the node does anything with a message of another node: one that it does not heed is passed over.
+    pub fn heeds(&self, message: &Message<Command>) -> bool
+        ensures { (result ≡ false) ↔ DoesNothing (Item.Peer message.now) self.now.core }
+    {
+        self.serving.heeds(message)
+    }
+
+    /// Passes a message over that the node does not heed: as [`NodeCore::step`] with it, and no copy of it is made.
+    pub fn pass_over(
+        &mut self,
+        message: &Message<Command>,
+        effects: &mut Vec<Effect<Command, Output>>,
+    )
+        requires { DoesNothing (Item.Peer message.now) self.old.core }
+        ensures { Stepped self.old (Item.Peer message.now) self.new
+            effects.old.items effects.new.items }
+    {
+        self.serving.begin_step();
+        self.serving.pass_over(message, effects);
+        self.losses = counted(self.losses, self.serving.is_wanting());
+        self.serving.settle();
+    }
+
     /// Takes an item in and appends the messages to other nodes that follow from it. Where memory
     /// is wanting a connection is closed or not accepted, or a message is lost, and the step is
     /// counted; each connection that stays open has all that was put out for it.
@@ -131,7 +163,7 @@ impl NodeCore {
 
     /// Appends what was put out for a port and not handed over before, and tells whether more may
     /// come: [`Handed::Closed`] once the node has closed the connection and nothing is left, and
-    /// for a port that was never opened. Where memory is wanting nothing changes.
+    /// for a port that was never opened. If memory runs out, nothing changes; it does not where nothing was put out.
     pub fn outgoing(&mut self, port: Port, out: &mut Vec<u8>) -> Result<Handed, Memory>
         ensures bytes { OnOk result
             (out.new.items ≡ out.old.items ++ bytes_of (listed_at port self.old.core)) }
@@ -139,6 +171,7 @@ impl NodeCore {
             handed ≡ answer_of (listed_at port self.old.core)) }
         ensures left { OnOk result
             (self.new ≡ record self.old { core = hands_over port self.old.core }) }
+        ensures nothing { bytes_of (listed_at port self.old.core) ≡ [] → IsOk result }
 
         // Want of memory changes nothing.
         ensures same { OnErr result (self.new ≡ self.old) }

@@ -1,6 +1,6 @@
 // A node during a step.
 
-ghost use Rattle.std.specs.Prelude.{◌≡◌, ◌⊎◌, ◌≤◌, ◌^◌, ◌↔◌, false, true, [], length, IfOk, IfSome, OnSome, IfNone, IsErrOf};
+ghost use Rattle.std.specs.Prelude.{◌≡◌, ◌⊎◌, ◌≤◌, ◌^◌, ◌↔◌, false, true, not, [], length, IfOk, IfSome, OnSome, IfNone, IsErrOf};
 ghost use Rattle.std.specs.List.{list_any, position};
 ghost use Rattle.broker_model.specs.Connection.{is_connection_name};
 ghost use Rattle.ballot.specs.LawfulConfig.{is_lawful};
@@ -283,6 +283,13 @@ impl Serving {
         ensures none { IfNone result (is_connection_name (next_name self.now.core) ≡ false) }
     {
         ConnectionId::new(self.replica.status().ballot, self.accepted() + 1)
+    }
+
+    /// Whether the numbers of this ballot are spent, so that no connection gets a name.
+    pub fn is_full(&self) -> bool
+        ensures { result ≡ not (is_connection_name (next_name self.now.core)) }
+    {
+        self.next_name().is_none()
     }
 
     /// The name that a new connection of a port gets, or none where it is not accepted.

@@ -1,24 +1,24 @@
 // What an item does to a node.
 
-ghost use Rattle.std.specs.Prelude.{◌≡◌, ◌⊎◌, false, if◌then◌else◌, None};
+ghost use Rattle.std.specs.Prelude.{◌≡◌, false, if◌then◌else◌, None};
 ghost use Rattle.std.specs.List.{find};
 ghost use Rattle.broker_model.specs.declared.command.Command.TheVariants as commands;
 ghost use Rattle.broker_model.specs.Sized.{IsSized};
-ghost use Rattle.node_connections.specs.Connections.{has_failed, holding, is_first, is_proposed};
-ghost use Rattle.world_base.specs.Inside.{BeginsOrSays, Ran, TellsLost, Turns};
+ghost use Rattle.node_connections.specs.Connections.{closed, has_failed, holding, is_first, is_proposed};
+ghost use Rattle.world_base.specs.Inside.{BeginsOrSays, IsCalm, Ran, TellsLost, Turns};
 ghost use Rattle.world_base.specs.declared.item.Item.TheVariants as items;
-ghost use Rattle.world_base.specs.Losses.{DoesNothing};
+ghost use Rattle.world_base.specs.Losses.{DoesNothing, TakesNoMemory, is_told};
 ghost use Rattle.world_base.specs.Lossy.{Proposes, quietly};
 ghost use Rattle.world_base.specs.LossyStep.{ActsOn, Connects, Ends, EndsAllSilent, Holds, LosesAllFailed, LosesFailed, ReadsAll, ReadsNext, Says, TakesIn};
 ghost use Rattle.world_base.specs.Failing.{loses_all_failed, loses_failed};
 ghost use Rattle.world_base.specs.KeepAlive.{ends_all_silent};
-ghost use Rattle.world_base.specs.Reading.{asks, begins, changes, ends, reads_all, reads_next, says};
+ghost use Rattle.world_base.specs.Reading.{asks, begins, changes, ends, open_at, reads_all, reads_next, says};
 ghost use Rattle.world_base.specs.Step.{acts_on, takes_in};
 ghost use Rattle.world_base.specs.Turns.{proposes, quiet};
 
 use crate::item::Item;
 use crate::serving::Serving;
-use ballot::Effect;
+use ballot::{Effect, Message};
 use broker_model::{Command, ConnectionId, Output, SizedPacket};
 use node_connections::{Front, Piece, Port, Stage};
 use packet::{ClientId, Connect, Packet};
@@ -30,7 +30,7 @@ impl Serving {
         ensures turns { Turns self.old self.new effects.old.items effects.new.items
             (acts_on item self.old.core) }
         ensures run { Ran (ActsOn item) self.old.core self.new.core effects.old.items effects.new.items }
-        ensures quiet { DoesNothing item self.old.core ⊎ (item ≡ items.Crash) →
+        ensures quiet { TakesNoMemory item self.old.core →
             find has_failed self.old.core.connections ≡ None → self.new.wanting ≡ self.old.wanting }
     {
         if self.ignores(&item) {
@@ -40,13 +40,31 @@ impl Serving {
         self.lose_failed(effects);
     }
 
+    /// Passes a message over that does nothing, and has the broker hear of each connection that failed.
+    pub fn pass_over(
+        &mut self,
+        message: &Message<Command>,
+        effects: &mut Vec<Effect<Command, Output>>,
+    )
+        requires { DoesNothing (items.Peer message.now) self.old.core }
+        ensures turns { Turns self.old self.new effects.old.items effects.new.items
+            (acts_on (items.Peer message.now) self.old.core) }
+        ensures run { Ran (ActsOn (items.Peer message.now)) self.old.core self.new.core
+            effects.old.items effects.new.items }
+        ensures quiet { find has_failed self.old.core.connections ≡ None →
+            self.new.wanting ≡ self.old.wanting }
+    {
+        self.lose_failed(effects);
+    }
+
     // Takes an item in.
     fn take_in(&mut self, item: Item, effects: &mut Vec<Effect<Command, Output>>)
         ensures turns { Turns self.old self.new effects.old.items effects.new.items
             (takes_in item self.old.core) }
         ensures run { Ran (TakesIn item) self.old.core self.new.core effects.old.items effects.new.items }
-        ensures crash { item ≡ items.Crash → (self.new.wanting ≡ self.old.wanting)
-            × (self.new.core.connections ≡ self.old.core.connections) }
+        ensures crash { item ≡ items.Crash → IsCalm self.old self.new }
+        ensures ended { (port : Port) → item ≡ items.Ended port →
+            is_told (open_at port self.old.core) ≡ false → IsCalm self.old self.new }
     {
         match item {
             Item::Peer(message) => self.receive(message, effects),
@@ -234,6 +252,8 @@ impl Serving {
         ensures turns { Turns self.old self.new effects.old.items effects.new.items
             (ends port self.old.core) }
         ensures run { Ran (Ends port) self.old.core self.new.core effects.old.items effects.new.items }
+        ensures untold { is_told (open_at port self.old.core) ≡ false →
+            self.new ≡ record self.old { core = changes port closed self.old.core } }
     {
         let Some(index) = self.place_at(port) else {
             return;

@@ -1,6 +1,6 @@
 use Rattle.world_base.specs.LossyStep.{LosesAllFailed, TakesIn}
 use Rattle.world_base.proofs.Accounts.{ran_then}
-use Rattle.world_base.proofs.Idle.{quiet_crashed, quiet_ignored, ran_ignored, turns_ignored}
+use Rattle.world_base.proofs.Idle.{quiet_ignored, quiet_otherwise, ran_ignored, turns_ignored}
 use Rattle.world_base.proofs.serving.Serving.act_on.Goals as goal
 
 pub returns-then-ignores-clause-turns : goal.returns-then-ignores-clause-turns
@@ -20,5 +20,5 @@ returns-clause-run c =
 
 pub returns-clause-quiet : goal.returns-clause-quiet
 returns-clause-quiet c =
-    quiet_crashed c.args.item _ _ _ c.ignores.result c.if-ignores.false c.ignores.ensures c.take_in.ensures.crash
+    quiet_otherwise c.args.item _ _ _ c.ignores.result c.if-ignores.false c.ignores.ensures c.take_in.ensures.crash c.take_in.ensures.ended
     c.lose_failed-2.ensures.none

@@ -44,3 +44,10 @@ returns-clause-answer c =
     ∙ rw (← c.self.view_is) (ap answer_of (sym
     (found_there (is_at c.args.port) _ c.place_listed.result c.in-Some.index _ at c.in-Some.is
     c.index_mut-connection.ensures.value)))
+
+pub returns-in_err-outgoing-clause-nothing : goal.returns-in_err-outgoing-clause-nothing
+returns-in_err-outgoing-clause-nothing c =
+    let at = rw (← c.self.view_is) at c.place_listed.ensures in
+    rw (← c.self.view_is) (λ none. let no = c.in_err-outgoing.ensures.nothing (sym (ap bytes_of
+    (found_there (is_at c.args.port) _ c.place_listed.result c.in-Some.index _ at c.in-Some.is
+    c.index_mut-connection.ensures.value)) ∙ none) in absurd cc)

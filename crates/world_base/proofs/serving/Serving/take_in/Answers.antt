@@ -1,8 +1,10 @@
+use Rattle.std.proofs.Common.{refl}
 use Rattle.ballot.specs.Protocol.Input.{Ticks}
 use Rattle.world_base.specs.declared.item.Item.TheVariants.{Peer, Tick, Opened, Bytes, Ended, Expel, Cut}
 use Rattle.world_base.specs.Lossy.{Drives}
 use Rattle.world_base.specs.LossyStep.{EndsAllSilent, Holds, ReadsAll}
 use Rattle.world_base.proofs.Accounts.{ran_then}
+use Rattle.world_base.proofs.Idle.{ended_calmly}
 use Rattle.world_base.proofs.ItemsRun.{ran_crashed, ran_cut, ran_item, ran_opened}
 use Rattle.world_base.proofs.serving.Serving.take_in.Goals as goal
 
@@ -34,3 +36,9 @@ returns-in-Cut-clause-run c = ran_item c.args.item Cut _ _ _ _ c.in-Cut.is (ran_
 
 pub returns-in-Crash-clause-run : goal.returns-in-Crash-clause-run
 returns-in-Crash-clause-run c = rw (c.in-Crash.is, ← c.self.view_is) (ran_crashed _ c.stop.new.self _ c.stop.ensures)
+
+pub returns-in-Crash-clause-crash : goal.returns-in-Crash-clause-crash
+returns-in-Crash-clause-crash c = rw (← c.self.view_is) (λ _. record { wanting = refl; failed = λ none. none })
+
+pub returns-in-Ended-clause-ended : goal.returns-in-Ended-clause-ended
+returns-in-Ended-clause-ended c = λ port is untold. ended_calmly port c.in-Ended.port c.args.item _ _ c.in-Ended.is is c.end.ensures.untold untold

@@ -1,0 +1,130 @@
+-- Calmly.antt: a step on an item that takes no memory says nothing, and puts nothing out.
+use Rattle.std.proofs.Common.{◌≡◌, Bool, true, false, if◌then◌else◌, Option, Some, None, List, [], ◌∷◌, length, map, refl, sym, ap, subst, ◌∙◌}
+use Rattle.std.specs.List.{filter, find}
+use Rattle.lists.specs.Lists.{Each}
+use Rattle.node_connections.specs.declared.port.Port.{Port}
+use Rattle.node_connections.specs.declared.connection.Connection.{Connection}
+use Rattle.node_connections.specs.Connections.{changed, closed, handed, has_failed, is_at, is_listed, is_open_at}
+use Rattle.world_base.specs.declared.item.Item.{Item}
+use Rattle.world_base.specs.declared.item.Item.TheVariants.{Peer, Tick, Opened, Bytes, Ended, Expel, Cut, Crash}
+use Rattle.world_base.specs.Core.{CoreState, Turn, serves}
+use Rattle.world_base.specs.Failing.{loses_all_failed, loses_failed}
+use Rattle.world_base.specs.Handing.{bytes_of, hands_over, left_by, listed_at}
+use Rattle.world_base.specs.Losses.{TakesNoMemory, WaitsNothing, is_told}
+use Rattle.world_base.specs.Reading.{changes, ends, loses_open, open_at}
+use Rattle.world_base.specs.Step.{acts_on, crashed, node_step, settled, takes_in}
+use Rattle.world_base.specs.Turns.{quiet, then_also}
+use Rattle.world_base.proofs.Failures.{failed_next}
+use Rattle.world_base.proofs.Idle.{closing_fails_none, quiet_repeated, takes_nothing}
+
+-- ---- what waits to be handed over
+
+closing_keeps : (test : Connection → Bool) (cs : List Connection) → Each (λ (c : Connection). c.pending ≡ []) cs → Each (λ (c : Connection). c.pending ≡ []) (changed test closed cs)
+closing_keeps test [] each = tt
+closing_keeps test (c ∷ cs) each = by (test c) (closing_keeps test cs each.1)
+  where
+    by : (b : Bool) → Each (λ (c : Connection). c.pending ≡ []) (changed test closed cs)
+        → Each (λ (c : Connection). c.pending ≡ []) (if b then closed c ∷ cs else c ∷ changed test closed cs)
+    by true rest = (each.0, each.1)
+    by false rest = (each.0, rest)
+
+all_closed : (cs : List Connection) → Each (λ (c : Connection). c.pending ≡ []) cs → Each (λ (c : Connection). c.pending ≡ []) (map closed cs)
+all_closed [] each = tt
+all_closed (c ∷ cs) each = (each.0, all_closed cs each.1)
+
+some_left : (test : Connection → Bool) (cs : List Connection) → Each (λ (c : Connection). c.pending ≡ []) cs → Each (λ (c : Connection). c.pending ≡ []) (filter test cs)
+some_left test [] each = tt
+some_left test (c ∷ cs) each = by (test c) (some_left test cs each.1)
+  where
+    by : (b : Bool) → Each (λ (c : Connection). c.pending ≡ []) (filter test cs) → Each (λ (c : Connection). c.pending ≡ []) (if b then c ∷ filter test cs else filter test cs)
+    by true rest = (each.0, rest)
+    by false rest = rest
+
+settled_waits : (core : CoreState) → WaitsNothing core → WaitsNothing (settled core)
+unfolding settled
+settled_waits core each = by (serves core)
+  where
+    by : (b : Bool) → Each (λ (c : Connection). c.pending ≡ []) (filter is_listed (if b then core.connections else map closed core.connections))
+    by true = some_left is_listed core.connections each
+    by false = some_left is_listed (map closed core.connections) (all_closed core.connections each)
+
+handed_waits : (test : Connection → Bool) (cs : List Connection) → Each (λ (c : Connection). c.pending ≡ []) cs → Each (λ (c : Connection). c.pending ≡ []) (changed test handed cs)
+handed_waits test [] each = tt
+handed_waits test (c ∷ cs) each = by (test c) (handed_waits test cs each.1)
+  where
+    by : (b : Bool) → Each (λ (c : Connection). c.pending ≡ []) (changed test handed cs)
+        → Each (λ (c : Connection). c.pending ≡ []) (if b then handed c ∷ cs else c ∷ changed test handed cs)
+    by true rest = (refl, each.1)
+    by false rest = (each.0, rest)
+
+none_waits : (test : Connection → Bool) (cs : List Connection) → Each (λ (c : Connection). c.pending ≡ []) cs → bytes_of (find test cs) ≡ []
+none_waits test [] each = refl
+none_waits test (c ∷ cs) each = by (test c) (none_waits test cs each.1)
+  where
+    by : (b : Bool) → bytes_of (find test cs) ≡ [] → bytes_of (if b then Some c else find test cs) ≡ []
+    by true rest = each.0
+    by false rest = rest
+
+-- nothing is handed over where nothing waits
+pub nothing_handed : (port : Port) (core : CoreState) → WaitsNothing core → bytes_of (listed_at port core) ≡ []
+nothing_handed port core each = none_waits (is_at port) core.connections each
+
+pub hands_over_waits : (port : Port) (core : CoreState) → WaitsNothing core → WaitsNothing (hands_over port core)
+unfolding hands_over
+hands_over_waits port core each = by (listed_at port core)
+  where
+    by : (o : Option Connection) → WaitsNothing (left_by port core o)
+    by None = each
+    by (Some c) = some_left is_listed (changed (is_at port) handed core.connections) (handed_waits (is_at port) core.connections each)
+
+-- ---- an item
+
+-- what it makes of a node, quietly
+record GoesCalmly (item : Item) (core : CoreState) : Type 0 where
+  next : CoreState
+  is : takes_in item core ≡ quiet next
+  fails_none : find has_failed core.connections ≡ None → find has_failed next.connections ≡ None
+  waits : WaitsNothing core → WaitsNothing next
+
+nothing_goes : (item : Item) (core : CoreState) → takes_in item core ≡ quiet core → GoesCalmly item core
+nothing_goes item core is = record { next = core; is = is; fails_none = λ none. none; waits = λ each. each }
+
+ends_calmly : (port : Port) (core : CoreState) → is_told (open_at port core) ≡ false → GoesCalmly (Ended port) core
+unfolding ends changes
+ends_calmly port core untold = by (open_at port core) refl untold
+  where
+    by : (o : Option Connection) → open_at port core ≡ o → is_told o ≡ false → GoesCalmly (Ended port) core
+    by None is none = nothing_goes (Ended port) core (ap (loses_open port core) is)
+    by (Some c) is none =
+        record {
+          next = changes port closed core;
+          is = ap (loses_open port core) is ∙ rw none refl;
+          fails_none = λ e. closing_fails_none (is_open_at port) core.connections e;
+          waits = λ each. closing_keeps (is_open_at port) core.connections each;
+        }
+
+goes_calmly : (item : Item) (core : CoreState) → TakesNoMemory item core → GoesCalmly item core
+goes_calmly (Peer message) core takes = nothing_goes (Peer message) core (takes_nothing (Peer message) core takes)
+goes_calmly (Tick now) core takes = nothing_goes (Tick now) core (takes_nothing (Tick now) core takes)
+goes_calmly (Opened port now) core takes = nothing_goes (Opened port now) core (takes_nothing (Opened port now) core takes)
+goes_calmly (Bytes port piece now) core takes = nothing_goes (Bytes port piece now) core (takes_nothing (Bytes port piece now) core takes)
+goes_calmly (Ended port) core takes = ends_calmly port core takes
+goes_calmly (Expel client) core takes = nothing_goes (Expel client) core (takes_nothing (Expel client) core takes)
+goes_calmly Cut core takes = nothing_goes Cut core (takes_nothing Cut core takes)
+goes_calmly Crash core takes = record { next = crashed core; is = refl; fails_none = λ none. none; waits = λ each. each }
+
+-- ---- the step
+
+acts_calmly : (item : Item) (core : CoreState) (g : GoesCalmly item core) → find has_failed core.connections ≡ None → acts_on item core ≡ quiet g.next
+acts_calmly item core g none =
+    ap (λ (t : Turn). then_also t loses_all_failed) g.is
+    ∙ ap (λ (t : Turn). then_also (quiet g.next) (λ _. t))
+    (quiet_repeated loses_failed (length g.next.connections) g.next (failed_next g.next (g.fails_none none)))
+
+pub says_nothing : (item : Item) (core : CoreState) → TakesNoMemory item core → find has_failed core.connections ≡ None → (node_step item core).messages ≡ []
+says_nothing item core takes none = ap (λ (t : Turn). t.messages) (acts_calmly item core (goes_calmly item core takes) none)
+
+pub step_waits : (item : Item) (core : CoreState) → TakesNoMemory item core → find has_failed core.connections ≡ None → WaitsNothing core → WaitsNothing (node_step item core).core
+step_waits item core takes none each =
+    let g = goes_calmly item core takes in
+    subst (λ (t : Turn). WaitsNothing (settled t.core)) (sym (acts_calmly item core g none)) (settled_waits g.next (g.waits each))

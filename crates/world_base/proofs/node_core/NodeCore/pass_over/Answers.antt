@@ -1,0 +1,18 @@
+use Rattle.std.proofs.Common.{Bool, if◌then◌else◌, ap, subst, ◌∙◌}
+use Rattle.ballot.specs.Losses.{one_more}
+use Rattle.world_base.specs.declared.item.Item.TheVariants.{Peer}
+use Rattle.world_base.specs.Core.{CountedCore}
+use Rattle.world_base.specs.Inside.{Running}
+use Rattle.world_base.specs.Losses.{Stepped}
+use Rattle.world_base.proofs.EndsRun.{core_of}
+use Rattle.world_base.proofs.ItemsRun.{stepped_by}
+use Rattle.world_base.proofs.node_core.NodeCore.pass_over.Goals as goal
+
+pub returns : goal.returns
+returns c =
+    subst (λ (n : CountedCore). Stepped n (Peer c.args.message.now) (record { core = c.settle.new.self.core; losses = c.counted-self-inside.result })
+    c.args.effects.now.items c.pass_over.new.effects.items) c.self.view_is
+    (stepped_by _ (Peer c.args.message.now) c.begin_step.new.self c.pass_over.new.self c.settle.new.self.core c.counted-self-inside.result _ _
+    (core_of _ _ c.begin_step.ensures) c.pass_over.ensures.turns c.pass_over.ensures.run (core_of _ _ c.settle.ensures)
+    (c.counted-self-inside.ensures ∙ ap (λ (w : Bool). if w then one_more c.self.inside.losses else c.self.inside.losses) c.is_wanting.ensures)
+    (ap (λ (r : Running). r.wanting) c.begin_step.ensures) (λ _. c.pass_over.ensures.quiet))
