@@ -17,7 +17,7 @@ use Rattle.group_model.proofs.of_node_model.Views.{found_passes}
 use Rattle.escaping.specs.Delivery.{heard_by}
 use Rattle.escaping.specs.Asking.{asked_now, proposal_at}
 use Rattle.escaping.specs.Opening.{first_name}
-use Rattle.escaping.specs.Waiting.{AskedAwaitsAnswer, AwaitsAnswer, FirstAwaitsConnect, HandingKeepsItWaiting, MessagesKeepItWaiting}
+use Rattle.escaping.specs.Waiting.{AskedAwaitsAnswer, AwaitsAnswer, AwaitsConnect, FirstAwaitsConnect, HandingKeepsItWaiting, HandingKeepsTheConnect, MessagesKeepItWaiting}
 use Rattle.escaping.proofs.AnswerPutOut.{found_both}
 use Rattle.escaping.proofs.OneDelivery.{calm_finds, drives_silently, none_lost, with_replica}
 
@@ -117,6 +117,37 @@ handing_keeps_it_waiting port other x core waits = by (listed_at other core)
         waits_listed port x core (changed (is_at other) handed core.connections) waits.connection
         (found_changed (is_at port) (is_at other) handed core.connections waits.connection (λ c. refl) (handed_is waits.connection waits.none) waits.listed)
         (found_changed (is_open_named x) (is_at other) handed core.connections waits.connection (λ c. refl) (handed_is waits.connection waits.none) waits.named) waits.none
+
+pub handing_keeps_the_connect : HandingKeepsTheConnect
+unfolding hands_over
+handing_keeps_the_connect port other x core a = by (listed_at other core)
+  where
+    c : Connection
+    c = a.waits.connection
+
+    still : (test : Connection → Bool) → ((d : Connection) → test (handed d) ≡ test d) → find test core.connections ≡ Some c →
+        find test (filter is_listed (changed (is_at other) handed core.connections)) ≡ Some c
+    still test keeps found =
+        found_kept test is_listed (changed (is_at other) handed core.connections) c (listed_open x c (found_passes (is_open_named x) core.connections c a.waits.named))
+        (found_changed test (is_at other) handed core.connections c keeps (handed_is c a.waits.none) found)
+
+    by : (o : Option Connection) → AwaitsConnect port x (left_by other core o)
+    by None =
+        record {
+          waits = record { connection = c; listed = a.waits.listed; named = a.waits.named; none = a.waits.none };
+          name = a.name;
+          opened = a.opened;
+          first = a.first;
+          unread = a.unread;
+        }
+    by (Some d) =
+        record {
+          waits = record { connection = c; listed = still (is_at port) (λ e. refl) a.waits.listed; named = still (is_open_named x) (λ e. refl) a.waits.named; none = a.waits.none };
+          name = a.name;
+          opened = still (is_open_at port) (λ e. refl) a.opened;
+          first = a.first;
+          unread = a.unread;
+        }
 
 -- ---- the connection is opened, and its CONNECT comes
 

@@ -5,6 +5,8 @@ use Rattle.lists.specs.Lists.{Each}
 use Rattle.lists.proofs.OfEach.{each_append}
 use Rattle.packet.specs.declared.packet.Packet.TheVariants as packets
 use Rattle.broker_base.specs.Answers.{answers_of, closed, connect_answers, welcome}
+use Rattle.ballot.specs.Machine.{replay}
+use Rattle.broker_base.specs.Command.{Command}
 use Rattle.broker_base.specs.Command.TheVariants as commands
 use Rattle.broker_base.specs.Commands.{past_of, place_of, usual_limits}
 use Rattle.broker_base.specs.Connection.{ConnectionName, same_connection}
@@ -19,6 +21,7 @@ use Rattle.broker_base.specs.Readings.{released_below}
 use Rattle.broker_base.specs.Sends.{all_started, publish, resent, sent_again, sent_first}
 use Rattle.broker_base.specs.Times.{entries_of}
 use Rattle.broker_base.proofs.ClientsInOrder.{same_self}
+use Rattle.group_model.specs.world_base.Core.{rules}
 use Rattle.model.proofs.Answers.{past_push}
 use Rattle.model.proofs.BrokerRules.{gives_answers}
 use Rattle.escaping.specs.Welcome.{IsSentTo, KeptSessionsAreWelcomed}
@@ -26,7 +29,7 @@ use Rattle.escaping.specs.Welcome.{IsSentTo, KeptSessionsAreWelcomed}
 -- ---- behind the start of a ballot
 
 -- no client has a connection
-none_current : (limits : Limits) (past : Past) (ballot : ℕ) (c : Client) → current_connection (place_of limits past (commands.Start ballot) ∷ past) c ≡ None
+pub none_current : (limits : Limits) (past : Past) (ballot : ℕ) (c : Client) → current_connection (place_of limits past (commands.Start ballot) ∷ past) c ≡ None
 unfolding current_connection
 none_current limits past ballot c = by (current_connection past c)
   where
@@ -44,14 +47,14 @@ first_none : (test : Client → Bool) (cs : List Client) → ((c : Client) → t
 first_none test [] none = refl
 first_none test (c ∷ cs) none = ap (λ (b : Bool). if b then Some c else first_client test cs) (none c) ∙ first_none test cs none
 
-nobody_owns : (past : Past) (x : ConnectionName) → ((c : Client) → current_connection past c ≡ None) → owner_of past x ≡ None
+pub nobody_owns : (past : Past) (x : ConnectionName) → ((c : Client) → current_connection past c ≡ None) → owner_of past x ≡ None
 nobody_owns past x none =
     first_none (λ (c : Client). any_connection (same_connection x) (current_connection past c)) (clients past)
     (λ c. ap (any_connection (same_connection x)) (none c))
 
 -- ---- the Connect
 
-abbrev at_connect : ConnectionName → Client → Mark → Place
+abbrev pub at_connect : ConnectionName → Client → Mark → Place
 at_connect x c mark = record { command = commands.Connect x c false; mark = mark }
 
 accepted : (limits : Limits) (past : Past) (x : ConnectionName) (c : Client) → ((d : Client) → current_connection past d ≡ None) → session_of past c ≡ Some false →
@@ -116,12 +119,18 @@ each_resent x n es =
 
 -- ---- the law
 
+-- what the machine gives then is what the model answers
+pub gives_behind : (list : List Command) (ballot : ℕ) (x : ConnectionName) (c : Client) → rules.gives (replay rules (list ++ commands.Start ballot ∷ [])) (commands.Connect x c false)
+    ≡ answers_of usual_limits (place_of usual_limits (past_of usual_limits list) (commands.Start ballot) ∷ past_of usual_limits list) (commands.Connect x c false)
+gives_behind list ballot x c =
+    gives_answers (list ++ commands.Start ballot ∷ []) (commands.Connect x c false)
+    ∙ ap (λ (past : Past). answers_of usual_limits past (commands.Connect x c false)) (past_push usual_limits list (commands.Start ballot))
+
 pub kept_sessions_are_welcomed : KeptSessionsAreWelcomed
 kept_sessions_are_welcomed list ballot x c there =
     record {
       rest = resent x (length behind) (entries_of usual_limits (at_connect x c Mark.Accepted ∷ behind) c);
-      gives = gives_answers (list ++ commands.Start ballot ∷ []) (commands.Connect x c false)
-          ∙ ap (λ (past : Past). answers_of usual_limits past (commands.Connect x c false)) (past_push usual_limits list (commands.Start ballot))
+      gives = gives_behind list ballot x c
           ∙ answers_are usual_limits behind x c (λ d. none_current usual_limits (past_of usual_limits list) ballot d)
           (still_there usual_limits (past_of usual_limits list) ballot c there);
       sent = each_resent x (length behind) (entries_of usual_limits (at_connect x c Mark.Accepted ∷ behind) c);

@@ -49,6 +49,10 @@ abbrev pub FirstAwaitsConnect : Type 0
 FirstAwaitsConnect = (port : Port) (core : CoreState) → list_any (is_at port) core.connections ≡ false →
     find (is_open_named (first_name core)) core.connections ≡ None → AwaitsConnect port (first_name core) (with_first port core)
 
+-- it stays so where bytes are handed over, at whichever port
+abbrev pub HandingKeepsTheConnect : Type 0
+HandingKeepsTheConnect = (port other : Port) (x : ConnectionName) (core : CoreState) → AwaitsConnect port x core → AwaitsConnect port x (hands_over other core)
+
 -- and when its CONNECT is proposed it waits for the answer
 abbrev pub AskedAwaitsAnswer : Type 0
 AskedAwaitsAnswer = (port : Port) (x : ConnectionName) (core : CoreState) (now : ℕ) (connect : Connect) (command : Command) → AwaitsConnect port x core →

@@ -8,6 +8,7 @@ ghost use Rattle.escaping.specs.Waiting.{
   AskedAwaitsAnswer,
   FirstAwaitsConnect,
   HandingKeepsItWaiting,
+  HandingKeepsTheConnect,
   MessagesKeepItWaiting,
 };
 ghost use Rattle.escaping.specs.Welcome.{KeptSessionsAreWelcomed};
@@ -62,6 +63,11 @@ pub fn handing_keeps_it_waiting()
 /// connection has its name.
 pub fn first_awaits_connect()
     ensures { FirstAwaitsConnect }
+{}
+
+/// Says that it still waits for its CONNECT where bytes are handed over, at whichever port.
+pub fn handing_keeps_the_connect()
+    ensures { HandingKeepsTheConnect }
 {}
 
 /// Says that a connection whose CONNECT is proposed waits for its answer.

@@ -7,5 +7,5 @@ mod laws;
 pub use laws::{
     a_step_is_a_delivery, answer_alone_is_put_out, answer_is_put_out, asked_awaits_answer,
     connect_is_proposed, first_awaits_connect, first_is_opened, handing_keeps_it_waiting,
-    kept_sessions_are_welcomed, messages_keep_it_waiting,
+    handing_keeps_the_connect, kept_sessions_are_welcomed, messages_keep_it_waiting,
 };
