@@ -1,4 +1,4 @@
-mod Acts
+pub mod Acts
 mod ActsLosing
 mod AgreedCounted
 mod CountsGoOn
@@ -7,6 +7,7 @@ mod Expelling
 mod HandsOver
 mod Opens
 mod KeepsAll
-mod MasterActs
+pub mod MasterActs
 mod MasterCounts
+mod Welcomes
 pub mod Exactly

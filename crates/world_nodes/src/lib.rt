@@ -3,6 +3,7 @@
 
 mod acting;
 mod agreeing;
+mod asking;
 mod counters;
 mod keeping;
 mod nodes;

@@ -1,0 +1,42 @@
+-- What is asked of nodes before they are led out: the whole log of a node, and whether a client is welcomed back after it.
+use Rattle.std.specs.Prelude.{ℕ, Bool, false, List, [], ◌∷◌, ◌++◌, Option, Some, None}
+use Rattle.ballot.specs.Machine.{replay}
+use Rattle.master.specs.snapshots.Whole.{whole_log}
+use Rattle.packet.specs.declared.connack.Connack.TheVariants.{Accepted}
+use Rattle.packet.specs.declared.packet.Packet.TheVariants.{Connack}
+use Rattle.broker_base.specs.Command.{Command}
+use Rattle.broker_base.specs.Command.TheVariants as commands
+use Rattle.broker_base.specs.Connection.{ConnectionName}
+use Rattle.broker_base.specs.Output.{Output}
+use Rattle.broker_base.specs.Output.TheVariants.{Send}
+use Rattle.broker_base.specs.Place.{Client}
+use Rattle.world_base.specs.Core.{CountedCore, rules}
+use Rattle.world_nodes.specs.Goes.{node_of}
+use Rattle.world_nodes.specs.Nodes.{NodesState}
+
+-- the record up to the base of a node's log, then the rest
+abbrev pub log_in : List Command → Option CountedCore → List Command
+log_in archive None = []
+log_in archive (Some node) = whole_log archive node.core.replica.state.log
+
+-- the whole log of the node of a number
+abbrev pub log_of : NodesState → ℕ → List Command
+log_of n node = log_in n.archive (node_of n.nodes node)
+
+-- the name of a first connection
+abbrev pub first_connection : ConnectionName
+first_connection = record { ballot = 1; count = 1 }
+
+-- whether an output is a CONNACK 0 with session present, and whether outputs begin with one
+abbrev pub is_present : Output → Bool
+is_present (Send x (Connack (Accepted present))) = present
+is_present _ = false
+
+abbrev pub is_welcome : List Output → Bool
+is_welcome [] = false
+is_welcome (output ∷ more) = is_present output
+
+-- whether a client is welcomed back after these commands and the start of a ballot (MQTT 3.1.2.4, 3.2.2.2)
+abbrev pub welcomes_back : Client → List Command → Bool
+welcomes_back client list =
+    is_welcome (rules.gives (replay rules (list ++ commands.Start 1 ∷ [])) (commands.Connect first_connection client false))
