@@ -6,6 +6,7 @@ mod expels;
 mod hand;
 mod inputs;
 mod lines;
+mod loopback;
 mod orders;
 mod scripts;
 mod tables;

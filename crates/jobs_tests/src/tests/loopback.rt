@@ -1,0 +1,185 @@
+// Two nodes over the loopback, a subscriber and a publisher, each by its command line, and orders between them.
+
+use super::hand::does;
+use super::orders::free_port;
+use std::io::{BufReader, PipeReader, PipeWriter, Write};
+use std::net::{Net, TcpListener, TcpStream};
+use std::rt::Files;
+use std::sync::Wait;
+use std::thread::Threads;
+use std::time::{Clock, Duration};
+use std::{fs, io, mem, thread};
+
+// After the clients: node 2 takes over, and node 1 crashes, once.
+const ORDERS: &str = "assign 2 2\ncrash 1\ncrash 1\n";
+
+const ANSWERS: &str = "ballot 2\ncrashed 1\nrefused 24\nbye\n";
+
+// What the subscriber prints of what the publisher publishes.
+const PRINTED: &str = "2 0 t/1 x\n";
+
+// How long the nodes and then the subscriber get to come, in milliseconds.
+const REST: u64 = 1_500;
+
+// A file with a table of two nodes, of which the first serves on an address, and that address.
+#[derive(Drop)]
+struct Table {
+    file: String,
+    address: String,
+}
+
+impl Table {
+    // On this port of the loopback.
+    fn new<R: Files + AllocGlobal>(rt: &R, port: u16) -> io::Result<Table> {
+        let alloc = rt.alloc();
+        let text = format!(in alloc;
+            "members = [1, 2]\nprimary = 1\n\
+             [[node]]\nid = 1\nlisten = \"127.0.0.1:{port}\"\n\
+             [[node]]\nid = 2\nlisten = \"127.0.0.1:0\"\n"
+        )?;
+        let address = format!(in alloc; "127.0.0.1:{port}")?;
+        let file = format!(in alloc; "/tmp/vbroker_{port}.toml")?;
+        fs::write(rt, file.as_str(), text.as_str())?;
+        Ok(Table { file, address })
+    }
+}
+
+// One of those who take part, each in a thread of its own.
+#[derive(Drop)]
+enum Part {
+    // The nodes, whose orders come by a pipe.
+    Nodes(PipeReader),
+    // The subscriber.
+    Meter,
+    // The publisher, which then gives the orders.
+    Switch(PipeWriter),
+    // It has ended, as it has to or not.
+    Ended(bool),
+}
+
+// All who take part, over one pipe.
+fn parts_of<R: Files>(rt: &R) -> io::Result<[Part; 3]> {
+    let (orders, giver) = io::pipe(rt)?;
+    Ok([Part::Nodes(orders), Part::Meter, Part::Switch(giver)])
+}
+
+fn have_ended_well(parts: &[Part]) -> bool {
+    parts.iter().all(|part| matches!(part, Part::Ended(true)))
+}
+
+// Takes a part to its end.
+fn take_part<R>(rt: &R, table: &Table, part: &mut Part)
+where
+    R: Files + Threads + Wait + Clock + Sync + AllocGlobal,
+    R: Net<Listener = TcpListener, Stream = TcpStream>,
+{
+    let is_well = match mem::replace(part, Part::Ended(false)) {
+        Part::Nodes(orders) => serves(rt, table, orders),
+        Part::Meter => hears(rt, table),
+        Part::Switch(mut giver) => {
+            publishes(rt, table) && giver.write_all(ORDERS.as_bytes()).is_ok()
+        }
+        Part::Ended(is_well) => is_well,
+    };
+    *part = Part::Ended(is_well);
+}
+
+// Whether `serve` answers the orders as it has to, and ends with status 0.
+fn serves<R>(rt: &R, table: &Table, orders: PipeReader) -> bool
+where
+    R: Files + Threads + Wait + Clock + Sync + AllocGlobal,
+    R: Net<Listener = TcpListener, Stream = TcpStream>,
+{
+    match BufReader::new(rt.alloc(), orders) {
+        Ok(mut input) => are_answered(rt, table, &mut input),
+        Err(_) => false,
+    }
+}
+
+fn are_answered<R>(rt: &R, table: &Table, input: &mut BufReader<PipeReader>) -> bool
+where
+    R: Files + Threads + Wait + Clock + Sync + AllocGlobal,
+    R: Net<Listener = TcpListener, Stream = TcpStream>,
+{
+    let mut output = Vec::new(rt.alloc());
+    let mut faults = Vec::new(rt.alloc());
+    let words = ["vbroker", "serve", "--config", table.file.as_str()];
+    let status = does(rt, words.as_slice(), input, &mut output, &mut faults);
+    status == 0 && output.as_slice() == ANSWERS.as_bytes()
+}
+
+// Whether `sub` prints what it has to, tells nothing else, and ends with status 0.
+fn hears<R>(rt: &R, table: &Table) -> bool
+where
+    R: Files + Threads + Wait + Clock + Sync + AllocGlobal,
+    R: Net<Listener = TcpListener, Stream = TcpStream>,
+{
+    let words = [
+        "vbroker",
+        "sub",
+        "--id",
+        "meter",
+        "--filter",
+        "t/#",
+        "--qos",
+        "2",
+        "--count",
+        "1",
+        "--tries",
+        "50",
+        table.address.as_str(),
+    ];
+    ends_so(rt, words.as_slice(), PRINTED)
+}
+
+// Whether `pub` ends with status 0 and prints nothing, once the subscriber may have come.
+fn publishes<R>(rt: &R, table: &Table) -> bool
+where
+    R: Files + Threads + Wait + Clock + Sync + AllocGlobal,
+    R: Net<Listener = TcpListener, Stream = TcpStream>,
+{
+    let words = [
+        "vbroker",
+        "pub",
+        "--id",
+        "switch",
+        "--topic",
+        "t/1",
+        "--qos",
+        "2",
+        "--message",
+        "x",
+        table.address.as_str(),
+    ];
+    thread::sleep(rt, Duration::from_millis(REST));
+    ends_so(rt, words.as_slice(), "")
+}
+
+// Whether a command line ends with status 0, prints this, and tells no fault.
+fn ends_so<R>(rt: &R, words: &[&str], printed: &str) -> bool
+where
+    R: Files + Threads + Wait + Clock + Sync + AllocGlobal,
+    R: Net<Listener = TcpListener, Stream = TcpStream>,
+{
+    let mut output = Vec::new(rt.alloc());
+    let mut faults = Vec::new(rt.alloc());
+    let mut nothing = b"".as_slice();
+    let status = does(rt, words, &mut nothing, &mut output, &mut faults);
+    status == 0 && output.as_slice() == printed.as_bytes() && faults.is_empty()
+}
+
+// The threads start here, where the runtime is known: over any runtime the files that a part opens could not be sent to them.
+#[test]
+fn nodes_and_clients_end_with_0(rt: HostRuntime) -> io::Result<()> {
+    let table = Table::new(&rt, free_port(&rt)?)?;
+    let mut parts = parts_of(&rt)?;
+    thread::for_each_mut(
+        &rt,
+        parts.as_mut_slice(),
+        3,
+        &|_, part| take_part(&rt, &table, part),
+    );
+    fs::remove_file(&rt, table.file.as_str())?;
+    assert!(rt; have_ended_well(parts.as_slice()));
+    Ok(())
+}
