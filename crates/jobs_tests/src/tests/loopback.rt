@@ -19,7 +19,7 @@ const ANSWERS: &str = "ballot 2\ncrashed 1\nrefused 24\nbye\n";
 const PRINTED: &str = "2 0 t/1 x\n";
 
 // How long the nodes and then the subscriber get to come, in milliseconds.
-const REST: u64 = 1_500;
+const REST: u64 = 3_000;
 
 // A file with a table of two nodes, of which the first serves on an address, and that address.
 #[derive(Drop)]
