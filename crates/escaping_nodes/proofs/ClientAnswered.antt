@@ -30,7 +30,7 @@ use Rattle.escaping.specs.Waiting.{AwaitsAnswer}
 use Rattle.escaping.specs.Welcome.{IsWelcomedBack}
 use Rattle.escaping.specs.group_model.Group.{replica_of}
 use Rattle.escaping.specs.group_model.node_model.Moves.Deed.{takes, gives}
-use Rattle.escaping.specs.group_model.snapshots.Past.{Moment, Past}
+use Rattle.escaping.specs.group_model.snapshots.Past.{Moment, Past, whole_moment}
 use Rattle.escaping.specs.group_model.snapshots.World.{messages, outputs}
 use Rattle.escaping.specs.group_model.world_base.declared.Connection.{Connection}
 use Rattle.escaping.specs.group_model.world_base.declared.item.Item.TheVariants.{Bytes, Peer}
@@ -51,7 +51,9 @@ use Rattle.escaping.proofs.ConnectProposed.{connect_is_proposed}
 use Rattle.world_nodes.specs.Goes.{behind_deed}
 use Rattle.world_nodes.specs.Nodes.{NodesState, cores_of}
 use Rattle.cut_ways.specs.Deliveries.{Delivered, after_outcome}
-use Rattle.cut_ways.specs.ways_out.Deliveries.{numbers_from}
+use Rattle.cut_ways.specs.ways_out.Deliveries.{AreApart, NodeIs, numbers_from}
+use Rattle.cut_ways.specs.ways_out.Following.{Follows}
+use Rattle.lists.specs.Lists.{In}
 use Rattle.cut_answers.specs.Answering.{AnswersCommand, IsHeldByAll}
 use Rattle.cut_answers.proofs.CutGroupsAnswer.{cut_groups_answer}
 use Rattle.escaping_nodes.specs.Answered.{CanAsk, OthersLetTheClientBeAnswered, PutsOutAtLast, SoleMemberAnswersTheClient, begun, last_held, session_present}
@@ -63,11 +65,20 @@ use Rattle.escaping_nodes.proofs.NodesFollow.{IsCalmOrLow, deliveries_are_follow
 -- ---- the connection waits while messages come
 
 -- the node at a place, which leads on, and its connection
-record StillWaits (ballot place : ℕ) (port : Port) (x : ConnectionName) (n : NodesState) : Type 0 where
-  node : CountedCore
-  stands : slice_get n.nodes place ≡ Some node
-  leads : LeadsAt ballot (replica_of node.core)
-  waits : AwaitsAnswer port x node.core
+pub record StillWaits (ballot place : ℕ) (port : Port) (x : ConnectionName) (n : NodesState) : Type 0 where
+  pub node : CountedCore
+  pub stands : slice_get n.nodes place ≡ Some node
+  pub leads : LeadsAt ballot (replica_of node.core)
+  pub waits : AwaitsAnswer port x node.core
+
+-- so it waits while these messages come, which bring the moment to another
+pub record AwaitsOthers (ballot place : ℕ) (port : Port) (x : ConnectionName) (ks : List ℕ) (n : NodesState) : Type 0 where
+  pub moment : Moment State Command Output
+  pub before : Moment State Command Output
+  pub delivered : Delivered rules ballot moment ks before
+  pub seen : IsSeen moment n
+  pub calm : AreCalm ballot n
+  pub waits : StillWaits ballot place port x n
 
 -- .. where another node changes
 elsewhere : (ballot place : ℕ) (port : Port) (x : ConnectionName) (n v : NodesState) (at : ℕ) (new : CountedCore) → (place ≡ at → ⊥) → v.nodes ≡ slice_set n.nodes at new →
@@ -99,7 +110,7 @@ message_kept ballot place port x n node m there calm silent joined replica leads
     (leads_with ballot (record node.core.replica { state = (heard_by node.core m).state }) (node_step (Peer m) node.core).core.replica replica on)
     (messages_keep_it_waiting port x node.core m waits calm leads.runs silent (ap is_active on.role) on.runs)
 
-waits_on : (ballot place : ℕ) (port : Port) (x : ConnectionName) (a b : Moment State Command Output) (ks : List ℕ) → Delivered rules ballot a ks b → (n new : NodesState) → Come n ks new → IsSeen a n →
+pub waits_on : (ballot place : ℕ) (port : Port) (x : ConnectionName) (a b : Moment State Command Output) (ks : List ℕ) → Delivered rules ballot a ks b → (n new : NodesState) → Come n ks new → IsSeen a n →
     AreCalm ballot n → StillWaits ballot place port x n → StillWaits ballot place port x new
 waits_on ballot place port x a b ks d n new none_comes s calm w = w
 waits_on ballot place port x a b ks d n new (comes_to_node k at node message came there going more) s calm w =
@@ -216,9 +227,7 @@ module _ (config : Config) (a : Moment State Command Output) (past : List (Momen
 
   -- ---- with others
 
-  module _ (front : List ℕ) (last : ℕ) (new : NodesState) (h : IsHeldByAll rules a place ballot r log c front last)
-      (comes : Come (behind_deed place node (takes (Bytes port piece now)) n)
-      (numbers_from (length n.sent) (length front + 1) ++ numbers_from (length n.sent + (length front + 1)) (length front)) new) where
+  module _ (front : List ℕ) (last : ℕ) (h : IsHeldByAll rules a place ballot r log c front last) where
     abbrev turn : Turn
     turn = node_step (Bytes port piece now) core
 
@@ -258,26 +267,32 @@ module _ (config : Config) (a : Moment State Command Output) (past : List (Momen
     delivered = subst (λ (l : List (ℕ × Message Command)). Delivered rules ballot (after_outcome place o a)
         (numbers_from (length l) (length front + 1) ++ numbers_from (length l + (length front + 1)) (length front)) h.before) can.seen.sent h.delivered
 
-    seen_last : IsSeen h.before new
-    seen_last = (deliveries_are_followed ballot (after_outcome place o a) h.before _ delivered first new comes seen_first calm_first).seen
+    pub awaits_others : AwaitsOthers ballot place port x
+        (numbers_from (length n.sent) (length front + 1) ++ numbers_from (length n.sent + (length front + 1)) (length front)) first
+    awaits_others = record { moment = after_outcome place o a; before = h.before; delivered = delivered; seen = seen_first; calm = calm_first; waits = waits_first }
 
-    pub with_others : PutsOutAtLast place (length n.sent + 2 * length front + 1) port (last_held last ballot log) new
-    with_others = by (waits_on ballot place port x (after_outcome place o a) h.before _ delivered first new comes seen_first calm_first waits_first)
-      where
-        by : StillWaits ballot place port x new → PutsOutAtLast place (length n.sent + 2 * length front + 1) port (last_held last ballot log) new
-        by w =
-            record {
-              node = w.node;
-              stands = w.stands;
-              runs = w.leads.runs;
-              comes = ap (λ (l : List (ℕ × Message Command)). slice_get l (length n.sent + 2 * length front + 1)) (sym seen_last.sent)
-                  ∙ subst (λ (l : List (ℕ × Message Command)). slice_get h.before.world.sent (length l + 2 * length front + 1) ≡ Some (place + 1, last_held last ballot log)) can.seen.sent h.comes;
-              puts = answer_is_put_out w.node.core (last_held last ballot log) port x w.waits.connection (length log) session_present welcomed.rest h.primary.answers.rest w.leads.runs
-                  w.waits.listed w.waits.named w.waits.none
-                  (subst (λ (s : ReplicaState State Command). (received rules s last (last_held last ballot log).body).effects ≡ map (Out (length log)) (Send x session_present ∷ welcomed.rest) ++ h.primary.answers.rest)
-                  (some_one (slice_get h.before.world.nodes place) h.primary.replica (replica_of w.node.core) h.primary.stands (replica_at h.before new seen_last place w.node w.stands))
-                  (begins _ h.primary.answers.rest h.primary.answers.gives)) some_spelled short_spelled;
-            }
+    module _ (new : NodesState)
+        (comes : Come first (numbers_from (length n.sent) (length front + 1) ++ numbers_from (length n.sent + (length front + 1)) (length front)) new) where
+      seen_last : IsSeen h.before new
+      seen_last = (deliveries_are_followed ballot (after_outcome place o a) h.before _ delivered first new comes seen_first calm_first).seen
+
+      pub with_others : PutsOutAtLast place (length n.sent + 2 * length front + 1) port (last_held last ballot log) new
+      with_others = by (waits_on ballot place port x (after_outcome place o a) h.before _ delivered first new comes seen_first calm_first waits_first)
+        where
+          by : StillWaits ballot place port x new → PutsOutAtLast place (length n.sent + 2 * length front + 1) port (last_held last ballot log) new
+          by w =
+              record {
+                node = w.node;
+                stands = w.stands;
+                runs = w.leads.runs;
+                comes = ap (λ (l : List (ℕ × Message Command)). slice_get l (length n.sent + 2 * length front + 1)) (sym seen_last.sent)
+                    ∙ subst (λ (l : List (ℕ × Message Command)). slice_get h.before.world.sent (length l + 2 * length front + 1) ≡ Some (place + 1, last_held last ballot log)) can.seen.sent h.comes;
+                puts = answer_is_put_out w.node.core (last_held last ballot log) port x w.waits.connection (length log) session_present welcomed.rest h.primary.answers.rest w.leads.runs
+                    w.waits.listed w.waits.named w.waits.none
+                    (subst (λ (s : ReplicaState State Command). (received rules s last (last_held last ballot log).body).effects ≡ map (Out (length log)) (Send x session_present ∷ welcomed.rest) ++ h.primary.answers.rest)
+                    (some_one (slice_get h.before.world.nodes place) h.primary.replica (replica_of w.node.core) h.primary.stands (replica_at h.before new seen_last place w.node w.stands))
+                    (begins _ h.primary.answers.rest h.primary.answers.gives)) some_spelled short_spelled;
+              }
 
 pub sole_member_answers_the_client : SoleMemberAnswersTheClient
 sole_member_answers_the_client config a past came n ballot place node port x list start now piece connect can =
@@ -287,6 +302,20 @@ sole_member_answers_the_client config a past came n ballot place node port x lis
 
 pub others_let_the_client_be_answered : OthersLetTheClientBeAnswered
 others_let_the_client_be_answered config a past came n new ballot place node front last port x list start now piece connect can apart out each comes =
-    with_others config a past came n ballot place node (front ++ last ∷ []) port x list start now piece connect can front last new
-    ((cut_groups_answer rules config a past came ballot place (replica_of node.core) (begun list start) (front ++ last ∷ []) (commands.Connect x connect.client false)
-    (replica_at a n can.seen place node can.stands) can.serves can.room).1 front last refl apart out each) comes
+    let h =
+    (cut_groups_answer rules config a past came ballot place (replica_of node.core) (begun list start) (front ++ last ∷ []) (commands.Connect x connect.client false)
+    (replica_at a n can.seen place node can.stands) can.serves can.room).1 front last refl apart out each in
+    with_others config a past came n ballot place node (front ++ last ∷ []) port x list start now piece connect can front last h new comes
+
+-- and meanwhile the connection waits
+pub others_are_awaited : (config : Config) (a : Moment State Command Output) (past : List (Moment State Command Output)) → Past rules config (a ∷ past) → (n : NodesState) (ballot place : ℕ)
+    (node : CountedCore) (front : List ℕ) (last : ℕ) (port : Port) (x : ConnectionName) (list : List Command) (start now : ℕ) (piece : List ℕ) (connect : Connect) →
+    CanAsk a n ballot place node (front ++ last ∷ []) port x list start piece connect → AreApart (front ++ last ∷ []) → (In (place + 1) (front ++ last ∷ []) → ⊥) →
+    ((m : ℕ) → In m (front ++ last ∷ []) → NodeIs (Follows ballot (begun list start)) (whole_moment a).world.nodes m) →
+    AwaitsOthers ballot place port x (numbers_from (length n.sent) (length front + 1) ++ numbers_from (length n.sent + (length front + 1)) (length front))
+    (behind_deed place node (takes (Bytes port piece now)) n)
+others_are_awaited config a past came n ballot place node front last port x list start now piece connect can apart out each =
+    let h =
+    (cut_groups_answer rules config a past came ballot place (replica_of node.core) (begun list start) (front ++ last ∷ []) (commands.Connect x connect.client false)
+    (replica_at a n can.seen place node can.stands) can.serves can.room).1 front last refl apart out each in
+    awaits_others config a past came n ballot place node (front ++ last ∷ []) port x list start now piece connect can front last h

@@ -1,5 +1,6 @@
 -- Nodes are led out by an Assign and the messages of a way out.
-use Rattle.std.proofs.Common.{◌≡◌, inr, ℕ, ◌+◌, ◌-◌, List, [], ◌∷◌, ◌++◌, length, refl, sym, ap, ◌∙◌, subst}
+use Rattle.std.proofs.Common.{◌≡◌, inr, ◌<◌, ℕ, ◌+◌, ◌-◌, List, [], ◌∷◌, ◌++◌, length, Some, refl, sym, ap, ◌∙◌, subst}
+use Rattle.std.specs.Prelude.{slice_get}
 use Rattle.ballot.specs.Config.{Config}
 use Rattle.ballot.specs.Message.{Message}
 use Rattle.broker_base.specs.Command.{Command}
@@ -8,15 +9,15 @@ use Rattle.broker_base.specs.State.{State}
 use Rattle.escaping.specs.group_model.Group.{replica_of}
 use Rattle.escaping.specs.group_model.snapshots.agreement.MasterState.{MasterState, assigning}
 use Rattle.escaping.specs.group_model.snapshots.Masters.{assigned}
-use Rattle.escaping.specs.group_model.snapshots.Past.{Moment, whole_moment}
+use Rattle.escaping.specs.group_model.snapshots.Past.{Moment, Past, whole_moment}
 use Rattle.escaping.specs.group_model.snapshots.Whole.{whole}
-use Rattle.escaping.specs.group_model.world_base.Core.{rules}
+use Rattle.escaping.specs.group_model.world_base.Core.{CountedCore, rules}
 use Rattle.escaping.proofs.of_group_model.of_snapshots.PastsKept.{StandsFor, past_stands}
 use Rattle.escaping.proofs.of_group_model.of_snapshots.Views.{get_whole}
 use Rattle.world_nodes.specs.Goes.{behind_giving}
 use Rattle.world_nodes.specs.Nodes.{NodesState}
 use Rattle.cut_ways.specs.ways_out.Deliveries.{way_out}
-use Rattle.cut_ways.specs.ways_out.Laws.{StartsGiveNothing}
+use Rattle.cut_ways.specs.ways_out.Laws.{CanBeLed, StartsGiveNothing}
 use Rattle.cut_ways.proofs.of_ways_out.Premises.{joined_below}
 use Rattle.cut_ways.specs.Deliveries.{assigned_moment}
 use Rattle.cut_ways.specs.Laws.{LeadsOut}
@@ -29,7 +30,7 @@ use Rattle.escaping_nodes.proofs.NodesFollow.{deliveries_are_followed, replica_a
 starts_give_nothing : StartsGiveNothing rules
 starts_give_nothing s b = refl
 
-assigned_seen : (a : Moment State Command Output) (n : NodesState) (new : Config) → IsSeen a n → IsSeen (assigned_moment new a) (behind_giving new n)
+pub assigned_seen : (a : Moment State Command Output) (n : NodesState) (new : Config) → IsSeen a n → IsSeen (assigned_moment new a) (behind_giving new n)
 assigned_seen a n new s =
     record {
       master = ap (λ (m : MasterState). assigning m new) s.master;
@@ -39,17 +40,26 @@ assigned_seen a n new s =
       archive = s.archive;
     }
 
-pub nodes_are_led_out : NodesAreLedOut
-nodes_are_led_out config a past came new place source log can n end s comes =
-    by (cut_groups_have_ways_out rules starts_give_nothing config a past came new place source log can)
+-- no node has joined a ballot that is given next
+pub low_before : (config : Config) (a : Moment State Command Output) (past : List (Moment State Command Output)) → Past rules config (a ∷ past) → (n : NodesState) → IsSeen a n →
+    (at : ℕ) (node : CountedCore) → slice_get n.nodes at ≡ Some node → node.core.replica.state.joined < a.master.given + 1
+low_before config a past came n s at node there =
+    joined_below rules config (whole_moment a) stands.earlier stands.kept.came at (whole a.world.archive (replica_of node.core))
+    (get_whole (whole a.world.archive) a.world.nodes at (replica_of node.core) (replica_at a n s at node there))
   where
     stands : StandsFor rules config a past
     stands = past_stands rules config a past came
 
+-- and there is a way out
+pub way_of : (config : Config) (a : Moment State Command Output) (past : List (Moment State Command Output)) → Past rules config (a ∷ past) → (new : Config) (place source : ℕ)
+    (log : List Command) → CanBeLed (whole_moment a) new place source log → LeadsOut rules config (a ∷ past) a new place log
+way_of config a past came new place source log can = cut_groups_have_ways_out rules starts_give_nothing config a past came new place source log can
+
+pub nodes_are_led_out : NodesAreLedOut
+nodes_are_led_out config a past came new place source log can n end s comes = by (way_of config a past came new place source log can)
+  where
     fresh : AreCalm (a.master.given + 1) (behind_giving new n)
-    fresh at node there =
-        inr (joined_below rules config (whole_moment a) stands.earlier stands.kept.came at (whole a.world.archive (replica_of node.core))
-        (get_whole (whole a.world.archive) a.world.nodes at (replica_of node.core) (replica_at a n s at node there)))
+    fresh at node there = inr (low_before config a past came n s at node there)
 
     same : way_out (length n.sent) (length n.master.members) place (length new.members - 1)
         ≡ way_out (length a.world.sent) (length a.master.members) place (length new.members - 1)

@@ -78,6 +78,12 @@ set_calm ballot nodes at node new there now before i x e = by (cases_eq i at)
         (some_one (slice_get (slice_set nodes at new) at) new x (get_set nodes at node new there) (ap (slice_get (slice_set nodes at new)) (sym same) ∙ e)) now
     by (inr other) = before i x (sym (get_set_other nodes at i new other) ∙ e)
 
+-- the replicas, where one becomes what it was
+pub set_same_replica : (n : NodesState) (at : ℕ) (node : CountedCore) → slice_get n.nodes at ≡ Some node →
+    slice_set (map replica_of (cores_of n.nodes)) at (replica_of node.core) ≡ map replica_of (cores_of n.nodes)
+set_same_replica n at node there =
+    set_same (map replica_of (cores_of n.nodes)) at (replica_of node.core) (get_mapped replica_of (cores_of n.nodes) at node.core (get_mapped core_of n.nodes at node there))
+
 -- ---- bytes are handed over
 
 pub hands_keep : (port : Port) (core : CoreState) → ((hands_over port core).replica ≡ core.replica) × (IsCalm core → IsCalm (hands_over port core))

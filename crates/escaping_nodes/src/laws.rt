@@ -6,6 +6,7 @@ ghost use Rattle.escaping_nodes.specs.Answered.{
 };
 ghost use Rattle.escaping_nodes.specs.Coming.{DeliveriesAreFollowed};
 ghost use Rattle.escaping_nodes.specs.Led.{NodesAreLedOut};
+ghost use Rattle.escaping_nodes.specs.Opened.{ConnectionsOpenFirst, WelcomedAreKept};
 
 /// Says that nodes to which the messages of a way out come, by their numbers, each exactly, go through what these deliveries make
 /// of their replicas, whatever the nodes keep of connections and hand over in between; and that no node gives a name.
@@ -30,4 +31,16 @@ pub fn sole_member_answers_the_client()
 /// last answer makes the primary put the CONNACK out first, whatever is handed over in between.
 pub fn others_let_the_client_be_answered()
     ensures { OthersLetTheClientBeAnswered }
+{}
+
+/// Says that a connection which opens at the new primary, at a port that is new to it, awaits its CONNECT there under the first
+/// name of the ballot, whatever bytes are handed over then; and that the primary still leads the ballot with the same log.
+pub fn connections_open_first()
+    ensures { ConnectionsOpenFirst }
+{}
+
+/// Says that a client would be welcomed back after some commands and a ballot's start exactly where it has a session after these
+/// commands that is not clean (MQTT 3.1.2.4, 3.2.2.2).
+pub fn welcomed_are_kept()
+    ensures { WelcomedAreKept }
 {}

@@ -5,6 +5,6 @@
 mod laws;
 
 pub use laws::{
-    deliveries_are_followed, nodes_are_led_out, others_let_the_client_be_answered,
-    sole_member_answers_the_client,
+    connections_open_first, deliveries_are_followed, nodes_are_led_out,
+    others_let_the_client_be_answered, sole_member_answers_the_client, welcomed_are_kept,
 };

@@ -1,0 +1,125 @@
+-- The connection of a client that comes back opens at the new primary, and awaits its CONNECT there.
+use Rattle.std.proofs.Common.{◌≡◌, ◌⊎◌, inl, inr, ◌<◌, ◌≤◌, ◌^◌, ℕ, ◌+◌, Bool, true, not, List, [], ◌++◌, map, Some, sym, ap, ◌∙◌, subst, arith}
+use Rattle.std.specs.Prelude.{slice_get, slice_set, ◌&&◌}
+use Rattle.std.specs.List.{find}
+use Rattle.std.proofs.lemmas.Bool.{cases_eq}
+use Rattle.std.proofs.lemmas.List.{append-nil}
+use Rattle.lists.proofs.Places.{get_set, get_set_other}
+use Rattle.ballot.specs.Replica.{CountedReplica, is_active}
+use Rattle.broker_base.specs.Command.{Command}
+use Rattle.broker_base.specs.Connection.{ConnectionName}
+use Rattle.broker_base.specs.Output.{Output}
+use Rattle.broker_base.specs.State.{State}
+use Rattle.escaping.specs.Delivery.{IsCalm}
+use Rattle.escaping.specs.Opening.{first_name, with_first}
+use Rattle.escaping.specs.Waiting.{AwaitsConnect}
+use Rattle.escaping.specs.group_model.Group.{replica_of}
+use Rattle.escaping.specs.group_model.node_model.Moves.Deed.{takes, gives}
+use Rattle.escaping.specs.group_model.snapshots.Past.{Moment}
+use Rattle.escaping.specs.group_model.snapshots.Whole.{whole}
+use Rattle.escaping.specs.group_model.snapshots.World.{messages}
+use Rattle.escaping.specs.group_model.world_base.declared.item.Item.TheVariants.{Opened}
+use Rattle.escaping.specs.group_model.world_base.declared.Port.{Port}
+use Rattle.escaping.specs.group_model.world_base.Connections.{is_open_named}
+use Rattle.escaping.specs.group_model.world_base.Core.{CoreState, CountedCore, Turn, serves}
+use Rattle.escaping.specs.group_model.world_base.Handing.{hands_over}
+use Rattle.escaping.specs.group_model.world_base.Step.{node_step}
+use Rattle.escaping.specs.group_model.world_base.Turns.{quiet}
+use Rattle.escaping.proofs.of_group_model.of_node_model.LossesTold.{each_loss_is_told}
+use Rattle.escaping.proofs.AnswerAwaited.{first_awaits_connect, handing_keeps_the_connect}
+use Rattle.escaping.proofs.FirstOpened.{first_is_opened}
+use Rattle.world_nodes.specs.Goes.{behind_deed}
+use Rattle.world_nodes.specs.Nodes.{NodesState, cores_of}
+use Rattle.cut_ways.specs.ways_out.Following.{Serves}
+use Rattle.escaping_nodes.specs.Coming.{AreCalm, Come, IsSeen}
+use Rattle.escaping_nodes.specs.Coming.Come.{all_came as none_comes, hands}
+use Rattle.escaping_nodes.specs.Opened.{CanOpen, ConnectionsOpenFirst, IsOpened, first_of}
+use Rattle.escaping_nodes.proofs.NodesFollow.{IsCalmOrLow, hands_calm, hands_keep, hands_seen, nodes_set, set_calm, set_same_replica, some_one}
+
+-- a primary that leads its ballot serves clients, and the broker heard of each failed connection
+calm_there : (ballot : ℕ) (node : CountedCore) → node.core.replica.state.joined ≡ ballot → IsCalmOrLow ballot node → IsCalm node.core
+calm_there ballot node same (inl calm) = calm
+calm_there ballot node same (inr low) = absurd (omega (arith, same, low))
+
+module _ (a : Moment State Command Output) (n : NodesState) (ballot place : ℕ) (node : CountedCore) (others_of : List ℕ) (log : List Command) (port : Port) (now : ℕ)
+    (can : CanOpen a n ballot place node others_of log port) where
+  abbrev core : CoreState
+  core = node.core
+
+  joined : core.replica.state.joined ≡ ballot
+  joined = can.serves.leads.joined
+
+  named : first_name core ≡ first_of ballot
+  named = ap first_of joined
+
+  leads : serves core ≡ true
+  leads = ap (λ (b : Bool). b && not core.replica.state.stopped) (ap is_active can.serves.leads.role) ∙ ap not can.serves.leads.runs
+
+  step : node_step (Opened port now) core ≡ quiet (with_first port core)
+  step =
+      first_is_opened core port now leads (calm_there ballot node joined (can.calm place node can.stands))
+      (subst (λ (b : ℕ). core.last_name.ballot < b) (sym joined) can.low) (subst (λ (b : ℕ). b ≤ 2 ^ 32) (sym joined) can.most) can.free
+
+  abbrev after : CountedCore
+  after = record node { core = (node_step (Opened port now) core).core }
+
+  same : after.core.replica ≡ core.replica
+  same = ap (λ (t : Turn). t.core.replica) step
+
+  pub opened_first : IsOpened a (behind_deed place node (takes (Opened port now)) n) ballot place others_of log port
+  opened_first =
+      record {
+        seen = record {
+          master = can.seen.master;
+          nodes = can.seen.nodes ∙ sym (nodes_set n.nodes place after ∙ ap (λ (r : CountedReplica State Command). slice_set (map replica_of (cores_of n.nodes)) place r.state) same
+              ∙ set_same_replica n place node can.stands);
+          sent = can.seen.sent ∙ sym (ap (λ (t : Turn). n.sent ++ messages t.messages) step ∙ append-nil n.sent);
+          archive = can.seen.archive;
+        };
+        calm = set_calm ballot n.nodes place node after can.stands (inl (each_loss_is_told (Opened port now) core)) can.calm;
+        node = after;
+        stands = get_set n.nodes place node after can.stands;
+        serves = subst (λ (r : CountedReplica State Command). Serves ballot log others_of (place + 1) (whole a.world.archive r.state)) (sym same) can.serves;
+        awaits = subst (λ (x : ConnectionName). AwaitsConnect port x after.core) named
+            (subst (λ (t : Turn). AwaitsConnect port (first_name core) t.core) (sym step)
+            (first_awaits_connect port core can.free (ap (λ (x : ConnectionName). find (is_open_named x) core.connections) named ∙ can.unnamed)));
+      }
+
+-- it awaits it still where bytes are handed over
+handed : (a : Moment State Command Output) (n : NodesState) (ballot place : ℕ) (others_of : List ℕ) (log : List Command) (port : Port) (at : ℕ) (other : CountedCore) (p : Port) →
+    slice_get n.nodes at ≡ Some other → IsOpened a n ballot place others_of log port → IsOpened a (behind_deed at other (gives p) n) ballot place others_of log port
+handed a n ballot place others_of log port at other p there o = by (cases_eq place at)
+  where
+    after : CountedCore
+    after = record other { core = hands_over p other.core }
+
+    seen : IsSeen a (behind_deed at other (gives p) n)
+    seen = hands_seen a n at other p there o.seen
+
+    calm : AreCalm ballot (behind_deed at other (gives p) n)
+    calm = hands_calm ballot n at other p there o.calm
+
+    by : (place ≡ at) ⊎ (place ≡ at → ⊥) → IsOpened a (behind_deed at other (gives p) n) ballot place others_of log port
+    by (inr apart) =
+        record { seen = seen; calm = calm; node = o.node; stands = get_set_other n.nodes at place after apart ∙ o.stands; serves = o.serves; awaits = o.awaits }
+    by (inl same) =
+        let one : o.node ≡ other = some_one (slice_get n.nodes at) o.node other (ap (slice_get n.nodes) (sym same) ∙ o.stands) there in
+        record {
+          seen = seen;
+          calm = calm;
+          node = after;
+          stands = ap (slice_get (slice_set n.nodes at after)) same ∙ get_set n.nodes at other after there;
+          serves = subst (λ (r : CountedReplica State Command). Serves ballot log others_of (place + 1) (whole a.world.archive r.state)) (sym (hands_keep p other.core).0)
+              (subst (λ (c : CountedCore). Serves ballot log others_of (place + 1) (whole a.world.archive (replica_of c.core))) one o.serves);
+          awaits = handing_keeps_the_connect port p (first_of ballot) other.core (subst (λ (c : CountedCore). AwaitsConnect port (first_of ballot) c.core) one o.awaits);
+        }
+
+opened_still : (a : Moment State Command Output) (n new : NodesState) (ballot place : ℕ) (others_of : List ℕ) (log : List Command) (port : Port) → Come n [] new →
+    IsOpened a n ballot place others_of log port → IsOpened a new ballot place others_of log port
+opened_still a n new ballot place others_of log port none_comes o = o
+opened_still a n new ballot place others_of log port (hands at other p there more) o =
+    opened_still a _ new ballot place others_of log port more (handed a n ballot place others_of log port at other p there o)
+
+pub connections_open_first : ConnectionsOpenFirst
+connections_open_first a n new ballot place node others_of log port now can comes =
+    opened_still a _ new ballot place others_of log port comes (opened_first a n ballot place node others_of log port now can)

@@ -1,0 +1,60 @@
+-- A client that comes back: its connection opens at the new primary, and awaits its CONNECT there.
+use Rattle.std.specs.Prelude.{◌≡◌, ◌<◌, ◌≤◌, ◌^◌, ℕ, ◌+◌, true, false, List, [], None, Some, slice_get}
+use Rattle.std.specs.List.{find, list_any}
+use Rattle.broker_base.specs.Command.{Command}
+use Rattle.broker_base.specs.Commands.{past_of, usual_limits}
+use Rattle.broker_base.specs.Connection.{ConnectionName}
+use Rattle.broker_base.specs.Output.{Output}
+use Rattle.broker_base.specs.Past.{session_of}
+use Rattle.broker_base.specs.Place.{Client}
+use Rattle.broker_base.specs.State.{State}
+use Rattle.escaping.specs.Waiting.{AwaitsConnect}
+use Rattle.escaping.specs.group_model.Group.{replica_of}
+use Rattle.escaping.specs.group_model.node_model.Moves.Deed.{takes}
+use Rattle.escaping.specs.group_model.snapshots.Past.{Moment}
+use Rattle.escaping.specs.group_model.snapshots.Whole.{whole}
+use Rattle.escaping.specs.group_model.world_base.declared.item.Item.TheVariants.{Opened}
+use Rattle.escaping.specs.group_model.world_base.declared.Port.{Port}
+use Rattle.escaping.specs.group_model.world_base.Connections.{is_at, is_open_named}
+use Rattle.escaping.specs.group_model.world_base.Core.{CountedCore}
+use Rattle.world_nodes.specs.Asking.{welcomes_back}
+use Rattle.world_nodes.specs.Goes.{behind_deed}
+use Rattle.world_nodes.specs.Nodes.{NodesState}
+use Rattle.cut_ways.specs.ways_out.Following.{Serves}
+use Rattle.escaping_nodes.specs.Coming.{AreCalm, Come, IsSeen}
+
+-- the first name that is given in a ballot
+abbrev pub first_of : ℕ → ConnectionName
+first_of ballot = record { ballot = ballot; count = 1 }
+
+-- the node at a place leads a ballot in which it gave no name yet, and lists no connection at this port
+pub record CanOpen (a : Moment State Command Output) (n : NodesState) (ballot place : ℕ) (node : CountedCore) (others_of : List ℕ) (log : List Command)
+    (port : Port) : Type 0 where
+  pub seen : IsSeen a n
+  pub calm : AreCalm ballot n
+  pub stands : slice_get n.nodes place ≡ Some node
+  pub serves : Serves ballot log others_of (place + 1) (whole a.world.archive (replica_of node.core))
+  pub low : node.core.last_name.ballot < ballot
+  pub most : ballot ≤ 2 ^ 32
+  pub free : list_any (is_at port) node.core.connections ≡ false
+  pub unnamed : find (is_open_named (first_of ballot)) node.core.connections ≡ None
+
+-- it leads the ballot still, and a connection of the first name awaits its CONNECT at this port
+pub record IsOpened (a : Moment State Command Output) (n : NodesState) (ballot place : ℕ) (others_of : List ℕ) (log : List Command) (port : Port) : Type 0 where
+  pub seen : IsSeen a n
+  pub calm : AreCalm ballot n
+  pub node : CountedCore
+  pub stands : slice_get n.nodes place ≡ Some node
+  pub serves : Serves ballot log others_of (place + 1) (whole a.world.archive (replica_of node.core))
+  pub awaits : AwaitsConnect port (first_of ballot) node.core
+
+-- so it is once the connection was opened, whatever bytes are handed over then
+abbrev pub ConnectionsOpenFirst : Type 0
+ConnectionsOpenFirst = (a : Moment State Command Output) (n new : NodesState) (ballot place : ℕ) (node : CountedCore) (others_of : List ℕ) (log : List Command)
+    (port : Port) (now : ℕ) → CanOpen a n ballot place node others_of log port → Come (behind_deed place node (takes (Opened port now)) n) [] new →
+    IsOpened a new ballot place others_of log port
+
+-- who would be welcomed back after these commands has a session that is not clean, and the other way round
+abbrev pub WelcomedAreKept : Type 0
+WelcomedAreKept = (client : Client) (list : List Command) → ((welcomes_back client list ≡ true) → (session_of (past_of usual_limits list) client ≡ Some false))
+    × ((session_of (past_of usual_limits list) client ≡ Some false) → (welcomes_back client list ≡ true))
