@@ -28,7 +28,11 @@ pub thinned_same : (e : Effect Command Output) → Thinned (e ∷ []) (e ∷ [])
 thinned_same e = keeps none
 
 pub keeps_none : (sent : Sent) → Keeps [] sent sent true
-keeps_none sent = record { kept = []; thinned = none; exact = λ e. refl; is = sym (append-nil sent) }
+keeps_none sent = record { kept = []; thinned = none; exact = λ e. refl; nothing = λ e. refl; is = sym (append-nil sent) }
+
+one_more_given : (given : Given) (e : Effect Command Output) → given ++ e ∷ [] ≡ [] → ⊥
+one_more_given [] e is = cc
+one_more_given (d ∷ given) e is = cc
 
 pub keeps_kept : (given : Given) (sent more later : Sent) (whole : Bool) (e : Effect Command Output) → Keeps given sent more whole
     → later ≡ more ++ messages (e ∷ []) → Keeps (given ++ e ∷ []) sent later whole
@@ -37,6 +41,7 @@ keeps_kept given sent more later whole e k is =
       kept = k.kept ++ e ∷ [];
       thinned = thinned_join k.thinned (thinned_same e);
       exact = λ w. ap (λ (l : Given). l ++ e ∷ []) (k.exact w);
+      nothing = λ empty. absurd (one_more_given given e empty);
       is = is ∙ ap (λ (l : Sent). l ++ messages (e ∷ [])) k.is ∙ append_assoc sent (messages k.kept) (messages (e ∷ []))
           ∙ ap (λ (l : Sent). sent ++ l) (sym (messages-append k.kept (e ∷ [])));
     }
@@ -48,6 +53,7 @@ keeps_lost given sent more later whole e k is lost =
       kept = k.kept;
       thinned = subst (λ (l : Given). Thinned l (given ++ e ∷ [])) (append-nil k.kept) (thinned_join k.thinned lost);
       exact = λ w. cc;
+      nothing = λ empty. absurd (one_more_given given e empty);
       is = is ∙ k.is;
     }
 

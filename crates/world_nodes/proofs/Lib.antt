@@ -1,4 +1,5 @@
 pub mod Acts
+mod Resting
 mod ActsLosing
 mod AgreedCounted
 mod CountsGoOn

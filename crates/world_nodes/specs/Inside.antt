@@ -1,5 +1,6 @@
 -- What the helpers of nodes say.
-use Rattle.std.specs.Prelude.{◌≡◌, ◌<◌, ℕ, Bool, true, ◌-◌, ◌++◌, List, Some, length, map, slice_get}
+use Rattle.std.specs.Prelude.{◌≡◌, ◌<◌, ◌^◌, ℕ, Bool, true, ◌-◌, ◌++◌, List, [], Some, None, length, map, slice_get}
+use Rattle.std.specs.List.{find}
 use Rattle.lists.specs.Lists.{In}
 use Rattle.ballot.specs.Replica.{ReplicaState}
 use Rattle.broker_base.specs.State.{State}
@@ -12,6 +13,8 @@ use Rattle.broker_base.specs.Output.{Output}
 use Rattle.world_base.specs.declared.item.Item.{Item}
 use Rattle.world_base.specs.declared.item.Item.TheVariants.{Cut, Peer}
 use Rattle.world_base.specs.Core.{CountedCore, rules}
+use Rattle.world_base.specs.Connections.{has_failed}
+use Rattle.world_base.specs.Losses.{DoesNothing, TakesNoMemory}
 use Rattle.world_base.specs.LossyStep.{RunsOn}
 use Rattle.world_base.specs.Step.{node_step}
 use Rattle.master.specs.Inside.{IsGroup, ToldIn, held_by}
@@ -24,6 +27,7 @@ pub record Keeps (given : List (Effect Command Output)) (sent more : List (ℕ �
   pub kept : List (Effect Command Output)
   pub thinned : Thinned kept given
   pub exact : whole ≡ true → kept ≡ given
+  pub nothing : given ≡ [] → whole ≡ true
   pub is : more ≡ sent ++ messages kept
 
 -- the node of a number runs, at a place
@@ -41,7 +45,15 @@ WasSent node (Peer message) sent = In (node, message) sent
 WasSent node Cut sent = ⊥
 WasSent node _ sent = Unit {0}
 
--- a node took an item in, perhaps with losses, and without any where it was whole
+-- the message of this number was sent to the node that runs at this place, and does not heed it
+pub record IsPassedOver (at number : ℕ) (n : NodesState) : Type 0 where
+  pub node : ℕ
+  pub message : Message Command
+  pub sent : slice_get n.sent number ≡ Some (node, message)
+  pub runs : RunsAt n.nodes node at
+  pub nothing : DoesNothing (Peer message) runs.core.core
+
+-- a node took an item in, perhaps with losses, and without any where it was whole, as where the item takes no memory
 pub record TookItem (old : CountedCore) (item : Item) (new : CountedCore) (sent more : List (ℕ × Message Command)) (whole : Bool) : Type 0 where
   pub wanted : List (Effect Command Output)
   pub kept : List (Effect Command Output)
@@ -49,6 +61,7 @@ pub record TookItem (old : CountedCore) (item : Item) (new : CountedCore) (sent 
   pub thinned : Thinned kept wanted
   pub is : more ≡ sent ++ messages kept
   pub exact : whole ≡ true → (new ≡ record old { core = (node_step item old.core).core }) × (kept ≡ (node_step item old.core).messages)
+  pub rests : TakesNoMemory item old.core → find has_failed old.core.connections ≡ None → old.losses < 2 ^ 64 - 1 → whole ≡ true
 
 -- Nodes came to be as a group of the model does, and count what their messages tell: in the active ballot, and in the one
 -- that waits.

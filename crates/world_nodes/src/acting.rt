@@ -7,14 +7,15 @@ ghost use Rattle.ballot.specs.Losses.{one_more};
 ghost use Rattle.lists.specs.Lists.{In};
 ghost use Rattle.agreement.specs.MasterState.{refusal};
 ghost use Rattle.world_model.specs.node_model.Moves.Deed.{takes};
-ghost use Rattle.world_nodes.specs.Goes.{Acts, CutsExactly, TakesExactly, running};
-ghost use Rattle.world_nodes.specs.Steps.{ActsOrRests, CutsIn, GivesIn, HearsIn, LosesNothing, MasterGoes, TakesIn, forgetful};
+ghost use Rattle.world_nodes.specs.Goes.{Acts, Comes, CutsExactly, TakesExactly, running};
+ghost use Rattle.world_nodes.specs.Quiet.{ComesUnheeded, RestsAt};
+ghost use Rattle.world_nodes.specs.Steps.{ActsOrRests, ComesIn, ComesOrRests, CutsIn, GivesIn, HearsIn, LosesNothing, MasterGoes, TakesIn, forgetful};
 ghost use Rattle.world_base.specs.Core.{CountedCore};
-ghost use Rattle.world_nodes.specs.Inside.{RunsAt, WasSent};
+ghost use Rattle.world_nodes.specs.Inside.{IsPassedOver, RunsAt, WasSent};
 
 use crate::keeping::counted;
 use crate::nodes::Nodes;
-use crate::turning::{cut_back, take_in};
+use crate::turning::{cut_back, pass_over, take_in};
 use broker::BrokerMachine;
 use master::{Idle, answer_of, config_of, record, tell};
 use world_base::{Body, Command, Config, Item, Members, Memory, Message};
@@ -27,6 +28,8 @@ impl Nodes {
         ensures goes { LosesNothing self.old self.new →
             OnOk result (TakesExactly node item self.old self.new) }
         ensures acts { OnOk result (Acts (node - 1) (takes item) self.old self.new) }
+        ensures quiet { RestsAt node item self.old →
+            OnOk result (TakesExactly node item self.old self.new) }
         ensures rises { self.old.losses ≤ self.new.losses }
         ensures idle { IsErr result ↔ (running self.old.nodes node ≡ None) }
         ensures same { OnErr result (self.new ≡ self.old) }
@@ -40,6 +43,25 @@ impl Nodes {
         self.counters.hear_from(&self.sent, from);
         self.losses = counted(self.losses, whole, true);
         Ok(())
+    }
+
+    // The node at this place passes the message of a number over, which was sent to it, and which it does not heed: as in
+    // `act`, and no copy of it is made.
+    pub(crate) fn pass_over(&mut self, at: usize, number: usize)
+        requires { IsPassedOver at number self.old }
+        ensures step { ComesIn (slice_get self.old.sent number) self.old self.new }
+        ensures goes { LosesNothing self.old self.new →
+            Comes (slice_get self.old.sent number) self.old self.new }
+        ensures acts { ComesOrRests (slice_get self.old.sent number) self.old self.new }
+        ensures quiet { ComesUnheeded (slice_get self.old.sent number) self.old →
+            Comes (slice_get self.old.sent number) self.old self.new }
+        ensures rises { self.old.losses ≤ self.new.losses }
+    {
+        let core = &mut self.nodes[at];
+        let from = self.sent.len();
+        let whole = pass_over(self.alloc, core, number, &mut self.sent);
+        self.counters.hear_from(&self.sent, from);
+        self.losses = counted(self.losses, whole, true);
     }
 
     // A node that has something to cut takes that item, once the record has what it applied. The record is cut back

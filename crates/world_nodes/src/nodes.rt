@@ -8,6 +8,7 @@ ghost use Rattle.world_model.specs.group_model.Group.{Group, opening_group};
 ghost use Rattle.world_model.specs.node_model.Moves.Deed.{takes};
 ghost use Rattle.world_nodes.specs.Nodes.{NodesState, StandsFor};
 ghost use Rattle.world_nodes.specs.Goes.{Acts, AnswersFor, Comes, ComesToNobody, CutsExactly, GivesExactly, HandsOver, TakesExactly, behind_giving, cutting, node_of, proposing, running};
+ghost use Rattle.world_nodes.specs.Quiet.{ComesUnheeded, RestsAt, WaitsAtNone};
 ghost use Rattle.world_nodes.specs.Steps.{ActsOrRests, ComesIn, ComesOrRests, CutsIn, ExpelsIn, GivesIn, HandsIn, LosesNothing, MasterGoesOrRests, TakesIn};
 
 use crate::counters::Counters;
@@ -111,12 +112,14 @@ impl Nodes {
     }
 
     /// The message of this number comes to its receiver. Idle where no such message was sent, or its
-    /// receiver is unknown or has stopped.
+    /// receiver is unknown or has stopped. One that its receiver does not heed takes no memory.
     pub fn deliver(&mut self, number: u64) -> Result<(), Idle>
         ensures step { OnOk result (ComesIn (slice_get self.old.sent number) self.old self.new) }
         ensures goes { LosesNothing self.old self.new →
             OnOk result (Comes (slice_get self.old.sent number) self.old self.new) }
         ensures acts { OnOk result (ComesOrRests (slice_get self.old.sent number) self.old self.new) }
+        ensures quiet { ComesUnheeded (slice_get self.old.sent number) self.old →
+            OnOk result (Comes (slice_get self.old.sent number) self.old self.new) }
         ensures rises { self.old.losses ≤ self.new.losses }
         ensures idle { IsErr result ↔ ComesToNobody (slice_get self.old.sent number) self.old }
         ensures same { OnErr result (self.new ≡ self.old) }
@@ -127,22 +130,23 @@ impl Nodes {
         let receiver = *receiver;
         if receiver == 0 {
             let from = message.from;
-            match asks_for(message) {
-                Some(ballot) => self.answer(from, ballot),
-                None => {}
+            if let Some(ballot) = asks_for(message) {
+                self.answer(from, ballot);
             }
             return Ok(());
         }
-        if self.running(receiver).is_none() {
+        let Some(at) = self.running(receiver) else {
             return Err(Idle);
+        };
+        if !self.nodes[at].heeds(message) {
+            self.pass_over(at, number as usize);
+            return Ok(());
         }
-        match copy_of::<BrokerMachine>(self.alloc, message) {
-            Ok(message) => self.act(receiver, Item::Peer(message)),
-            Err(_) => {
-                self.lose();
-                Ok(())
-            }
-        }
+        let Ok(message) = copy_of::<BrokerMachine>(self.alloc, message) else {
+            self.lose();
+            return Ok(());
+        };
+        self.act(receiver, Item::Peer(message))
     }
 
     /// Time passes at a node: it says again what others may have missed. Idle where it is unknown
@@ -152,6 +156,8 @@ impl Nodes {
         ensures goes { LosesNothing self.old self.new →
             OnOk result (TakesExactly node (Item.Tick 0) self.old self.new) }
         ensures acts { OnOk result (Acts (node - 1) (takes (Item.Tick 0)) self.old self.new) }
+        ensures quiet { RestsAt node (Item.Tick 0) self.old →
+            OnOk result (TakesExactly node (Item.Tick 0) self.old self.new) }
         ensures rises { self.old.losses ≤ self.new.losses }
         ensures idle { IsErr result ↔ (running self.old.nodes node ≡ None) }
         ensures same { OnErr result (self.new ≡ self.old) }
@@ -212,6 +218,8 @@ impl Nodes {
         ensures goes { LosesNothing self.old self.new →
             OnOk result (TakesExactly node Item.Crash self.old self.new) }
         ensures acts { OnOk result (Acts (node - 1) (takes Item.Crash) self.old self.new) }
+        ensures quiet { RestsAt node Item.Crash self.old →
+            OnOk result (TakesExactly node Item.Crash self.old self.new) }
         ensures rises { self.old.losses ≤ self.new.losses }
         ensures idle { IsErr result ↔ (running self.old.nodes node ≡ None) }
         ensures same { OnErr result (self.new ≡ self.old) }
@@ -225,6 +233,8 @@ impl Nodes {
         ensures goes { LosesNothing self.old self.new →
             OnOk result (TakesExactly node (Item.Opened port now) self.old self.new) }
         ensures acts { OnOk result (Acts (node - 1) (takes (Item.Opened port now)) self.old self.new) }
+        ensures quiet { RestsAt node (Item.Opened port now) self.old →
+            OnOk result (TakesExactly node (Item.Opened port now) self.old self.new) }
         ensures rises { self.old.losses ≤ self.new.losses }
         ensures idle { IsErr result ↔ (running self.old.nodes node ≡ None) }
         ensures same { OnErr result (self.new ≡ self.old) }
@@ -239,6 +249,8 @@ impl Nodes {
             OnOk result (TakesExactly node (Item.Bytes port piece 0) self.old self.new) }
         ensures acts { OnOk result
             (Acts (node - 1) (takes (Item.Bytes port piece 0)) self.old self.new) }
+        ensures quiet { RestsAt node (Item.Bytes port piece 0) self.old →
+            OnOk result (TakesExactly node (Item.Bytes port piece 0) self.old self.new) }
         ensures rises { self.old.losses ≤ self.new.losses }
         ensures idle { IsErr result ↔ (running self.old.nodes node ≡ None) }
         ensures same { OnErr result (self.new ≡ self.old) }
@@ -252,6 +264,8 @@ impl Nodes {
         ensures goes { LosesNothing self.old self.new →
             OnOk result (TakesExactly node (Item.Ended port) self.old self.new) }
         ensures acts { OnOk result (Acts (node - 1) (takes (Item.Ended port)) self.old self.new) }
+        ensures quiet { RestsAt node (Item.Ended port) self.old →
+            OnOk result (TakesExactly node (Item.Ended port) self.old self.new) }
         ensures rises { self.old.losses ≤ self.new.losses }
         ensures idle { IsErr result ↔ (running self.old.nodes node ≡ None) }
         ensures same { OnErr result (self.new ≡ self.old) }
@@ -260,8 +274,8 @@ impl Nodes {
     }
 
     /// Appends what a node put out for a port and did not hand over before, and tells whether more
-    /// may come. Idle where the node is unknown. Where memory is wanting nothing is appended, more
-    /// may come, and the step is counted.
+    /// may come. Idle where the node is unknown. If memory runs out, nothing is appended, more may come, and the step is
+    /// counted; it does not where nothing was put out.
     pub fn hand_over(&mut self, node: u8, port: Port, out: &mut Vec<u8>) -> Result<Handed, Idle>
         ensures goes { LosesNothing self.old self.new →
             OnOk result (GivesExactly node port self.old self.new) }
@@ -271,6 +285,8 @@ impl Nodes {
             IfOk result (λ handed. AnswersFor node port self.old handed) }
         ensures step { IfOk result (λ handed.
             HandsIn node port self.old self.new out.old.items out.new.items handed) }
+        ensures quiet { WaitsAtNone node port self.old →
+            OnOk result (GivesExactly node port self.old self.new) }
         ensures rises { self.old.losses ≤ self.new.losses }
         ensures idle { IsErr result ↔ (node_of self.old.nodes node ≡ None) }
         ensures same { OnErr result ((self.new ≡ self.old) × (out.new.items ≡ out.old.items)) }

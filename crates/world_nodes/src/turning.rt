@@ -1,6 +1,7 @@
 // The turn of one node.
 
-ghost use Rattle.std.specs.Prelude.{◌≡◌, take, if◌then◌else◌};
+ghost use Rattle.std.specs.Prelude.{◌≡◌, ◌<◌, ◌-◌, ◌^◌, true, take, length, slice_get, if◌then◌else◌, IfSome};
+ghost use Rattle.world_base.specs.Losses.{DoesNothing};
 ghost use Rattle.world_nodes.specs.Inside.{TookItem};
 
 use crate::keeping::keep_all;
@@ -20,8 +21,36 @@ pub fn take_in(
     let before = node.losses();
     let mut effects = Vec::new(alloc);
     node.step(item, &mut effects);
-    let whole = node.losses() == before && before < u64::MAX;
+    let whole = is_whole(before, node.losses());
     keep_all(effects, sent) && whole
+}
+
+/// A node passes the message of a number over, which it does not heed, as in `take_in`: no copy of it is made.
+pub fn pass_over(
+    alloc: Global,
+    node: &mut NodeCore,
+    number: usize,
+    sent: &mut Vec<(u8, Message<Command>)>,
+) -> bool
+    requires below { number < length sent.old.items }
+    requires nothing { IfSome (slice_get sent.old.items number)
+        (λ found. DoesNothing (Item.Peer found.1) node.old.core) }
+    ensures { IfSome (slice_get sent.old.items number) (λ found.
+        TookItem node.old (Item.Peer found.1) node.new sent.old.items sent.new.items result) }
+{
+    let before = node.losses();
+    let mut effects = Vec::new(alloc);
+    node.pass_over(&sent[number].1, &mut effects);
+    let whole = is_whole(before, node.losses());
+    keep_all(effects, sent) && whole
+}
+
+// Whether a node counted no loss in a step: its count was `before`, and is `after` then.
+fn is_whole(before: u64, after: u64) -> bool
+    ensures yes { result ≡ true → (after ≡ before) × (before < 2 ^ 64 - 1) }
+    ensures whole { after ≡ before → before < 2 ^ 64 - 1 → result ≡ true }
+{
+    after == before && before < u64::MAX
 }
 
 /// Cuts the record back to the places that it had before, where a log was not cut.

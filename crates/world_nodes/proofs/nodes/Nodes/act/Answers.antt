@@ -6,6 +6,7 @@ use Rattle.world_nodes.proofs.Acts.{behind_turn_of, took_by, turn_takes}
 use Rattle.world_nodes.proofs.CountsGoOn.{acts_counting, heard_behind}
 use Rattle.world_nodes.proofs.ActsLosing.{turn_loses}
 use Rattle.world_nodes.proofs.Exactly.{exactly}
+use Rattle.world_nodes.proofs.Resting.{turn_rests}
 use Rattle.world_nodes.proofs.nodes.Nodes.act.Goals as goal
 
 pub returns-clause-step : goal.returns-clause-step
@@ -77,3 +78,17 @@ invariant_of-self c =
     c.deref.ensures.value c.take_in-whole.ensures.is from c.hear_from.ensures.told)
     (heard_behind c.self.inside.sent.items c.take_in-whole.new.sent.items c.deref.result.now _ c.len-from.result c.self.inside.counters.next c.hear_from.new.self.next
     c.deref.ensures.value c.take_in-whole.ensures.is from c.hear_from.ensures.next)
+
+pub returns-clause-quiet : goal.returns-clause-quiet
+returns-clause-quiet c =
+    let x = rw (← c.self.view_is) at c.in-Some.ensures.some in
+    let took = took_by c.self.inside.nodes.items c.in-Some.at x.core c.index_mut-core.result.now c.args.item c.take_in-whole.new.node c.self.inside.sent.items
+    c.take_in-whole.new.sent.items c.take_in-whole.result x.stands c.index_mut-core.ensures.value c.take_in-whole.ensures in
+    rw (← c.self.view_is) (turn_rests (let old : NodesState = record {
+      master = c.self.inside.master;
+      nodes = c.self.inside.nodes.items;
+      sent = c.self.inside.sent.items;
+      archive = c.self.inside.archive.items;
+      losses = c.self.inside.losses;
+    } in old) c.args.node c.in-Some.at x c.take_in-whole.new.node c.args.item c.take_in-whole.new.sent.items c.take_in-whole.result c.counted-self-inside.result took
+    c.counted-self-inside.ensures)

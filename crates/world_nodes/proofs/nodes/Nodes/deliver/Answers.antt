@@ -1,5 +1,8 @@
-use Rattle.std.proofs.Common.{sym, ◌∙◌}
+use Rattle.std.proofs.Common.{sym, refl, ◌∙◌}
+use Rattle.world_nodes.specs.Nodes.{NodesState}
 use Rattle.world_nodes.proofs.MasterActs.{asked_in, came_on, came_to_master, comes_exactly, comes_on, comes_or_rests, heard_ballot, heard_or_lost, may_come_on, sent_copy}
+use Rattle.world_nodes.proofs.Acts.{same_core}
+use Rattle.world_nodes.proofs.Resting.{asked_takes, heeded_takes, is_passed}
 use Rattle.world_nodes.proofs.nodes.Nodes.deliver.Goals as goal
 
 pub answer-requires : goal.answer-requires
@@ -20,17 +23,17 @@ returns-in-Some-asks_for-clause-goes c =
     (heard_ballot c.in-Some.field-0.now.1.from c.in-Some-asks_for.ballot c.in-Some.field-0.now.1.body c.args.self.now c.answer.new.self
     (sym c.asks_for.ensures ∙ c.in-Some-asks_for.is) c.answer.ensures.step))
 
-pub returns-in-Ok-clause-step : goal.returns-in-Ok-clause-step
-returns-in-Ok-clause-step c =
+pub returns-clause-step : goal.returns-clause-step
+returns-clause-step c =
     came_on c.act.result _ c.in-Some.field-0.now c.in-Ok.message c.args.self.now c.act.new.self c.in-Some.ensures.some c.if-receiver-eq0.false c.in-Ok.ensures c.act.ensures.step
 
-pub returns-in-Ok-clause-goes : goal.returns-in-Ok-clause-goes
-returns-in-Ok-clause-goes c =
+pub returns-clause-goes : goal.returns-clause-goes
+returns-clause-goes c =
     comes_on c.act.result _ c.args.self.now c.act.new.self
     (came_on c.act.result _ c.in-Some.field-0.now c.in-Ok.message c.args.self.now c.act.new.self c.in-Some.ensures.some c.if-receiver-eq0.false c.in-Ok.ensures c.act.ensures.step)
 
-pub returns-in-Ok-clause-acts : goal.returns-in-Ok-clause-acts
-returns-in-Ok-clause-acts c =
+pub returns-clause-acts : goal.returns-clause-acts
+returns-clause-acts c =
     may_come_on c.act.result _ c.in-Some.field-0.now c.in-Ok.message c.args.self.now c.act.new.self c.in-Some.ensures.some c.if-receiver-eq0.false c.in-Ok.ensures c.act.ensures.acts
 
 pub act-requires : goal.act-requires
@@ -42,3 +45,32 @@ returns-in-Some-asks_for-clause-acts c =
     comes_or_rests _ c.in-Some.field-0.now c.args.self.now c.answer.new.self c.in-Some.ensures.some c.if-receiver-eq0.true
     (heard_or_lost c.in-Some-asks_for.ballot c.in-Some.field-0.now.1.body c.args.self.now c.answer.new.self
     (sym c.asks_for.ensures ∙ c.in-Some-asks_for.is) c.answer.ensures.acts)
+
+pub pass_over-requires : goal.pass_over-requires
+pass_over-requires c =
+    let there = rw (← c.self.view_is) at c.in-Some.ensures.some in
+    let runs = rw (← c.self.view_is) at c.in-Some-running.ensures.some in
+    rw (← c.self.view_is) (is_passed (let old : NodesState = record {
+      master = c.self.inside.master;
+      nodes = c.self.inside.nodes.items;
+      sent = c.self.inside.sent.items;
+      archive = c.self.inside.archive.items;
+      losses = c.self.inside.losses;
+    } in old) c.args.number c.in-Some-running.at c.in-Some.field-0.now c.index.result.now c.heeds.result there runs c.index.ensures c.if-not-heeds.true c.heeds.ensures)
+
+pub returns-in_default-copy_of-clause-quiet : goal.returns-in_default-copy_of-clause-quiet
+returns-in_default-copy_of-clause-quiet c =
+    let there = rw (← c.self.view_is) at c.in-Some.ensures.some in
+    let runs = rw (← c.self.view_is) at c.in-Some-running.ensures.some in
+    rw (← c.self.view_is) (heeded_takes (let old : NodesState = record {
+      master = c.self.inside.master;
+      nodes = c.self.inside.nodes.items;
+      sent = c.self.inside.sent.items;
+      archive = c.self.inside.archive.items;
+      losses = c.self.inside.losses;
+    } in old) c.args.number c.in-Some.field-0.now.0 c.in-Some-running.at c.in-Some.field-0.now c.index.result.now c.heeds.result there refl c.if-receiver-eq0.false runs
+    (same_core c.self.inside.nodes.items c.in-Some-running.at runs.core c.index.result.now runs.stands c.index.ensures) c.if-not-heeds.false c.heeds.ensures)
+
+pub returns-in-Some-asks_for-clause-quiet : goal.returns-in-Some-asks_for-clause-quiet
+returns-in-Some-asks_for-clause-quiet c =
+    asked_takes c.args.self.now c.args.number c.in-Some-asks_for.ballot c.in-Some.field-0.now c.in-Some.ensures.some c.if-receiver-eq0.true (sym c.asks_for.ensures ∙ c.in-Some-asks_for.is)

@@ -119,3 +119,23 @@ invariant_of-self c =
       archive = c.self.inside.archive.items;
       losses = c.self.inside.losses;
     } in old) c.args.node c.index_mut-core.result.now c.outgoing.new.self c.args.port is c.in-Ok.ensures.left)) refl refl refl (λ h. h) (λ h. h)
+
+pub returns-in-Ok-clause-quiet : goal.returns-in-Ok-clause-quiet
+returns-in-Ok-clause-quiet c =
+    let below : c.args.node ≤ length c.self.inside.nodes.items = omega (arith, c.self.inside.nodes.ok.0, c.len.ensures, c.if-node-len.false) in
+    let found = stands_there c.self.inside.nodes.items c.args.node c.index_mut-core.result.now c.if-node-eq0.false below c.index_mut-core.ensures.value in
+    let is : node_of c.self.inside.nodes.items c.args.node ≡ Some c.index_mut-core.result.now = is_there c.self.inside.nodes.items c.args.node c.index_mut-core.result.now c.if-node-eq0.false found in
+    rw (← c.self.view_is) (λ none. hands (let old : NodesState = record {
+      master = c.self.inside.master;
+      nodes = c.self.inside.nodes.items;
+      sent = c.self.inside.sent.items;
+      archive = c.self.inside.archive.items;
+      losses = c.self.inside.losses;
+    } in old) c.args.node c.index_mut-core.result.now c.outgoing.new.self c.args.port is c.in-Ok.ensures.left)
+
+pub returns-in-Err-clause-quiet : goal.returns-in-Err-clause-quiet
+returns-in-Err-clause-quiet c =
+    let below : c.args.node ≤ length c.self.inside.nodes.items = omega (arith, c.self.inside.nodes.ok.0, c.len.ensures, c.if-node-len.false) in
+    let found = stands_there c.self.inside.nodes.items c.args.node c.index_mut-core.result.now c.if-node-eq0.false below c.index_mut-core.ensures.value in
+    let is : node_of c.self.inside.nodes.items c.args.node ≡ Some c.index_mut-core.result.now = is_there c.self.inside.nodes.items c.args.node c.index_mut-core.result.now c.if-node-eq0.false found in
+    rw (← c.self.view_is) (λ none. let no = c.in-Err.ensures.nothing (none c.index_mut-core.result.now is) in absurd cc)

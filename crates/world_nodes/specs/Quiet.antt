@@ -1,0 +1,40 @@
+-- What takes no memory at nodes: no loss is counted for it.
+use Rattle.std.specs.Prelude.{◌≡◌, ◌<◌, ◌^◌, ◌-◌, ℕ, zero, suc, [], Option, Some, None}
+use Rattle.std.specs.List.{find}
+use Rattle.ballot.specs.Body.{Body}
+use Rattle.ballot.specs.Body.TheVariants.{Activate}
+use Rattle.ballot.specs.Message.{Message}
+use Rattle.broker_base.specs.Command.{Command}
+use Rattle.world_base.specs.Connections.{has_failed}
+use Rattle.world_base.specs.declared.item.Item.{Item}
+use Rattle.world_base.specs.declared.item.Item.TheVariants.{Peer}
+use Rattle.world_base.specs.declared.Port.{Port}
+use Rattle.world_base.specs.Core.{CountedCore}
+use Rattle.world_base.specs.Handing.{bytes_of, listed_at}
+use Rattle.world_base.specs.Losses.{TakesNoMemory}
+use Rattle.world_nodes.specs.Goes.{node_of, running}
+use Rattle.world_nodes.specs.Nodes.{NodesState}
+
+-- The node of this number runs, and the item takes no memory there. None of its connections has failed, of which its broker is
+-- still to hear, and its count of losses is below its greatest number.
+pub record RestsAt (node : ℕ) (item : Item) (n : NodesState) : Type 0 where
+  pub core : CountedCore
+  pub runs : running n.nodes node ≡ Some core
+  pub takes : TakesNoMemory item core.core
+  pub none_failed : find has_failed core.core.connections ≡ None
+  pub low : core.losses < 2 ^ 64 - 1
+
+-- the master heeds an Activate, and no other message
+abbrev pub IsUnheeded : Body Command → Type 0
+IsUnheeded (Activate ballot) = ⊥
+IsUnheeded _ = Unit {0}
+
+-- a message that was sent comes to the master, which does not heed it, or so to a node
+abbrev pub ComesUnheeded : Option (ℕ × Message Command) → NodesState → Type 0
+ComesUnheeded None n = ⊥
+ComesUnheeded (Some (zero, message)) n = IsUnheeded message.body
+ComesUnheeded (Some (suc at, message)) n = RestsAt (suc at) (Peer message) n
+
+-- nothing waits at a node to be handed over for a port
+abbrev pub WaitsAtNone : ℕ → Port → NodesState → Type 0
+WaitsAtNone node port n = (core : CountedCore) → node_of n.nodes node ≡ Some core → bytes_of (listed_at port core.core) ≡ []
