@@ -1,7 +1,7 @@
 // A session that has as much as it may have is expelled, beside as many others as there may be.
 
 use crate::clients::Clients;
-use crate::crowd;
+use crate::crowd::{self, Filters};
 use anyhow::Result;
 use bench_base::nanos_each;
 use packet::QoS;
@@ -21,9 +21,9 @@ pub fn run(rt: &HostRuntime) -> Result<()> {
 }
 
 fn measure(rt: &HostRuntime, clients: &mut Clients) -> Result<()> {
-    crowd::gather(clients, rt.alloc(), BESIDE)?;
+    crowd::gather(clients, rt.alloc(), BESIDE, Filters::Shared)?;
     clients.connect(1, "expelled")?;
-    clients.subscribe(1, crowd::wanted(rt.alloc(), crowd::FILTERS - 1)?)?;
+    clients.subscribe(1, crowd::wanted(rt.alloc(), crowd::FILTERS - 1, None)?)?;
     clients.subscribe_one(1, "plant/#", QoS::AtLeastOnce)?;
     clients.lose(1)?;
     clients.connect(2, "publisher")?;

@@ -1,7 +1,7 @@
 // The frozen form of a broker with many sessions, for which publications wait.
 
 use crate::clients::Clients;
-use crate::crowd;
+use crate::crowd::{self, Filters};
 use anyhow::Result;
 use bench_base::nanos_each;
 use broker::BrokerMachine;
@@ -17,27 +17,47 @@ const SESSIONS: [u32; 4] = [0, 100, 1_000, 4_095];
 /// How many publications wait for each session.
 const WAITING: [u32; 2] = [0, 100];
 
+/// Whose filters the sessions have.
+const KINDS: [Filters; 2] = [Filters::Shared, Filters::Own];
+
+/// A broker's sessions beside the publisher's.
+#[derive(Clone, Copy)]
+struct Crowd {
+    sessions: u32,
+    waiting: u32,
+    filters: Filters,
+}
+
 /// Prints the times in which brokers are frozen, and thawed again, and how many bytes they take.
 pub fn run(rt: &HostRuntime) -> Result<()> {
     for sessions in &SESSIONS {
         for waiting in &WAITING {
-            with_new_clients(rt, *sessions, *waiting)?;
+            for filters in &KINDS {
+                with_new_clients(
+                    rt,
+                    Crowd {
+                        sessions: *sessions,
+                        waiting: *waiting,
+                        filters: *filters,
+                    },
+                )?;
+            }
         }
     }
     Ok(())
 }
 
-fn with_new_clients(rt: &HostRuntime, sessions: u32, waiting: u32) -> Result<()> {
+fn with_new_clients(rt: &HostRuntime, of: Crowd) -> Result<()> {
     let mut clients = Clients::new(rt.alloc())?;
-    gather(rt, &mut clients, sessions, waiting)
+    gather(rt, &mut clients, of)
 }
 
-fn gather(rt: &HostRuntime, clients: &mut Clients, sessions: u32, waiting: u32) -> Result<()> {
+fn gather(rt: &HostRuntime, clients: &mut Clients, of: Crowd) -> Result<()> {
     clients.connect(1, "publisher")?;
-    crowd::gather(clients, rt.alloc(), sessions)?;
-    fill(rt.alloc(), clients, waiting)?;
+    crowd::gather(clients, rt.alloc(), of.sessions, of.filters)?;
+    fill(rt.alloc(), clients, of.waiting)?;
     let mut bytes = Vec::new(rt.alloc());
-    measure(rt, clients, (sessions, waiting), &mut bytes)
+    measure(rt, clients, of, &mut bytes)
 }
 
 fn fill(alloc: Global, clients: &mut Clients, waiting: u32) -> Result<()> {
@@ -53,22 +73,27 @@ fn publish_all(clients: &mut Clients, topic: &TopicName, waiting: u32) -> Result
     Ok(())
 }
 
-fn measure(rt: &HostRuntime, clients: &Clients, of: (u32, u32), bytes: &mut Vec<u8>) -> Result<()> {
-    let (sessions, waiting) = of;
+fn measure(rt: &HostRuntime, clients: &Clients, of: Crowd, bytes: &mut Vec<u8>) -> Result<()> {
     let start = rt.process_cpu_time()?;
     clients.broker.freeze(bytes)?;
     let frozen = nanos_each(rt, start, 1)? / 1_000;
     let thawed = thaw(rt, bytes.as_slice())? / 1_000;
     let len = bytes.len();
     println!(rt;
-        "{sessions} sessions of {} filters, {waiting} waiting: {len} bytes, frozen in {frozen} us, thawed in {thawed} us",
-        crowd::FILTERS
+        "{} sessions of {} filters {}, {} waiting: {len} bytes, frozen in {frozen} us, thawed in {thawed} us",
+        of.sessions,
+        crowd::FILTERS,
+        of.filters.name(),
+        of.waiting
     )?;
     Ok(())
 }
 
+// Returns the time of reading alone: what was read is dropped after the clock is.
 fn thaw(rt: &HostRuntime, bytes: &[u8]) -> Result<u128> {
     let start = rt.process_cpu_time()?;
-    BrokerMachine::thaw(rt.alloc(), bytes)?;
-    nanos_each(rt, start, 1)
+    let read = BrokerMachine::thaw(rt.alloc(), bytes)?;
+    let taken = nanos_each(rt, start, 1)?;
+    drop(read);
+    Ok(taken)
 }

@@ -1,7 +1,7 @@
 // Publications a second, each with the handshakes of its publisher and of its subscribers.
 
 use crate::clients::Clients;
-use crate::crowd;
+use crate::crowd::{self, Filters};
 use anyhow::Result;
 use bench_base::nanos_each;
 use packet::QoS;
@@ -57,7 +57,7 @@ fn gather(
     subscribers: u64,
     beside: u32,
 ) -> Result<()> {
-    crowd::gather(clients, rt.alloc(), beside)?;
+    crowd::gather(clients, rt.alloc(), beside, Filters::Shared)?;
     clients.connect(PUBLISHER, "publisher")?;
     for number in 0..subscribers {
         subscribe(clients, rt.alloc(), number, qos)?;
