@@ -1,0 +1,182 @@
+// What was seen of one client.
+
+use crate::making::made_by;
+use crate::sessions::Entry;
+use crate::told::Told;
+use crate::watching::Broken;
+use client::{Accepted, ClientCore};
+use packet::{ClientId, QoS};
+use std::alloc::Global;
+
+/// What was seen of one client.
+#[derive(Drop)]
+pub struct Seen {
+    /// How many of those that it accepted were looked at.
+    looked: usize,
+    /// The number that it gave its session when it accepted the last one, and where in what it accepted that session began.
+    number: u64,
+    from: usize,
+    /// Which of its sessions that is by the agreed list, from 0, and how many it accepted in it at QoS 2.
+    session: usize,
+    at_two: usize,
+    /// The last number of each publisher, of those at QoS 2 that were not retained.
+    last: Vec<u64>,
+    /// The numbers that it published at QoS 1 or 2.
+    pub published: Vec<u64>,
+    /// Whether it took in the CONNACK of its newest connection, and whether there was one whose CONNACK it never took in.
+    is_confirmed: bool,
+    is_hasty: bool,
+    /// Whether its session was ended by an administrator.
+    pub is_expelled: bool,
+}
+
+impl Seen {
+    /// Begins with a client that did nothing.
+    pub fn new(alloc: Global) -> Seen {
+        Seen {
+            looked: 0,
+            number: 0,
+            from: 0,
+            session: 0,
+            at_two: 0,
+            last: Vec::new(alloc),
+            published: Vec::new(alloc),
+            is_confirmed: true,
+            is_hasty: false,
+            is_expelled: false,
+        }
+    }
+
+    /// Takes note that it opened a connection.
+    pub fn opens(&mut self) {
+        self.is_hasty = self.is_hasty || !self.is_confirmed;
+        self.is_confirmed = false;
+    }
+
+    /// Returns whether it may be out of step: it was expelled, and opened a connection before the CONNACK of the one before
+    /// had come. Nothing is promised to such a client then.
+    pub fn may_stray(&self) -> bool {
+        self.is_expelled && self.is_hasty
+    }
+
+    /// Looks at a client, and returns what does not hold. None where it ran out of memory.
+    pub fn looks(
+        &mut self,
+        client: &ClientId,
+        core: &ClientCore,
+        told: &Told,
+        strays: &[bool],
+    ) -> Option<Result<(), Broken>> {
+        self.is_confirmed = self.is_confirmed || core.connected();
+        if self.may_stray() {
+            return Some(Ok(()));
+        }
+        let accepted = core.accepted();
+        for one in accepted.iter().skip(self.looked) {
+            let taken = self.accepts(client, one, accepted, told, strays)?;
+            if taken.is_err() {
+                return Some(taken);
+            }
+        }
+        if self.is_expelled || self.missing(told) <= core.kept() {
+            Some(Ok(()))
+        } else {
+            Some(Err(Broken::Lost))
+        }
+    }
+
+    // Looks at the next one that a client accepted.
+    fn accepts(
+        &mut self,
+        client: &ClientId,
+        one: &Accepted,
+        accepted: &[Accepted],
+        told: &Told,
+        strays: &[bool],
+    ) -> Option<Result<(), Broken>> {
+        if one.session != self.number {
+            self.session = self.session.saturating_add(usize::from(self.number != 0));
+            self.number = one.session;
+            self.from = self.looked;
+            self.at_two = 0;
+        }
+        self.looked = self.looked.saturating_add(1);
+        if one.qos != QoS::ExactlyOnce {
+            return Some(Ok(()));
+        }
+        if !self.is_next(client, one, accepted, told) {
+            return Some(Err(Broken::Accepted));
+        }
+        let is_checked = !one.retain && !is_stray(one, strays);
+        if is_checked && !self.is_newer(one)? {
+            return Some(Err(Broken::Order));
+        }
+        Some(Ok(()))
+    }
+
+    // Whether it is the next entry of the session in which it was accepted, or all that was accepted there begins a later one.
+    fn is_next(
+        &mut self,
+        client: &ClientId,
+        one: &Accepted,
+        accepted: &[Accepted],
+        told: &Told,
+    ) -> bool {
+        let here = told.entries(client, self.session).get(self.at_two);
+        self.at_two = self.at_two.saturating_add(1);
+        if here.is_some_and(|entry| is_entry(one, entry)) {
+            return true;
+        }
+        for session in self.session.saturating_add(1)..told.count(client) {
+            if self.begins(accepted, told.entries(client, session)) {
+                self.session = session;
+                return true;
+            }
+        }
+        false
+    }
+
+    // Whether all that was accepted at QoS 2 in this session, as far as it was looked at, begins these entries.
+    fn begins(&self, accepted: &[Accepted], entries: &[Entry]) -> bool {
+        let count = self.looked.saturating_sub(self.from);
+        let here = accepted.iter().skip(self.from).take(count);
+        self.at_two <= entries.len()
+            && here
+                .filter(|it| it.qos == QoS::ExactlyOnce)
+                .zip(entries)
+                .all(|(one, entry)| is_entry(one, entry))
+    }
+
+    // Whether it is newer than the last one of its publisher, and keeps its number.
+    fn is_newer(&mut self, one: &Accepted) -> Option<bool> {
+        let (place, serial) = made_by(&one.payload)?;
+        for _ in self.last.len()..=place as usize {
+            self.last.push(0).ok()?;
+        }
+        let last = self.last.get_mut(place as usize)?;
+        let newer = *last < serial;
+        *last = serial;
+        Some(newer)
+    }
+
+    // How many of its publications were taken nowhere.
+    fn missing(&self, told: &Told) -> usize {
+        self.published
+            .iter()
+            .filter(|serial| !told.is_taken(**serial))
+            .count()
+    }
+}
+
+// Whether its publisher may be out of step.
+fn is_stray(one: &Accepted, strays: &[bool]) -> bool {
+    match made_by(&one.payload) {
+        Some((place, _)) => strays.get(place as usize).copied().unwrap_or(false),
+        None => false,
+    }
+}
+
+// Whether this is what was accepted.
+fn is_entry(one: &Accepted, entry: &Entry) -> bool {
+    one.retain == entry.retain && one.topic == entry.topic && one.payload == entry.payload
+}

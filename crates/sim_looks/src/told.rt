@@ -1,0 +1,254 @@
+// What a list of agreed commands makes of all sessions.
+
+use crate::making::made_by;
+use crate::matching::is_match;
+use crate::sessions::{Entry, Session};
+use broker_model::{Command, ConnectionId};
+use packet::{ClientId, Delivery, Packet, Payload, Publish, QoS};
+use std::alloc::Global;
+use topics::{Filter, TopicName};
+
+// The last publication with RETAIN of a topic.
+#[derive(Drop)]
+struct Kept {
+    qos: QoS,
+    topic: TopicName,
+    payload: Payload,
+}
+
+/// What was read of the agreed list. A call that answers `Option` answers None where it ran out of memory.
+#[derive(Drop)]
+pub struct Told {
+    alloc: Global,
+    sessions: Vec<Session>,
+    /// Those that ended, the oldest first.
+    ended: Vec<Session>,
+    /// In the order of the topics' bytes.
+    retained: Vec<Kept>,
+    /// By the number of a publication at QoS 1 or 2: whether it was taken.
+    taken: Vec<bool>,
+    /// How many commands were read.
+    read: usize,
+}
+
+impl Told {
+    /// Begins with no command.
+    pub fn new(alloc: Global) -> Told {
+        Told {
+            alloc,
+            sessions: Vec::new(alloc),
+            ended: Vec::new(alloc),
+            retained: Vec::new(alloc),
+            taken: Vec::new(alloc),
+            read: 0,
+        }
+    }
+
+    /// Reads the commands that it has not read, of a list in two parts.
+    pub fn reads(&mut self, first: &[Command], second: &[Command]) -> Option<()> {
+        for command in first.iter().chain(second.iter()).skip(self.read) {
+            self.reads_one(command)?;
+            self.read = self.read.saturating_add(1);
+        }
+        Some(())
+    }
+
+    /// Returns the entries of a client's session by its number, from 0: one that ended, or the one that lasts.
+    pub fn entries(&self, client: &ClientId, number: usize) -> &[Entry] {
+        let all = self.ended.iter().chain(self.sessions.iter());
+        match all.filter(|it| it.client == *client).nth(number) {
+            Some(session) => session.entries.as_slice(),
+            None => &[],
+        }
+    }
+
+    /// Returns how many sessions a client had.
+    pub fn count(&self, client: &ClientId) -> usize {
+        let all = self.ended.iter().chain(self.sessions.iter());
+        all.filter(|it| it.client == *client).count()
+    }
+
+    /// Returns whether another reading found the same sessions with the same entries.
+    pub fn says_what(&self, other: &Told) -> bool {
+        are_alike(self.ended.as_slice(), other.ended.as_slice())
+            && are_alike(self.sessions.as_slice(), other.sessions.as_slice())
+    }
+
+    /// Returns whether the publication of this number was taken.
+    pub fn is_taken(&self, serial: u64) -> bool {
+        self.taken.get(serial as usize).copied().unwrap_or(false)
+    }
+
+    // Sessions lose their connections as a command says; a packet counts on a session's current connection alone.
+    fn reads_one(&mut self, command: &Command) -> Option<()> {
+        match command {
+            Command::Connect(connection, client, clean) => self.connects(
+                *connection,
+                client,
+                *clean,
+            ),
+            Command::Packet(connection, packet) => match self.place_of(*connection) {
+                Some(at) => self.takes(at, packet.packet()),
+                None => Some(()),
+            },
+            Command::Lost(connection) => self.ends(Some(*connection)),
+            Command::Start(_) => self.ends(None),
+            Command::Expel(client) => self.expels(client),
+        }
+    }
+
+    // The place of the session whose current connection this is.
+    fn place_of(&self, connection: ConnectionId) -> Option<usize> {
+        self.sessions
+            .iter()
+            .position(|it| it.connection == Some(connection))
+    }
+
+    // Sessions lose this connection, or, where none is named, each its own; the clean ones end.
+    fn ends(&mut self, connection: Option<ConnectionId>) -> Option<()> {
+        for session in self.sessions.iter_mut() {
+            let is_named = connection.is_none() || session.connection == connection;
+            if is_named && session.connection.is_some() {
+                session.connection = None;
+                session.is_over = session.clean;
+            }
+        }
+        self.archives()
+    }
+
+    // Puts the sessions that are over among those that ended.
+    fn archives(&mut self) -> Option<()> {
+        for _ in 0..self.sessions.len() {
+            let Some(at) = self.sessions.iter().position(|it| it.is_over) else {
+                return Some(());
+            };
+            let session = self.sessions.remove(at);
+            self.ended.push(session).ok()?;
+        }
+        Some(())
+    }
+
+    // A client's session ends, if it has one.
+    fn expels(&mut self, client: &ClientId) -> Option<()> {
+        for session in self.sessions.iter_mut() {
+            session.is_over = session.client == *client;
+        }
+        self.archives()
+    }
+
+    // A second CONNECT on a connection is a violation; else it becomes the client's current one.
+    fn connects(&mut self, connection: ConnectionId, client: &ClientId, clean: bool) -> Option<()> {
+        if self.place_of(connection).is_some() {
+            return self.ends(Some(connection));
+        }
+        for session in self.sessions.iter_mut() {
+            if session.client == *client && !clean && !session.clean {
+                session.connection = Some(connection);
+                return Some(());
+            }
+        }
+        self.expels(client)?;
+        let session = Session::new(self.alloc, client.clone().ok()?, clean, connection);
+        self.sessions.push(session).ok()
+    }
+
+    // A packet of a session's current connection.
+    fn takes(&mut self, at: usize, packet: &Packet) -> Option<()> {
+        let session = self.sessions.get_mut(at)?;
+        match packet {
+            Packet::Publish(publish) => self.publishes(at, publish),
+            Packet::Pubrel(id) => {
+                session.forgets(*id);
+                Some(())
+            }
+            Packet::Subscribe(subscribe) => {
+                for asked in subscribe.filters.as_slice() {
+                    self.subscribes(at, &asked.filter, asked.qos)?;
+                }
+                Some(())
+            }
+            Packet::Unsubscribe(unsubscribe) => {
+                for filter in unsubscribe.filters.as_slice() {
+                    session.drops(filter);
+                }
+                Some(())
+            }
+            Packet::Puback(_) | Packet::Pubrec(_) | Packet::Pubcomp(_) | Packet::Pingreq => Some(
+                (),
+            ),
+            _ => {
+                let connection = session.connection;
+                self.ends(connection)
+            }
+        }
+    }
+
+    // A filter is granted, and brings what is retained.
+    fn subscribes(&mut self, at: usize, filter: &Filter, qos: QoS) -> Option<()> {
+        let session = self.sessions.get_mut(at)?;
+        session.grants(filter, qos)?;
+        for kept in self.retained.iter() {
+            let is_two = kept.qos == QoS::ExactlyOnce && qos == QoS::ExactlyOnce;
+            if is_two && is_match(filter.as_str(), kept.topic.as_str()) {
+                session.adds(true, &kept.topic, &kept.payload)?;
+            }
+        }
+        Some(())
+    }
+
+    // A publication that is no repeat is taken, by each session that wants it.
+    fn publishes(&mut self, at: usize, publish: &Publish) -> Option<()> {
+        if let Delivery::ExactlyOnce(_, id) = publish.delivery {
+            if self.sessions.get_mut(at)?.repeats(id)? {
+                return Some(());
+            }
+            for session in self.sessions.iter_mut() {
+                if session.wants(&publish.topic) {
+                    session.adds(false, &publish.topic, &publish.payload)?;
+                }
+            }
+        }
+        let qos = publish.delivery.qos();
+        if qos != QoS::AtMostOnce {
+            self.is_taken_now(&publish.payload)?;
+        }
+        if publish.retain {
+            self.retains(qos, publish)
+        } else {
+            Some(())
+        }
+    }
+
+    fn is_taken_now(&mut self, payload: &Payload) -> Option<()> {
+        let (_, serial) = made_by(payload)?;
+        for _ in self.taken.len() as u64..=serial {
+            self.taken.push(false).ok()?;
+        }
+        if let Some(taken) = self.taken.get_mut(serial as usize) {
+            *taken = true;
+        }
+        Some(())
+    }
+
+    // It takes the place of what was retained about its topic.
+    fn retains(&mut self, qos: QoS, publish: &Publish) -> Option<()> {
+        let topic = &publish.topic;
+        self.retained.retain(|it| it.topic != *topic);
+        let before = self.retained.iter().filter(|it| it.topic < *topic).count();
+        let kept = Kept {
+            qos,
+            topic: topic.clone().ok()?,
+            payload: publish.payload.clone().ok()?,
+        };
+        self.retained.insert(before, kept).ok()
+    }
+}
+
+// Whether these are the same sessions with the same entries.
+fn are_alike(some: &[Session], others: &[Session]) -> bool {
+    some.len() == others.len()
+        && some
+            .iter()
+            .zip(others)
+            .all(|(one, other)| one.is_like(other))
+}

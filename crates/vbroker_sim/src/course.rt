@@ -1,0 +1,258 @@
+// How a run goes on: which event is drawn next.
+
+use crate::draw::Draw;
+use crate::saying::{published, subscribed, unsubscribed};
+use packet::ClientId;
+use std::alloc::Global;
+use world::{Config, Event, Members, World};
+
+/// What a run knows of the world that it goes through.
+#[derive(Drop)]
+pub struct Course {
+    alloc: Global,
+    draw: Draw,
+    nodes: u8,
+    /// The message that comes next.
+    next: u64,
+    /// How many subscriptions were drawn, and how many publications; each of these carries its number.
+    asked: u64,
+    serial: u64,
+    /// How many connections were opened, and the last one of each client with the one before.
+    opened: u64,
+    last: Vec<(u64, u64)>,
+    /// The last connection on which bytes could not be carried.
+    closed: u64,
+    /// The primary of each ballot that was given, from ballot 1 on.
+    primaries: Vec<u8>,
+    /// The nodes that crashed.
+    crashed: Vec<u8>,
+}
+
+impl Course {
+    /// Begins the run of a seed, in a world whose ballot 1 has node 1 as its primary. None where it ran out of memory.
+    pub fn new(alloc: Global, seed: u64, nodes: u8) -> Option<Course> {
+        let mut primaries = Vec::new(alloc);
+        primaries.push(1).ok()?;
+        Some(Course {
+            alloc,
+            draw: Draw::new(seed),
+            nodes,
+            next: 0,
+            asked: 0,
+            serial: 0,
+            opened: 0,
+            last: Vec::new(alloc),
+            closed: 0,
+            primaries,
+            crashed: Vec::new(alloc),
+        })
+    }
+
+    /// Draws the next event: mostly one that leads on, now and then one that disturbs. None where it ran out of memory.
+    pub fn draws(&mut self, world: &World, clients: &[ClientId]) -> Option<Event> {
+        let place = (self.draw.below(clients.len() as u64) % 256) as u8;
+        let name = clients.get(place as usize)?.clone().ok()?;
+        match self.draw.below(100) {
+            0 => self.changes(world),
+            1 => Some(Event::Cut(self.node())),
+            2 => Some(Event::Tick(self.node())),
+            3 => Some(Event::Notice(self.connection(place))),
+            4..=6 => Some(self.leaves(world, name)),
+            7 => self.opens(world, name),
+            8..=19 => self.says(world, name, place),
+            _ => self.goes_on(world, name, place),
+        }
+    }
+
+    /// Takes note of an event that happened. None where it ran out of memory.
+    pub fn happened(&mut self, event: &Event, clients: &[ClientId]) -> Option<()> {
+        match event {
+            Event::Assign(config) => self.primaries.push(config.primary).ok(),
+            Event::Crash(node) => self.crashed.push(*node).ok(),
+            Event::Open(client, _) => {
+                let place = clients.iter().position(|name| name == client)?;
+                self.is_opened(place)
+            }
+            _ => Some(()),
+        }
+    }
+
+    /// Takes note of an event that could not happen.
+    pub fn was_idle(&mut self, event: &Event) {
+        match event {
+            Event::CarryUp(connection, _) | Event::CarryDown(connection, _) => {
+                self.closed = *connection;
+            }
+            _ => {}
+        }
+    }
+
+    // The last connection of a client is a new one.
+    fn is_opened(&mut self, place: usize) -> Option<()> {
+        self.opened = self.opened.saturating_add(1);
+        for _ in self.last.len()..=place {
+            self.last.push((0, 0)).ok()?;
+        }
+        if let Some(last) = self.last.get_mut(place) {
+            *last = (self.opened, last.0);
+        }
+        Some(())
+    }
+
+    fn node(&mut self) -> u8 {
+        ((self.draw.below(u64::from(self.nodes)) % 256) as u8).saturating_add(1)
+    }
+
+    // The last connection of a client; now and then the one before, or any one, also none that is.
+    fn connection(&mut self, place: u8) -> u64 {
+        let (last, before) = self.last.get(place as usize).copied().unwrap_or((0, 0));
+        match self.draw.below(12) {
+            0 => self.draw.below(self.opened.saturating_add(2)),
+            1 | 2 => before,
+            _ => last,
+        }
+    }
+
+    // What moves goes on: messages between nodes, bytes of connections. Where nothing moves, something begins.
+    fn goes_on(&mut self, world: &World, name: ClientId, place: u8) -> Option<Event> {
+        let connection = self.connection(place);
+        let waits = self.next < world.messages();
+        if waits && self.draw.one_in(2) {
+            return Some(self.delivers(world));
+        }
+        if connection == self.closed {
+            return self.comes_back(world, name);
+        }
+        let (up, down) = (world.up(connection).len(), world.down(connection).len());
+        if up > 0 && (down == 0 || self.draw.one_in(2)) {
+            return Some(Event::CarryUp(connection, self.share(up)));
+        }
+        if down > 0 {
+            return Some(Event::CarryDown(connection, self.share(down)));
+        }
+        if waits {
+            return Some(self.delivers(world));
+        }
+        self.begins(world, name, place)
+    }
+
+    // A client that is served says something, one that is not comes back.
+    fn begins(&mut self, world: &World, name: ClientId, place: u8) -> Option<Event> {
+        if !is_served(world, &name) || self.draw.one_in(16) {
+            self.comes_back(world, name)
+        } else {
+            self.says(world, name, place)
+        }
+    }
+
+    // A client opens a connection, and gives up the one before. Now and then nodes are helped.
+    fn comes_back(&mut self, world: &World, name: ClientId) -> Option<Event> {
+        match self.draw.below(32) {
+            0 => self.changes(world),
+            1..=4 => Some(Event::Tick(self.active_primary(world))),
+            5..=14 => Some(Event::Abandon(name)),
+            _ => self.opens(world, name),
+        }
+    }
+
+    // How many bytes are carried: mostly all that wait, else some of them, none, or one too many.
+    fn share(&mut self, waiting: usize) -> u64 {
+        let waiting = waiting as u64;
+        if self.draw.one_in(4) {
+            self.draw.below(waiting.saturating_add(2))
+        } else {
+            waiting
+        }
+    }
+
+    // The next message comes. Of some the turn is passed over, and some come again, or late.
+    fn delivers(&mut self, world: &World) -> Event {
+        if self.draw.one_in(10) {
+            return Event::Deliver(self.draw.below(world.messages().saturating_add(1)));
+        }
+        if self.draw.one_in(40) {
+            self.next = self.next.saturating_add(1).min(world.messages());
+        }
+        let next = self.next;
+        self.next = next.saturating_add(1).min(world.messages());
+        Event::Deliver(next)
+    }
+
+    // A node crashes, or the next ballot is given to most of the nodes that run.
+    fn changes(&mut self, world: &World) -> Option<Event> {
+        let node = self.node();
+        if self.draw.one_in(3) && self.may_crash(world, node) {
+            return Some(Event::Crash(node));
+        }
+        let members = self.members()?;
+        let at = self.draw.below(members.len() as u64);
+        let primary = members.get(at as usize).copied().unwrap_or(1);
+        let members = Members::from_slice(self.alloc, members.as_slice()).ok()?;
+        Some(Event::Assign(Config { members, primary }))
+    }
+
+    // A node may crash where another member of the active ballot runs.
+    fn may_crash(&self, world: &World, node: u8) -> bool {
+        let (_, members) = world.active();
+        let is_left = |it: &u8| *it != node && self.runs(*it);
+        self.runs(node) && members.iter().any(is_left)
+    }
+
+    fn runs(&self, node: u8) -> bool {
+        !self.crashed.iter().any(|it| *it == node)
+    }
+
+    fn members(&mut self) -> Option<Vec<u8>> {
+        let mut members = Vec::new(self.alloc);
+        for node in 1..=self.nodes {
+            if self.runs(node) && !self.draw.one_in(4) {
+                members.push(node).ok()?;
+            }
+        }
+        Some(members)
+    }
+
+    // The active primary; node 1 where there is none.
+    fn active_primary(&self, world: &World) -> u8 {
+        let (ballot, _) = world.active();
+        let at = ballot.saturating_sub(1) as usize;
+        self.primaries.get(at).copied().unwrap_or(1)
+    }
+
+    // A client loses its connection, or ends it, or its session is ended.
+    fn leaves(&mut self, world: &World, name: ClientId) -> Event {
+        match self.draw.below(8) {
+            0 => Event::Disconnect(name),
+            1 => Event::Expel(name, self.active_primary(world)),
+            _ => Event::Abandon(name),
+        }
+    }
+
+    // A client connects to the active primary; now and then to another node.
+    fn opens(&mut self, world: &World, name: ClientId) -> Option<Event> {
+        let node = if self.draw.one_in(16) {
+            self.node()
+        } else {
+            self.active_primary(world)
+        };
+        Some(Event::Open(name, node))
+    }
+
+    // Mostly a publication; one subscription is drawn for four of them.
+    fn says(&mut self, world: &World, name: ClientId, place: u8) -> Option<Event> {
+        if self.asked.saturating_mul(4) <= self.serial && is_served(world, &name) {
+            self.asked = self.asked.saturating_add(1);
+            return subscribed(self.alloc, &mut self.draw, name);
+        }
+        if self.draw.one_in(32) {
+            return unsubscribed(self.alloc, &mut self.draw, name);
+        }
+        self.serial = self.serial.saturating_add(1);
+        published(self.alloc, &mut self.draw, name, place, self.serial)
+    }
+}
+
+// Whether a client is connected, as far as it knows.
+fn is_served(world: &World, name: &ClientId) -> bool {
+    world.client(name).is_some_and(|core| core.connected())
+}

@@ -1,0 +1,49 @@
+// What is looked at after each event.
+
+use packet::{ClientId, QoS};
+use sim_looks::{Broken, Watch, made_by};
+use world::{Event, World};
+
+/// Takes note of an event that happened. None where it ran out of memory, as in each call here.
+pub fn notes(watch: &mut Watch, event: &Event, clients: &[ClientId]) -> Option<()> {
+    let place = |name: &ClientId| clients.iter().position(|it| it == name);
+    match event {
+        Event::Publish(name, sent) if sent.qos != QoS::AtMostOnce => {
+            let (_, serial) = made_by(&sent.payload)?;
+            watch.published(place(name)?, serial)
+        }
+        Event::Open(name, _) => {
+            watch.opened(place(name)?);
+            Some(())
+        }
+        Event::Expel(name, _) => {
+            watch.expelled(place(name)?);
+            Some(())
+        }
+        _ => Some(()),
+    }
+}
+
+/// Looks at a world, and returns what does not hold.
+pub fn looks(watch: &mut Watch, world: &World, clients: &[ClientId]) -> Option<Result<(), Broken>> {
+    let (first, second) = world.agreed();
+    let agreed = watch.agreed(world.agreed_len(), first, second, world.losses())?;
+    if agreed.is_err() {
+        return Some(agreed);
+    }
+    for (place, name) in clients.iter().enumerate() {
+        if let Some(core) = world.client(name) {
+            let looked = watch.client(place, name, core)?;
+            if looked.is_err() {
+                return Some(looked);
+            }
+        }
+    }
+    Some(Ok(()))
+}
+
+/// Looks at the agreed list once more from its beginning, and returns what does not hold.
+pub fn ends(watch: &Watch, world: &World) -> Option<Result<(), Broken>> {
+    let (first, second) = world.agreed();
+    watch.ends(first, second)
+}

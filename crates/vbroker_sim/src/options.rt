@@ -1,0 +1,59 @@
+// The words of the command line.
+
+/// What is simulated.
+#[derive(Clone, Copy)]
+pub struct Options {
+    /// The first seed, and how many follow one another.
+    pub seed: u64,
+    pub seeds: u64,
+    /// How many events a run has: at most 2,000, so that no queue is ever full.
+    pub events: u64,
+    /// How many nodes and clients a world has: one to seven, and one to eight.
+    pub nodes: u8,
+    pub clients: u8,
+    /// Whether a line tells what came of each run, and whether its script is printed.
+    pub counts: bool,
+    pub scripts: bool,
+}
+
+impl Options {
+    /// Returns those that hold where nothing else is said.
+    pub fn usual() -> Options {
+        Options {
+            seed: 1,
+            seeds: 1,
+            events: 300,
+            nodes: 3,
+            clients: 3,
+            counts: false,
+            scripts: false,
+        }
+    }
+
+    /// Sets one by its word, as `--seed 7`. False where there is no such word, or the number is not in its range.
+    pub fn set(&mut self, word: &str, value: &str) -> bool {
+        let Ok(number) = value.parse::<u64>() else {
+            return false;
+        };
+        let is_lawful = match word {
+            "--seed" => true,
+            "--seeds" => number <= 1_000_000_000,
+            "--events" => (1..=2_000).contains(&number),
+            "--nodes" => (1..=7).contains(&number),
+            "--clients" => (1..=8).contains(&number),
+            "--counts" | "--scripts" => number <= 1,
+            _ => false,
+        };
+        match word {
+            _ if !is_lawful => {}
+            "--seed" => self.seed = number,
+            "--seeds" => self.seeds = number,
+            "--events" => self.events = number,
+            "--nodes" => self.nodes = number as u8,
+            "--clients" => self.clients = number as u8,
+            "--counts" => self.counts = number == 1,
+            _ => self.scripts = number == 1,
+        }
+        is_lawful
+    }
+}

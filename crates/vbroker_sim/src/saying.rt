@@ -1,0 +1,56 @@
+// What a client says to its broker.
+
+use crate::draw::Draw;
+use packet::{ClientId, Payload, QoS};
+use session_base::Publication;
+use sim_looks::payload_of;
+use std::alloc::Global;
+use topics::{Filter, TopicName};
+use world::Event;
+
+const TOPICS: [&str; 4] = ["t/1", "t/2", "u", "t/1/x"];
+
+const FILTERS: [&str; 8] = ["t/#", "#", "t/1", "t/#", "t/+", "#", "+", "+/1/#"];
+
+/// Draws a subscription. None where it ran out of memory.
+pub fn subscribed(alloc: Global, draw: &mut Draw, name: ClientId) -> Option<Event> {
+    Some(Event::Subscribe(name, filter(alloc, draw)?, qos(draw)))
+}
+
+/// Draws that a filter is given up. None where it ran out of memory.
+pub fn unsubscribed(alloc: Global, draw: &mut Draw, name: ClientId) -> Option<Event> {
+    Some(Event::Unsubscribe(name, filter(alloc, draw)?))
+}
+
+fn filter(alloc: Global, draw: &mut Draw) -> Option<Filter> {
+    let text = FILTERS.get(draw.below(8) as usize)?;
+    Filter::new(alloc, text).ok()
+}
+
+// Mostly QoS 2.
+fn qos(draw: &mut Draw) -> QoS {
+    match draw.below(8) {
+        0 => QoS::AtMostOnce,
+        1 => QoS::AtLeastOnce,
+        _ => QoS::ExactlyOnce,
+    }
+}
+
+/// Draws a publication that carries which client made it, by its place, and its number. None where it ran out of memory.
+pub fn published(
+    alloc: Global,
+    draw: &mut Draw,
+    name: ClientId,
+    place: u8,
+    serial: u64,
+) -> Option<Event> {
+    let payload = payload_of(place, serial);
+    let topic = TOPICS.get(draw.below(4) as usize)?;
+    let sent = Publication {
+        retain: draw.one_in(16),
+        qos: qos(draw),
+        topic: TopicName::new(alloc, topic).ok()?,
+        payload: Payload::new(alloc, &payload).ok()?,
+    };
+    Some(Event::Publish(name, sent))
+}

@@ -1,0 +1,36 @@
+// A run that fails, shortened: events are left out as long as the others still fail.
+
+use crate::run::{Run, replayed};
+use std::alloc::Global;
+
+/// Returns which events are left out. First halves are, then quarters, and so on to single events. None where it ran out of
+/// memory.
+pub fn shortened(alloc: Global, run: &Run) -> Option<Vec<bool>> {
+    let mut out = Vec::new(alloc);
+    for _ in run.events.as_slice() {
+        out.push(false).ok()?;
+    }
+    for shift in 1..11u32 {
+        let size = run.events.len() >> shift;
+        if size > 0 {
+            leaves_out(alloc, run, &mut out, size)?;
+        }
+    }
+    Some(out)
+}
+
+// Leaves out each part of this size without which it still fails.
+fn leaves_out(alloc: Global, run: &Run, out: &mut Vec<bool>, size: usize) -> Option<()> {
+    let size = size.max(1);
+    for part in 0..=run.events.len() / size {
+        let mut tried = Vec::new(alloc);
+        for (at, is_out) in out.iter().enumerate() {
+            tried.push(*is_out || at / size == part).ok()?;
+        }
+        let events = run.events.as_slice();
+        if replayed(alloc, &run.opening, events, tried.as_slice())?.is_some() {
+            *out = tried;
+        }
+    }
+    Some(())
+}
