@@ -1,0 +1,69 @@
+// Memory that is refused. Run with each allocation failing in turn: a text is made, or `Memory` is answered and it is made at
+// the second try; a text that is refused for a fault is refused for it as ever; and a match takes no memory.
+
+use std::alloc::Global;
+use std::test::*;
+use topics::{Filter, MalformedKind, TopicName, matches};
+
+// One allocation fails at most, so the second try finds memory.
+
+fn filter_of(alloc: Global, text: &str) -> Option<Filter> {
+    match Filter::new(alloc, text) {
+        Ok(filter) => Some(filter),
+        Err(MalformedKind::Memory) => Filter::new(alloc, text).ok(),
+        Err(_) => None,
+    }
+}
+
+fn topic_of(alloc: Global, text: &str) -> Option<TopicName> {
+    match TopicName::new(alloc, text) {
+        Ok(topic) => Some(topic),
+        Err(MalformedKind::Memory) => TopicName::new(alloc, text).ok(),
+        Err(_) => None,
+    }
+}
+
+fn are_copied(filter: &Filter, topic: &TopicName) -> bool {
+    (filter.clone().is_ok() || filter.clone().is_ok())
+        && (topic.clone().is_ok() || topic.clone().is_ok())
+}
+
+// Whether a filter is made and copied, and matches a topic.
+fn is_match(alloc: Global, filter: &str, topic: &str) -> bool {
+    match (&filter_of(alloc, filter), &topic_of(alloc, topic)) {
+        (Some(filter), Some(topic)) => are_copied(filter, topic) && matches(filter, topic),
+        _ => false,
+    }
+}
+
+#[test]
+fn a_text_is_made_or_memory_is_answered(rt: HostRuntime) {
+    assert!(rt; is_match(rt.alloc(), "t/#", "t/1/2/3"));
+    assert!(rt; is_match(rt.alloc(), "+/+/é", "/a/é"));
+}
+
+// Texts that are no filter and no topic, each with its fault.
+const NO_FILTERS: &[(&str, MalformedKind)] = &[
+    ("", MalformedKind::Filter),
+    ("#/a", MalformedKind::Filter),
+    ("a+", MalformedKind::Filter),
+    ("a\0", MalformedKind::Text),
+    ("/////////////////////////////////", MalformedKind::TooDeep),
+];
+
+const NO_TOPICS: &[(&str, MalformedKind)] = &[
+    ("", MalformedKind::Topic),
+    ("t/#", MalformedKind::Topic),
+    ("a\0", MalformedKind::Text),
+    ("/////////////////////////////////", MalformedKind::TooDeep),
+];
+
+fn are_refused(alloc: Global) -> bool {
+    NO_FILTERS.iter().all(|(text, kind)| Filter::new(alloc, text).err() == Some(*kind))
+        && NO_TOPICS.iter().all(|(text, kind)| TopicName::new(alloc, text).err() == Some(*kind))
+}
+
+#[test]
+fn a_fault_comes_before_memory(rt: HostRuntime) {
+    assert!(rt; are_refused(rt.alloc()));
+}
