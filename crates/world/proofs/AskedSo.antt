@@ -1,5 +1,5 @@
 -- AskedSo.antt: what an event asks is published, and nothing else.
-use Rattle.std.proofs.Common.{◌≡◌, ◌≤◌, ◌<◌, ◌+◌, ◌⊎◌, inl, inr, ℕ, false, List, [], ◌∷◌, ◌++◌, Some, Result, Ok, Err, IsErr, IsOk, length, slice_get, take, refl, sym, ap, ◌∙◌, subst, append_assoc}
+use Rattle.std.proofs.Common.{◌≡◌, ◌≤◌, ◌<◌, ◌+◌, inl, inr, ℕ, false, List, [], ◌∷◌, ◌++◌, Some, Result, Ok, Err, IsErr, length, slice_get, take, refl, sym, ap, ◌∙◌, subst, append_assoc}
 use Rattle.std.specs.Prelude.{get_or}
 use Rattle.std.specs.List.{position}
 use Rattle.std.proofs.lemmas.Bool.{both_ways}
@@ -18,7 +18,7 @@ use Rattle.world_pipes.proofs.CallingFollows.{calling_goes}
 use Rattle.world.specs.declared.event.Event.{Event}
 use Rattle.world.specs.declared.event.Event.TheVariants as events
 use Rattle.world.specs.declared.world.WorldClient.{WorldClient}
-use Rattle.world.specs.Asking.{AskedBy, AsksNone, AsksOne, IsAsked, RunAsks}
+use Rattle.world.specs.Asking.{AskedBy, AsksOne, IsAsked, RunAsks}
 use Rattle.world.specs.Found.{is_named}
 use Rattle.world.specs.Happening.{Happens}
 use Rattle.world.specs.Inside.Calling.{Counts, IsCall, forgetful}

@@ -1,12 +1,15 @@
 -- CallsMet.antt: a call of a client is done, or it is refused and changes nothing.
 use Rattle.std.proofs.Common.{◌≡◌, ◌⊎◌, inl, inr, ℕ, Bool, true, false, List, [], Option, Some, None, Result, Ok, Err, IsOk, IsErr, slice_get, refl, sym, ap, ◌∙◌, subst}
 use Rattle.std.specs.List.{position}
+use Rattle.std.specs.Option.{is_some}
 use Rattle.std.proofs.lemmas.Bool.{both_ways}
 use Rattle.std.proofs.lemmas.Option.{none-some}
 use Rattle.ballot.specs.Losses.{one_more}
 use Rattle.client.specs.Core.{Core, publication_with}
-use Rattle.client_base.specs.State.{ClientState, is_open}
-use Rattle.client_base.specs.Steps.{Call, disconnected, keeper_step}
+use Rattle.client_base.specs.Answered.{Turn}
+use Rattle.client_base.specs.Calls.{publish_refusal, published}
+use Rattle.client_base.specs.State.{ClientState, is_online, is_open}
+use Rattle.client_base.specs.Steps.{Call, disconnected, keeper_step, request_refusal, subscribed, unless_refused, unsubscribed}
 use Rattle.client_base.specs.declared.error.ClientError.{ClientError}
 use Rattle.client_base.specs.declared.error.ClientError.TheVariants as errors
 use Rattle.client_base.specs.declared.stage.Stage.{Stage}
@@ -21,7 +24,7 @@ use Rattle.world_pipes.specs.Piped.{Calls, Piped, TakesLeave}
 use Rattle.world.specs.declared.event.Event.TheVariants as events
 use Rattle.world.specs.declared.world.WorldClient.{WorldClient}
 use Rattle.world.specs.Found.{core_named, is_named, with_piped}
-use Rattle.world.specs.Doing.{Asks, ClientDoes, Leaves, Loses}
+use Rattle.world.specs.Doing.{Asks, ClientDoes, Leaves, Loses, LosesAsking, LosesLeaving}
 use Rattle.world.specs.Cannot.{HoldsNone, Refuses}
 use Rattle.world.specs.Inside.Calling.{Counts, IsCall, forgetful}
 use Rattle.world.specs.Inside.Steps.{IsDone, Meets}
@@ -37,30 +40,32 @@ pub record IsCalled (name : List ℕ) (cannot : Option Core → Type 0) (does : 
   pub uncounted : new.losses ≡ old.losses
 
 -- it is not done, or done with losses, and that is counted
-pub record LosesCall (name : List ℕ) (does : Bool → Piped → Piped → Type 0) (old new : WorldState) : Type 0 where
+pub record LosesCall (name : List ℕ) (cannot : Option Core → Type 0) (does : Bool → Piped → Piped → Type 0) (loses : Piped → Piped → Type 0) (old new : WorldState) : Type 0 where
+  pub can : cannot (core_named name old.clients) → ⊥
   pub done : WorldState
   pub less : (done ≡ old) ⊎ ClientDoes name (does false) old done
+  pub lost : (done ≡ old) ⊎ ClientDoes name loses old done
   pub counted : new ≡ record done { losses = one_more old.losses }
 
 -- what comes of something that a client does
-abbrev pub ClientMeets : List ℕ → (Option Core → Type 0) → (Bool → Piped → Piped → Type 0) → WorldState → Result (Unit {0}) Idle → WorldState → Type 0
-ClientMeets name cannot does old (Err idle) new = cannot (core_named name old.clients) × (new ≡ old)
-ClientMeets name cannot does old (Ok done) new = IsCalled name cannot does old new ⊎ LosesCall name does old new
+abbrev pub ClientMeets : List ℕ → (Option Core → Type 0) → (Bool → Piped → Piped → Type 0) → (Piped → Piped → Type 0) → WorldState → Result (Unit {0}) Idle → WorldState → Type 0
+ClientMeets name cannot does loses old (Err idle) new = cannot (core_named name old.clients) × (new ≡ old)
+ClientMeets name cannot does loses old (Ok done) new = IsCalled name cannot does old new ⊎ LosesCall name cannot does loses old new
 
 -- .. by its own answer
-abbrev pub Outcome : (Option Core → Type 0) → (Bool → Piped → Piped → Type 0) → Piped → Result Sending ClientError → Piped → Type 0
-Outcome cannot does old (Ok sendings.Sent) new = (cannot (Some old.core) → ⊥) × does true old new × does false old new
-Outcome cannot does old (Ok sendings.Lost) new = does false old new
-Outcome cannot does old (Err errors.Memory) new = new ≡ old
-Outcome cannot does old (Err cause) new = cannot (Some old.core) × (new ≡ old)
+abbrev pub Outcome : (Option Core → Type 0) → (Bool → Piped → Piped → Type 0) → (Piped → Piped → Type 0) → Piped → Result Sending ClientError → Piped → Type 0
+Outcome cannot does loses old (Ok sendings.Sent) new = (cannot (Some old.core) → ⊥) × does true old new × does false old new
+Outcome cannot does loses old (Ok sendings.Lost) new = (cannot (Some old.core) → ⊥) × does false old new × loses old new
+Outcome cannot does loses old (Err errors.Memory) new = (cannot (Some old.core) → ⊥) × (new ≡ old)
+Outcome cannot does loses old (Err cause) new = cannot (Some old.core) × (new ≡ old)
 
 -- ---- in its world
 
-done_well : (name : List ℕ) (cannot : Option Core → Type 0) (does : Bool → Piped → Piped → Type 0) (old : WorldState) (at : ℕ) (client : WorldClient) (piped : Piped) (result : Result (Unit {0}) Idle) (new : WorldState)
+done_well : (name : List ℕ) (cannot : Option Core → Type 0) (does : Bool → Piped → Piped → Type 0) (loses : Piped → Piped → Type 0) (old : WorldState) (at : ℕ) (client : WorldClient) (piped : Piped) (result : Result (Unit {0}) Idle) (new : WorldState)
     → position (is_named name) old.clients ≡ Some at → slice_get old.clients at ≡ Some client → (cannot (Some client.piped.core) → ⊥) → does true client.piped piped → does false client.piped piped
-    → IsOk result → new ≡ with_piped at client piped old → ClientMeets name cannot does old result new
-done_well name cannot does old at client piped (Err idle) new first stands can exact less ok is = absurd (both_ways false refl ok)
-done_well name cannot does old at client piped (Ok x) new first stands can exact less ok is =
+    → IsOk result → new ≡ with_piped at client piped old → ClientMeets name cannot does loses old result new
+done_well name cannot does loses old at client piped (Err idle) new first stands can exact less ok is = absurd (both_ways false refl ok)
+done_well name cannot does loses old at client piped (Ok x) new first stands can exact less ok is =
     inl (record {
       can = λ cause. can (subst cannot (core_found name old.clients at client first stands) cause);
       less = (record { at = at; first = first; client = client; stands = stands }, piped, less, is);
@@ -69,53 +74,56 @@ done_well name cannot does old at client piped (Ok x) new first stands can exact
     })
 
 -- done with losses, or not at all
-lost_call : (name : List ℕ) (cannot : Option Core → Type 0) (does : Bool → Piped → Piped → Type 0) (old done : WorldState) (result : Result (Unit {0}) Idle) (new : WorldState)
-    → (done ≡ old) ⊎ ClientDoes name (does false) old done → done.losses ≡ old.losses → IsOk result → new ≡ forgetful done → ClientMeets name cannot does old result new
-lost_call name cannot does old done (Err idle) new less still ok is = absurd (both_ways false refl ok)
-lost_call name cannot does old done (Ok x) new less still ok is =
-    inr (record { done = done; less = less; counted = is ∙ ap (λ (k : ℕ). let w : WorldState = record done { losses = one_more k } in w) still })
+lost_call : (name : List ℕ) (cannot : Option Core → Type 0) (does : Bool → Piped → Piped → Type 0) (loses : Piped → Piped → Type 0) (old done : WorldState) (result : Result (Unit {0}) Idle) (new : WorldState)
+    → (cannot (core_named name old.clients) → ⊥) → (done ≡ old) ⊎ ClientDoes name (does false) old done → (done ≡ old) ⊎ ClientDoes name loses old done → done.losses ≡ old.losses → IsOk result → new ≡ forgetful done
+    → ClientMeets name cannot does loses old result new
+lost_call name cannot does loses old done (Err idle) new can less lost still ok is = absurd (both_ways false refl ok)
+lost_call name cannot does loses old done (Ok x) new can less lost still ok is =
+    inr (record { can = can; done = done; less = less; lost = lost; counted = is ∙ ap (λ (k : ℕ). let w : WorldState = record done { losses = one_more k } in w) still })
 
-idle_then : (name : List ℕ) (cannot : Option Core → Type 0) (does : Bool → Piped → Piped → Type 0) (old : WorldState) (at : ℕ) (client : WorldClient) (piped : Piped) (result : Result (Unit {0}) Idle) (new : WorldState)
+idle_then : (name : List ℕ) (cannot : Option Core → Type 0) (does : Bool → Piped → Piped → Type 0) (loses : Piped → Piped → Type 0) (old : WorldState) (at : ℕ) (client : WorldClient) (piped : Piped) (result : Result (Unit {0}) Idle) (new : WorldState)
     → position (is_named name) old.clients ≡ Some at → slice_get old.clients at ≡ Some client → cannot (Some client.piped.core) × (piped ≡ client.piped) → IsErr result × (new ≡ with_piped at client piped old)
-    → ClientMeets name cannot does old result new
-idle_then name cannot does old at client piped (Ok x) new first stands refused counts = absurd (both_ways false refl counts.0)
-idle_then name cannot does old at client piped (Err idle) new first stands refused counts = (
+    → ClientMeets name cannot does loses old result new
+idle_then name cannot does loses old at client piped (Ok x) new first stands refused counts = absurd (both_ways false refl counts.0)
+idle_then name cannot does loses old at client piped (Err idle) new first stands refused counts = (
   subst cannot (sym (core_found name old.clients at client first stands)) refused.0,
   counts.1 ∙ same_piped old at client piped stands refused.1,
 )
 
-pub client_meets : (name : List ℕ) (cannot : Option Core → Type 0) (does : Bool → Piped → Piped → Type 0) (old : WorldState) (at : ℕ) (client : WorldClient) (piped : Piped) (done : Result Sending ClientError)
-    (result : Result (Unit {0}) Idle) (new : WorldState) → position (is_named name) old.clients ≡ Some at → slice_get old.clients at ≡ Some client → Outcome cannot does client.piped done piped
-    → Counts done (with_piped at client piped old) result new → ClientMeets name cannot does old result new
-client_meets name cannot does old at client piped (Ok sendings.Sent) result new first stands out counts =
-    done_well name cannot does old at client piped result new first stands out.0 out.1 out.2 counts.0 counts.1
-client_meets name cannot does old at client piped (Ok sendings.Lost) result new first stands out counts =
-    lost_call name cannot does old (with_piped at client piped old) result new
-    (inr (record { at = at; first = first; client = client; stands = stands }, piped, out, refl)) refl counts.0 counts.1
-client_meets name cannot does old at client piped (Err errors.Memory) result new first stands out counts =
-    lost_call name cannot does old (with_piped at client piped old) result new (inl (same_piped old at client piped stands out)) refl counts.0 counts.1
-client_meets name cannot does old at client piped (Err errors.NotActive) result new first stands out counts = idle_then name cannot does old at client piped result new first stands out counts
-client_meets name cannot does old at client piped (Err errors.WindowFull) result new first stands out counts = idle_then name cannot does old at client piped result new first stands out counts
-client_meets name cannot does old at client piped (Err errors.TooLarge) result new first stands out counts = idle_then name cannot does old at client piped result new first stands out counts
-client_meets name cannot does old at client piped (Err errors.SessionLost) result new first stands out counts = idle_then name cannot does old at client piped result new first stands out counts
-client_meets name cannot does old at client piped (Err errors.Protocol) result new first stands out counts = idle_then name cannot does old at client piped result new first stands out counts
-client_meets name cannot does old at client piped (Err (errors.Malformed kind)) result new first stands out counts = idle_then name cannot does old at client piped result new first stands out counts
+pub client_meets : (name : List ℕ) (cannot : Option Core → Type 0) (does : Bool → Piped → Piped → Type 0) (loses : Piped → Piped → Type 0) (old : WorldState) (at : ℕ) (client : WorldClient) (piped : Piped) (done : Result Sending ClientError)
+    (result : Result (Unit {0}) Idle) (new : WorldState) → position (is_named name) old.clients ≡ Some at → slice_get old.clients at ≡ Some client → Outcome cannot does loses client.piped done piped
+    → Counts done (with_piped at client piped old) result new → ClientMeets name cannot does loses old result new
+client_meets name cannot does loses old at client piped (Ok sendings.Sent) result new first stands out counts =
+    done_well name cannot does loses old at client piped result new first stands out.0 out.1 out.2 counts.0 counts.1
+client_meets name cannot does loses old at client piped (Ok sendings.Lost) result new first stands out counts =
+    lost_call name cannot does loses old (with_piped at client piped old) result new (λ no. out.0 (subst cannot (core_found name old.clients at client first stands) no))
+    (inr (record { at = at; first = first; client = client; stands = stands }, piped, out.1, refl))
+    (inr (record { at = at; first = first; client = client; stands = stands }, piped, out.2, refl)) refl counts.0 counts.1
+client_meets name cannot does loses old at client piped (Err errors.Memory) result new first stands out counts =
+    lost_call name cannot does loses old (with_piped at client piped old) result new (λ no. out.0 (subst cannot (core_found name old.clients at client first stands) no))
+    (inl (same_piped old at client piped stands out.1)) (inl (same_piped old at client piped stands out.1)) refl counts.0 counts.1
+client_meets name cannot does loses old at client piped (Err errors.NotActive) result new first stands out counts = idle_then name cannot does loses old at client piped result new first stands out counts
+client_meets name cannot does loses old at client piped (Err errors.WindowFull) result new first stands out counts = idle_then name cannot does loses old at client piped result new first stands out counts
+client_meets name cannot does loses old at client piped (Err errors.TooLarge) result new first stands out counts = idle_then name cannot does loses old at client piped result new first stands out counts
+client_meets name cannot does loses old at client piped (Err errors.SessionLost) result new first stands out counts = idle_then name cannot does loses old at client piped result new first stands out counts
+client_meets name cannot does loses old at client piped (Err errors.Protocol) result new first stands out counts = idle_then name cannot does loses old at client piped result new first stands out counts
+client_meets name cannot does loses old at client piped (Err (errors.Malformed kind)) result new first stands out counts = idle_then name cannot does loses old at client piped result new first stands out counts
 
 -- ---- its calls
 
 some_cause : (refusal : Option ClientError) (cause : ClientError) → refusal ≡ Some cause → refusal ≡ None → ⊥
 some_cause refusal cause some none = none-some cause (sym none ∙ some)
 
-pub call_outcome : (published : List Publication) (call : Call) (old : Piped) (done : Result Sending ClientError) (new : Piped) → IsCall call old done new → CallingFollows published old done new → Outcome (Refuses call) (Asks call) old done new
-call_outcome published call old (Ok sendings.Sent) new calls follows = (λ no. no calls.1.0, calls, (sendings.Sent, calls))
-call_outcome published call old (Ok sendings.Lost) new calls follows = (sendings.Lost, calls)
-call_outcome published call old (Err errors.Memory) new calls follows = follows
-call_outcome published call old (Err errors.NotActive) new calls follows = (some_cause _ errors.NotActive calls.0.0, follows)
-call_outcome published call old (Err errors.WindowFull) new calls follows = (some_cause _ errors.WindowFull calls.0.0, follows)
-call_outcome published call old (Err errors.TooLarge) new calls follows = (some_cause _ errors.TooLarge calls.0.0, follows)
-call_outcome published call old (Err errors.SessionLost) new calls follows = (some_cause _ errors.SessionLost calls.0.0, follows)
-call_outcome published call old (Err errors.Protocol) new calls follows = (some_cause _ errors.Protocol calls.0.0, follows)
-call_outcome published call old (Err (errors.Malformed kind)) new calls follows = (some_cause _ (errors.Malformed kind) calls.0.0, follows)
+pub call_outcome : (published : List Publication) (call : Call) (old : Piped) (done : Result Sending ClientError) (new : Piped) → (Refuses call (Some old.core) → ⊥) → IsCall call old done new → CallingFollows published old done new → Outcome (Refuses call) (Asks call) (LosesAsking call) old done new
+call_outcome published call old (Ok sendings.Sent) new can calls follows = (λ no. no calls.1.0, calls, (sendings.Sent, calls))
+call_outcome published call old (Ok sendings.Lost) new can calls follows = (can, (sendings.Lost, calls), calls)
+call_outcome published call old (Err errors.Memory) new can calls follows = (can, follows)
+call_outcome published call old (Err errors.NotActive) new can calls follows = (some_cause _ errors.NotActive calls.0.0, follows)
+call_outcome published call old (Err errors.WindowFull) new can calls follows = (some_cause _ errors.WindowFull calls.0.0, follows)
+call_outcome published call old (Err errors.TooLarge) new can calls follows = (some_cause _ errors.TooLarge calls.0.0, follows)
+call_outcome published call old (Err errors.SessionLost) new can calls follows = (some_cause _ errors.SessionLost calls.0.0, follows)
+call_outcome published call old (Err errors.Protocol) new can calls follows = (some_cause _ errors.Protocol calls.0.0, follows)
+call_outcome published call old (Err (errors.Malformed kind)) new can calls follows = (some_cause _ (errors.Malformed kind) calls.0.0, follows)
 
 pub is_call : (call : Call) (old : Piped) (done : Result Sending ClientError) (new : Piped) → Calls (keeper_step call old.core.state) old done new → IsCall call old done new
 is_call call old (Ok sending) new calls = calls
@@ -132,6 +140,46 @@ same_publication a b retain qos topic payload =
     ap (λ (x : Bool). publication_with x a.qos a.topic a.payload) retain ∙ ap (λ (x : QoS). publication_with b.retain x a.topic a.payload) qos
     ∙ ap (λ (x : List ℕ). publication_with b.retain b.qos x a.payload) topic ∙ ap (λ (x : List ℕ). publication_with b.retain b.qos b.topic x) payload
 
+-- a client that is asked tells what it refuses
+refused_by : (refusal : Option ClientError) (turn : Turn) (state : ClientState) → is_some refusal ≡ true → (unless_refused refusal turn state).refusal ≡ None → ⊥
+refused_by None turn state some none = both_ways false refl some
+refused_by (Some cause) turn state some none = none-some cause (sym none)
+
+allowed_by : (refusal : Option ClientError) (turn : Turn) (state : ClientState) → turn.refusal ≡ None → is_some refusal ≡ false
+    → ((unless_refused refusal turn state).refusal ≡ None → ⊥) → ⊥
+allowed_by None turn state free none refuses = refuses free
+allowed_by (Some cause) turn state free none refuses = both_ways true none refl
+
+published_free : (p : Publication) (state : ClientState) → (published p state).refusal ≡ None
+published_free p state = by (is_online state.stage) refl
+  where
+    by : (b : Bool) → is_online state.stage ≡ b → (published p state).refusal ≡ None
+    by true is = rw is refl
+    by false is = rw is refl
+
+pub refuses_publication : (p : Publication) (core : Core) → is_some (publish_refusal p core.state) ≡ true → Refuses (Call.Publishes p) (Some core)
+refuses_publication p core some = refused_by (publish_refusal p core.state) (published p core.state) core.state some
+
+pub takes_publication : (p : Publication) (core : Core) → is_some (publish_refusal p core.state) ≡ false → Refuses (Call.Publishes p) (Some core) → ⊥
+takes_publication p core none refuses = allowed_by (publish_refusal p core.state) (published p core.state) core.state (published_free p core.state) none refuses
+
+pub refuses_filter : (filter : List ℕ) (qos : QoS) (core : Core) → is_some (request_refusal core.state) ≡ true
+    → Refuses (Call.Subscribes filter qos) (Some core) × Refuses (Call.Unsubscribes filter) (Some core)
+refuses_filter filter qos core some =
+    (refused_by (request_refusal core.state) (subscribed filter qos core.state) core.state some, refused_by (request_refusal core.state) (unsubscribed filter core.state) core.state some)
+
+pub takes_filter : (filter : List ℕ) (qos : QoS) (core : Core) → is_some (request_refusal core.state) ≡ false
+    → (Refuses (Call.Subscribes filter qos) (Some core) → ⊥) × (Refuses (Call.Unsubscribes filter) (Some core) → ⊥)
+takes_filter filter qos core none = (
+  λ refuses. allowed_by (request_refusal core.state) (subscribed filter qos core.state) core.state refl none refuses,
+  λ refuses. allowed_by (request_refusal core.state) (unsubscribed filter core.state) core.state refl none refuses,
+)
+
+-- what cannot be is idle, before anything is copied
+pub asked_before : (name : List ℕ) (cannot : Option Core → Type 0) (old : WorldState) (at : ℕ) (client : WorldClient) → position (is_named name) old.clients ≡ Some at
+    → slice_get old.clients at ≡ Some client → cannot (Some client.piped.core) → cannot (core_named name old.clients) × (old ≡ old)
+asked_before name cannot old at client first stands refuses = (subst cannot (sym (core_found name old.clients at client first stands)) refuses, refl)
+
 -- only one that holds a connection may leave
 may_leave : (stage : Stage) (state : ClientState) → (disconnected stage state).refusal ≡ None → is_open stage ≡ false → ⊥
 may_leave stages.Closed state none closed = none-some errors.NotActive (sym none)
@@ -143,42 +191,47 @@ may_not_leave stages.Closed state cause some = refl
 may_not_leave stages.Opened state cause some = absurd (none-some cause some)
 may_not_leave stages.Online state cause some = absurd (none-some cause some)
 
-pub leave_outcome : (old : Piped) (done : Result Sending ClientError) (new : Piped) → TakesLeave (keeper_step Call.Disconnects old.core.state) old done new → CallingFollows [] old done new
-    → Outcome HoldsNone Leaves old done new
-leave_outcome old (Ok sendings.Sent) new leaves follows = (may_leave old.core.state.stage old.core.state leaves.1.0, leaves, (sendings.Sent, leaves))
-leave_outcome old (Ok sendings.Lost) new leaves follows = (sendings.Lost, leaves)
-leave_outcome old (Err errors.Memory) new leaves follows = follows
-leave_outcome old (Err errors.NotActive) new leaves follows = (may_not_leave old.core.state.stage old.core.state errors.NotActive leaves.0.0, follows)
-leave_outcome old (Err errors.WindowFull) new leaves follows = (may_not_leave old.core.state.stage old.core.state errors.WindowFull leaves.0.0, follows)
-leave_outcome old (Err errors.TooLarge) new leaves follows = (may_not_leave old.core.state.stage old.core.state errors.TooLarge leaves.0.0, follows)
-leave_outcome old (Err errors.SessionLost) new leaves follows = (may_not_leave old.core.state.stage old.core.state errors.SessionLost leaves.0.0, follows)
-leave_outcome old (Err errors.Protocol) new leaves follows = (may_not_leave old.core.state.stage old.core.state errors.Protocol leaves.0.0, follows)
-leave_outcome old (Err (errors.Malformed kind)) new leaves follows = (may_not_leave old.core.state.stage old.core.state (errors.Malformed kind) leaves.0.0, follows)
+pub leave_outcome : (old : Piped) (done : Result Sending ClientError) (new : Piped) → (HoldsNone (Some old.core) → ⊥) → TakesLeave (keeper_step Call.Disconnects old.core.state) old done new → CallingFollows [] old done new
+    → Outcome HoldsNone Leaves LosesLeaving old done new
+leave_outcome old (Ok sendings.Sent) new can leaves follows = (may_leave old.core.state.stage old.core.state leaves.1.0, leaves, (sendings.Sent, leaves))
+leave_outcome old (Ok sendings.Lost) new can leaves follows = (can, (sendings.Lost, leaves), leaves)
+leave_outcome old (Err errors.Memory) new can leaves follows = (can, follows)
+leave_outcome old (Err errors.NotActive) new can leaves follows = (may_not_leave old.core.state.stage old.core.state errors.NotActive leaves.0.0, follows)
+leave_outcome old (Err errors.WindowFull) new can leaves follows = (may_not_leave old.core.state.stage old.core.state errors.WindowFull leaves.0.0, follows)
+leave_outcome old (Err errors.TooLarge) new can leaves follows = (may_not_leave old.core.state.stage old.core.state errors.TooLarge leaves.0.0, follows)
+leave_outcome old (Err errors.SessionLost) new can leaves follows = (may_not_leave old.core.state.stage old.core.state errors.SessionLost leaves.0.0, follows)
+leave_outcome old (Err errors.Protocol) new can leaves follows = (may_not_leave old.core.state.stage old.core.state errors.Protocol leaves.0.0, follows)
+leave_outcome old (Err (errors.Malformed kind)) new can leaves follows = (may_not_leave old.core.state.stage old.core.state (errors.Malformed kind) leaves.0.0, follows)
 
 -- ---- as events
 
+-- what was lost at a client
+pub or_nodes : {A B C : Type 0} → A ⊎ B → A ⊎ B ⊎ C
+or_nodes (inl a) = inl a
+or_nodes (inr b) = inr (inl b)
+
 pub publish_meets : (name : List ℕ) (p : Publication) (old : WorldState) (result : Result (Unit {0}) Idle) (new : WorldState)
-    → ClientMeets name (Refuses (Call.Publishes p)) (Asks (Call.Publishes p)) old result new → Meets (events.Publish name p) old result new
+    → ClientMeets name (Refuses (Call.Publishes p)) (Asks (Call.Publishes p)) (LosesAsking (Call.Publishes p)) old result new → Meets (events.Publish name p) old result new
 publish_meets name p old (Ok x) new (inl d) = inl (record { can = d.can; does = inr d.less; exact = λ none. d.exact; uncounted = d.uncounted })
-publish_meets name p old (Ok x) new (inr l) = inr (record { can = λ first. absurd (both_ways false refl first); done = l.done; does = l.less; counted = l.counted })
+publish_meets name p old (Ok x) new (inr l) = inr (record { can = l.can; needs = λ none low. none; done = l.done; does = l.less; lost = or_nodes l.lost; counted = l.counted })
 publish_meets name p old (Err x) new m = m
 
 pub subscribe_meets : (name filter : List ℕ) (qos : QoS) (old : WorldState) (result : Result (Unit {0}) Idle) (new : WorldState)
-    → ClientMeets name (Refuses (Call.Subscribes filter qos)) (Asks (Call.Subscribes filter qos)) old result new → Meets (events.Subscribe name filter qos) old result new
+    → ClientMeets name (Refuses (Call.Subscribes filter qos)) (Asks (Call.Subscribes filter qos)) (LosesAsking (Call.Subscribes filter qos)) old result new → Meets (events.Subscribe name filter qos) old result new
 subscribe_meets name filter qos old (Ok x) new (inl d) = inl (record { can = d.can; does = inr d.less; exact = λ none. d.exact; uncounted = d.uncounted })
-subscribe_meets name filter qos old (Ok x) new (inr l) = inr (record { can = λ first. absurd (both_ways false refl first); done = l.done; does = l.less; counted = l.counted })
+subscribe_meets name filter qos old (Ok x) new (inr l) = inr (record { can = l.can; needs = λ none low. none; done = l.done; does = l.less; lost = or_nodes l.lost; counted = l.counted })
 subscribe_meets name filter qos old (Err x) new m = m
 
 pub unsubscribe_meets : (name filter : List ℕ) (old : WorldState) (result : Result (Unit {0}) Idle) (new : WorldState)
-    → ClientMeets name (Refuses (Call.Unsubscribes filter)) (Asks (Call.Unsubscribes filter)) old result new → Meets (events.Unsubscribe name filter) old result new
+    → ClientMeets name (Refuses (Call.Unsubscribes filter)) (Asks (Call.Unsubscribes filter)) (LosesAsking (Call.Unsubscribes filter)) old result new → Meets (events.Unsubscribe name filter) old result new
 unsubscribe_meets name filter old (Ok x) new (inl d) = inl (record { can = d.can; does = inr d.less; exact = λ none. d.exact; uncounted = d.uncounted })
-unsubscribe_meets name filter old (Ok x) new (inr l) = inr (record { can = λ first. absurd (both_ways false refl first); done = l.done; does = l.less; counted = l.counted })
+unsubscribe_meets name filter old (Ok x) new (inr l) = inr (record { can = l.can; needs = λ none low. none; done = l.done; does = l.less; lost = or_nodes l.lost; counted = l.counted })
 unsubscribe_meets name filter old (Err x) new m = m
 
-pub disconnect_meets : (name : List ℕ) (old : WorldState) (result : Result (Unit {0}) Idle) (new : WorldState) → ClientMeets name HoldsNone Leaves old result new
+pub disconnect_meets : (name : List ℕ) (old : WorldState) (result : Result (Unit {0}) Idle) (new : WorldState) → ClientMeets name HoldsNone Leaves LosesLeaving old result new
     → Meets (events.Disconnect name) old result new
 disconnect_meets name old (Ok x) new (inl d) = inl (record { can = d.can; does = inr d.less; exact = λ none. d.exact; uncounted = d.uncounted })
-disconnect_meets name old (Ok x) new (inr l) = inr (record { can = λ first. absurd (both_ways false refl first); done = l.done; does = l.less; counted = l.counted })
+disconnect_meets name old (Ok x) new (inr l) = inr (record { can = l.can; needs = λ none low. none; done = l.done; does = l.less; lost = or_nodes l.lost; counted = l.counted })
 disconnect_meets name old (Err x) new m = m
 
 -- one that holds a connection loses it

@@ -16,7 +16,7 @@ use Rattle.world.specs.declared.world.WorldClient.{WorldClient}
 use Rattle.world.specs.Goes.{NodesGoOn}
 use Rattle.world.specs.Housed.{AreHoused, leads, leads_of}
 use Rattle.world.specs.Found.{port_of, with_down, with_less}
-use Rattle.world.specs.Inside.Carrying.{CannotTake, CannotTakeOn, TakesUp, TakesUpOnWhere, TakesUpWhere}
+use Rattle.world.specs.Inside.Carrying.{CanTake, CannotTake, CannotTakeOn, TakesUp, TakesUpOnWhere, TakesUpWhere}
 use Rattle.world.specs.Inside.Steps.{GoesOn}
 use Rattle.world.specs.Inside.Handing.{HandsDown, MayHandOn, MayPutDown, PutsDown}
 use Rattle.world.specs.World.{WorldState}
@@ -119,6 +119,17 @@ takes_part place port count old client new later waiting piece below up some par
     of_some : (P : Way → Type 0) (way : Way) → slice_get client.ways place.at ≡ Some way → IfSome (slice_get client.ways place.at) P → P way
     of_some P way e i = subst (λ o. IfSome o P) e i
 
+-- where there is no memory for it, it could have come
+pub can_take : (place : Place) (count : ℕ) (old : NodesState) (client : Piped) (waiting : List ℕ) → place.at < length client.ways → IfSome (slice_get client.ways place.at) (λ way. waiting ≡ way.up)
+    → 0 < count → count ≤ length waiting → (running old.nodes place.node ≡ None → ⊥) → CanTake place count old client
+can_take place count old client waiting below up some part runs =
+    let w = there client.ways place.at below in
+    let waits : waiting ≡ w.0.up = of_some (λ (way : Way). waiting ≡ way.up) w.0 w.1 up in
+    record { way = w.0; found = w.1; some = some; part = (let e = ap length waits in omega (arith, e, part)); runs = runs }
+  where
+    of_some : (P : Way → Type 0) (way : Way) → slice_get client.ways place.at ≡ Some way → IfSome (slice_get client.ways place.at) P → P way
+    of_some P way e i = subst (λ o. IfSome o P) e i
+
 -- and the connection leads where it did
 pub less_leads : (client later : Piped) (at count : ℕ) (way : Way) → slice_get client.ways at ≡ Some way
     → IfSome (slice_get client.ways at) (λ way. later ≡ with_less at count way client) → leads later.ways ≡ leads client.ways
@@ -133,7 +144,7 @@ pub takes_up_on : {E : Type 0} (r : Result Bool E) (old : WorldState) (number co
     → slice_get old.clients place.client ≡ Some client → IfOk r (λ had. TakesUpWhere had place (port_of number) count old.nodes client.piped new later)
     → IfOk r (λ had. TakesUpOnWhere had number place count old (put_down place.client client later new old))
 takes_up_on (Ok true) old number count place client new later owned taken = record { client = client; owned = owned; between = new; piped = later; takes = taken; is = refl }
-takes_up_on (Ok false) old number count place client new later owned taken = unchanged old place.client client new later owned taken.0 taken.1
+takes_up_on (Ok false) old number count place client new later owned taken = (unchanged old place.client client new later owned taken.0 taken.1, client, owned, taken.2)
 takes_up_on (Err e) old number count place client new later owned taken = tt
 
 -- and where they cannot, nothing is changed

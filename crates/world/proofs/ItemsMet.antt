@@ -23,10 +23,11 @@ use Rattle.world.specs.declared.world.WorldClient.{WorldClient}
 use Rattle.world.specs.Found.{Connected, is_named, place_numbered, port_of, with_less, with_piped}
 use Rattle.world.specs.Gathering.{Gathers, TakesItem}
 use Rattle.world.specs.Cannot.{CannotHappen, IsClosed, IsNoPart, down_of, is_held, is_held_by, up_of}
-use Rattle.world.specs.Doing.{Does, HearsThem, receiver_of}
+use Rattle.world.specs.Doing.{Does, HearsThem, LosesAtClient, receiver_of}
 use Rattle.world.specs.Happening.{Happens, HappensExactly, HappensLosing, Run}
 use Rattle.world.specs.Housed.{AreHoused, leads_of}
-use Rattle.world.specs.Inside.Carrying.{CannotHear, CannotTakeOn, HearsOn, TakesUpOn}
+use Rattle.world.specs.Quiet.{TakesNoMemory}
+use Rattle.world.specs.Inside.Carrying.{CanTake, CannotHear, CannotTakeOn, HearsOn, TakesUpOn}
 use Rattle.world.specs.Inside.Steps.{IsCounted, IsDone, Meets}
 use Rattle.world.specs.Inside.Calling.{forgetful}
 use Rattle.world.specs.World.{WorldState}
@@ -186,8 +187,25 @@ carries_up number place count old mid new at positive up t gathers still =
     )
 
 -- there was no memory for them, and that is counted
-pub lost_up : (number : ℕ) (place : Place) (count : ℕ) (old mid new : WorldState) → mid ≡ old → new ≡ forgetful mid → HappensLosing (events.CarryUp number count) old new
-lost_up number place count old mid new same lost = record { can = λ first. absurd (both_ways false refl first); done = old; does = inl refl; counted = lost ∙ ap forgetful same }
+pub lost_up : (number : ℕ) (place : Place) (count : ℕ) (old mid new : WorldState) → slice_get old.connections (number - 1) ≡ Some place → 0 < number → place.is_open ≡ true
+    → (mid ≡ old) × (client : WorldClient) × (slice_get old.clients place.client ≡ Some client) × CanTake place count old.nodes client.piped → new ≡ forgetful mid
+    → HappensLosing (events.CarryUp number count) old new
+lost_up number place count old mid new at positive up (same, client, owned, t) forgot =
+    record { can = can; needs = λ none low. none; done = old; does = inl refl; lost = inl refl; counted = forgot ∙ ap forgetful same }
+  where
+    c : Connected number old
+    c = record {
+      place = place;
+      numbered = numbered_at number old.connections (Some place) positive at;
+      client = client;
+      owned = owned;
+      way = t.way;
+      stands = t.found;
+    }
+
+    can : CannotHappen (events.CarryUp number count) old → ⊥
+    can (inl closed) = not_closed number old place at positive up t.runs closed
+    can (inr few) = no_part count t.way.up t.some t.part (subst (λ (o : Option Way). IsNoPart count (up_of o)) (way_found number old c) few)
 
 pub carries_nothing : (number : ℕ) (place : Place) (count : ℕ) (old : WorldState) → AreHoused (leads_of old.clients) old.connections → slice_get old.connections (number - 1) ≡ Some place → 0 < number
     → CannotTakeOn place count old → CannotHappen (events.CarryUp number count) old
@@ -208,7 +226,8 @@ held_there number w c = ap (λ (o : Option Place). is_held o w.clients) c.number
 pub carries_down : (number : ℕ) (place : Place) (count : ℕ) (had : Bool) (old : WorldState) (client : WorldClient) (piped : Piped) → AreHoused (leads_of old.clients) old.connections
     → slice_get old.connections (number - 1) ≡ Some place → 0 < number → slice_get old.clients place.client ≡ Some client → HearsOn had place.at count client.piped piped
     → (CannotHappen (events.CarryDown number count) old → ⊥) × Does had (events.CarryDown number count) old (with_piped place.client client piped old)
-carries_down number place count had old client piped housed at positive owned hears = (can, (c, piped, hears.hears, refl))
+    × (had ≡ false → LosesAtClient (events.CarryDown number count) old (with_piped place.client client piped old))
+carries_down number place count had old client piped housed at positive owned hears = (can, (c, piped, hears.hears, refl), (λ lost. (c, piped, hears.lost lost, refl)))
   where
     found : Connected number old
     found = connected old number place housed at positive
@@ -263,7 +282,7 @@ heard_meets number place count true old client piped new housed at positive owne
     (record { can = d.0; does = inr (does_less number count old heard d.1); exact = λ none. d.1; uncounted = refl }))
 heard_meets number place count false old client piped new housed at positive owned hears is =
     let d = carries_down number place count false old client piped housed at positive owned hears in
-    inr (record { can = λ first. d.0; done = with_piped place.client client piped old; does = inr d.1; counted = is })
+    inr (record { can = d.0; needs = λ none low. none; done = with_piped place.client client piped old; does = inr d.1; lost = inr (inl (d.2 refl)); counted = is })
 
 pub never_opened : (number count : ℕ) (w : WorldState) → place_numbered number w.connections ≡ None → CannotHappen (events.CarryDown number count) w
 never_opened number count w none = inl (ap (λ (o : Option Place). is_held o w.clients) none)
@@ -272,20 +291,29 @@ never_opened number count w none = inl (ap (λ (o : Option Place). is_held o w.c
 
 -- an event that was done is counted where its nodes counted a loss, and one that is counted already is not counted again
 pub step_happens : (event : Event) (old mid new : WorldState) (before counted : ℕ) → before ≡ old.nodes.losses → counted ≡ old.losses → Meets event old (Ok tt) mid
-    → IsCounted before counted mid new → Happens event old (Ok tt) new
-step_happens event old mid new before counted is so_many (inl d) (inl none) =
+    → (TakesNoMemory event old → mid.nodes.losses ≡ old.nodes.losses) → IsCounted before counted mid new → Happens event old (Ok tt) new
+step_happens event old mid new before counted is so_many (inl d) quiet (inl none) =
     let w = none.1 (d.uncounted ∙ sym so_many) in let kept = w.0 in let below = w.1 in
     let nodes : NodesLoseNothing old.nodes mid.nodes =
     ((let e : mid.nodes.losses ≡ old.nodes.losses = omega (arith, kept, is) in e), (let l : old.nodes.losses < 2 ^ 64 - 1 = omega (arith, is, below) in l)) in
     inl (subst (λ (w : WorldState). HappensExactly event old w) (sym none.0) (record { can = d.can; does = d.exact nodes; uncounted = d.uncounted }))
-step_happens event old mid new before counted is so_many (inl d) (inr one) =
-    inr (record { can = λ first. d.can; done = mid; does = d.does; counted = one.0 ∙ ap (λ (k : ℕ). record mid { losses = one_more k }) d.uncounted })
-step_happens event old mid new before counted is so_many (inr l) (inl none) = inr (subst (λ (w : WorldState). HappensLosing event old w) (sym none.0) l)
-step_happens event old mid new before counted is so_many (inr l) (inr one) =
+step_happens event old mid new before counted is so_many (inl d) quiet (inr one) =
+    inr (record {
+      can = d.can;
+      needs = λ none low. one.2 (quiet none ∙ sym is, subst (λ (k : ℕ). k < 2 ^ 64 - 1) (sym is) low);
+      done = mid;
+      does = d.does;
+      lost = inr (inr (λ whole. one.2 (whole.0 ∙ sym is, subst (λ (k : ℕ). k < 2 ^ 64 - 1) (sym is) whole.1)));
+      counted = one.0 ∙ ap (λ (k : ℕ). record mid { losses = one_more k }) d.uncounted;
+    })
+step_happens event old mid new before counted is so_many (inr l) quiet (inl none) = inr (subst (λ (w : WorldState). HappensLosing event old w) (sym none.0) l)
+step_happens event old mid new before counted is so_many (inr l) quiet (inr one) =
     inr (record {
       can = l.can;
+      needs = l.needs;
       done = l.done;
       does = l.does;
+      lost = l.lost;
       counted = one.0 ∙ ap (λ (k : ℕ). record mid { losses = one_more k }) (one.1 ∙ so_many) ∙ ap (λ (w : WorldState). record w { losses = one_more old.losses }) l.counted;
     })
 

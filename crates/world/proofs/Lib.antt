@@ -25,6 +25,8 @@ mod CallsCounted
 mod CallsMet
 mod ItemsMet
 mod OneAgreed
+mod QuietEvents
+mod NamesSpent
 mod AgreedOnlyGrows
 mod AskedSo
 mod CountedOnce

@@ -1,5 +1,5 @@
 -- OpensOn.antt: a client opens a connection, or has none.
-use Rattle.std.proofs.Common.{◌≡◌, ◌⊎◌, inl, inr, ◌<◌, ◌-◌, ℕ, zero, suc, true, false, List, [], ◌∷◌, ◌++◌, Option, Some, None, length, slice_get, refl, sym, ap, ◌∙◌, subst, arith}
+use Rattle.std.proofs.Common.{◌≡◌, ◌⊎◌, inl, inr, ◌<◌, ◌-◌, ℕ, zero, suc, true, false, List, [], ◌∷◌, ◌++◌, Option, Some, None, Bool, length, slice_get, refl, sym, ap, ◌∙◌, subst, arith}
 use Rattle.std.specs.Prelude.{IfSome}
 use Rattle.std.specs.List.{position}
 use Rattle.std.specs.Option.{is_some}
@@ -24,7 +24,7 @@ use Rattle.world.specs.declared.event.Event.TheVariants as events
 use Rattle.world.specs.declared.world.WorldClient.{WorldClient}
 use Rattle.world.specs.declared.place.Place.{Place}
 use Rattle.world.specs.Found.{Named, core_named, is_named, port_of, with_piped}
-use Rattle.world.specs.Doing.{Does as HappenDoes, NoneOpens, OpensOne, next_number, with_connection}
+use Rattle.world.specs.Doing.{Does as HappenDoes, NoneOpens, OpensNone, OpensOne, OpensUnless, is_full, next_number, with_connection}
 use Rattle.world.specs.Happening.{HappensLosing}
 use Rattle.world.specs.Cannot.{IsTaken, is_serving}
 use Rattle.world.specs.Gathering.{Gathers, TakesItem}
@@ -33,6 +33,7 @@ use Rattle.world.specs.Inside.Steps.{GoesOn, IsDone}
 use Rattle.world.specs.Standing.{GoesTo, WorldGoes}
 use Rattle.world.specs.Standing.Steps.{rests, goes_on}
 use Rattle.world.specs.World.{WorldState}
+use Rattle.world.proofs.CallsMet.{or_nodes}
 use Rattle.world.proofs.ClientGoes.{client_goes}
 use Rattle.world.proofs.Connects.{connects_goes, unused}
 use Rattle.world.proofs.GoesDown.{put_down}
@@ -126,6 +127,16 @@ record IsOpened (name : List ℕ) (node : ℕ) (old new : WorldState) : Type 0 w
   less : OpensOne false name node old new
   exact : NodesLoseNothing old.nodes new.nodes → OpensOne true name node old new
 
+-- where its node has a name left
+roomy : (whole : Bool) (name : List ℕ) (node : ℕ) (old new : WorldState) → is_full (node_of old.nodes.nodes node) ≡ false → OpensOne whole name node old new
+    → OpensUnless (is_full (node_of old.nodes.nodes node)) whole name node old new
+roomy whole name node old new left one = subst (λ (full : Bool). OpensUnless full whole name node old new) (sym left) one
+
+-- and where it has none
+spent : (whole : Bool) (name : List ℕ) (node : ℕ) (old new : WorldState) → is_full (node_of old.nodes.nodes node) ≡ true → new ≡ old
+    → OpensUnless (is_full (node_of old.nodes.nodes node)) whole name node old new
+spent whole name node old new none same = subst (λ (full : Bool). OpensUnless full whole name node old new) (sym none) same
+
 opens_one : (name : List ℕ) (at node : ℕ) (old new : WorldState) → position (is_named name) old.clients ≡ Some at → OpensAt at node old new → IsOpened name node old new
 opens_one name at node old new first o =
     let c : Named name old = record { at = at; first = first; client = o.connects.client; stands = o.connects.found } in
@@ -138,9 +149,9 @@ opens_one name at node old new first o =
     }
 
 pub open_meets : (name : List ℕ) (at node : ℕ) (old new : WorldState) (client : WorldClient) → position (is_named name) old.clients ≡ Some at → slice_get old.clients at ≡ Some client
-    → is_holding client.piped ≡ false → is_serving (node_of old.nodes.nodes node) ≡ true → Begins at node old new
+    → is_holding client.piped ≡ false → is_serving (node_of old.nodes.nodes node) ≡ true → is_full (node_of old.nodes.nodes node) ≡ false → Begins at node old new
     → IsDone (events.Open name node) old new ⊎ HappensLosing (events.Open name node) old new
-open_meets name at node old new client first stands free serving begins = by begins
+open_meets name at node old new client first stands free serving left begins = by begins
   where
     can : (IsTaken (core_named name old.clients) ⊎ (is_serving (node_of old.nodes.nodes node) ≡ false)) → ⊥
     can (inl taken) = both_ways _ free (subst IsTaken (core_found name old.clients at client first stands) taken)
@@ -150,6 +161,10 @@ open_meets name at node old new client first stands free serving begins = by beg
     none mid (inl same) = inl same
     none mid (inr o) = inr (inr (record { at = at; first = first; client = o.client; stands = o.found }, o.piped, o.between, o.none, o.is))
 
+    has_none : (mid : WorldState) → MayOpenNone at node old mid → (mid ≡ old) ⊎ OpensNone name node old mid
+    has_none mid (inl same) = inl same
+    has_none mid (inr o) = inr (record { at = at; first = first; client = o.client; stands = o.found }, o.piped, o.between, o.none, o.is)
+
     losses_none : (mid : WorldState) → MayOpenNone at node old mid → mid.losses ≡ old.losses
     losses_none mid (inl same) = ap (λ (w : WorldState). w.losses) same
     losses_none mid (inr o) = ap (λ (w : WorldState). w.losses) o.is
@@ -157,10 +172,26 @@ open_meets name at node old new client first stands free serving begins = by beg
     by : Begins at node old new → IsDone (events.Open name node) old new ⊎ HappensLosing (events.Open name node) old new
     by (inl o) =
         let one = opens_one name at node old new first o in
-        inl (record { can = can; does = inr (inl one.less); exact = one.exact; uncounted = o.uncounted })
+        inl (record {
+          can = can;
+          does = inr (inl (roomy false name node old new left one.less));
+          exact = λ none. roomy true name node old new left (one.exact none);
+          uncounted = o.uncounted;
+        })
     by (inr (inl (o, counted))) =
         inl (record { can = can; does = none new o; exact = λ lost. absurd (counted lost); uncounted = losses_none new o })
-    by (inr (inr (mid, o, is))) = inr (record { can = λ asked. can; done = mid; does = none mid o; counted = is })
+    by (inr (inr (mid, o, is))) = inr (record { can = can; needs = λ full low. both_ways _ left full; done = mid; does = none mid o; lost = or_nodes (has_none mid o); counted = is })
+
+-- a node that has no name left closes the connection at once
+pub full_meets : (name : List ℕ) (at node : ℕ) (old : WorldState) (client : WorldClient) → position (is_named name) old.clients ≡ Some at → slice_get old.clients at ≡ Some client
+    → is_holding client.piped ≡ false → is_serving (node_of old.nodes.nodes node) ≡ true → is_full (node_of old.nodes.nodes node) ≡ true
+    → IsDone (events.Open name node) old old
+full_meets name at node old client first stands free serving none =
+    record { can = can; does = inl refl; exact = λ whole. spent true name node old old none refl; uncounted = refl }
+  where
+    can : (IsTaken (core_named name old.clients) ⊎ (is_serving (node_of old.nodes.nodes node) ≡ false)) → ⊥
+    can (inl taken) = both_ways _ free (subst IsTaken (core_found name old.clients at client first stands) taken)
+    can (inr idle) = both_ways _ idle serving
 
 -- a client that holds a connection opens none
 pub is_taken : (name : List ℕ) (w : WorldState) (at : ℕ) (client : WorldClient) → position (is_named name) w.clients ≡ Some at → slice_get w.clients at ≡ Some client

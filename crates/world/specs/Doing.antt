@@ -1,15 +1,18 @@
 -- What an event does: exactly, or where losses are allowed (`whole` is false) perhaps with losses.
-use Rattle.std.specs.Prelude.{◌≡◌, ◌⊎◌, ℕ, suc, ◌-◌, Bool, true, false, List, [], ◌∷◌, ◌++◌, Option, Some, None, Result, Ok, Err, length, slice_get, take}
+use Rattle.std.specs.Prelude.{◌≡◌, ◌⊎◌, ℕ, suc, ◌-◌, Bool, true, false, not, List, [], ◌∷◌, ◌++◌, Option, Some, None, Result, Ok, Err, length, slice_get, take}
 use Rattle.ballot.specs.Config.{Config}
 use Rattle.ballot.specs.Message.{Message}
 use Rattle.broker_base.specs.Command.{Command}
+use Rattle.broker_base.specs.Connection.{is_connection_name}
 use Rattle.client.specs.Core.{gone}
 use Rattle.client_base.specs.Steps.{Call, keeper_step}
 use Rattle.client_base.specs.declared.error.ClientError.{ClientError}
 use Rattle.client_base.specs.declared.error.ClientError.TheVariants as errors
+use Rattle.world_base.specs.Core.{CountedCore}
+use Rattle.world_base.specs.Step.{next_name}
 use Rattle.world_base.specs.declared.item.Item.TheVariants as items
 use Rattle.world_base.specs.declared.Port.{Port}
-use Rattle.world_nodes.specs.Goes.{Comes, CutsExactly, TakesExactly, behind_giving}
+use Rattle.world_nodes.specs.Goes.{Comes, CutsExactly, TakesExactly, behind_giving, node_of}
 use Rattle.world_nodes.specs.Nodes.{NodesState}
 use Rattle.world_nodes.specs.Steps.{ComesIn, CutsIn, ExpelsIn, GivesIn, TakesIn}
 use Rattle.world_pipes.specs.declared.sending.Sending.{Sending}
@@ -55,9 +58,16 @@ abbrev pub Asks : Call → Bool → Piped → Piped → Type 0
 Asks call true old new = Calls (keeper_step call old.core.state) old (Ok sendings.Sent) new
 Asks call false old new = (sending : Sending) × Calls (keeper_step call old.core.state) old (Ok sending) new
 
+-- it is lost: it found no memory for what the client wrote
+abbrev pub LosesAsking : Call → Piped → Piped → Type 0
+LosesAsking call old new = Calls (keeper_step call old.core.state) old (Ok sendings.Lost) new
+
 abbrev pub Leaves : Bool → Piped → Piped → Type 0
 Leaves true old new = TakesLeave (keeper_step Call.Disconnects old.core.state) old (Ok sendings.Sent) new
 Leaves false old new = (sending : Sending) × TakesLeave (keeper_step Call.Disconnects old.core.state) old (Ok sending) new
+
+abbrev pub LosesLeaving : Piped → Piped → Type 0
+LosesLeaving old new = TakesLeave (keeper_step Call.Disconnects old.core.state) old (Ok sendings.Lost) new
 
 -- what is under way stays
 abbrev pub Loses : Piped → Piped → Type 0
@@ -101,9 +111,18 @@ OpensNone name node old new =
     × NoneOpens node (port_of (next_number old)) old.nodes c.client.piped between piped
     × (new ≡ record (with_piped c.at c.client piped old) { nodes = between })
 
+-- Whether the names of its ballot are spent. Then the connection is closed at once, without a byte: nothing is left of it.
+abbrev pub is_full : Option CountedCore → Bool
+is_full None = false
+is_full (Some node) = not (is_connection_name (next_name node.core))
+
+abbrev pub OpensUnless : Bool → Bool → List ℕ → ℕ → WorldState → WorldState → Type 0
+OpensUnless true whole name node old new = new ≡ old
+OpensUnless false whole name node old new = OpensOne whole name node old new
+
 abbrev pub OpensWhere : Bool → List ℕ → ℕ → WorldState → WorldState → Type 0
-OpensWhere true name node old new = OpensOne true name node old new
-OpensWhere false name node old new = OpensOne false name node old new ⊎ OpensNone name node old new
+OpensWhere true name node old new = OpensUnless (is_full (node_of old.nodes.nodes node)) true name node old new
+OpensWhere false name node old new = OpensUnless (is_full (node_of old.nodes.nodes node)) false name node old new ⊎ OpensNone name node old new
 
 abbrev pub Does : Bool → Event → WorldState → WorldState → Type 0
 Does whole (events.Assign config) old new =
@@ -131,3 +150,16 @@ Does whole (events.Notice number) old new =
 Does whole (events.Publish name publication) old new = ClientDoes name (Asks (Call.Publishes publication) whole) old new
 Does whole (events.Subscribe name filter qos) old new = ClientDoes name (Asks (Call.Subscribes filter qos) whole) old new
 Does whole (events.Unsubscribe name filter) old new = ClientDoes name (Asks (Call.Unsubscribes filter) whole) old new
+
+-- Where memory runs out, and at no node: a client makes its call, and its connection is lost; it has no memory for what it hears; or no
+-- connection comes about.
+abbrev pub LosesAtClient : Event → WorldState → WorldState → Type 0
+LosesAtClient (events.Open name node) old new = OpensNone name node old new
+LosesAtClient (events.CarryDown number count) old new =
+    (c : Connected number old) × (piped : Piped) × Hears count c.client.piped (Err errors.Memory) piped
+    × (new ≡ with_piped c.place.client c.client piped old)
+LosesAtClient (events.Disconnect name) old new = ClientDoes name LosesLeaving old new
+LosesAtClient (events.Publish name publication) old new = ClientDoes name (LosesAsking (Call.Publishes publication)) old new
+LosesAtClient (events.Subscribe name filter qos) old new = ClientDoes name (LosesAsking (Call.Subscribes filter qos)) old new
+LosesAtClient (events.Unsubscribe name filter) old new = ClientDoes name (LosesAsking (Call.Unsubscribes filter)) old new
+LosesAtClient event old new = ⊥

@@ -1,18 +1,19 @@
 -- What happens in a world: what comes of one event and of a list of them, and how a world begins.
-use Rattle.std.specs.Prelude.{◌≡◌, ◌⊎◌, ℕ, Bool, true, false, List, [], ◌∷◌, Result, Ok, Err, map}
+use Rattle.std.specs.Prelude.{◌≡◌, ◌⊎◌, ◌<◌, ◌^◌, ◌-◌, ℕ, true, false, List, [], ◌∷◌, Result, Ok, Err, map}
 use Rattle.ballot.specs.Config.{Config}
 use Rattle.ballot.specs.Losses.{one_more}
 use Rattle.broker_base.specs.Place.{Client}
 use Rattle.exact_model.specs.group_model.Group.{opening_group}
 use Rattle.master.specs.declared.event.Idle.{Idle}
 use Rattle.world_nodes.specs.Nodes.{StandsFor}
+use Rattle.world_nodes.specs.Steps.{LosesNothing as NodesLoseNothing}
 use Rattle.world_pipes.specs.Piped.{new_piped}
 use Rattle.world.specs.declared.event.Event.{Event}
-use Rattle.world.specs.declared.event.Event.TheVariants as events
 use Rattle.world.specs.declared.world.WorldClient.{WorldClient}
 use Rattle.world.specs.World.{WorldState}
 use Rattle.world.specs.Cannot.{CannotHappen}
-use Rattle.world.specs.Doing.{Does}
+use Rattle.world.specs.Doing.{Does, LosesAtClient}
+use Rattle.world.specs.Quiet.{TakesNoMemory}
 
 -- ---- what comes of events
 
@@ -22,24 +23,17 @@ pub record HappensExactly (event : Event) (old new : WorldState) : Type 0 where
   pub does : Does true event old new
   pub uncounted : new.losses ≡ old.losses
 
--- Whether it is asked first if the event can happen. Where bytes come up or a client is called, memory may run out before that.
-abbrev pub asks_first : Event → Bool
-asks_first (events.CarryUp number count) = false
-asks_first (events.Disconnect name) = false
-asks_first (events.Publish name publication) = false
-asks_first (events.Subscribe name filter qos) = false
-asks_first (events.Unsubscribe name filter) = false
-asks_first _ = true
-
--- Nothing was done, or what the event asks was done with losses, and one loss is counted. An event that cannot happen is idle, and not
--- counted, where that is asked first.
+-- The event can happen and takes memory; nothing was done, or what the event asks was done with losses; and one loss is counted. Where
+-- something was done, memory ran out at a client, or the nodes counted a loss. Their count stays at 2^64 - 1, and tells nothing there.
 pub record HappensLosing (event : Event) (old new : WorldState) : Type 0 where
-  pub can : asks_first event ≡ true → CannotHappen event old → ⊥
+  pub can : CannotHappen event old → ⊥
+  pub needs : TakesNoMemory event old → old.nodes.losses < 2 ^ 64 - 1 → ⊥
   pub done : WorldState
   pub does : (done ≡ old) ⊎ Does false event old done
+  pub lost : (done ≡ old) ⊎ LosesAtClient event old done ⊎ (NodesLoseNothing old.nodes done.nodes → ⊥)
   pub counted : new ≡ record done { losses = one_more old.losses }
 
--- Idle comes only where the event cannot happen, and then nothing is changed. Else the event was done exactly, or a loss is counted.
+-- Idle comes exactly where the event cannot happen, and then nothing is changed. Else the event was done exactly, or a loss is counted.
 abbrev pub Happens : Event → WorldState → Result (Unit {0}) Idle → WorldState → Type 0
 Happens event old (Err idle) new = CannotHappen event old × (new ≡ old)
 Happens event old (Ok done) new = HappensExactly event old new ⊎ HappensLosing event old new

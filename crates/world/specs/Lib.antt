@@ -7,6 +7,7 @@ pub mod Found
 pub mod Gathering
 pub mod Cannot
 pub mod Doing
+pub mod Quiet
 pub mod Happening
 pub mod Asking
 pub mod Laws

@@ -6,7 +6,8 @@ ghost use Rattle.world_nodes.specs.Goes.{node_of};
 ghost use Rattle.world_pipes.specs.Following.{CallingFollows, FollowsAll};
 ghost use Rattle.world_pipes.specs.Piped.{TakesLeave, is_holding, taken_back};
 ghost use Rattle.world.specs.Goes.{CountsOnce, NodesGoOn};
-ghost use Rattle.world.specs.Doing.{Loses};
+ghost use Rattle.world.specs.Doing.{Loses, is_full};
+ghost use Rattle.world.specs.Quiet.{TakesNoMemory};
 ghost use Rattle.world.specs.Cannot.{is_serving};
 ghost use Rattle.world.specs.Housed.{leads};
 ghost use Rattle.world.specs.Inside.Connecting.{Begins, ConnectsAt, HearsOfOne, MayOpenNone, Reaches};
@@ -28,6 +29,7 @@ impl World {
         ensures goes { GoesOn self.old self.new }
         ensures meets { Meets (Event.Open client.now node) self.old result self.new }
         ensures once { CountsOnce self.old self.new }
+        ensures quiet { TakesNoMemory (Event.Open client.now node) self.old → self.new ≡ self.old }
     {
         let Some(at) = self.place_of(client) else {
             return Err(Idle);
@@ -38,12 +40,16 @@ impl World {
         if !self.serves(node) {
             return Err(Idle);
         }
+        // Closed at once, without a byte.
+        if self.is_full(node) {
+            return Ok(());
+        }
         self.begin(at, node);
         Ok(())
     }
 
-    // A client that holds no connection opens one to a node that serves clients. Where there is none behind it, for want
-    // of memory or since the node has no name left for it, that is counted, unless the nodes counted it already.
+    // A client that holds no connection opens one to a node that serves clients. Where there is
+    // none then, since memory ran out, that is counted, unless the nodes counted it already.
     fn begin(&mut self, client: usize, node: u8)
         requires some { client < length self.old.clients }
         requires free { IfSome (slice_get self.old.clients client)
@@ -99,6 +105,7 @@ impl World {
         ensures meets { Meets (Event.Abandon client.now)
             self.old result self.new }
         ensures still { self.new.losses ≡ self.old.losses }
+        ensures nodes { self.new.nodes ≡ self.old.nodes }
     {
         let Some(at) = self.place_of(client) else {
             return Err(Idle);
@@ -119,6 +126,9 @@ impl World {
         let Some(at) = self.place_of(client) else {
             return Err(Idle);
         };
+        if !self.clients[at].piped.is_open() {
+            return Err(Idle);
+        }
         let done = leave(&mut self.clients[at].piped);
         self.called(done)
     }
@@ -137,6 +147,9 @@ impl World {
         let Some(at) = self.place_of(client) else {
             return Err(Idle);
         };
+        if self.clients[at].piped.core().refuses(publication) {
+            return Err(Idle);
+        }
         let done = publish_copy(&mut self.clients[at].piped, publication);
         self.called(done)
     }
@@ -155,6 +168,9 @@ impl World {
         let Some(at) = self.place_of(client) else {
             return Err(Idle);
         };
+        if self.clients[at].piped.core().refuses_requests() {
+            return Err(Idle);
+        }
         let done = subscribe_copy(&mut self.clients[at].piped, filter, qos);
         self.called(done)
     }
@@ -168,6 +184,9 @@ impl World {
         let Some(at) = self.place_of(client) else {
             return Err(Idle);
         };
+        if self.clients[at].piped.core().refuses_requests() {
+            return Err(Idle);
+        }
         let done = unsubscribe_copy(&mut self.clients[at].piped, filter);
         self.called(done)
     }
@@ -183,6 +202,16 @@ impl World {
                 Ok(())
             }
             Err(_) => Err(Idle),
+        }
+    }
+
+    // Whether a node has no name left in its ballot.
+    fn is_full(&self, node: u8) -> bool
+        ensures { result ≡ is_full (node_of self.now.nodes.nodes node) }
+    {
+        match self.nodes.node(node) {
+            Some(core) => core.is_full(),
+            None => false,
         }
     }
 

@@ -1,6 +1,7 @@
 // Bytes come to a node, or to a client.
 
-ghost use Rattle.std.specs.Prelude.{◌≡◌, ◌⊎◌, ◌≤◌, ◌<◌, ◌-◌, true, false, Some, length, slice_get, if◌then◌else◌, IfOk, OnErr};
+ghost use Rattle.std.specs.Prelude.{◌≡◌, ◌⊎◌, ◌≤◌, ◌<◌, ◌-◌, ◌↔◌, true, false, Some, None, length, slice_get, if◌then◌else◌, IfOk, OnErr};
+ghost use Rattle.world_nodes.specs.Goes.{running};
 ghost use Rattle.world_pipes.specs.Following.{FollowsAll};
 ghost use Rattle.world.specs.Goes.{CountsOnce, NodesGoOn};
 ghost use Rattle.world.specs.Housed.{leads};
@@ -119,6 +120,9 @@ fn take_up(
     if !is_part(count, waiting.len()) {
         return Err(Idle);
     }
+    if !runs(nodes, place.node) {
+        return Err(Idle);
+    }
     let count = count as usize;
     let Ok(piece) = Piece::from_slice(alloc, &waiting[..count]) else {
         return Ok(false);
@@ -126,6 +130,16 @@ fn take_up(
     nodes.take(place.node, port, piece)?;
     piped.take_up(place.at, count);
     Ok(true)
+}
+
+// Whether a node is there, and has not stopped.
+fn runs(nodes: &Nodes, node: u8) -> bool
+    ensures { (result ≡ false) ↔ (running nodes.now.nodes node ≡ None) }
+{
+    match nodes.node(node) {
+        Some(core) => !core.status().stopped,
+        None => false,
+    }
 }
 
 // The first so many bytes that wait on a connection come to its client, where it holds that. Whether there was memory is

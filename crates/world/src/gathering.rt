@@ -5,7 +5,7 @@ ghost use Rattle.world_nodes.specs.Nodes.{NodesState};
 ghost use Rattle.world.specs.Gathering.{Gathers, GathersAmong};
 ghost use Rattle.world.specs.Goes.{NodesGoOn};
 ghost use Rattle.world.specs.Housed.{leads, open_from};
-ghost use Rattle.world.specs.Inside.Handing.{AsksAt, HandsDown, MayHandDown, MayHandOn, MayPutDown, PutsDown, marked, tells_open};
+ghost use Rattle.world.specs.Inside.Handing.{AsksAt, HandsDown, MayHandDown, MayHandOn, MayPutDown, PutsDown, StaysQuiet, marked, tells_open};
 ghost use Rattle.world.specs.Inside.Steps.{GoesOn};
 
 use crate::place::Place;
@@ -21,6 +21,7 @@ impl World {
         ensures goes { GoesOn self.old self.new }
         ensures gathers { Gathers false node self.old self.new }
         ensures still { self.new.losses ≡ self.old.losses }
+        ensures quiet { StaysQuiet node self.old.nodes self.new.nodes }
     {
         if node != 0 {
             self.gather_open(node);
@@ -32,6 +33,7 @@ impl World {
         ensures goes { GoesOn self.old self.new }
         ensures gathers { GathersAmong false (length self.old.connections) node self.old self.new }
         ensures still { self.new.losses ≡ self.old.losses }
+        ensures quiet { StaysQuiet node self.old.nodes self.new.nodes }
     {
         let mut at = self.open_len();
         while at > 0 {
@@ -46,6 +48,7 @@ impl World {
         ensures goes { GoesOn self.old self.new }
         ensures asks { AsksAt node at self.old self.new }
         ensures still { self.new.losses ≡ self.old.losses }
+        ensures quiet { StaysQuiet node self.old.nodes self.new.nodes }
     {
         let (number, place) = self.open_at(at);
         if place.node != node {
@@ -95,6 +98,7 @@ impl World {
         ensures connections { self.new.connections ≡ self.old.connections }
         ensures hands { MayHandOn number place self.old result self.new }
         ensures still { self.new.losses ≡ self.old.losses }
+        ensures quiet { StaysQuiet place.node self.old.nodes self.new.nodes }
     {
         let piped = &mut self.clients[place.client].piped;
         hand_down(
@@ -119,6 +123,7 @@ fn hand_down(
 ) -> bool
     requires { at < length piped.old.ways }
     ensures nodes { NodesGoOn nodes.old nodes.new }
+    ensures quiet { StaysQuiet node nodes.old nodes.new }
     ensures may { MayPutDown at node port nodes.old piped.old nodes.new piped.new }
     ensures puts { PutsDown at node port nodes.old piped.old nodes.new piped.new result }
     ensures leads { leads piped.new.ways ≡ leads piped.old.ways }
@@ -133,6 +138,7 @@ fn hand_down(
 // What a node put out for a port is handed over. Whether its end is open is the result.
 fn hands_over(nodes: &mut Nodes, node: u8, port: Port, bytes: &mut Vec<u8>) -> bool
     ensures nodes { NodesGoOn nodes.old nodes.new }
+    ensures quiet { StaysQuiet node nodes.old nodes.new }
     ensures may { MayHandDown node port nodes.old bytes.old.items nodes.new bytes.new.items }
     ensures hands { HandsDown node port nodes.old bytes.old.items
         nodes.new bytes.new.items result }

@@ -2,13 +2,15 @@
 
 ghost use Rattle.std.specs.Prelude.{◌≡◌, ◌<◌, ◌-◌, true, Some, slice_get};
 ghost use Rattle.world.specs.Doing.{receiver_of};
+ghost use Rattle.world.specs.Found.{port_of};
 ghost use Rattle.world.specs.Inside.Steps.{GoesOn, Meets};
+ghost use Rattle.world.specs.Quiet.{IsQuietAt, TakesNoMemory};
 
 use crate::event::Event;
 use crate::place::Place;
 use crate::world::World;
 use packet::ClientId;
-use world_base::{Config, Port};
+use world_base::{Config, Item, Port};
 use world_nodes::Idle;
 
 impl World {
@@ -16,6 +18,8 @@ impl World {
         ensures goes { GoesOn self.old self.new }
         ensures meets { Meets (Event.Deliver number) self.old result self.new }
         ensures still { self.new.losses ≡ self.old.losses }
+        ensures quiet { TakesNoMemory (Event.Deliver number) self.old →
+            self.new.nodes.losses ≡ self.old.nodes.losses }
     {
         let receiver = self.receiver(number);
         self.nodes.deliver(number)?;
@@ -37,6 +41,8 @@ impl World {
         ensures goes { GoesOn self.old self.new }
         ensures meets { Meets (Event.Tick node) self.old result self.new }
         ensures still { self.new.losses ≡ self.old.losses }
+        ensures quiet { TakesNoMemory (Event.Tick node) self.old →
+            self.new.nodes.losses ≡ self.old.nodes.losses }
     {
         self.nodes.tick(node)?;
         self.gather(node);
@@ -70,6 +76,8 @@ impl World {
         ensures goes { GoesOn self.old self.new }
         ensures meets { Meets (Event.Crash node) self.old result self.new }
         ensures still { self.new.losses ≡ self.old.losses }
+        ensures quiet { TakesNoMemory (Event.Crash node) self.old →
+            self.new.nodes.losses ≡ self.old.nodes.losses }
     {
         self.nodes.crash(node)?;
         self.gather(node);
@@ -88,6 +96,8 @@ impl World {
         ensures goes { GoesOn self.old self.new }
         ensures meets { Meets (Event.Notice number) self.old result self.new }
         ensures still { self.new.losses ≡ self.old.losses }
+        ensures quiet { TakesNoMemory (Event.Notice number) self.old →
+            self.new.nodes.losses ≡ self.old.nodes.losses }
     {
         match self.place(number) {
             Some(place) if place.is_open => self.end(place, number),
@@ -103,6 +113,8 @@ impl World {
         ensures goes { GoesOn self.old self.new }
         ensures meets { Meets (Event.Notice number) self.old result self.new }
         ensures still { self.new.losses ≡ self.old.losses }
+        ensures quiet { IsQuietAt place.node (Item.Ended (port_of number)) self.old.nodes →
+            self.new.nodes.losses ≡ self.old.nodes.losses }
     {
         self.nodes.ended(place.node, Port(number))?;
         self.gather(place.node);

@@ -12,7 +12,7 @@ mod reading;
 mod world;
 
 pub use event::Event;
-pub use laws::uncounted_is_exact;
+pub use laws::{an_open_past_the_last_changes_nothing, uncounted_is_exact};
 pub use world::World;
 pub use world_base::{Command, Config, Members, Memory, OpeningError};
 pub use world_nodes::Idle;

@@ -1,6 +1,6 @@
 // A world.
 
-ghost use Rattle.std.specs.Prelude.{ℕ, List, [], ◌≡◌, ◌≤◌, ◌<◌, ◌^◌, ◌-◌, ◌↔◌, true, false, Some, length, map, slice_get, IfOk, IfSome, IsErrOf, OnErr};
+ghost use Rattle.std.specs.Prelude.{ℕ, List, [], ◌≡◌, ◌≤◌, ◌<◌, ◌^◌, ◌-◌, ◌↔◌, true, false, Some, length, map, slice_get, IfOk, IfSome, IsErr, IsErrOf, OnErr};
 ghost use Rattle.session_base.specs.declared.publication.Publication.{Publication};
 ghost use Rattle.agreement.specs.World.{can_open};
 ghost use Rattle.ballot.specs.Losses.{one_more};
@@ -10,7 +10,9 @@ ghost use Rattle.world_pipes.specs.Standing.{StandsFor};
 ghost use Rattle.world.specs.Goes.{AgreedGrows, AreReached, CountsOnce, StaysReached, WorldGoesOn};
 ghost use Rattle.world.specs.Asking.{IsAsked, RunAsks};
 ghost use Rattle.world.specs.Happening.{Happens, Opens, Run, new_world_client};
+ghost use Rattle.world.specs.Cannot.{CannotHappen};
 ghost use Rattle.world.specs.Inside.Steps.{GoesAsked, IsCounted, Meets};
+ghost use Rattle.world.specs.Quiet.{TakesNoMemory};
 ghost use Rattle.world.specs.Standing.{ClientsStand, IsReached, KeepsReached, WorldGoesBy, asked_on, identifiers};
 
 use crate::event::Event;
@@ -96,8 +98,9 @@ impl World {
         })
     }
 
-    /// Lets one thing happen. [`Idle`] comes for what cannot happen now, and changes nothing. Where
-    /// memory is wanting, messages are lost, connections are closed, nothing happens, or a node stops.
+    /// Lets one thing happen. [`Idle`] comes for what cannot happen now, and changes nothing. If
+    /// memory runs out, messages are lost, connections are closed, nothing happens, or a node stops;
+    /// that is counted.
     pub fn step(&mut self, event: &Event) -> Result<(), Idle>
         // Whatever led up to here, and whatever memory did, each client is exact behind the event:
         // the world goes by steps of the model, some of them perhaps with losses.
@@ -109,12 +112,17 @@ impl World {
         ensures reached { StaysReached self.old.nodes self.new.nodes }
         // What was agreed is a beginning of what is agreed after the event.
         ensures grown { AgreedGrows self.old.nodes self.new.nodes }
-        // What the event asks is done, or it cannot happen. Or a loss is counted: then nothing is done, or
-        // what the event asks, with losses, and nothing else.
+        // What the event asks is done, or it cannot happen. Or a loss is counted, for an event that
+        // can happen and takes memory: then nothing is done, or what the event asks, with losses,
+        // and nothing else.
         ensures happens { Happens event.now self.old result self.new }
         ensures same { OnErr result (self.new ≡ self.old) }
-        // The count of losses rises by one, or not at all.
+        // The count of losses rises by one, or not at all: an event that takes no memory does not
+        // raise it.
         ensures count { CountsOnce self.old self.new }
+        ensures quiet { TakesNoMemory event.now self.old → self.old.nodes.losses < 2 ^ 64 - 1 →
+            self.new.losses ≡ self.old.losses }
+        ensures idle { IsErr result ↔ CannotHappen event.now self.old }
     {
         let before = self.nodes.losses();
         let counted = self.losses;
@@ -199,6 +207,8 @@ impl World {
         ensures asked { GoesAsked event.now self.old result self.new }
         ensures meets { Meets event.now self.old result self.new }
         ensures once { CountsOnce self.old self.new }
+        ensures quiet { TakesNoMemory event.now self.old →
+            self.new.nodes.losses ≡ self.old.nodes.losses }
     {
         match event {
             Event::Assign(config) => self.assign(config),

@@ -1,5 +1,5 @@
 -- Bytes come to a node, or to a client.
-use Rattle.std.specs.Prelude.{◌≡◌, ◌⊎◌, ◌-◌, ◌==◌, ◌&&◌, ◌≤◌, ◌<◌, ℕ, suc, Bool, true, false, Some, None, length, slice_get, take}
+use Rattle.std.specs.Prelude.{◌≡◌, ◌⊎◌, ◌-◌, ◌==◌, ◌&&◌, ◌≤◌, ◌<◌, ℕ, suc, Bool, true, false, Some, None, Err, length, slice_get, take}
 use Rattle.world_base.specs.declared.Port.{Port}
 use Rattle.world_base.specs.declared.item.Item.TheVariants.{Bytes}
 use Rattle.exact_model.specs.node_model.Moves.Deed.{takes}
@@ -7,7 +7,8 @@ use Rattle.world_nodes.specs.Goes.{Acts, running}
 use Rattle.world_nodes.specs.Nodes.{NodesState}
 use Rattle.world_nodes.specs.Steps.{TakesIn}
 use Rattle.world_pipes.specs.declared.way.Way.{Way}
-use Rattle.world_pipes.specs.Piped.{Piped, is_holding}
+use Rattle.client_base.specs.declared.error.ClientError.TheVariants as errors
+use Rattle.world_pipes.specs.Piped.{Hears, Piped, is_holding}
 use Rattle.world.specs.declared.place.Place.{Place}
 use Rattle.world.specs.declared.world.WorldClient.{WorldClient}
 use Rattle.world.specs.Found.{port_of, with_less, with_piped}
@@ -28,10 +29,18 @@ pub record TakesUp (place : Place) (port : Port) (count : ℕ) (old : NodesState
   pub acts : Acts (place.node - 1) (takes (Bytes port (take count way.up) 0)) old new
   pub is : later ≡ with_less place.at count way client
 
+-- that many bytes wait, and the node runs
+pub record CanTake (place : Place) (count : ℕ) (nodes : NodesState) (client : Piped) : Type 0 where
+  pub way : Way
+  pub found : slice_get client.ways place.at ≡ Some way
+  pub some : 0 < count
+  pub part : count ≤ length way.up
+  pub runs : running nodes.nodes place.node ≡ None → ⊥
+
 -- where there is no memory for them, nothing happens
 abbrev pub TakesUpWhere : Bool → Place → Port → ℕ → NodesState → Piped → NodesState → Piped → Type 0
 TakesUpWhere true place port count old client new later = TakesUp place port count old client new later
-TakesUpWhere false place port count old client new later = (new ≡ old) × (later ≡ client)
+TakesUpWhere false place port count old client new later = (new ≡ old) × (later ≡ client) × CanTake place count old client
 
 -- they cannot: too few wait, or the node has stopped
 abbrev pub CannotTake : Place → ℕ → NodesState → Piped → Type 0
@@ -50,7 +59,8 @@ pub record TakesUpOn (number : ℕ) (place : Place) (count : ℕ) (old new : Wor
 -- where there is no memory for them, nothing happens
 abbrev pub TakesUpOnWhere : Bool → ℕ → Place → ℕ → WorldState → WorldState → Type 0
 TakesUpOnWhere true number place count old new = TakesUpOn number place count old new
-TakesUpOnWhere false number place count old new = new ≡ old
+TakesUpOnWhere false number place count old new =
+    (new ≡ old) × (client : WorldClient) × (slice_get old.clients place.client ≡ Some client) × CanTake place count old.nodes client.piped
 
 abbrev pub CannotTakeOn : Place → ℕ → WorldState → Type 0
 CannotTakeOn place count w =
@@ -63,6 +73,7 @@ pub record HearsOn (had : Bool) (at count : ℕ) (old new : Piped) : Type 0 wher
   pub held : (is_holding old && (suc at == length old.ways)) ≡ true
   pub some : (way : Way) → slice_get old.ways at ≡ Some way → IsNoPart count way.down → ⊥
   pub hears : HearsThem had count old new
+  pub lost : had ≡ false → Hears count old (Err errors.Memory) new
 
 abbrev pub CannotHear : ℕ → ℕ → Piped → Type 0
 CannotHear at count client =

@@ -14,6 +14,7 @@ use Rattle.world.specs.declared.world.WorldClient.{WorldClient}
 use Rattle.world.specs.Found.{place_numbered, port_of, with_down, with_piped}
 use Rattle.world.specs.Gathering.{AskedWhere, Gives, is_more, is_open_at, is_told_open, put_out}
 use Rattle.world.specs.Housed.{open_from}
+use Rattle.world.specs.Quiet.{HoldsNothing}
 use Rattle.world.specs.World.{WorldState}
 use Rattle.world.specs.Inside.Steps.{NodesStay}
 
@@ -62,6 +63,10 @@ pub record HandsOn (number : ℕ) (place : Place) (old : WorldState) (is_open : 
 abbrev pub MayHandOn : ℕ → Place → WorldState → Bool → WorldState → Type 0
 MayHandOn number place old is_open new =
     HandsOn number place old is_open new ⊎ ((is_open ≡ true) × (new ≡ record old { nodes = nodes_forgetful old.nodes }))
+
+-- a node that has nothing to hand over has nothing then, and counts no loss
+abbrev pub StaysQuiet : ℕ → NodesState → NodesState → Type 0
+StaysQuiet node old new = HoldsNothing node old → HoldsNothing node new × (new.losses ≡ old.losses)
 
 -- its end counts as open, or as closed
 abbrev pub marked : ℕ → Place → Bool → WorldState → WorldState

@@ -47,9 +47,9 @@ abbrev pub Meets : Event → WorldState → Result (Unit {0}) Idle → WorldStat
 Meets event old (Err idle) new = CannotHappen event old × (new ≡ old)
 Meets event old (Ok done) new = IsDone event old new ⊎ HappensLosing event old new
 
--- Nothing is counted where the nodes had counted so many losses before and count as many now; or one loss is counted, since the world
--- had counted so many before.
+-- Nothing is counted where the nodes' count of losses is what it was; else one loss is counted, where the world's count is still
+-- what it was.
 abbrev pub IsCounted : ℕ → ℕ → WorldState → WorldState → Type 0
 IsCounted before counted old new =
     ((new ≡ old) × (old.losses ≡ counted → (old.nodes.losses ≡ before) × (before < 2 ^ 64 - 1)))
-    ⊎ ((new ≡ record old { losses = one_more old.losses }) × (old.losses ≡ counted))
+    ⊎ ((new ≡ record old { losses = one_more old.losses }) × (old.losses ≡ counted) × ((old.nodes.losses ≡ before) × (before < 2 ^ 64 - 1) → ⊥))

@@ -1,4 +1,4 @@
-use Rattle.std.proofs.Common.{refl}
+use Rattle.std.proofs.Common.{refl, inl}
 use Rattle.world.proofs.GroupGoes.{call_goes}
 use Rattle.world.proofs.Handed.{less_leads}
 use Rattle.world.proofs.NodesGoOn.{nodes_rest}
@@ -21,3 +21,9 @@ pub returns-clause-leads : goal.returns-clause-leads
 returns-clause-leads c =
     let way = there c.args.piped.now.ways c.args.place.at c.requires in
     less_leads c.args.piped.now c.take_up.new.self c.args.place.at c.args.count way.0 way.1 c.take_up.ensures.taken
+
+pub returns-then-not-runs-clause-nodes : goal.returns-then-not-runs-clause-nodes
+returns-then-not-runs-clause-nodes c = nodes_rest _ _ refl
+
+pub returns-then-not-runs-clause-idle : goal.returns-then-not-runs-clause-idle
+returns-then-not-runs-clause-idle c = λ way found. inl (c.runs.ensures.0 c.if-not-runs.true)

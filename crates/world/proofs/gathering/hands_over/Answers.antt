@@ -1,4 +1,5 @@
 use Rattle.world.proofs.PutsDown.{handed_down, handing_goes, may_hand_down}
+use Rattle.world.proofs.QuietEvents.{handing_quiet}
 use Rattle.world.proofs.gathering.hands_over.Goals as goal
 
 pub returns-clause-may : goal.returns-clause-may
@@ -14,3 +15,7 @@ pub returns-clause-hands : goal.returns-clause-hands
 returns-clause-hands c =
     handed_down c.hand_over.result c.tells_open.result c.args.node c.args.port c.args.nodes.now c.hand_over.new.self c.args.bytes.now.items c.hand_over.new.out.items c.tells_open.ensures
     c.hand_over.ensures.idle c.hand_over.ensures.step c.hand_over.ensures.same
+
+pub returns-clause-quiet : goal.returns-clause-quiet
+returns-clause-quiet c =
+    handing_quiet c.hand_over.result _ c.args.node c.args.port c.args.nodes.now c.hand_over.new.self c.hand_over.ensures.quiet c.hand_over.ensures.same

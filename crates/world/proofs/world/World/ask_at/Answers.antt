@@ -1,10 +1,11 @@
-use Rattle.std.proofs.Common.{◌-◌, Bool, true, false, List, slice_get, refl, ap, ◌∙◌, subst, arith}
+use Rattle.std.proofs.Common.{◌-◌, ℕ, Bool, true, false, List, slice_get, refl, ap, ◌∙◌, subst, arith}
 use Rattle.world.specs.declared.place.Place.{Place}
-use Rattle.world.specs.Inside.Handing.{MayHandOn}
+use Rattle.world.specs.Inside.Handing.{MayHandOn, StaysQuiet}
 use Rattle.world.specs.World.{WorldState}
 use Rattle.world.proofs.Joined.{goes_on_join, goes_on_rest, goes_on_still}
 use Rattle.world.proofs.Gathered.{stays_open}
 use Rattle.world.proofs.Walked.{asks_none, asks_one}
+use Rattle.world.proofs.QuietEvents.{stays_join, stays_rest}
 use Rattle.world.proofs.world.World.ask_at.Goals as goal
 
 pub returns-then-place-node-clause-goes : goal.returns-then-place-node-clause-goes
@@ -37,3 +38,16 @@ returns-then-not-hand_on-clause-asks c =
     c.open_at-number.ensures.place c.open_at-number.ensures.positive c.open_at-number.ensures.up c.if-place-node.false c.hand_on.ensures.connections
     (subst (λ (b : Bool). MayHandOn c.open_at-number.result.0 c.open_at-number.result.1 c.args.self.now b c.hand_on.new.self) c.if-not-hand_on.true c.hand_on.ensures.hands)
     c.close.ensures
+
+pub returns-then-place-node-clause-quiet : goal.returns-then-place-node-clause-quiet
+returns-then-place-node-clause-quiet c = stays_rest c.args.node c.args.self.now.nodes c.args.self.now.nodes refl
+
+pub returns-else-not-hand_on-clause-quiet : goal.returns-else-not-hand_on-clause-quiet
+returns-else-not-hand_on-clause-quiet c =
+    subst (λ (k : ℕ). StaysQuiet k c.args.self.now.nodes c.hand_on.new.self.nodes) c.if-place-node.false c.hand_on.ensures.quiet
+
+pub returns-then-not-hand_on-clause-quiet : goal.returns-then-not-hand_on-clause-quiet
+returns-then-not-hand_on-clause-quiet c =
+    stays_join c.args.node c.args.self.now.nodes c.hand_on.new.self.nodes c.close.new.self.nodes
+    (subst (λ (k : ℕ). StaysQuiet k c.args.self.now.nodes c.hand_on.new.self.nodes) c.if-place-node.false c.hand_on.ensures.quiet)
+    (stays_rest c.args.node c.hand_on.new.self.nodes c.close.new.self.nodes (ap (λ (w : WorldState). w.nodes) c.close.ensures))

@@ -21,6 +21,6 @@ returns-else-had-clause-goes c =
 
 pub returns-else-had-clause-meets : goal.returns-else-had-clause-meets
 returns-else-had-clause-meets c =
-    inr (lost_up c.args.number c.args.place c.args.count c.args.self.now c.take_up.new.self c.lose.new.self
+    inr (lost_up c.args.number c.args.place c.args.count c.args.self.now c.take_up.new.self c.lose.new.self c.requires.stands c.requires.positive c.requires.up
     (subst (λ (had : Bool). TakesUpOnWhere had c.args.number c.args.place c.args.count c.args.self.now c.take_up.new.self) c.if-had.false c.in_ok-had.ensures.takes)
     c.lose.ensures.lost)

@@ -1,9 +1,11 @@
 use Rattle.std.proofs.Common.{false, inl, refl}
 use Rattle.std.proofs.lemmas.Bool.{both_ways}
+use Rattle.world_base.specs.declared.item.Item.TheVariants.{Crash}
 use Rattle.world.specs.World.{WorldState}
 use Rattle.world.proofs.GroupGoes.{by_call, goes_apart}
 use Rattle.world.proofs.ItemsMet.{crashed}
 use Rattle.world.proofs.Joined.{goes_on_join}
+use Rattle.world.proofs.QuietEvents.{item_quiet}
 use Rattle.world.proofs.world.World.crash.Goals as goal
 
 pub returns-in_err-crash-clause-goes : goal.returns-in_err-crash-clause-goes
@@ -36,3 +38,7 @@ returns-clause-meets c =
       losses = c.self.inside.losses;
     } in old) c.crash.new.self c.gather.new.self (λ stopped. both_ways false refl (c.in_ok-crash.ensures.idle.1 stopped))
     c.in_ok-crash.ensures.step c.gather.ensures.gathers c.gather.ensures.still))
+
+pub returns-clause-quiet : goal.returns-clause-quiet
+returns-clause-quiet c =
+    rw (← c.self.view_is) (λ quiet. item_quiet c.args.node Crash c.self.inside.nodes c.crash.new.self c.gather.new.self.nodes quiet c.in_ok-crash.ensures.quiet c.gather.ensures.quiet)

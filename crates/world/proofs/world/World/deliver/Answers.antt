@@ -1,9 +1,10 @@
-use Rattle.std.proofs.Common.{false, inl, refl}
+use Rattle.std.proofs.Common.{false, inl, refl, slice_get}
 use Rattle.std.proofs.lemmas.Bool.{both_ways}
 use Rattle.world.specs.World.{WorldState}
 use Rattle.world.proofs.GroupGoes.{by_delivery, goes_apart}
 use Rattle.world.proofs.ItemsMet.{delivered}
 use Rattle.world.proofs.Joined.{goes_on_join}
+use Rattle.world.proofs.QuietEvents.{message_quiet}
 use Rattle.world.proofs.world.World.deliver.Goals as goal
 
 pub returns-in_err-deliver-clause-goes : goal.returns-in_err-deliver-clause-goes
@@ -37,3 +38,9 @@ returns-clause-meets c =
       losses = c.self.inside.losses;
     } in old) c.deliver.new.self c.gather.new.self receiver
     (λ nobody. both_ways false refl (c.in_ok-deliver.ensures.idle.1 nobody)) c.in_ok-deliver.ensures.step c.in_ok-deliver.ensures.goes c.gather.ensures.gathers c.gather.ensures.still))
+
+pub returns-clause-quiet : goal.returns-clause-quiet
+returns-clause-quiet c =
+    let receiver = rw (← c.self.view_is) at c.receiver-receiver.ensures in
+    rw (← c.self.view_is) (λ quiet. message_quiet (slice_get c.self.inside.nodes.sent c.args.number) c.receiver-receiver.result c.self.inside.nodes c.deliver.new.self c.gather.new.self.nodes
+    receiver quiet c.in_ok-deliver.ensures.quiet c.gather.ensures.quiet)

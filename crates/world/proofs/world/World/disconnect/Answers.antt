@@ -1,7 +1,11 @@
-use Rattle.std.proofs.Common.{◌≤◌, ◌<◌, length, refl, sym, arith}
+use Rattle.std.proofs.Common.{◌≡◌, ◌≤◌, ◌<◌, true, length, refl, sym, subst, ◌∙◌, arith}
+use Rattle.std.proofs.lemmas.Bool.{both_ways}
+use Rattle.std.proofs.lemmas.Option.{same_Some}
+use Rattle.world_pipes.specs.Piped.{is_holding}
+use Rattle.world.specs.declared.world.WorldClient.{WorldClient}
 use Rattle.master.proofs.Counting.{get_there}
 use Rattle.world.specs.Cannot.{HoldsNone}
-use Rattle.world.specs.Doing.{Leaves}
+use Rattle.world.specs.Doing.{Leaves, LosesLeaving}
 use Rattle.world.specs.Inside.Calling.{forgetful}
 use Rattle.world.specs.World.{WorldState}
 use Rattle.world.proofs.CallsCounted.{call_counted}
@@ -41,6 +45,8 @@ pub returns-clause-meets : goal.returns-clause-meets
 returns-clause-meets c =
     let few : c.in-Some.at < length c.self.inside.clients.items = rw (← c.self.view_is) at c.in-Some.ensures.below in
     let found = get_there c.self.inside.clients.items c.in-Some.at c.index_mut.result.now few c.index_mut.ensures.value in
+    let before = get_there c.self.inside.clients.items c.in-Some.at c.index.result.now few c.index.ensures in
+    let holds = subst (λ (k : WorldClient). is_holding k.piped ≡ true) (same_Some c.index.result.now c.index_mut.result.now (sym before ∙ found)) (sym c.is_open.ensures ∙ c.if-not-is_open.false) in
     let first = rw (← c.self.view_is) at c.in-Some.ensures.exact in
     let old : WorldState = record {
       nodes = c.self.inside.nodes;
@@ -50,5 +56,8 @@ returns-clause-meets c =
     } in
     rw (← c.self.view_is)
     (disconnect_meets c.args.client.now old c.called.result c.called.new.self
-    (client_meets c.args.client.now HoldsNone Leaves old c.in-Some.at c.index_mut.result.now c.leave-done.new.piped c.leave-done.result c.called.result c.called.new.self (sym first) found
-    (leave_outcome c.index_mut.result.now.piped c.leave-done.result c.leave-done.new.piped c.leave-done.ensures.leaves c.leave-done.ensures.goes) c.called.ensures))
+    (client_meets c.args.client.now HoldsNone Leaves LosesLeaving old c.in-Some.at c.index_mut.result.now c.leave-done.new.piped c.leave-done.result c.called.result c.called.new.self (sym first) found
+    (leave_outcome c.index_mut.result.now.piped c.leave-done.result c.leave-done.new.piped (λ no. both_ways _ no holds) c.leave-done.ensures.leaves c.leave-done.ensures.goes) c.called.ensures))
+
+pub returns-then-not-is_open-clause-goes : goal.returns-then-not-is_open-clause-goes
+returns-then-not-is_open-clause-goes c = goes_on_rest _ _ refl

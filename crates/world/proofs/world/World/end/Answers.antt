@@ -1,10 +1,13 @@
 use Rattle.std.proofs.Common.{false, inl, refl}
 use Rattle.std.proofs.lemmas.Bool.{both_ways}
+use Rattle.world_base.specs.declared.item.Item.TheVariants.{Ended}
+use Rattle.world.specs.Found.{port_of}
 use Rattle.world.specs.World.{WorldState}
 use Rattle.world.proofs.ItemsMet.{not_closed, noticed}
 use Rattle.world.proofs.StandsThere.{connected}
 use Rattle.world.proofs.GroupGoes.{by_call, goes_apart}
 use Rattle.world.proofs.Joined.{goes_on_join}
+use Rattle.world.proofs.QuietEvents.{item_quiet}
 use Rattle.world.proofs.world.World.end.Goals as goal
 
 pub returns-in_err-ended-clause-goes : goal.returns-in_err-ended-clause-goes
@@ -40,3 +43,8 @@ returns-clause-meets c =
     rw (← c.self.view_is) (inl (noticed c.args.number old (connected old c.args.number c.args.place c.self.invariant.0 stands c.requires.positive) c.ended.new.self c.gather.new.self
     (not_closed c.args.number old c.args.place stands c.requires.positive c.requires.up (λ stopped. both_ways false refl (c.in_ok-ended.ensures.idle.1 stopped)))
     c.in_ok-ended.ensures.step c.gather.ensures.gathers c.gather.ensures.still))
+
+pub returns-clause-quiet : goal.returns-clause-quiet
+returns-clause-quiet c =
+    rw (← c.self.view_is) (λ quiet. item_quiet c.args.place.node (Ended (port_of c.args.number)) c.self.inside.nodes c.ended.new.self c.gather.new.self.nodes quiet
+    c.in_ok-ended.ensures.quiet c.gather.ensures.quiet)

@@ -1,8 +1,9 @@
 use Rattle.std.proofs.Common.{inl, ◌<◌, length, refl, sym, ◌∙◌}
+use Rattle.std.proofs.lemmas.Bool.{both_ways}
 use Rattle.master.proofs.Counting.{get_there}
 use Rattle.world.specs.World.{WorldState}
 use Rattle.world.proofs.Joined.{goes_on_rest}
-use Rattle.world.proofs.OpensOn.{is_free, is_taken, open_meets}
+use Rattle.world.proofs.OpensOn.{full_meets, is_free, is_taken, open_meets}
 use Rattle.world.proofs.world.World.open.Goals as goal
 
 pub returns-in_default-clause-goes : goal.returns-in_default-clause-goes
@@ -52,4 +53,25 @@ returns-clause-meets c =
       losses = c.self.inside.losses;
     } in
     rw (← c.self.view_is) (open_meets c.args.client.now c.in-Some.at c.args.node old c.begin.new.self c.index.result.now (sym first) found (sym c.is_open.ensures ∙ c.if-is_open.false)
-    (rw (← c.self.view_is) at (sym c.serves.ensures ∙ c.if-not-serves.false)) (rw (← c.self.view_is) at c.begin.ensures.begins))
+    (rw (← c.self.view_is) at (sym c.serves.ensures ∙ c.if-not-serves.false)) (rw (← c.self.view_is) at (sym c.is_full.ensures ∙ c.if-is_full.false))
+    (rw (← c.self.view_is) at c.begin.ensures.begins))
+
+pub returns-then-is_full-clause-goes : goal.returns-then-is_full-clause-goes
+returns-then-is_full-clause-goes c = goes_on_rest _ _ refl
+
+pub returns-then-is_full-clause-meets : goal.returns-then-is_full-clause-meets
+returns-then-is_full-clause-meets c =
+    let few : c.in-Some.at < length c.self.inside.clients.items = rw (← c.self.view_is) at c.in-Some.ensures.below in
+    let found = get_there c.self.inside.clients.items c.in-Some.at c.index.result.now few c.index.ensures in
+    let first = rw (← c.self.view_is) at c.in-Some.ensures.exact in
+    let old : WorldState = record {
+      nodes = c.self.inside.nodes;
+      clients = c.self.inside.clients.items;
+      connections = c.self.inside.connections.items;
+      losses = c.self.inside.losses;
+    } in
+    rw (← c.self.view_is) (inl (full_meets c.args.client.now c.in-Some.at c.args.node old c.index.result.now (sym first) found (sym c.is_open.ensures ∙ c.if-is_open.false)
+    (rw (← c.self.view_is) at (sym c.serves.ensures ∙ c.if-not-serves.false)) (rw (← c.self.view_is) at (sym c.is_full.ensures ∙ c.if-is_full.true))))
+
+pub returns-clause-quiet : goal.returns-clause-quiet
+returns-clause-quiet c = λ full. absurd (both_ways _ (sym c.is_full.ensures ∙ c.if-is_full.false) full)

@@ -1,12 +1,17 @@
-use Rattle.std.proofs.Common.{◌≤◌, ◌<◌, [], length, refl, sym, arith}
+use Rattle.std.proofs.Common.{◌≤◌, ◌<◌, [], length, refl, sym, arith, ◌≡◌, true, false, subst, ap, ◌∙◌}
+use Rattle.std.specs.Option.{is_some}
+use Rattle.std.proofs.lemmas.Option.{same_Some}
+use Rattle.client.specs.Core.{Core}
+use Rattle.client_base.specs.Steps.{request_refusal}
+use Rattle.world.specs.declared.world.WorldClient.{WorldClient}
 use Rattle.master.proofs.Counting.{get_there}
 use Rattle.client_base.specs.Steps.{Call}
-use Rattle.world.specs.Doing.{Asks}
+use Rattle.world.specs.Doing.{Asks, LosesAsking}
 use Rattle.world.specs.Cannot.{Refuses}
 use Rattle.world.specs.Inside.Calling.{forgetful}
 use Rattle.world.specs.World.{WorldState}
 use Rattle.world.proofs.CallsCounted.{call_counted}
-use Rattle.world.proofs.CallsMet.{call_outcome, client_meets, subscribe_meets}
+use Rattle.world.proofs.CallsMet.{asked_before, call_outcome, client_meets, subscribe_meets, refuses_filter, takes_filter}
 use Rattle.world.proofs.ClientGoes.{housed_still}
 use Rattle.world.proofs.Joined.{goes_on_rest}
 use Rattle.world.proofs.world.World.subscribe.Goals as goal
@@ -42,6 +47,10 @@ pub returns-clause-meets : goal.returns-clause-meets
 returns-clause-meets c =
     let few : c.in-Some.at < length c.self.inside.clients.items = rw (← c.self.view_is) at c.in-Some.ensures.below in
     let found = get_there c.self.inside.clients.items c.in-Some.at c.index_mut.result.now few c.index_mut.ensures.value in
+    let before = get_there c.self.inside.clients.items c.in-Some.at c.index.result.now few c.index.ensures in
+    let is : c.core.result.now ≡ c.index_mut.result.now.piped.core =
+    c.core.ensures ∙ ap (λ (k : WorldClient). k.piped.core) (same_Some c.index.result.now c.index_mut.result.now (sym before ∙ found)) in
+    let can = takes_filter c.args.filter.now c.args.qos c.index_mut.result.now.piped.core (subst (λ (k : Core). is_some (request_refusal k.state) ≡ false) is (sym c.refuses_requests.ensures ∙ c.if-refuses_requests.false)) in
     let first = rw (← c.self.view_is) at c.in-Some.ensures.exact in
     let old : WorldState = record {
       nodes = c.self.inside.nodes;
@@ -52,5 +61,22 @@ returns-clause-meets c =
     let call : Call = Call.Subscribes c.args.filter.now c.args.qos in
     rw (← c.self.view_is)
     (subscribe_meets c.args.client.now c.args.filter.now c.args.qos old c.called.result c.called.new.self
-    (client_meets c.args.client.now (Refuses call) (Asks call) old c.in-Some.at c.index_mut.result.now c.subscribe_copy-done.new.piped c.subscribe_copy-done.result c.called.result c.called.new.self (sym first) found
-    (call_outcome [] call c.index_mut.result.now.piped c.subscribe_copy-done.result c.subscribe_copy-done.new.piped c.subscribe_copy-done.ensures.calls c.subscribe_copy-done.ensures.goes) c.called.ensures))
+    (client_meets c.args.client.now (Refuses call) (Asks call) (LosesAsking call) old c.in-Some.at c.index_mut.result.now c.subscribe_copy-done.new.piped c.subscribe_copy-done.result c.called.result c.called.new.self (sym first) found
+    (call_outcome [] call c.index_mut.result.now.piped c.subscribe_copy-done.result c.subscribe_copy-done.new.piped can.0 c.subscribe_copy-done.ensures.calls c.subscribe_copy-done.ensures.goes) c.called.ensures))
+
+pub returns-then-refuses_requests-clause-goes : goal.returns-then-refuses_requests-clause-goes
+returns-then-refuses_requests-clause-goes c = goes_on_rest _ _ refl
+
+pub returns-then-refuses_requests-clause-meets : goal.returns-then-refuses_requests-clause-meets
+returns-then-refuses_requests-clause-meets c =
+    let few : c.in-Some.at < length c.self.inside.clients.items = rw (← c.self.view_is) at c.in-Some.ensures.below in
+    let found = get_there c.self.inside.clients.items c.in-Some.at c.index.result.now few c.index.ensures in
+    let first = rw (← c.self.view_is) at c.in-Some.ensures.exact in
+    let old : WorldState = record {
+      nodes = c.self.inside.nodes;
+      clients = c.self.inside.clients.items;
+      connections = c.self.inside.connections.items;
+      losses = c.self.inside.losses;
+    } in
+    let refuses = refuses_filter c.args.filter.now c.args.qos c.index.result.now.piped.core (subst (λ (k : Core). is_some (request_refusal k.state) ≡ true) c.core.ensures (sym c.refuses_requests.ensures ∙ c.if-refuses_requests.true)) in
+    rw (← c.self.view_is) (asked_before c.args.client.now (Refuses (Call.Subscribes c.args.filter.now c.args.qos)) old c.in-Some.at c.index.result.now (sym first) found refuses.0)

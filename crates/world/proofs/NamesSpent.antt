@@ -1,0 +1,48 @@
+-- NamesSpent.antt: the names of a ballot, and an Open past the last of them.
+use Rattle.std.proofs.Common.{◌≡◌, inl, inr, ◌<◌, ◌≤◌, ◌^◌, ◌-◌, ◌+◌, ◌==◌, ◌&&◌, nat_lt, nat_le, not, if◌then◌else◌, ℕ, Bool, true, false, List, Some, refl, ap, ◌∙◌, subst, arith}
+use Rattle.std.specs.Prelude.{Ok}
+use Rattle.std.proofs.lemmas.Bool.{eq-eqb, lt-ltb, le-leb}
+use Rattle.broker_base.specs.Connection.{ConnectionName, is_connection_name}
+use Rattle.world_base.specs.Core.{CountedCore}
+use Rattle.world_base.specs.Step.{accepted}
+use Rattle.world_nodes.specs.Goes.{node_of}
+use Rattle.world.specs.declared.event.Event.TheVariants as events
+use Rattle.world.specs.Doing.{OpensUnless, is_full}
+use Rattle.world.specs.Happening.{Happens}
+use Rattle.world.specs.World.{WorldState}
+
+both_but : (b : Bool) → (b && false) ≡ false
+both_but true = refl
+both_but false = refl
+
+spent : (core : CountedCore) → core.core.last_name ≡ record { ballot = core.core.replica.state.joined; count = 2 ^ 40 } → is_full (Some core) ≡ true
+spent core last =
+    let joined = core.core.replica.state.joined in
+    let count : accepted core.core ≡ 2 ^ 40 =
+    ap (λ (n : ConnectionName). if n.ballot == joined then n.count else 0) last ∙ ap (λ (b : Bool). if b then 2 ^ 40 else 0) (eq-eqb joined joined refl) in
+    ap (λ (k : ℕ). not (is_connection_name (record { ballot = joined; count = k + 1 }))) count
+    ∙ ap not (both_but (nat_lt 0 joined && nat_le joined (2 ^ 32)))
+
+pub opens_past : (name : List ℕ) (node : ℕ) (core : CountedCore) (old new : WorldState) → node_of old.nodes.nodes node ≡ Some core
+    → core.core.last_name ≡ record { ballot = core.core.replica.state.joined; count = 2 ^ 40 } → old.nodes.losses < 2 ^ 64 - 1
+    → Happens (events.Open name node) old (Ok tt) new → new ≡ old
+opens_past name node core old new there last low (inl exactly) =
+    subst (λ (full : Bool). OpensUnless full true name node old new) (ap is_full there ∙ spent core last) exactly.does
+opens_past name node core old new there last low (inr loses) = absurd (loses.needs (ap is_full there ∙ spent core last) low)
+
+-- all four hold
+all_hold : (a b c d : Bool) → a ≡ true → b ≡ true → c ≡ true → d ≡ true → not ((a && b) && (c && d)) ≡ false
+all_hold a b c d ea eb ec ed = rw (ea, eb, ec, ed) refl
+
+pub room_before : (core : CountedCore) → 0 < core.core.replica.state.joined → core.core.replica.state.joined ≤ 2 ^ 32 → core.core.last_name.count < 2 ^ 40 → is_full (Some core) ≡ false
+room_before core positive high few = by (core.core.last_name.ballot == core.core.replica.state.joined)
+  where
+    name_left : (k : ℕ) → k < 2 ^ 40 → not (is_connection_name (record { ballot = core.core.replica.state.joined; count = k + 1 })) ≡ false
+    name_left k below =
+        all_hold (nat_lt 0 core.core.replica.state.joined) (nat_le core.core.replica.state.joined (2 ^ 32)) (nat_lt 0 (k + 1)) (nat_le (k + 1) (2 ^ 40))
+        (lt-ltb 0 core.core.replica.state.joined positive) (le-leb core.core.replica.state.joined (2 ^ 32) high)
+        (lt-ltb 0 (k + 1) (let e : 0 < k + 1 = omega arith in e)) (le-leb (k + 1) (2 ^ 40) (let e : k + 1 ≤ 2 ^ 40 = omega (arith, below) in e))
+
+    by : (b : Bool) → not (is_connection_name (record { ballot = core.core.replica.state.joined; count = (if b then core.core.last_name.count else 0) + 1 })) ≡ false
+    by true = name_left core.core.last_name.count few
+    by false = name_left 0 (let e : 0 < 2 ^ 40 = omega arith in e)

@@ -1,0 +1,156 @@
+-- QuietEvents.antt: what takes no memory raises no count.
+use Rattle.std.proofs.Common.{◌≡◌, inl, inr, ◌<◌, ◌^◌, ◌-◌, ◌↔◌, ℕ, zero, suc, Bool, true, false, not, if◌then◌else◌, List, [], ◌∷◌, Option, Some, None, Result, Ok, Err, IsErr, OnErr, OnOk, slice_get, slice_set, refl, sym, ap, ◌∙◌, subst, arith}
+use Rattle.std.proofs.lemmas.Bool.{both_ways}
+use Rattle.std.proofs.lemmas.Option.{none-some, same_Some}
+use Rattle.ballot.specs.Body.{Body}
+use Rattle.ballot.specs.Body.TheVariants.{NewBallot, Join, State, Install, Installed, Activate, Activated, Superseded, Append, Held, Commit}
+use Rattle.ballot.specs.Message.{Message}
+use Rattle.broker_base.specs.Command.{Command}
+use Rattle.master.specs.declared.event.Idle.{Idle}
+use Rattle.world_base.specs.Core.{CountedCore}
+use Rattle.world_base.specs.Handing.{hands_over}
+use Rattle.world_base.specs.Losses.{WaitsNothing}
+use Rattle.world_base.specs.Step.{node_step}
+use Rattle.world_base.specs.declared.Handed.{Handed}
+use Rattle.world_base.specs.declared.item.Item.{Item}
+use Rattle.world_base.specs.declared.item.Item.TheVariants.{Peer}
+use Rattle.world_base.specs.declared.Port.{Port}
+use Rattle.world_base.proofs.Calmly.{hands_over_waits, nothing_handed, step_waits}
+use Rattle.world_nodes.specs.Goes.{Comes, GivesExactly, HeardByMaster, TakesExactly, node_of, running, unless_stopped}
+use Rattle.world_nodes.specs.Nodes.{NodesState}
+use Rattle.world_nodes.specs.Quiet.{ComesUnheeded, IsUnheeded, RestsAt, WaitsAtNone}
+use Rattle.world.specs.declared.event.Event.{Event}
+use Rattle.world.specs.declared.place.Place.{Place}
+use Rattle.world.specs.Cannot.{CannotHappen}
+use Rattle.world.specs.Doing.{receiver_of}
+use Rattle.world.specs.Happening.{Happens}
+use Rattle.world.specs.Inside.Handing.{StaysQuiet}
+use Rattle.world.specs.Quiet.{ComesQuietly, EndsQuietly, HoldsNothing, IsQuietAt, TakesNoMemory}
+use Rattle.world.specs.World.{WorldState}
+
+-- ---- a node among nodes
+
+set_there : {X : Type 0} (xs : List X) (i : ℕ) (x y z : X) → slice_get xs i ≡ Some x → slice_get (slice_set xs i y) i ≡ Some z → z ≡ y
+set_there [] i x y z there found = absurd (none-some x there)
+set_there (w ∷ xs) zero x y z there found = sym (same_Some y z found)
+set_there (w ∷ xs) (suc i) x y z there found = set_there xs i x y z there found
+
+node_set : (nodes : List CountedCore) (node : ℕ) (core new found : CountedCore) → node_of nodes node ≡ Some core → node_of (slice_set nodes (node - 1) new) node ≡ Some found → found ≡ new
+node_set nodes zero core new found there stands = absurd (none-some core there)
+node_set nodes (suc at) core new found there stands =
+    set_there nodes at core new found there
+    (subst (λ (k : ℕ). slice_get (slice_set nodes k new) at ≡ Some found) (let e : suc at - 1 ≡ at = omega arith in e) stands)
+
+there_of : (o : Option CountedCore) (core : CountedCore) → unless_stopped o ≡ Some core → o ≡ Some core
+there_of None core runs = runs
+there_of (Some c) core runs = by c.core.replica.state.stopped runs
+  where
+    by : (b : Bool) → (if b then None else Some c) ≡ Some core → Some c ≡ Some core
+    by true is = absurd (none-some core is)
+    by false is = is
+
+runs_there : (nodes : List CountedCore) (node : ℕ) (core : CountedCore) → running nodes node ≡ Some core → node_of nodes node ≡ Some core
+runs_there nodes zero core runs = absurd (none-some core runs)
+runs_there nodes (suc at) core runs = there_of (slice_get nodes at) core runs
+
+-- whether it runs
+pub runs_exactly : (nodes : List CountedCore) (node : ℕ) (core : CountedCore) → node_of nodes node ≡ Some core → (stopped : Bool) → stopped ≡ core.core.replica.state.stopped
+    → (not stopped ≡ false) ↔ (running nodes node ≡ None)
+runs_exactly nodes zero core there stopped is = absurd (none-some core there)
+runs_exactly nodes (suc at) core there stopped is =
+    subst (λ (o : Option CountedCore). (not stopped ≡ false) ↔ (unless_stopped o ≡ None)) (sym there)
+    (subst (λ (b : Bool). (not stopped ≡ false) ↔ ((if b then None else Some core) ≡ None)) is (by stopped))
+  where
+    by : (b : Bool) → (not b ≡ false) ↔ ((if b then None else Some core) ≡ None)
+    by true = ((λ e. refl), (λ e. refl))
+    by false = ((λ e. cc), (λ e. absurd (none-some core (sym e))))
+
+pub runs_none : (nodes : List CountedCore) (node : ℕ) → node_of nodes node ≡ None → (false ≡ false) ↔ (running nodes node ≡ None)
+runs_none nodes zero none = ((λ e. refl), (λ e. refl))
+runs_none nodes (suc at) none = ((λ e. ap unless_stopped none), (λ e. refl))
+
+-- ---- what goes down
+
+pub stays_rest : (node : ℕ) (n m : NodesState) → m ≡ n → StaysQuiet node n m
+stays_rest node n m same = subst (λ (k : NodesState). StaysQuiet node n k) (sym same) (λ holds. (holds, refl))
+
+pub stays_join : (node : ℕ) (a b c : NodesState) → StaysQuiet node a b → StaysQuiet node b c → StaysQuiet node a c
+stays_join node a b c first next = λ holds. let one = first holds in let two = next one.0 in (two.0, two.1 ∙ one.1)
+
+pub handing_quiet : (r : Result Handed Idle) (X : Type 0) (node : ℕ) (port : Port) (old new : NodesState) → (WaitsAtNone node port old → OnOk r (GivesExactly node port old new))
+    → OnErr r ((new ≡ old) × X) → StaysQuiet node old new
+handing_quiet (Err idle) X node port old new hands same = stays_rest node old new same.0
+handing_quiet (Ok handed) X node port old new hands same = λ holds.
+    let g = hands (λ core there. nothing_handed port core.core (holds core there)) in
+    let later : CountedCore = record g.core { core = hands_over port g.core.core } in (
+      λ core there.
+          let is : core ≡ later = node_set old.nodes node g.core later core g.there (subst (λ (n : NodesState). node_of n.nodes node ≡ Some core) g.is there) in
+          subst (λ (c : CountedCore). WaitsNothing c.core) (sym is) (hands_over_waits port g.core.core (holds g.core g.there)),
+      ap (λ (n : NodesState). n.losses) g.is,
+    )
+
+-- ---- an item, and what goes down then
+
+taken_quiet : (node : ℕ) (item : Item) (old between : NodesState) → IsQuietAt node item old → TakesExactly node item old between → HoldsNothing node between × (between.losses ≡ old.losses)
+taken_quiet node item old between quiet took =
+    let later : CountedCore = record took.core { core = (node_step item took.core.core).core } in
+    let rests = quiet.0 in
+    let same : rests.core ≡ took.core = same_Some rests.core took.core (sym rests.runs ∙ took.runs) in
+    let there = runs_there old.nodes node took.core took.runs in
+    let waits = subst (λ (c : CountedCore). WaitsNothing c.core → WaitsNothing (node_step item c.core).core) same (step_waits item rests.core.core rests.takes rests.none_failed) (quiet.1 took.core there) in (
+      λ core found.
+          let is : core ≡ later = node_set old.nodes node took.core later core there (subst (λ (n : NodesState). node_of n.nodes node ≡ Some core) took.is found) in
+          subst (λ (c : CountedCore). WaitsNothing c.core) (sym is) waits,
+      ap (λ (n : NodesState). n.losses) took.is,
+    )
+
+pub item_quiet : (node : ℕ) (item : Item) (old between new : NodesState) → IsQuietAt node item old → (RestsAt node item old → TakesExactly node item old between)
+    → StaysQuiet node between new → new.losses ≡ old.losses
+item_quiet node item old between new quiet took stays = let t = taken_quiet node item old between quiet (took quiet.0) in (stays t.0).1 ∙ t.1
+
+-- ---- a message
+
+unheeded : (from : ℕ) (body : Body Command) (old new : NodesState) → IsUnheeded body → HeardByMaster from body old new → new ≡ old
+unheeded from (Activate ballot) old new none hears = absurd none
+unheeded from (NewBallot b members a o) old new none hears = hears
+unheeded from (Join b a) old new none hears = hears
+unheeded from (State b log) old new none hears = hears
+unheeded from (Install b log) old new none hears = hears
+unheeded from (Installed b held) old new none hears = hears
+unheeded from (Activated b) old new none hears = hears
+unheeded from (Superseded b) old new none hears = hears
+unheeded from (Append b place command) old new none hears = hears
+unheeded from (Held b held) old new none hears = hears
+unheeded from (Commit b held) old new none hears = hears
+
+nobody_holds : (n : NodesState) → HoldsNothing 0 n
+nobody_holds n = λ core there. absurd (none-some core there)
+
+pub message_quiet : (o : Option (ℕ × Message Command)) (receiver : ℕ) (old between new : NodesState) → receiver ≡ receiver_of o → ComesQuietly o old → (ComesUnheeded o old → Comes o old between)
+    → StaysQuiet receiver between new → new.losses ≡ old.losses
+message_quiet None receiver old between new is quiet comes stays = absurd quiet
+message_quiet (Some (zero, message)) receiver old between new is quiet comes stays =
+    (subst (λ (k : ℕ). StaysQuiet k between new) is stays (nobody_holds between)).1
+    ∙ ap (λ (n : NodesState). n.losses) (unheeded message.from message.body old between quiet (comes quiet))
+message_quiet (Some (suc at, message)) receiver old between new is quiet comes stays =
+    item_quiet (suc at) (Peer message) old between new quiet comes (subst (λ (k : ℕ). StaysQuiet k between new) is stays)
+
+-- the end of a connection
+pub end_quiet : {X : Type 0} (number : ℕ) (o : Option Place) (place : Place) (n : NodesState) → o ≡ Some place → EndsQuietly number o n → (EndsQuietly number (Some place) n → X) → X
+end_quiet number o place n is quiet then_so = then_so (subst (λ (p : Option Place). EndsQuietly number p n) is quiet)
+
+pub no_end : {X : Type 0} (number : ℕ) (o : Option Place) (n : NodesState) → o ≡ None → EndsQuietly number o n → X
+no_end number o n is quiet = absurd (subst (λ (p : Option Place). EndsQuietly number p n) is quiet)
+
+-- ---- whole steps
+
+pub quiet_by : (event : Event) (old : WorldState) (result : Result (Unit {0}) Idle) (new : WorldState) → Happens event old result new → TakesNoMemory event old → old.nodes.losses < 2 ^ 64 - 1
+    → new.losses ≡ old.losses
+quiet_by event old (Err idle) new happens none low = ap (λ (w : WorldState). w.losses) happens.1
+quiet_by event old (Ok done) new (inl exactly) none low = exactly.uncounted
+quiet_by event old (Ok done) new (inr loses) none low = absurd (loses.needs none low)
+
+pub idle_exactly : (event : Event) (old : WorldState) (result : Result (Unit {0}) Idle) (new : WorldState) → Happens event old result new → IsErr result ↔ CannotHappen event old
+idle_exactly event old (Err idle) new happens = ((λ err. happens.0), (λ cannot. refl))
+idle_exactly event old (Ok done) new (inl exactly) = ((λ err. absurd (both_ways false refl err)), (λ cannot. absurd (exactly.can cannot)))
+idle_exactly event old (Ok done) new (inr loses) = ((λ err. absurd (both_ways false refl err)), (λ cannot. absurd (loses.can cannot)))

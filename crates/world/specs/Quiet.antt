@@ -1,0 +1,48 @@
+-- Which events take no memory, and so raise no count.
+use Rattle.std.specs.Prelude.{◌≡◌, ℕ, zero, suc, true, Option, Some, None, slice_get}
+use Rattle.ballot.specs.Message.{Message}
+use Rattle.broker_base.specs.Command.{Command}
+use Rattle.world_base.specs.Core.{CountedCore}
+use Rattle.world_base.specs.Losses.{WaitsNothing}
+use Rattle.world_base.specs.declared.item.Item.{Item}
+use Rattle.world_base.specs.declared.item.Item.TheVariants as items
+use Rattle.world_nodes.specs.Goes.{node_of}
+use Rattle.world_nodes.specs.Nodes.{NodesState}
+use Rattle.world_nodes.specs.Quiet.{IsUnheeded, RestsAt}
+use Rattle.world.specs.declared.event.Event.{Event}
+use Rattle.world.specs.declared.event.Event.TheVariants as events
+use Rattle.world.specs.declared.place.Place.{Place}
+use Rattle.world.specs.Doing.{is_full}
+use Rattle.world.specs.Found.{place_numbered, port_of}
+use Rattle.world.specs.World.{WorldState}
+
+-- a node has nothing to hand over
+abbrev pub HoldsNothing : ℕ → NodesState → Type 0
+HoldsNothing node n = (core : CountedCore) → node_of n.nodes node ≡ Some core → WaitsNothing core.core
+
+-- an item takes no memory at a node, which has nothing to hand over
+abbrev pub IsQuietAt : ℕ → Item → NodesState → Type 0
+IsQuietAt node item n = RestsAt node item n × HoldsNothing node n
+
+-- so does a message that comes, as one that the master does not heed
+abbrev pub ComesQuietly : Option (ℕ × Message Command) → NodesState → Type 0
+ComesQuietly None n = ⊥
+ComesQuietly (Some (zero, message)) n = IsUnheeded message.body
+ComesQuietly (Some (suc at, message)) n = IsQuietAt (suc at) (items.Peer message) n
+
+-- and the end of a connection
+abbrev pub EndsQuietly : ℕ → Option Place → NodesState → Type 0
+EndsQuietly number None n = ⊥
+EndsQuietly number (Some place) n = IsQuietAt place.node (items.Ended (port_of number)) n
+
+-- An event takes no memory where a client only loses its connection, where an Open finds no name left, where a message comes to the
+-- master that it does not heed, and where a message, a tick, the end of a connection or a crash comes to a node that sends nothing then,
+-- adds nothing to its log, takes no log, applies nothing, and has nothing to hand over.
+abbrev pub TakesNoMemory : Event → WorldState → Type 0
+TakesNoMemory (events.Deliver number) w = ComesQuietly (slice_get w.nodes.sent number) w.nodes
+TakesNoMemory (events.Tick node) w = IsQuietAt node (items.Tick 0) w.nodes
+TakesNoMemory (events.Crash node) w = IsQuietAt node items.Crash w.nodes
+TakesNoMemory (events.Notice number) w = EndsQuietly number (place_numbered number w.connections) w.nodes
+TakesNoMemory (events.Open name node) w = is_full (node_of w.nodes.nodes node) ≡ true
+TakesNoMemory (events.Abandon name) w = Unit {0}
+TakesNoMemory event w = ⊥
