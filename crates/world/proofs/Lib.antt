@@ -32,3 +32,11 @@ mod AskedSo
 mod CountedOnce
 mod PromiseShown
 mod UncountedIsExact
+mod ExactRuns
+mod PassesOn
+mod StandsOn
+mod DeliversOn
+mod WaitsOn
+mod CanLead
+mod LedWorld
+mod OpensAgain

@@ -11,6 +11,7 @@ pub mod Quiet
 pub mod Happening
 pub mod Asking
 pub mod Laws
+pub mod Escaping
 pub use Rattle.client.specs as client
 pub use Rattle.master.specs as master
 pub use Rattle.world_nodes.specs as world_nodes

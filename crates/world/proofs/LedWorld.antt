@@ -1,0 +1,117 @@
+-- The group's part of a way out: an Assign and the messages that lead its ballot to the start.
+use Rattle.std.proofs.Common.{◌≡◌, inr, ◌<◌, ◌-◌, ◌+◌, ℕ, Bool, true, false, if◌then◌else◌, List, ◌∷◌, ◌++◌, None, Some, length, map, refl, ap, ◌∙◌, subst, arith}
+use Rattle.std.specs.Prelude.{nat_le}
+use Rattle.std.proofs.lemmas.Bool.{leb-false}
+use Rattle.agreement.specs.MasterState.{MasterState, last_ballot}
+use Rattle.agreement.specs.MasterState.AssignRefusal.{bad_members, ballots_spent}
+use Rattle.ballot.specs.Config.{Config}
+use Rattle.ballot.specs.LawfulConfig.{is_lawful}
+use Rattle.ballot.specs.Message.{Message}
+use Rattle.broker_base.specs.Command.{Command}
+use Rattle.broker_base.specs.Output.{Output}
+use Rattle.broker_base.specs.Place.{Client}
+use Rattle.broker_base.specs.State.{State}
+use Rattle.escaping_nodes.specs.Coming.{AreCalm, AreFollowed, IsSeen}
+use Rattle.escaping_nodes.specs.cut_ways.Deliveries.{Delivered, assigned_moment}
+use Rattle.escaping_nodes.specs.cut_ways.Laws.{LeadsOut}
+use Rattle.escaping_nodes.specs.cut_ways.ways_out.Deliveries.{way_out}
+use Rattle.escaping_nodes.proofs.LedOut.{assigned_seen, low_before, way_of}
+use Rattle.escaping_nodes.proofs.NodesFollow.{deliveries_are_followed}
+use Rattle.exact_model.specs.group_model.Group.{Group, moment_of}
+use Rattle.exact_model.specs.group_model.snapshots.Past.{Moment, Past}
+use Rattle.world_base.specs.Core.{rules}
+use Rattle.world_nodes.specs.Asking.{log_of}
+use Rattle.world_nodes.specs.Goes.{behind_giving}
+use Rattle.world_nodes.specs.Nodes.{NodesState, StandsFor as NodesStand}
+use Rattle.world_nodes.proofs.MasterActs.{gives_exactly}
+use Rattle.world.specs.declared.event.Event.{Event}
+use Rattle.world.specs.declared.event.Event.TheVariants as events
+use Rattle.world.specs.Escaping.{CanEscape, configuration_of}
+use Rattle.world.specs.Goes.{LosesNothing, NodesGo}
+use Rattle.world.specs.Happening.{Run}
+use Rattle.world.specs.Housed.{AreHoused, leads_of}
+use Rattle.world.specs.Standing.{WorldGoes}
+use Rattle.world.specs.World.{WorldState}
+use Rattle.world.proofs.CanLead.{can_be_led, seen_as}
+use Rattle.world.proofs.DeliversOn.{walk}
+use Rattle.world.proofs.ExactRuns.{first_done, in_two}
+use Rattle.world.proofs.GroupGoes.{goes_apart, with_nodes}
+use Rattle.world.proofs.GroupGoes.GoesApart.{acts as goes_by}
+use Rattle.world.proofs.Joined.{world_goes_join}
+use Rattle.world.proofs.NodesGoOn.{nodes_go_join}
+use Rattle.world.proofs.PassesOn.{seen_of}
+
+-- the world then, and the events after it
+pub record LedTo (config : Config) (g : Group) (past : List (Moment State Command Output)) (members : List ℕ) (place : ℕ) (log : List Command) (more : List Event)
+    (w new : WorldState) : Type 0 where
+  pub way : LeadsOut rules config (moment_of g ∷ past) (moment_of g) (configuration_of members) place log
+  pub mid : WorldState
+  pub followed : AreFollowed (g.master.given + 1) way.last (behind_giving (configuration_of members) w.nodes) mid.nodes
+  pub nodes : NodesGo w.nodes mid.nodes
+  pub world : WorldGoes w mid
+  pub housed : AreHoused (leads_of mid.clients) mid.connections
+  pub clients : map seen_of mid.clients ≡ map seen_of w.clients
+  pub many : length mid.connections ≡ length w.connections
+  pub rest : Run more mid new
+  pub whole : LosesNothing mid new
+
+-- of the group's events with these after them
+abbrev pub group_events : WorldState → List ℕ → ℕ → List Event
+group_events w members place =
+    events.Assign (configuration_of members)
+    ∷ map events.Deliver (way_out (length w.nodes.sent) (length w.nodes.master.members) place (length (configuration_of members).members - 1))
+
+module _ (config : Config) (g : Group) (past : List (Moment State Command Output)) (came : Past rules config (moment_of g ∷ past)) (w : WorldState) (s : NodesStand g w.nodes)
+    (housed : AreHoused (leads_of w.clients) w.connections) (members : List ℕ) (name : Client) (can : CanEscape members name w) (more : List Event) (new : WorldState) where
+  abbrev conf : Config
+  conf = configuration_of members
+
+  abbrev numbers : List ℕ
+  numbers = way_out (length w.nodes.sent) (length w.nodes.master.members) can.place (length conf.members - 1)
+
+  way : LeadsOut rules config (moment_of g ∷ past) (moment_of g) conf can.place (log_of w.nodes can.source)
+  way = way_of config (moment_of g) past came conf can.place can.source (log_of w.nodes can.source) (can_be_led config g past came w s members name can)
+
+  seen : IsSeen (moment_of g) w.nodes
+  seen = seen_as g w.nodes s
+
+  same : way_out (length g.sent) (length g.master.members) can.place (length conf.members - 1) ≡ numbers
+  same = ap (λ (l : List (ℕ × Message Command)). way_out (length l) (length g.master.members) can.place (length conf.members - 1)) s.sent
+      ∙ ap (λ (m : MasterState). way_out (length w.nodes.sent) (length m.members) can.place (length conf.members - 1)) s.master
+
+  pub led_to : Run (group_events w members can.place ++ more) w new → LosesNothing w new → LedTo config g past members can.place (log_of w.nodes can.source) more w new
+  led_to run none =
+      let f = first_done (events.Assign conf) (map events.Deliver numbers ++ more) w new run none (λ cannot. cannot can.granted) in
+      let given : WorldState = with_nodes (behind_giving conf w.nodes) w in
+      let is : f.after ≡ given = f.does.2 ∙ ap (λ (n : NodesState). with_nodes n w) f.does.1 in
+      let rest : Run (map events.Deliver numbers ++ more) given new = subst (λ (v : WorldState). Run (map events.Deliver numbers ++ more) v new) is f.rest in
+      let whole : LosesNothing given new = subst (λ (v : WorldState). LosesNothing v new) is f.whole in
+      let on = goes_apart w (behind_giving conf w.nodes) (omega arith) (goes_by None refl (λ h t. (gives_exactly w.nodes conf can.granted h t).0)) in
+      let t = in_two (map events.Deliver numbers) more given new rest whole in
+      let calm : AreCalm (g.master.given + 1) given.nodes = λ at node there. inr (low_before config (moment_of g) past came w.nodes seen at node there) in
+      let first_seen : IsSeen (assigned_moment conf (moment_of g)) given.nodes = assigned_seen (moment_of g) w.nodes conf seen in
+      let delivered = subst (λ (ks : List ℕ). Delivered rules (g.master.given + 1) (assigned_moment conf (moment_of g)) ks way.last) same way.delivered in
+      let p = walk (g.master.given + 1) (assigned_moment conf (moment_of g)) way.last numbers delivered given t.mid t.first t.whole_first first_seen calm housed in
+      record {
+        way = way;
+        mid = t.mid;
+        followed = deliveries_are_followed (g.master.given + 1) (assigned_moment conf (moment_of g)) way.last numbers delivered given.nodes t.mid.nodes p.come first_seen calm;
+        nodes = nodes_go_join w.nodes given.nodes t.mid.nodes on.nodes.goes p.nodes;
+        world = world_goes_join w given t.mid on.goes p.world;
+        housed = p.housed;
+        clients = p.clients;
+        many = p.many;
+        rest = t.last;
+        whole = t.whole_last;
+      }
+
+  -- ---- the ballot that it gives is one that there is
+
+  pub lawful : (is_lawful conf.members conf.primary ≡ true) × (w.nodes.master.given < last_ballot)
+  lawful = by (is_lawful conf.members conf.primary) (nat_le last_ballot w.nodes.master.given) refl refl can.granted
+    where
+      by : (l t : Bool) → is_lawful conf.members conf.primary ≡ l → nat_le last_ballot w.nodes.master.given ≡ t →
+          (if l then (if t then Some ballots_spent else None) else Some bad_members) ≡ None → (is_lawful conf.members conf.primary ≡ true) × (w.nodes.master.given < last_ballot)
+      by true false e f h = (e, leb-false last_ballot w.nodes.master.given f)
+      by true true e f h = cc
+      by false t e f h = cc

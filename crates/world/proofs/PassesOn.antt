@@ -1,0 +1,169 @@
+-- Connections are asked exactly: what stays of a world when nodes hand bytes over.
+use Rattle.std.proofs.Common.{◌≡◌, inl, inr, ◌<◌, ◌-◌, ℕ, zero, suc, Bool, true, false, if◌then◌else◌, List, [], ◌++◌, Option, Some, None, length, map, set, slice_get, refl, sym, ap, ◌∙◌, subst, arith}
+use Rattle.std.proofs.lemmas.Bool.{ne_eqb}
+use Rattle.std.proofs.lemmas.List.{append-nil, length-set, map-set}
+use Rattle.std.proofs.lemmas.Option.{same_Some}
+use Rattle.client.specs.Core.{Core}
+use Rattle.escaping_nodes.specs.Coming.{Come}
+use Rattle.escaping_nodes.specs.Coming.Come.{all_came as none_comes, hands, to_node as comes_to_node, to_master as comes_to_master}
+use Rattle.exact_model.specs.node_model.Moves.Deed.{gives}
+use Rattle.exact_model.proofs.of_group_model.Placed.{get_mapped}
+use Rattle.world_base.specs.Core.{CountedCore}
+use Rattle.world_base.specs.Handing.{bytes_of, listed_at}
+use Rattle.world_base.specs.declared.Port.{Port}
+use Rattle.world_nodes.specs.Goes.{node_of}
+use Rattle.world_nodes.specs.Nodes.{NodesState}
+use Rattle.world_nodes.proofs.Exactly.{at_place, gives_acts}
+use Rattle.world_pipes.specs.declared.way.Way.{Way}
+use Rattle.world_pipes.specs.Piped.{Piped}
+use Rattle.world.specs.declared.place.Place.{Place}
+use Rattle.world.specs.declared.world.WorldClient.{WorldClient}
+use Rattle.world.specs.Found.{place_numbered, port_of, with_down}
+use Rattle.world.specs.Gathering.{AskedWhere, Gathers, GathersAmong, Gives, IsAsked, is_open_at, is_told_open, put_out}
+use Rattle.world.specs.Goes.{NodesGo}
+use Rattle.world.specs.Housed.{AreHoused, leads_of}
+use Rattle.world.specs.Inside.Handing.{MayHandDown, MayPutDown}
+use Rattle.world.specs.Standing.{WorldGoes}
+use Rattle.world.specs.World.{WorldState}
+use Rattle.world.proofs.GoesDown.{put_down, puts_down}
+use Rattle.world.proofs.GroupGoes.{acts_go}
+use Rattle.world.proofs.HousedOn.{housed_mark}
+use Rattle.world.proofs.Joined.{world_goes_join, world_rests, world_stays}
+use Rattle.world.proofs.LeadsKept.{housed_client, leads_set, led_there}
+use Rattle.world.proofs.NodesGoOn.{nodes_go_join, nodes_stay, staying_goes}
+use Rattle.world.proofs.Turned.{set_itself}
+
+-- ---- what stays while these messages come, and bytes are handed over
+
+-- of a client its identifier and its core
+abbrev pub seen_of : WorldClient → List ℕ × Core
+seen_of client = (client.name, client.piped.core)
+
+pub record Passes (ks : List ℕ) (old new : WorldState) : Type 0 where
+  pub nodes : NodesGo old.nodes new.nodes
+  pub world : WorldGoes old new
+  pub housed : AreHoused (leads_of new.clients) new.connections
+  pub clients : map seen_of new.clients ≡ map seen_of old.clients
+  pub many : length new.connections ≡ length old.connections
+  pub come : Come old.nodes ks new.nodes
+
+pub come_join : {n m o : NodesState} {ks ls : List ℕ} → Come n ks m → Come m ls o → Come n (ks ++ ls) o
+come_join none_comes two = two
+come_join (comes_to_node k at node message came there going more) two = comes_to_node k at node message came there going (come_join more two)
+come_join (comes_to_master k from ballot came more) two = comes_to_master k from ballot came (come_join more two)
+come_join (hands at node port there more) two = hands at node port there (come_join more two)
+
+pub passes_rest : (w : WorldState) → AreHoused (leads_of w.clients) w.connections → Passes [] w w
+passes_rest w housed =
+    record {
+      nodes = staying_goes w.nodes w.nodes (λ g s. s);
+      world = world_rests w w refl;
+      housed = housed;
+      clients = refl;
+      many = refl;
+      come = none_comes;
+    }
+
+pub passes_join : (ks ls : List ℕ) (a b c : WorldState) → Passes ks a b → Passes ls b c → Passes (ks ++ ls) a c
+passes_join ks ls a b c one two =
+    record {
+      nodes = nodes_go_join a.nodes b.nodes c.nodes one.nodes two.nodes;
+      world = world_goes_join a b c one.world two.world;
+      housed = two.housed;
+      clients = two.clients ∙ one.clients;
+      many = two.many ∙ one.many;
+      come = come_join one.come two.come;
+    }
+
+-- ---- what a node hands over
+
+record Hands (o : Option CountedCore) (node : ℕ) (port : Port) (before : List ℕ) (old between : NodesState) : Type 0 where
+  come : Come old [] between
+  goes : NodesGo old between
+  may : MayHandDown node port old before between (before ++ put_out port o)
+
+handed : (o : Option CountedCore) (node : ℕ) (port : Port) (before : List ℕ) (old between : NodesState) → o ≡ node_of old.nodes node → Gives o node port old between →
+    Hands o node port before old between
+handed None node port before old between is same =
+    record {
+      come = subst (λ (n : NodesState). Come old [] n) (sym same) none_comes;
+      goes = staying_goes old between (nodes_stay old between same);
+      may = inl (nodes_stay old between same, append-nil before);
+    }
+handed (Some core) node port before old between is given =
+    let acts = gives_acts node port old between (record { core = core; there = sym is; is = given }) in
+    record {
+      come = subst (λ (n : NodesState). Come old [] n) (sym given) (hands (node - 1) core port (at_place old.nodes node core (sym is)) none_comes);
+      goes = acts_go (Some (node - 1, gives port)) old between acts;
+      may = inr (acts, λ other there. ap (λ (c : CountedCore). before ++ bytes_of (listed_at port c.core)) (same_Some core other (is ∙ there)));
+    }
+
+-- ---- one connection
+
+pub at_number : (number : ℕ) (connections : List Place) (place : Place) → 0 < number → place_numbered number connections ≡ Some place → slice_get connections (number - 1) ≡ Some place
+at_number zero connections place positive e = absurd (omega (arith, positive))
+at_number (suc n) connections place positive e =
+    sym (ap (λ (b : Bool). if b then None else slice_get connections (suc n - 1)) (ne_eqb (suc n) 0 (λ z. cc))) ∙ e
+
+module _ (number : ℕ) (old new : WorldState) (a : IsAsked number old new) (housed : AreHoused (leads_of old.clients) old.connections) (positive : 0 < number) where
+  abbrev place : Place
+  place = a.c.place
+
+  abbrev port : Port
+  port = port_of number
+
+  abbrev bytes : List ℕ
+  bytes = a.c.way.down ++ put_out port a.node
+
+  abbrev later : Piped
+  later = with_down place.at a.c.way bytes a.c.client.piped
+
+  abbrev down : WorldState
+  down = put_down place.client a.c.client later a.between old
+
+  found : slice_get old.connections (number - 1) ≡ Some place
+  found = at_number number old.connections place positive a.c.numbered
+
+  given : Hands a.node place.node port a.c.way.down old.nodes a.between
+  given = handed a.node place.node port a.c.way.down old.nodes a.between a.is_node a.gives
+
+  may_put : MayPutDown place.at place.node port old.nodes a.c.client.piped a.between later
+  may_put way there =
+      let same : a.c.way ≡ way = same_Some a.c.way way (sym a.c.stands ∙ there) in (
+        bytes,
+        subst (λ (w : Way). MayHandDown place.node port old.nodes w.down a.between bytes) same given.may,
+        ap (λ (w : Way). with_down place.at w bytes a.c.client.piped) same,
+      )
+
+  pub asked_passes : Passes [] old new
+  asked_passes =
+      subst (Passes [] old) (sym a.is)
+      (record {
+        nodes = given.goes;
+        world = world_goes_join old down (record down { connections = set old.connections (number - 1) (record place { is_open = is_told_open port a.node }) })
+            (puts_down old number place a.c.client a.between later (led_there (leads_of old.clients) old.connections number place housed found positive) a.c.owned may_put)
+            (world_stays down (record down { connections = set old.connections (number - 1) (record place { is_open = is_told_open port a.node }) }) refl refl);
+        housed = housed_mark (leads_of down.clients) old.connections (number - 1) place (is_told_open port a.node) found
+            (housed_client old.clients old.connections place.client a.c.client (record a.c.client { piped = later }) a.c.owned
+            (leads_set a.c.client.piped.ways place.at a.c.way (record a.c.way { down = bytes }) a.c.stands refl) housed);
+        clients = map-set seen_of old.clients place.client (record a.c.client { piped = later })
+            ∙ set_itself (map seen_of old.clients) place.client (seen_of a.c.client) (get_mapped seen_of old.clients place.client a.c.client a.c.owned);
+        many = length-set old.connections (number - 1) (record place { is_open = is_told_open port a.node });
+        come = given.come;
+      })
+
+-- ---- the connections of a node
+
+pub where_passes : (b : Bool) (number : ℕ) (old new : WorldState) → AskedWhere true b number old new → AreHoused (leads_of old.clients) old.connections → 0 < number → Passes [] old new
+where_passes true number old new a housed positive = asked_passes number old new a housed positive
+where_passes false number old new is housed positive = subst (Passes [] old) (sym is) (passes_rest old housed)
+
+pub among_passes : (count node : ℕ) (old new : WorldState) → GathersAmong true count node old new → AreHoused (leads_of old.clients) old.connections → Passes [] old new
+among_passes zero node old new is housed = subst (Passes [] old) (sym is) (passes_rest old housed)
+among_passes (suc before) node old new g housed =
+    let one = where_passes (is_open_at node (place_numbered (suc before) old.connections)) (suc before) old g.0 g.1 housed (omega arith) in
+    passes_join [] [] old g.0 new one (among_passes before node g.0 new g.2 one.housed)
+
+pub gathers_passes : (node : ℕ) (old new : WorldState) → Gathers true node old new → AreHoused (leads_of old.clients) old.connections → Passes [] old new
+gathers_passes zero old new is housed = subst (Passes [] old) (sym is) (passes_rest old housed)
+gathers_passes (suc at) old new g housed = among_passes (length old.connections) (suc at) old new g housed

@@ -1,0 +1,76 @@
+-- A way out of a world: when there is one, and what it leads to.
+use Rattle.std.specs.Prelude.{◌≡◌, ◌≤◌, ℕ, ◌+◌, Bool, true, false, not, List, [], ◌∷◌, Option, Some, None, slice_get}
+use Rattle.std.specs.List.{list_all, position}
+use Rattle.lists.specs.Lists.{IsPrefixOf}
+use Rattle.agreement.specs.MasterState.{refusal}
+use Rattle.ballot.specs.Config.{Config}
+use Rattle.ballot.specs.Logs.{places}
+use Rattle.ballot.specs.Serving.{most_places}
+use Rattle.broker_base.specs.Command.{Command}
+use Rattle.broker_base.specs.Commands.{past_of, usual_limits}
+use Rattle.broker_base.specs.Past.{session_of}
+use Rattle.broker_base.specs.Place.{Client}
+use Rattle.client.specs.Core.{Core}
+use Rattle.client_base.specs.State.{is_online}
+use Rattle.world_base.specs.Core.{CountedCore}
+use Rattle.world_nodes.specs.Agreed.{AgreeOn}
+use Rattle.world_nodes.specs.Asking.{log_of}
+use Rattle.world_nodes.specs.Goes.{node_of}
+use Rattle.world.specs.declared.event.Event.{Event}
+use Rattle.world.specs.Found.{core_named}
+use Rattle.world.specs.Goes.{LosesNothing}
+use Rattle.world.specs.Happening.{Run}
+use Rattle.world.specs.Standing.{IsReached}
+use Rattle.world.specs.World.{WorldState}
+
+-- ---- when there is one
+
+-- a configuration by its members: the first of them is its primary
+abbrev pub configuration_of : List ℕ → Config
+configuration_of [] = record { members = []; primary = 0 }
+configuration_of (first ∷ others) = record { members = first ∷ others; primary = first }
+
+abbrev pub is_up : Option CountedCore → Bool
+is_up None = false
+is_up (Some node) = not node.core.replica.state.stopped
+
+-- whether the node of a number is there and has not stopped
+abbrev pub is_running : List CountedCore → ℕ → Bool
+is_running nodes node = is_up (node_of nodes node)
+
+abbrev pub held_in : Option CountedCore → ℕ
+held_in None = 0
+held_in (Some node) = places node.core.replica.state.log
+
+-- The master gives the next ballot to these members, and each of them runs. Of the active configuration the first member that runs,
+-- which its place tells, has room for two more commands. The client has a session that is not clean after the whole log of that
+-- member, agreed or not.
+pub record CanEscape (members : List ℕ) (name : Client) (w : WorldState) : Type 0 where
+  pub granted : refusal w.nodes.master (configuration_of members) ≡ None
+  pub live : list_all (is_running w.nodes.nodes) members ≡ true
+  pub place : ℕ
+  pub first : position (is_running w.nodes.nodes) w.nodes.master.members ≡ Some place
+  pub source : ℕ
+  pub asked : slice_get w.nodes.master.members place ≡ Some source
+  pub room : held_in (node_of w.nodes.nodes source) + 2 ≤ most_places
+  pub core : Core
+  pub client : core_named name w.clients ≡ Some core
+  pub session : session_of (past_of usual_limits (log_of w.nodes source)) core.state.client ≡ Some false
+
+-- ---- what it leads to
+
+-- The ballot that was to be given next is active. What was agreed before begins what is agreed now. The client is online, and its
+-- last CONNACK told that its session is present.
+pub record HasEscaped (name : Client) (old new : WorldState) : Type 0 where
+  pub active : new.nodes.master.active ≡ old.nodes.master.given + 1
+  pub agreed : (before after : List Command) → AgreeOn old.nodes before → AgreeOn new.nodes after → IsPrefixOf before after
+  pub core : Core
+  pub client : core_named name new.clients ≡ Some core
+  pub online : is_online core.state.stage ≡ true
+  pub present : core.state.present ≡ true
+
+-- whatever led to the world, where no event of these loses anything
+abbrev pub LeadsOut : Client → WorldState → List Event → Type 0
+LeadsOut name w events =
+    (nodes : ℕ) (config : Config) (clients : List Client) (new : WorldState) → IsReached nodes config clients w → Run events w new → LosesNothing w new →
+    HasEscaped name w new

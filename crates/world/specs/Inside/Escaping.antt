@@ -1,0 +1,38 @@
+-- The events of a way out, by arithmetic.
+use Rattle.std.specs.Prelude.{◌≡◌, ℕ, suc, ◌+◌, ◌-◌, ◌*◌, Bool, true, false, List, [], ◌∷◌, ◌++◌, length, map}
+use Rattle.ballot.specs.Config.{Config}
+use Rattle.escaping_nodes.specs.cut_ways.ways_out.Deliveries.{asked_and_answered, way_out}
+use Rattle.world.specs.declared.event.Event.{Event}
+use Rattle.world.specs.declared.event.Event.TheVariants as events
+use Rattle.world.specs.Escaping.{configuration_of}
+use Rattle.world.specs.World.{WorldState}
+
+-- the ballot is led to its start
+abbrev pub group_events : WorldState → List ℕ → ℕ → List Event
+group_events w members place =
+    events.Assign (configuration_of members)
+    ∷ map events.Deliver (way_out (length w.nodes.sent) (length w.nodes.master.members) place (length members - 1))
+
+-- a client that holds a connection loses it; it opens another, and its CONNECT comes to the new primary
+abbrev pub leaving : Bool → List ℕ → List Event
+leaving true name = events.Abandon name ∷ []
+leaving false name = []
+
+abbrev pub client_events : Bool → List ℕ → ℕ → ℕ → ℕ → List Event
+client_events holds name primary number bytes =
+    leaving holds name ++ events.Open name primary ∷ events.CarryUp number bytes ∷ []
+
+-- the others hold it and answer, and the CONNACK comes down
+abbrev pub answer_events : ℕ → ℕ → ℕ → List Event
+answer_events sent others number = map events.Deliver (asked_and_answered sent others) ++ events.CarryDown number 4 ∷ []
+
+-- how many messages were sent when the ballot has begun
+abbrev pub sent_then : WorldState → ℕ → ℕ
+sent_then w others = length w.nodes.sent + length w.nodes.master.members + 5 * others + 4
+
+-- the whole list
+abbrev pub escaping_events : WorldState → List ℕ → ℕ → Bool → List ℕ → ℕ → List Event
+escaping_events w members place holds name bytes =
+    group_events w members place
+    ++ (client_events holds name (configuration_of members).primary (suc (length w.connections)) bytes
+    ++ answer_events (sent_then w (length members - 1)) (length members - 1) (suc (length w.connections)))
