@@ -71,11 +71,12 @@ pub record StillWaits (ballot place : ℕ) (port : Port) (x : ConnectionName) (n
   pub leads : LeadsAt ballot (replica_of node.core)
   pub waits : AwaitsAnswer port x node.core
 
--- so it waits while these messages come, which bring the moment to another
+-- so it waits while these messages come, which bring the moment to another and leave the master as it is
 pub record AwaitsOthers (ballot place : ℕ) (port : Port) (x : ConnectionName) (ks : List ℕ) (n : NodesState) : Type 0 where
   pub moment : Moment State Command Output
   pub before : Moment State Command Output
   pub delivered : Delivered rules ballot moment ks before
+  pub master : before.master ≡ n.master
   pub seen : IsSeen moment n
   pub calm : AreCalm ballot n
   pub waits : StillWaits ballot place port x n
@@ -269,7 +270,16 @@ module _ (config : Config) (a : Moment State Command Output) (past : List (Momen
 
     pub awaits_others : AwaitsOthers ballot place port x
         (numbers_from (length n.sent) (length front + 1) ++ numbers_from (length n.sent + (length front + 1)) (length front)) first
-    awaits_others = record { moment = after_outcome place o a; before = h.before; delivered = delivered; seen = seen_first; calm = calm_first; waits = waits_first }
+    awaits_others =
+        record {
+          moment = after_outcome place o a;
+          before = h.before;
+          delivered = delivered;
+          master = h.master ∙ can.seen.master;
+          seen = seen_first;
+          calm = calm_first;
+          waits = waits_first;
+        }
 
     module _ (new : NodesState)
         (comes : Come first (numbers_from (length n.sent) (length front + 1) ++ numbers_from (length n.sent + (length front + 1)) (length front)) new) where
