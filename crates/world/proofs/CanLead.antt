@@ -38,7 +38,7 @@ seen_as g n s = record { master = s.master; nodes = ap (map replica_of) s.nodes;
 
 -- ---- tests on lists
 
-each_passes : (test : ℕ → Bool) (xs : List ℕ) (x : ℕ) → list_all test xs ≡ true → In x xs → test x ≡ true
+pub each_passes : (test : ℕ → Bool) (xs : List ℕ) (x : ℕ) → list_all test xs ≡ true → In x xs → test x ≡ true
 each_passes test [] x all i = elim i [ ]
 each_passes test (y ∷ xs) x all here = (and_parts (test x) (list_all test xs) all).0
 each_passes test (y ∷ xs) x all (there i) = each_passes test xs x (and_parts (test y) (list_all test xs) all).1 i

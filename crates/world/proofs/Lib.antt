@@ -40,3 +40,14 @@ mod WaitsOn
 mod CanLead
 mod LedWorld
 mod OpensAgain
+mod NamesKept
+mod ConnectSpelled
+mod NewestFound
+mod LeavesOut
+mod OpensOut
+mod PutsFirst
+mod AnswersOut
+mod AsksOut
+mod ConnackComes
+mod NewPrimary
+mod LeadsOut

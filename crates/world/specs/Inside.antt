@@ -3,3 +3,4 @@ pub mod Handing
 pub mod Carrying
 pub mod Calling
 pub mod Connecting
+pub mod Escaping

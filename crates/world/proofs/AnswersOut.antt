@@ -1,0 +1,117 @@
+-- The CONNECT of a client comes to the primary of the new ballot, and is answered: at once, or when the others have answered.
+use Rattle.std.proofs.Common.{◌≡◌, ◌<◌, ◌+◌, ◌*◌, ℕ, suc, true, List, [], ◌∷◌, ◌++◌, Option, Some, length, map, slice_get, refl, sym, ◌∙◌}
+use Rattle.std.specs.List.{position}
+use Rattle.ballot.specs.Config.{Config}
+use Rattle.broker_base.specs.Command.{Command}
+use Rattle.broker_base.specs.Connection.{ConnectionName}
+use Rattle.broker_base.specs.Output.{Output}
+use Rattle.broker_base.specs.State.{State}
+use Rattle.client.specs.Core.{Core}
+use Rattle.escaping_nodes.specs.Answered.{CanAsk, begun}
+use Rattle.escaping_nodes.specs.cut_ways.Deliveries.Delivered.{all_came}
+use Rattle.escaping_nodes.specs.cut_ways.ways_out.Deliveries.{AreApart, NodeIs}
+use Rattle.escaping_nodes.specs.cut_ways.ways_out.Following.{Follows}
+use Rattle.escaping_nodes.proofs.ClientAnswered.{AwaitsOthers, others_are_awaited, others_let_the_client_be_answered, sole_member_answers_the_client, waits_on}
+use Rattle.escaping_nodes.proofs.NodesFollow.{deliveries_are_followed}
+use Rattle.exact_model.specs.group_model.snapshots.Past.{Moment, Past, whole_moment}
+use Rattle.exact_model.specs.node_model.Moves.{Deed}
+use Rattle.exact_model.specs.node_model.Moves.Deed.{takes}
+use Rattle.lists.specs.Lists.{In}
+use Rattle.lists.proofs.Places.{get_set}
+use Rattle.packet.specs.declared.connect.Connect.{Connect}
+use Rattle.world_base.specs.Core.{CountedCore, rules}
+use Rattle.world_base.specs.declared.item.Item.{Item}
+use Rattle.world_base.specs.declared.item.Item.TheVariants.{Bytes}
+use Rattle.world_base.specs.Step.{node_step}
+use Rattle.world_nodes.specs.Goes.{behind_deed}
+use Rattle.world_nodes.specs.Nodes.{NodesState}
+use Rattle.world_nodes.proofs.Acts.{acts}
+use Rattle.world.specs.declared.event.Event.{Event}
+use Rattle.world.specs.declared.event.Event.TheVariants as events
+use Rattle.world.specs.Found.{is_named, port_of}
+use Rattle.world.specs.Gathering.{Gathers}
+use Rattle.world.specs.Goes.{LosesNothing, NodesGo}
+use Rattle.world.specs.Happening.{Run}
+use Rattle.world.specs.Housed.{AreHoused, leads_of}
+use Rattle.world.specs.World.{WorldState}
+use Rattle.world.proofs.ExactRuns.{in_two}
+use Rattle.world.proofs.GroupGoes.{acts_go, with_nodes}
+use Rattle.world.proofs.NodesGoOn.{nodes_go_join}
+use Rattle.world.proofs.PassesOn.{Passes, gathers_passes, passes_join}
+use Rattle.world.proofs.PutsFirst.{AnsweredTo, BeforeLast, IsAnswered, answers_last, numbers_before, put_first}
+use Rattle.world.proofs.StandsOn.{IsNewest}
+use Rattle.world.proofs.WaitsOn.{own_waits, walk_waiting}
+
+-- A CONNECT, `piece`, is taken from the newest connection of the world `w`, and comes to the primary at this place; what that puts out
+-- then goes down, to the world `after`.
+module _ (name : List ℕ) (i at number place : ℕ) (core : Core) (up : List ℕ) (w after : WorldState) (node : CountedCore) (positive : 0 < number)
+    (stands : slice_get w.nodes.nodes place ≡ Some node) (piece : List ℕ)
+    (gathers : Gathers true (suc place) (with_nodes (behind_deed place node (takes (Bytes (port_of number) piece 0)) w.nodes) w) after)
+    (housed : AreHoused (leads_of w.clients) w.connections)
+    (s : IsNewest i at number (suc place) core up [] true (with_nodes (behind_deed place node (takes (Bytes (port_of number) piece 0)) w.nodes) w))
+    (first : position (is_named name) w.clients ≡ Some i)
+    (config : Config) (a : Moment State Command Output) (past : List (Moment State Command Output)) (came : Past rules config (a ∷ past)) (ballot start : ℕ) (x : ConnectionName)
+    (list : List Command) (connect : Connect) where
+  abbrev item : Item
+  item = Bytes (port_of number) piece 0
+
+  abbrev taken : NodesState
+  taken = behind_deed place node (takes item) w.nodes
+
+  abbrev turned : CountedCore
+  turned = record node { core = (node_step item node.core).core }
+
+  passes : Passes [] (with_nodes taken w) after
+  passes = gathers_passes (suc place) (with_nodes taken w) after gathers housed
+
+  goes : NodesGo w.nodes taken
+  goes = acts_go (let deed : Option (ℕ × Deed) = Some (place, takes item) in deed) w.nodes taken (acts w.nodes place node (takes item) stands (λ g t. tt))
+
+  -- a sole member answers at once
+  pub answers_alone : CanAsk a w.nodes ballot place node [] (port_of number) x list start piece connect → IsAnswered name i at number place core w.nodes after.nodes after
+  answers_alone can =
+      put_first name i at number place core up (with_nodes taken w) after turned positive (get_set w.nodes.nodes place node turned stands)
+      (sole_member_answers_the_client config a past came w.nodes ballot place node (port_of number) x list start 0 piece connect can)
+      gathers housed s first w.nodes (nodes_go_join w.nodes taken after.nodes goes passes.nodes) refl
+
+  -- ---- with others
+
+  module _ (front : List ℕ) (last : ℕ) (can : CanAsk a w.nodes ballot place node (front ++ last ∷ []) (port_of number) x list start piece connect)
+      (apart : AreApart (front ++ last ∷ [])) (out : In (place + 1) (front ++ last ∷ []) → ⊥)
+      (each : (m : ℕ) → In m (front ++ last ∷ []) → NodeIs (Follows ballot (begun list start)) (whole_moment a).world.nodes m)
+      (more : List Event) (new : WorldState) where
+    abbrev ks : List ℕ
+    ks = numbers_before (length w.nodes.sent) (length front)
+
+    abbrev index : ℕ
+    index = length w.nodes.sent + 2 * length front + 1
+
+    awaits : AwaitsOthers ballot place (port_of number) x ks taken
+    awaits = others_are_awaited config a past came w.nodes ballot place node front last (port_of number) x list start 0 piece connect can apart out each
+
+    newest : IsNewest i at number (suc place) core up [] true after
+    newest = own_waits i at number place core up x (with_nodes taken w) after awaits.waits.node positive awaits.waits.stands awaits.waits.waits gathers housed s
+
+    -- all but the last answer
+    others_answer : Run (map events.Deliver ks ++ events.Deliver index ∷ more) after new → LosesNothing after new →
+        BeforeLast ks i at number place core up index more (with_nodes taken w) new
+    others_answer run none =
+        let t = in_two (map events.Deliver ks) (events.Deliver index ∷ more) after new run none in
+        let f = deliveries_are_followed ballot awaits.moment awaits.moment [] all_came taken after.nodes passes.come awaits.seen awaits.calm in
+        let v = walk_waiting ballot place x i at number core up positive awaits.moment awaits.before ks awaits.delivered after t.mid t.first t.whole_first f.seen f.calm passes.housed
+        (waits_on ballot place (port_of number) x awaits.moment awaits.moment [] all_came taken after.nodes passes.come awaits.seen awaits.calm awaits.waits) newest in
+        record {
+          mid = t.mid;
+          passes = passes_join [] ks (with_nodes taken w) after t.mid passes v.passes;
+          newest = v.newest;
+          rest = t.last;
+          whole = t.whole_last;
+        }
+
+    pub answers_with_others : Run (map events.Deliver ks ++ events.Deliver index ∷ more) after new → LosesNothing after new → AnsweredTo name i at number place core w.nodes more new
+    answers_with_others run none =
+        let b = others_answer run none in
+        let f = deliveries_are_followed ballot awaits.moment awaits.before ks awaits.delivered taken b.mid.nodes b.passes.come awaits.seen awaits.calm in
+        answers_last name ks i at number place core up index last ballot (begun list start) more (with_nodes taken w) new positive b
+        (others_let_the_client_be_answered config a past came w.nodes b.mid.nodes ballot place node front last (port_of number) x list start 0 piece connect can apart out each b.passes.come)
+        first w.nodes (nodes_go_join w.nodes taken b.mid.nodes goes b.passes.nodes) (sym f.seen.master ∙ awaits.master)

@@ -1,0 +1,141 @@
+-- All that is under way up comes to the new primary, which awaits it: the CONNECT of a client whose session is there. Its answer is
+-- under way down after the messages of the others, where there are any.
+use Rattle.std.proofs.Common.{◌≡◌, ◌⊎◌, inl, inr, ◌<◌, ◌≤◌, ◌+◌, ◌*◌, ℕ, suc, true, false, List, [], ◌∷◌, ◌++◌, Some, Ok, drop, length, map, refl, ap, ◌∙◌, subst, append_assoc, arith}
+use Rattle.std.specs.List.{position}
+use Rattle.std.proofs.lemmas.List.{length-append, map-append}
+use Rattle.ballot.specs.Config.{Config}
+use Rattle.ballot.specs.Serving.{most_places}
+use Rattle.broker_base.specs.Command.{Command}
+use Rattle.broker_base.specs.Command.TheVariants as commands
+use Rattle.broker_base.specs.Commands.{past_of, usual_limits}
+use Rattle.broker_base.specs.Output.{Output}
+use Rattle.broker_base.specs.Past.{session_of}
+use Rattle.broker_base.specs.State.{State}
+use Rattle.client.specs.Core.{Core}
+use Rattle.escaping_nodes.specs.Answered.{CanAsk, begun}
+use Rattle.escaping_nodes.specs.Opened.{IsOpened, first_of}
+use Rattle.escaping_nodes.specs.cut_ways.ways_out.Deliveries.{AreApart, NodeIs, asked_and_answered}
+use Rattle.escaping_nodes.specs.cut_ways.ways_out.Following.{Follows}
+use Rattle.exact_model.specs.group_model.snapshots.Past.{Moment, Past, whole_moment}
+use Rattle.exact_model.specs.node_model.Moves.Deed.{takes}
+use Rattle.lists.specs.Lists.{In}
+use Rattle.packet.specs.declared.connect.Connect.{Connect}
+use Rattle.packet.specs.declared.packet.Packet.TheVariants as packets
+use Rattle.packet.specs.Verdict.{verdict}
+use Rattle.world_base.specs.Core.{rules}
+use Rattle.world_base.specs.declared.item.Item.TheVariants.{Bytes}
+use Rattle.world_nodes.specs.Goes.{behind_deed}
+use Rattle.world_nodes.specs.Nodes.{NodesState}
+use Rattle.world.specs.declared.event.Event.{Event}
+use Rattle.world.specs.declared.event.Event.TheVariants as events
+use Rattle.world.specs.Found.{is_named, port_of}
+use Rattle.world.specs.Gathering.{Gathers}
+use Rattle.world.specs.Goes.{LosesNothing}
+use Rattle.world.specs.Happening.{Run}
+use Rattle.world.specs.Housed.{AreHoused, leads_of}
+use Rattle.world.specs.World.{WorldState}
+use Rattle.world.proofs.AnswersOut.{answers_alone, answers_with_others}
+use Rattle.world.proofs.ExactRuns.{First, first_done}
+use Rattle.world.proofs.GroupGoes.{with_nodes}
+use Rattle.world.proofs.NamesKept.{position_kept}
+use Rattle.world.proofs.NewestFound.{can_come_up, come_up, emptied, emptied_housed, emptied_names, emptied_newest}
+use Rattle.world.proofs.PutsFirst.{AnsweredTo, last_apart, numbers_before}
+use Rattle.world.proofs.StandsOn.{IsNewest}
+
+-- ---- a list, its last one apart
+
+record EndsWith (xs : List ℕ) : Type 0 where
+  front : List ℕ
+  last : ℕ
+  is : xs ≡ front ++ last ∷ []
+
+split : (xs : List ℕ) → (xs ≡ []) ⊎ EndsWith xs
+split [] = inl refl
+split (x ∷ xs) = by (split xs)
+  where
+    by : (xs ≡ []) ⊎ EndsWith xs → ((x ∷ xs) ≡ []) ⊎ EndsWith (x ∷ xs)
+    by (inl none) = inr (record { front = []; last = x; is = ap (λ (l : List ℕ). x ∷ l) none })
+    by (inr e) = inr (record { front = x ∷ e.front; last = e.last; is = ap (λ (l : List ℕ). x ∷ l) e.is })
+
+-- ---- the CONNECT
+
+module _ (name : List ℕ) (v : WorldState) (i at number place : ℕ) (core : Core) (up : List ℕ) (positive : 0 < number) (newest : IsNewest i at number (suc place) core up [] true v)
+    (housed : AreHoused (leads_of v.clients) v.connections) (first : position (is_named name) v.clients ≡ Some i)
+    (config : Config) (a : Moment State Command Output) (past : List (Moment State Command Output)) (came : Past rules config (a ∷ past)) (ballot : ℕ) (os : List ℕ)
+    (list : List Command) (o : IsOpened a v.nodes ballot place os (begun list ballot) (port_of number)) (room : length list + 2 ≤ most_places) (connect : Connect)
+    (session : session_of (past_of usual_limits list) connect.client ≡ Some false) (is_connect : verdict up ≡ Ok (packets.Connect connect, [])) (kept : connect.clean ≡ false)
+    (count : ℕ) (many : length up ≡ count) (some : 0 < count) (apart : AreApart os) (out : In (place + 1) os → ⊥)
+    (each : (m : ℕ) → In m os → NodeIs (Follows ballot (begun list ballot)) (whole_moment a).world.nodes m) (more : List Event) (new : WorldState) where
+  asks : CanAsk a v.nodes ballot place o.node os (port_of number) (first_of ballot) list ballot up connect
+  asks =
+      record {
+        seen = o.seen;
+        calm = o.calm;
+        stands = o.stands;
+        serves = o.serves;
+        room = (let longer = length-append list (commands.Start ballot ∷ []) in omega (arith, longer, room));
+        awaits = o.awaits;
+        session = session;
+        is_connect = is_connect;
+        kept = kept;
+      }
+
+  abbrev asked : List Event
+  asked = map events.Deliver (asked_and_answered (length v.nodes.sent) (length os)) ++ more
+
+  abbrev taken : NodesState
+  taken = behind_deed place o.node (takes (Bytes (port_of number) up 0)) v.nodes
+
+  abbrev w : WorldState
+  w = emptied i at number place core up v newest positive o.node o.stands count many
+
+  w_newest : IsNewest i at number (suc place) core (drop count newest.way.up) [] true (with_nodes taken w)
+  w_newest = emptied_newest i at number place core up v newest positive o.node o.stands count many taken
+
+  w_housed : AreHoused (leads_of w.clients) w.connections
+  w_housed = emptied_housed i at number place core up v newest positive o.node o.stands count many housed
+
+  w_first : position (is_named name) w.clients ≡ Some i
+  w_first = position_kept name w.clients v.clients (emptied_names i at number place core up v newest positive o.node o.stands count many) ∙ first
+
+  answered : (f : First (events.CarryUp number count) asked v new) → Gathers true (suc place) (with_nodes taken w) f.after → (os ≡ []) ⊎ EndsWith os →
+      AnsweredTo name i at number place core v.nodes more new
+  answered f gathers (inl none) =
+      record {
+        after = f.after;
+        is = answers_alone name i at number place core (drop count newest.way.up) w f.after o.node positive o.stands up gathers w_housed w_newest w_first config a past came ballot ballot
+            (first_of ballot) list connect
+            (subst (λ (xs : List ℕ). CanAsk a v.nodes ballot place o.node xs (port_of number) (first_of ballot) list ballot up connect) none asks);
+        rest = subst (λ (xs : List ℕ). Run (map events.Deliver (asked_and_answered (length v.nodes.sent) (length xs)) ++ more) f.after new) none f.rest;
+        whole = f.whole;
+      }
+  answered f gathers (inr e) =
+      answers_with_others name i at number place core (drop count newest.way.up) w f.after o.node positive o.stands up gathers w_housed w_newest w_first config a past came ballot ballot
+      (first_of ballot) list connect e.front e.last
+      (subst (λ (xs : List ℕ). CanAsk a v.nodes ballot place o.node xs (port_of number) (first_of ballot) list ballot up connect) e.is asks)
+      (subst AreApart e.is apart) (subst (λ (xs : List ℕ). In (place + 1) xs → ⊥) e.is out)
+      (subst (λ (xs : List ℕ). (m : ℕ) → In m xs → NodeIs (Follows ballot (begun list ballot)) (whole_moment a).world.nodes m) e.is each)
+      more new (subst (λ (es : List Event). Run es f.after new) in_parts f.rest) f.whole
+    where
+      counted : length os ≡ length e.front + 1
+      counted =
+          let both = length-append e.front (e.last ∷ []) in
+          ap (λ (xs : List ℕ). length xs) e.is ∙ (let x : length (e.front ++ e.last ∷ []) ≡ length e.front + 1 = omega (arith, both) in x)
+
+      before : List ℕ
+      before = numbers_before (length v.nodes.sent) (length e.front)
+
+      index : ℕ
+      index = length v.nodes.sent + 2 * length e.front + 1
+
+      in_parts : asked ≡ map events.Deliver before ++ events.Deliver index ∷ more
+      in_parts =
+          ap (λ (ks : List ℕ). map events.Deliver ks ++ more) (last_apart (length v.nodes.sent) (length e.front) (length os) counted)
+          ∙ ap (λ (es : List Event). es ++ more) (map-append events.Deliver before (index ∷ []))
+          ∙ append_assoc (map events.Deliver before) (events.Deliver index ∷ []) more
+
+  pub answers_out : Run (events.CarryUp number count ∷ asked) v new → LosesNothing v new → AnsweredTo name i at number place core v.nodes more new
+  answers_out run none =
+      let f = first_done (events.CarryUp number count) asked v new run none
+      (can_come_up i at number place core up v newest positive o.node o.stands count many o.serves.leads.runs some) in
+      answered f (come_up i at number place core up v newest positive o.node o.stands count many f.after f.does) (split os)

@@ -1,0 +1,193 @@
+-- The events of a way out lead out: to the next ballot, and to the client online with its session present.
+use Rattle.std.proofs.Common.{◌≡◌, ◌-◌, ◌+◌, ℕ, suc, Bool, List, [], ◌∷◌, ◌++◌, length, map, refl, sym, ap, ◌∙◌, subst, append_assoc, arith}
+use Rattle.std.proofs.lemmas.Option.{none-some}
+use Rattle.agreement.specs.MasterState.{MasterState}
+use Rattle.agreement.specs.MasterState.AssignRefusal.{bad_members}
+use Rattle.ballot.specs.Config.{Config}
+use Rattle.ballot.specs.Message.{Message}
+use Rattle.broker_base.specs.Command.{Command}
+use Rattle.broker_base.specs.Output.{Output}
+use Rattle.broker_base.specs.Place.{Client}
+use Rattle.broker_base.specs.State.{State}
+use Rattle.client.specs.Core.{AppendsAll, Core}
+use Rattle.client.specs.State.{is_open}
+use Rattle.escaping_nodes.specs.Answered.{begun}
+use Rattle.escaping_nodes.specs.Opened.{CanOpen}
+use Rattle.escaping_nodes.specs.cut_ways.ways_out.Deliveries.{asked_and_answered}
+use Rattle.exact_model.specs.group_model.Group.{Group, moment_of}
+use Rattle.exact_model.specs.group_model.snapshots.Past.{Moment, Past}
+use Rattle.exact_model.specs.world_model.Carried.{went_of}
+use Rattle.lists.specs.Lists.{IsPrefixOf}
+use Rattle.packet.specs.declared.packet.Packet.TheVariants as packets
+use Rattle.world_base.specs.Core.{rules}
+use Rattle.world_nodes.specs.Agreed.{AgreeOn}
+use Rattle.world_nodes.specs.Asking.{log_of}
+use Rattle.world_nodes.specs.Nodes.{NodesState}
+use Rattle.world_pipes.specs.Standing.{CanGoOut}
+use Rattle.world.specs.declared.event.Event.{Event}
+use Rattle.world.specs.declared.event.Event.TheVariants as events
+use Rattle.world.specs.declared.place.Place.{Place}
+use Rattle.world.specs.Doing.{next_number}
+use Rattle.world.specs.Escaping.{CanEscape, HasEscaped, LeadsOut}
+use Rattle.world.specs.Found.{port_of}
+use Rattle.world.specs.Goes.{AreReached, LosesNothing, NodesGo}
+use Rattle.world.specs.Happening.{Run}
+use Rattle.world.specs.Housed.{AreHoused, leads_of}
+use Rattle.world.specs.Inside.Escaping.{answer_events, client_events, escaping_events, leaving, sent_then}
+use Rattle.world.specs.Standing.{IsReached}
+use Rattle.world.specs.World.{WorldState}
+use Rattle.world.proofs.AgreedOnlyGrows.{agreed_grows}
+use Rattle.world.proofs.AsksOut.{answers_out}
+use Rattle.world.proofs.CanLead.{long}
+use Rattle.world.proofs.ClientsStand.{client_at}
+use Rattle.world.proofs.ConnackComes.{IsOnline, connack_comes}
+use Rattle.world.proofs.ConnectSpelled.{connect_spelled, keeps}
+use Rattle.world.proofs.LeavesOut.{HasLeft, leaves}
+use Rattle.world.proofs.LedWorld.{LedTo, lawful, led_to}
+use Rattle.world.proofs.NamesKept.{core_seen, named_there}
+use Rattle.world.proofs.NewPrimary.{IsNewPrimary, new_primary}
+use Rattle.world.proofs.NodesGoOn.{are_reached, nodes_go_join}
+use Rattle.world.proofs.OneAgreed.{reached_agree}
+use Rattle.world.proofs.OpensOut.{HasOpened, opens_out}
+use Rattle.world.proofs.PutsFirst.{AnsweredTo}
+
+module _ (name : Client) (w : WorldState) (housed : AreHoused (leads_of w.clients) w.connections) (first : ℕ) (os : List ℕ) (can : CanEscape (first ∷ os) name w) (holds : Bool)
+    (held : holds ≡ is_open can.core.state.stage) (nodes : ℕ) (config : Config) (cs : List Client) (r : IsReached nodes config cs w) (new : WorldState) where
+  abbrev g : Group
+  g = r.world.group
+
+  abbrev past : List (Moment State Command Output)
+  past = r.exact.of.earlier
+
+  came : Past rules config (moment_of g ∷ past)
+  came = r.exact.of.past
+
+  abbrev ballot : ℕ
+  ballot = g.master.given + 1
+
+  abbrev list : List Command
+  list = log_of w.nodes can.source
+
+  abbrev log : List Command
+  log = begun list ballot
+
+  abbrev number : ℕ
+  number = suc (length w.connections)
+
+  abbrev bytes : ℕ
+  bytes = 14 + length can.core.state.client
+
+  -- ---- the events after those of the group
+
+  abbrev more : List Event
+  more =
+      client_events holds name first number bytes ++ answer_events (sent_then w (length (first ∷ os) - 1)) (length (first ∷ os) - 1) number
+
+  abbrev last_event : List Event
+  last_event = events.CarryDown number 4 ∷ []
+
+  abbrev asking : ℕ → List Event
+  asking sent = events.CarryUp number bytes ∷ (map events.Deliver (asked_and_answered sent (length os)) ++ last_event)
+
+  abbrev opening : ℕ → List Event
+  opening node = events.Open name node ∷ asking (sent_then w (length os))
+
+  more_is : (node : ℕ) → first ≡ node → more ≡ leaving holds name ++ opening node
+  more_is node same =
+      append_assoc (leaving holds name) (events.Open name first ∷ events.CarryUp number bytes ∷ [])
+      (answer_events (sent_then w (length (first ∷ os) - 1)) (length (first ∷ os) - 1) number)
+      ∙ ap (λ (k : ℕ). leaving holds name ++ (events.Open name first ∷ events.CarryUp number bytes ∷ answer_events (sent_then w k) k number))
+      (let e : length (first ∷ os) - 1 ≡ length os = omega arith in e)
+      ∙ ap (λ (n : ℕ). leaving holds name ++ opening n) same
+
+  -- ---- what the client keeps can be spelled
+
+  fits : CanGoOut can.core.state
+  fits =
+      let t = named_there name can.core w.clients can.client in
+      subst (λ (k : Core). CanGoOut k.state) t.is (client_at w.clients r.world.clients t.at t.client r.stands.clients t.found).stands.fits
+
+  module _ (l : LedTo config g past (first ∷ os) can.place list more w new) (p : IsNewPrimary l.way.last ballot log first os l.mid)
+      (left : HasLeft name can.core (opening (suc p.place)) l.mid new) where
+    abbrev b : Moment State Command Output
+    b = l.way.last
+
+    same_number : next_number left.after ≡ number
+    same_number = ap (λ (c : List Place). suc (length c)) left.connections ∙ ap suc l.many
+
+    can_open : CanOpen b left.after.nodes ballot p.place p.node os log (port_of (next_number left.after))
+    can_open =
+        subst (λ (n : NodesState). CanOpen b n ballot p.place p.node os log (port_of (next_number left.after))) (sym left.nodes)
+        (subst (λ (c : List Place). CanOpen b l.mid.nodes ballot p.place p.node os log (port_of (suc (length c)))) (sym left.connections) p.can)
+
+    -- from the world in which the connection was opened
+    module _ (v : WorldState) (h : HasOpened name left.before.state b ballot p.place os log number left.after v)
+        (run : Run (asking (sent_then w (length os))) v new) (none : LosesNothing v new) where
+      sent_is : sent_then w (length os) ≡ length v.nodes.sent
+      sent_is =
+          let all = l.way.sent in
+          let now = ap (λ (xs : List (ℕ × Message Command)). length xs) h.awaits.seen.sent in
+          let before = ap (λ (xs : List (ℕ × Message Command)). length xs) r.stands.nodes.sent in
+          let members = ap (λ (x : MasterState). length x.members) r.stands.nodes.master in
+          omega (arith, all, now, before, members)
+
+      written : AppendsAll [] h.up (packets.Connect (keeps can.core.state.client left.before.state.keep_alive) ∷ [])
+      written = subst (λ (c : List ℕ). AppendsAll [] h.up (packets.Connect (keeps c left.before.state.keep_alive) ∷ [])) left.client h.written
+
+      answered : AnsweredTo name h.i h.at number p.place h.core v.nodes last_event new
+      answered =
+          let c = connect_spelled can.core.state.client fits.client left.before.state.keep_alive h.up (left.keep_alive ∙ fits.keep_alive) written in
+          answers_out name v h.i h.at number p.place h.core h.up (omega arith) h.newest h.housed h.first config b (l.way.goes.between ++ moment_of g ∷ past) l.way.goes.came ballot os
+          list h.awaits (long config g past came w r.stands.nodes (first ∷ os) name can) (keeps can.core.state.client left.before.state.keep_alive) can.session c.0 refl
+          bytes c.1 (omega arith) p.apart p.out p.each last_event new (subst (λ (k : ℕ). Run (asking k) v new) sent_is run) none
+
+      served : (a : AnsweredTo name h.i h.at number p.place h.core v.nodes last_event new) → IsOnline name a.after new
+      served a =
+          connack_comes name h.i h.at number (suc p.place) h.core a.is.up a.is.down a.is.is_open a.after a.is.newest (omega arith) h.stage h.unread a.is.begins a.is.first new
+          (ap is_open h.stage) a.rest a.whole
+
+      goes : (a : AnsweredTo name h.i h.at number p.place h.core v.nodes last_event new) → NodesGo w.nodes new.nodes
+      goes a =
+          let one : NodesGo w.nodes left.after.nodes = subst (λ (n : NodesState). NodesGo w.nodes n) (sym left.nodes) l.nodes in
+          let two : NodesGo w.nodes v.nodes = nodes_go_join w.nodes left.after.nodes v.nodes one h.nodes in
+          subst (λ (n : NodesState). NodesGo w.nodes n) (sym (served a).nodes) (nodes_go_join w.nodes v.nodes a.after.nodes two a.is.nodes)
+
+      active : (a : AnsweredTo name h.i h.at number p.place h.core v.nodes last_event new) → new.nodes.master.active ≡ w.nodes.master.given + 1
+      active a =
+          ap (λ (n : NodesState). n.master.active) (served a).nodes
+          ∙ ap (λ (x : MasterState). x.active) (a.is.master ∙ sym h.awaits.seen.master)
+          ∙ l.way.led.active
+          ∙ ap (λ (x : MasterState). x.given + 1) r.stands.nodes.master
+
+      agreed : NodesGo w.nodes new.nodes → (before after : List Command) → AgreeOn w.nodes before → AgreeOn new.nodes after → IsPrefixOf before after
+      agreed go before after x y =
+          let reached : AreReached nodes config w.nodes = are_reached nodes config g w.nodes (went_of r.trail) r.stands.nodes in
+          let grown = agreed_grows w.nodes new.nodes go nodes config reached in
+          subst (λ (xs : List Command). IsPrefixOf xs after) (sym (reached_agree w.nodes before x nodes config reached))
+          (subst (λ (ys : List Command). IsPrefixOf reached.list ys) (sym (reached_agree new.nodes after y nodes config grown.0)) grown.1)
+
+      escaped : HasEscaped name w new
+      escaped =
+          let a = answered in
+          let z = served a in
+          record { active = active a; agreed = agreed (goes a); core = z.core; client = z.client; online = z.online; present = z.present }
+
+    opened : HasEscaped name w new
+    opened =
+        let o = opens_out name left.before b ballot p.place p.node os log left.after left.there can_open left.housed (asking (sent_then w (length os))) new left.closed left.rest left.whole in
+        escaped o.after (subst (λ (k : ℕ). HasOpened name left.before.state b ballot p.place os log k left.after o.after) same_number o.has) o.rest o.whole
+
+  leads : Run (escaping_events w (first ∷ os) can.place holds name bytes) w new → LosesNothing w new → HasEscaped name w new
+  leads run none =
+      let l = led_to config g past came w r.stands.nodes housed (first ∷ os) name can more new run none in
+      let lawful_is = lawful config g past came w r.stands.nodes housed (first ∷ os) name can more new in
+      let p = new_primary config r.world r.trail w r.stands past came first os name can more new l lawful_is.0 lawful_is.1 in
+      opened l p
+      (leaves name can.core (opening (suc p.place)) l.mid new (core_seen name can.core l.mid.clients w.clients l.clients can.client) l.housed holds held
+      (subst (λ (es : List Event). Run es l.mid new) (more_is (suc p.place) p.number) l.rest) l.whole)
+
+-- whichever members they are
+pub escaping_leads_out : (members : List ℕ) (name : Client) (w : WorldState) (can : CanEscape members name w) (holds : Bool) → holds ≡ is_open can.core.state.stage →
+    AreHoused (leads_of w.clients) w.connections → LeadsOut name w (escaping_events w members can.place holds name (14 + length can.core.state.client))
+escaping_leads_out [] name w can holds held housed nodes config cs new r run none = absurd (none-some bad_members (sym can.granted))
+escaping_leads_out (first ∷ os) name w can holds held housed nodes config cs new r run none = leads name w housed first os can holds held nodes config cs r new run none

@@ -1,0 +1,167 @@
+-- In a world that was led to the next ballot: its primary can open a connection, and the others follow.
+use Rattle.std.proofs.Common.{◌≡◌, ◌<◌, ◌≤◌, ◌+◌, ◌^◌, ◌&&◌, ◌==◌, ℕ, suc, true, List, [], ◌∷◌, Some, length, slice_get, sym, ap, ◌∙◌, subst, arith}
+use Rattle.std.specs.Prelude.{nat_le}
+use Rattle.std.specs.List.{list_any}
+use Rattle.std.proofs.lemmas.Bool.{and_parts}
+use Rattle.agreement.specs.MasterState.{MasterState, last_ballot}
+use Rattle.agreement.specs.whole.Replica.{ReplicaState as WholeState}
+use Rattle.ballot.specs.Config.{Config}
+use Rattle.ballot.specs.LawfulConfig.{are_rising, is_lawful}
+use Rattle.ballot.specs.Replica.{ReplicaState, others}
+use Rattle.broker_base.specs.Command.{Command}
+use Rattle.broker_base.specs.Connection.{ConnectionName}
+use Rattle.broker_base.specs.Output.{Output}
+use Rattle.broker_base.specs.Place.{Client}
+use Rattle.broker_base.specs.State.{State}
+use Rattle.escaping_nodes.specs.Answered.{begun}
+use Rattle.escaping_nodes.specs.Opened.{CanOpen}
+use Rattle.escaping_nodes.specs.cut_ways.ways_out.Deliveries.{AreApart, NodeIs}
+use Rattle.escaping_nodes.specs.cut_ways.ways_out.Following.{Follows, Serves}
+use Rattle.escaping_nodes.proofs.LedOut.{low_before}
+use Rattle.escaping_nodes.proofs.of_cut_ways.of_ways_out.RisingMembers.{rising_apart}
+use Rattle.escaping_nodes.proofs.of_cut_ways.of_ways_out.Rows.{others_first}
+use Rattle.exact_model.specs.group_model.Group.{moment_of, replica_of}
+use Rattle.exact_model.specs.group_model.snapshots.Past.{Moment, Past, whole_moment}
+use Rattle.exact_model.specs.group_model.snapshots.Whole.{whole}
+use Rattle.exact_model.specs.world_model.World.{World}
+use Rattle.exact_model.specs.world_model.Goes.{Reached}
+use Rattle.exact_model.proofs.of_group_model.Placed.{get_mapped}
+use Rattle.exact_model.proofs.of_world_model.NodesHoused.{nodes_are_orderly}
+use Rattle.lists.specs.Lists.{In}
+use Rattle.lists.specs.Lists.In.{here}
+use Rattle.world_base.specs.Core.{CoreState, CountedCore, rules}
+use Rattle.world_nodes.specs.Asking.{log_of}
+use Rattle.world_nodes.specs.Nodes.{cores_of}
+use Rattle.world.specs.declared.event.Event.{Event}
+use Rattle.world.specs.Escaping.{CanEscape, is_running}
+use Rattle.world.specs.Found.{port_of}
+use Rattle.world.specs.Standing.{GoesTo, StandsFor}
+use Rattle.world.specs.World.{WorldState}
+use Rattle.world.proofs.CanLead.{each_passes, runs_here, seen_as}
+use Rattle.world.proofs.Joined.{reached_on}
+use Rattle.world.proofs.LedWorld.{LedTo}
+use Rattle.world.proofs.OpensAgain.{new_name, new_port}
+use Rattle.world.proofs.Turned.{mapped_from}
+
+-- The primary of a ballot that was led to its start can open a connection in this world, under the next number; these others follow
+-- it, each another node.
+pub record IsNewPrimary (b : Moment State Command Output) (ballot : ℕ) (log : List Command) (first : ℕ) (os : List ℕ) (w : WorldState) : Type 0 where
+  pub place : ℕ
+  pub number : first ≡ suc place
+  pub node : CountedCore
+  pub can : CanOpen b w.nodes ballot place node os log (port_of (suc (length w.connections)))
+  pub apart : AreApart os
+  pub out : In (place + 1) os → ⊥
+  pub each : (k : ℕ) → In k os → NodeIs (Follows ballot log) (whole_moment b).world.nodes k
+
+-- ---- the members but the first
+
+module _ (first : ℕ) (os : List ℕ) (lawful : is_lawful (first ∷ os) first ≡ true) where
+  members_apart : AreApart (first ∷ os)
+  members_apart =
+      rising_apart 0 (first ∷ os) (and_parts (are_rising 0 (first ∷ os))
+      (nat_le 1 (length (first ∷ os)) && (nat_le (length (first ∷ os)) 7 && list_any (λ member. member == first) (first ∷ os))) lawful).0
+
+  rest_apart : AreApart os
+  rest_apart = members_apart.1
+
+  not_among : In first os → ⊥
+  not_among = members_apart.0
+
+-- ---- the new primary
+
+module _ (config : Config) {nodes : ℕ} {cs : List Client} (m : World) (trail : Reached nodes config cs m) (w : WorldState) (s : StandsFor m w)
+    (past : List (Moment State Command Output)) (came : Past rules config (moment_of m.group ∷ past)) (first : ℕ) (os : List ℕ) (name : Client)
+    (can : CanEscape (first ∷ os) name w) (more : List Event) (new : WorldState)
+    (l : LedTo config m.group past (first ∷ os) can.place (log_of w.nodes can.source) more w new)
+    (lawful : is_lawful (first ∷ os) first ≡ true) (given : w.nodes.master.given < last_ballot) where
+  abbrev ballot : ℕ
+  ballot = m.group.master.given + 1
+
+  abbrev log : List Command
+  log = begun (log_of w.nodes can.source) ballot
+
+  abbrev b : Moment State Command Output
+  b = l.way.last
+
+  others_are : others first (first ∷ os) ≡ os
+  others_are = others_first first os (not_among first os lawful)
+
+  primary : NodeIs (Serves ballot log os) (whole_moment b).world.nodes first
+  primary = subst (λ (xs : List ℕ). NodeIs (Serves ballot log xs) (whole_moment b).world.nodes first) others_are l.way.led.primary
+
+  each : (k : ℕ) → In k os → NodeIs (Follows ballot log) (whole_moment b).world.nodes k
+  each k i = l.way.led.each k (subst (λ (xs : List ℕ). In k xs) (sym others_are) i)
+
+  abbrev place : ℕ
+  place = primary.place
+
+  number : first ≡ suc place
+  number = let e = primary.number in omega (arith, e)
+
+  -- it stands at its place
+  record Standing : Type 0 where
+    node : CountedCore
+    stands : slice_get l.mid.nodes.nodes place ≡ Some node
+    serves : Serves ballot log os (place + 1) (whole b.world.archive (replica_of node.core))
+
+  standing : Standing
+  standing =
+      let q = mapped_from (whole b.world.archive) b.world.nodes place primary.replica primary.stands in
+      let core = mapped_from replica_of (cores_of l.mid.nodes.nodes) place q.x
+      (ap (λ (xs : List (ReplicaState State Command)). slice_get xs place) (sym l.followed.seen.nodes) ∙ q.found) in
+      let node = mapped_from (λ (c : CountedCore). c.core) l.mid.nodes.nodes place core.x core.found in
+      let same : whole b.world.archive (replica_of node.x.core) ≡ primary.replica =
+      ap (λ (c : CoreState). whole b.world.archive (replica_of c)) node.is ∙ ap (whole b.world.archive) core.is ∙ q.is in
+      record {
+        node = node.x;
+        stands = node.found;
+        serves = subst (λ (r : WholeState State Command). Serves ballot log os (place + 1) r) (sym same) (subst (λ (k : ℕ). Serves ballot log os k primary.replica) primary.number primary.is);
+      }
+
+  abbrev node : CountedCore
+  node = standing.node
+
+  -- it gave no name in the ballot
+  low : node.core.last_name.ballot < ballot
+  low =
+      let r = runs_here w.nodes.nodes first (each_passes (is_running w.nodes.nodes) (first ∷ os) first can.live here) in
+      let here_too : slice_get l.mid.nodes.nodes r.at ≡ Some node =
+      ap (slice_get l.mid.nodes.nodes) (let e : r.at ≡ place = (let x = r.number in let y = primary.number in omega (arith, x, y)) in e) ∙ standing.stands in
+      let kept = ap (λ (x : ConnectionName). x.ballot) (l.followed.names r.at r.node node r.stands here_too) in
+      let in_model : slice_get m.group.nodes r.at ≡ Some r.node.core =
+      ap (λ (xs : List CoreState). slice_get xs r.at) s.nodes.nodes ∙ get_mapped (λ (c : CountedCore). c.core) w.nodes.nodes r.at r.node r.stands in
+      let within = (nodes_are_orderly nodes config cs m trail r.at r.node.core in_model).within in
+      let joined = low_before config (moment_of m.group) past came w.nodes (seen_as m.group w.nodes s.nodes) r.at r.node r.stands in
+      omega (arith, kept, within, joined)
+
+  to : GoesTo [] m l.mid
+  to = l.world nodes config cs m trail s
+
+  most : ballot ≤ 2 ^ 32
+  most = let same = ap (λ (x : MasterState). x.given) s.nodes.master in omega (arith, same, given)
+
+  can_open : CanOpen b l.mid.nodes ballot place node os log (port_of (suc (length l.mid.connections)))
+  can_open =
+      record {
+        seen = l.followed.seen;
+        calm = l.followed.calm;
+        stands = standing.stands;
+        serves = standing.serves;
+        low = low;
+        most = most;
+        free = new_port to.behind (reached_on trail to.steps) l.mid to.stands l.housed place node standing.stands;
+        unnamed = new_name to.behind (reached_on trail to.steps) l.mid to.stands l.housed place node standing.stands ballot low;
+      }
+
+  pub new_primary : IsNewPrimary b ballot log first os l.mid
+  new_primary =
+      record {
+        place = place;
+        number = number;
+        node = node;
+        can = can_open;
+        apart = rest_apart first os lawful;
+        out = subst (λ (k : ℕ). In k os → ⊥) primary.number (not_among first os lawful);
+        each = each;
+      }

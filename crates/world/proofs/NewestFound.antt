@@ -1,0 +1,166 @@
+-- The newest connection of a world is found by its number, and what is under way on it comes up, or down.
+use Rattle.std.proofs.Common.{◌≡◌, ◌⊎◌, inl, inr, ◌<◌, ◌≤◌, ◌-◌, ◌==◌, ℕ, suc, Bool, true, false, if◌then◌else◌, List, [], Option, Some, None, drop, length, slice_get, take, refl, sym, ap, ◌∙◌, subst, arith}
+use Rattle.std.proofs.lemmas.Bool.{and_from, both_ways, eq-eqb}
+use Rattle.std.proofs.lemmas.List.{length-set, take_all}
+use Rattle.std.proofs.lemmas.Option.{none-some, same_Some}
+use Rattle.client.specs.Core.{Core}
+use Rattle.client.specs.State.{is_open}
+use Rattle.lists.proofs.Places.{get_set}
+use Rattle.world_base.specs.Core.{CountedCore}
+use Rattle.world_base.specs.declared.item.Item.{Item}
+use Rattle.world_base.specs.declared.item.Item.TheVariants.{Bytes}
+use Rattle.exact_model.specs.node_model.Moves.Deed.{takes}
+use Rattle.world_nodes.specs.Goes.{TakesExactly, behind_deed, running, unless_stopped}
+use Rattle.world_nodes.specs.Nodes.{NodesState}
+use Rattle.world_pipes.specs.declared.way.Way.{Way}
+use Rattle.world_pipes.specs.Piped.{is_holding}
+use Rattle.world.specs.declared.event.Event.TheVariants as events
+use Rattle.world.specs.declared.place.Place.{Place}
+use Rattle.world.specs.declared.world.WorldClient.{WorldClient}
+use Rattle.world.specs.Cannot.{IsClosed, IsNoPart, down_of, is_held, is_held_by, up_of}
+use Rattle.world.specs.Doing.{Does}
+use Rattle.world.specs.Found.{Connected, place_numbered, port_of, way_at, way_in, way_of, with_less, with_piped}
+use Rattle.world.specs.Gathering.{Gathers, TakesItem}
+use Rattle.world.specs.Housed.{AreHoused, leads_of}
+use Rattle.world.specs.World.{WorldState}
+use Rattle.world.proofs.DeliversOn.{runs_there}
+use Rattle.world.proofs.GroupGoes.{with_nodes}
+use Rattle.world.proofs.LeadsKept.{housed_client, leads_set}
+use Rattle.world.proofs.NamesKept.{names_of, names_set}
+use Rattle.world.proofs.StandsOn.{IsNewest}
+use Rattle.world.proofs.StandsThere.{numbered_at}
+
+-- ---- a node takes just an item
+
+pub takes_at : (place : ℕ) (item : Item) (old new : NodesState) (node : CountedCore) → slice_get old.nodes place ≡ Some node → TakesExactly (suc place) item old new →
+    new ≡ behind_deed place node (takes item) old
+takes_at place item old new node stands t =
+    let same : t.core ≡ node = same_Some t.core node (sym (runs_there (slice_get old.nodes place) t.core t.runs).0 ∙ stands) in
+    t.is
+    ∙ ap (λ (k : ℕ). behind_deed k t.core (takes item) old) (let e : suc place - 1 ≡ place = omega arith in e)
+    ∙ ap (λ (c : CountedCore). behind_deed place c (takes item) old) same
+
+pub running_at : (place : ℕ) (nodes : List CountedCore) (node : CountedCore) → slice_get nodes place ≡ Some node → node.core.replica.state.stopped ≡ false →
+    running nodes (suc place) ≡ Some node
+running_at place nodes node stands runs = ap unless_stopped stands ∙ ap (λ (b : Bool). if b then None else Some node) runs
+
+-- ---- where it stands
+
+abbrev pub its_place : ℕ → ℕ → ℕ → Bool → Place
+its_place i at node is_open = record { client = i; at = at; node = node; is_open = is_open }
+
+module _ (i at number node : ℕ) (core : Core) (up down : List ℕ) (b : Bool) (w : WorldState) (s : IsNewest i at number node core up down b w) (positive : 0 < number) where
+  pub place_found : place_numbered number w.connections ≡ Some (its_place i at node b)
+  place_found = numbered_at number w.connections (Some (its_place i at node b)) positive s.place
+
+  pub newest_way : way_of number w ≡ Some s.way
+  newest_way =
+      ap (λ (o : Option Place). way_at o w.clients) place_found
+      ∙ ap (λ (o : Option WorldClient). way_in o at) s.found
+      ∙ s.stands
+
+  pub place_is : (c : Connected number w) → c.place ≡ its_place i at node b
+  place_is c = same_Some c.place (its_place i at node b) (sym c.numbered ∙ place_found)
+
+  pub client_is : (c : Connected number w) → c.client ≡ s.client
+  client_is c = same_Some c.client s.client (sym c.owned ∙ ap (λ (p : Place). slice_get w.clients p.client) (place_is c) ∙ s.found)
+
+  pub way_is : (c : Connected number w) → c.way ≡ s.way
+  way_is c =
+      same_Some c.way s.way
+      (sym c.stands
+      ∙ ap (λ (p : Place). slice_get c.client.piped.ways p.at) (place_is c)
+      ∙ ap (λ (d : WorldClient). slice_get d.piped.ways at) (client_is c)
+      ∙ s.stands)
+
+  -- its client holds it while it is open there
+  pub is_held_on : is_open core.state.stage ≡ true → is_held (place_numbered number w.connections) w.clients ≡ true
+  is_held_on holding =
+      ap (λ (o : Option Place). is_held o w.clients) place_found
+      ∙ ap (λ (o : Option WorldClient). is_held_by o at) s.found
+      ∙ and_from (is_holding s.client.piped) (suc at == length s.client.piped.ways)
+      (ap (λ (k : Core). is_open k.state.stage) s.core_is ∙ holding)
+      (eq-eqb (suc at) (length s.client.piped.ways) (sym s.many))
+
+  -- so some bytes of those under way down can come
+  pub can_come_down : (count : ℕ) → is_open core.state.stage ≡ true → 0 < count → count ≤ length down →
+      (is_held (place_numbered number w.connections) w.clients ≡ false) ⊎ IsNoPart count (down_of (way_of number w)) → ⊥
+  can_come_down count holding some part (inl not_held) = both_ways (is_held (place_numbered number w.connections) w.clients) not_held (is_held_on holding)
+  can_come_down count holding some part (inr none) = by (subst (λ (o : Option Way). IsNoPart count (down_of o)) newest_way none)
+    where
+      by : (count ≡ 0) ⊎ (length s.way.down < count) → ⊥
+      by (inl e) = omega (arith, e, some)
+      by (inr low) = let same = ap (λ (l : List ℕ). length l) s.down_is in omega (arith, same, low, part)
+
+-- ---- all that is under way up comes to its node
+
+module _ (i at number place : ℕ) (core : Core) (up : List ℕ) (w : WorldState) (s : IsNewest i at number (suc place) core up [] true w) (positive : 0 < number) (node : CountedCore)
+    (stands : slice_get w.nodes.nodes place ≡ Some node) (count : ℕ) (many : length up ≡ count) where
+  abbrev pub emptied : WorldState
+  emptied = with_piped i s.client (with_less at count s.way s.client.piped) w
+
+  abbrev client : WorldClient
+  client = record s.client { piped = with_less at count s.way s.client.piped }
+
+  abbrev way : Way
+  way = record s.way { up = drop count s.way.up }
+
+  pub can_come_up : node.core.replica.state.stopped ≡ false → 0 < count → IsClosed (place_numbered number w.connections) w.nodes.nodes ⊎ IsNoPart count (up_of (way_of number w)) → ⊥
+  can_come_up runs some (inl closed) = by (subst (λ (o : Option Place). IsClosed o w.nodes.nodes) (place_found i at number (suc place) core up [] true w s positive) closed)
+    where
+      by : (true ≡ false) ⊎ (running w.nodes.nodes (suc place) ≡ None) → ⊥
+      by (inl e) = both_ways true e refl
+      by (inr e) = none-some node (sym e ∙ running_at place w.nodes.nodes node stands runs)
+  can_come_up runs some (inr none) = by (subst (λ (o : Option Way). IsNoPart count (up_of o)) (newest_way i at number (suc place) core up [] true w s positive) none)
+    where
+      by : (count ≡ 0) ⊎ (length s.way.up < count) → ⊥
+      by (inl e) = omega (arith, e, some)
+      by (inr low) = let same = ap (λ (l : List ℕ). length l) s.up_is in omega (arith, same, low, many)
+
+  pub emptied_newest : (n : NodesState) → IsNewest i at number (suc place) core (drop count s.way.up) [] true (with_nodes n emptied)
+  emptied_newest n =
+      record {
+        client = client;
+        found = get_set w.clients i s.client client s.found;
+        core_is = s.core_is;
+        way = way;
+        stands = get_set s.client.piped.ways at s.way way s.stands;
+        many = length-set s.client.piped.ways at way ∙ s.many;
+        up_is = refl;
+        down_is = s.down_is;
+        place = s.place;
+        last = s.last;
+      }
+
+  pub emptied_housed : AreHoused (leads_of w.clients) w.connections → AreHoused (leads_of emptied.clients) emptied.connections
+  emptied_housed housed = housed_client w.clients w.connections i s.client client s.found (leads_set s.client.piped.ways at s.way way s.stands refl) housed
+
+  pub emptied_names : names_of emptied.clients ≡ names_of w.clients
+  emptied_names = names_set w.clients i s.client client s.found refl
+
+  pub come_up : (after : WorldState) → Does true (events.CarryUp number count) w after →
+      Gathers true (suc place) (with_nodes (behind_deed place node (takes (Bytes (port_of number) up 0)) w.nodes) emptied) after
+  come_up after (c, t) =
+      subst (λ (n : NodesState). Gathers true (suc place) (with_nodes n emptied) after)
+      (takes_at place (Bytes (port_of number) up 0) w.nodes piece.0 node stands piece.1) piece.2
+    where
+      at_place : TakesItem true (suc place) (Bytes (port_of number) (take count c.way.up) 0) (with_piped i c.client (with_less at count c.way c.client.piped) w) after
+      at_place =
+          subst (λ (p : Place). TakesItem true p.node (Bytes (port_of number) (take count c.way.up) 0) (with_piped p.client c.client (with_less p.at count c.way c.client.piped) w) after)
+          (place_is i at number (suc place) core up [] true w s positive c) t
+
+      at_client : TakesItem true (suc place) (Bytes (port_of number) (take count c.way.up) 0) (with_piped i s.client (with_less at count c.way s.client.piped) w) after
+      at_client =
+          subst (λ (d : WorldClient). TakesItem true (suc place) (Bytes (port_of number) (take count c.way.up) 0) (with_piped i d (with_less at count c.way d.piped) w) after)
+          (client_is i at number (suc place) core up [] true w s positive c) at_place
+
+      at_way : TakesItem true (suc place) (Bytes (port_of number) (take count s.way.up) 0) emptied after
+      at_way =
+          subst (λ (z : Way). TakesItem true (suc place) (Bytes (port_of number) (take count z.up) 0) (with_piped i s.client (with_less at count z s.client.piped) w) after)
+          (way_is i at number (suc place) core up [] true w s positive c) at_client
+
+      whole : take count s.way.up ≡ up
+      whole = ap (take count) s.up_is ∙ take_all count up (let e : length up ≤ count = omega (arith, many) in e)
+
+      piece : TakesItem true (suc place) (Bytes (port_of number) up 0) emptied after
+      piece = subst (λ (l : List ℕ). TakesItem true (suc place) (Bytes (port_of number) l 0) emptied after) whole at_way
