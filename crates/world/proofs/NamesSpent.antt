@@ -1,7 +1,7 @@
 -- NamesSpent.antt: the names of a ballot, and an Open past the last of them.
 use Rattle.std.proofs.Common.{◌≡◌, inl, inr, ◌<◌, ◌≤◌, ◌^◌, ◌-◌, ◌+◌, ◌==◌, ◌&&◌, nat_lt, nat_le, not, if◌then◌else◌, ℕ, Bool, true, false, List, Some, refl, ap, ◌∙◌, subst, arith}
 use Rattle.std.specs.Prelude.{Ok}
-use Rattle.std.proofs.lemmas.Bool.{eq-eqb, lt-ltb, le-leb}
+use Rattle.std.proofs.lemmas.Bool.{eq-eqb, lt-ltb, le-leb, ne_eqb}
 use Rattle.broker_base.specs.Connection.{ConnectionName, is_connection_name}
 use Rattle.world_base.specs.Core.{CountedCore}
 use Rattle.world_base.specs.Step.{accepted}
@@ -34,15 +34,22 @@ opens_past name node core old new there last low (inr loses) = absurd (loses.nee
 all_hold : (a b c d : Bool) → a ≡ true → b ≡ true → c ≡ true → d ≡ true → not ((a && b) && (c && d)) ≡ false
 all_hold a b c d ea eb ec ed = rw (ea, eb, ec, ed) refl
 
+name_left : (ballot k : ℕ) → 0 < ballot → ballot ≤ 2 ^ 32 → k < 2 ^ 40 → not (is_connection_name (record { ballot = ballot; count = k + 1 })) ≡ false
+name_left ballot k positive high below =
+    all_hold (nat_lt 0 ballot) (nat_le ballot (2 ^ 32)) (nat_lt 0 (k + 1)) (nat_le (k + 1) (2 ^ 40))
+    (lt-ltb 0 ballot positive) (le-leb ballot (2 ^ 32) high)
+    (lt-ltb 0 (k + 1) (let e : 0 < k + 1 = omega arith in e)) (le-leb (k + 1) (2 ^ 40) (let e : k + 1 ≤ 2 ^ 40 = omega (arith, below) in e))
+
 pub room_before : (core : CountedCore) → 0 < core.core.replica.state.joined → core.core.replica.state.joined ≤ 2 ^ 32 → core.core.last_name.count < 2 ^ 40 → is_full (Some core) ≡ false
 room_before core positive high few = by (core.core.last_name.ballot == core.core.replica.state.joined)
   where
-    name_left : (k : ℕ) → k < 2 ^ 40 → not (is_connection_name (record { ballot = core.core.replica.state.joined; count = k + 1 })) ≡ false
-    name_left k below =
-        all_hold (nat_lt 0 core.core.replica.state.joined) (nat_le core.core.replica.state.joined (2 ^ 32)) (nat_lt 0 (k + 1)) (nat_le (k + 1) (2 ^ 40))
-        (lt-ltb 0 core.core.replica.state.joined positive) (le-leb core.core.replica.state.joined (2 ^ 32) high)
-        (lt-ltb 0 (k + 1) (let e : 0 < k + 1 = omega arith in e)) (le-leb (k + 1) (2 ^ 40) (let e : k + 1 ≤ 2 ^ 40 = omega (arith, below) in e))
-
     by : (b : Bool) → not (is_connection_name (record { ballot = core.core.replica.state.joined; count = (if b then core.core.last_name.count else 0) + 1 })) ≡ false
-    by true = name_left core.core.last_name.count few
-    by false = name_left 0 (let e : 0 < 2 ^ 40 = omega arith in e)
+    by true = name_left core.core.replica.state.joined core.core.last_name.count positive high few
+    by false = name_left core.core.replica.state.joined 0 positive high (let e : 0 < 2 ^ 40 = omega arith in e)
+
+-- a node that gave no name in its ballot has one left
+pub first_is_left : (core : CountedCore) → core.core.replica.state.joined ≤ 2 ^ 32 → core.core.last_name.ballot < core.core.replica.state.joined → is_full (Some core) ≡ false
+first_is_left core high low =
+    ap (λ (b : Bool). not (is_connection_name (record { ballot = core.core.replica.state.joined; count = (if b then core.core.last_name.count else 0) + 1 })))
+    (ne_eqb core.core.last_name.ballot core.core.replica.state.joined (λ e. omega (arith, e, low)))
+    ∙ name_left core.core.replica.state.joined 0 (let e : 0 < core.core.replica.state.joined = omega (arith, low) in e) high (let e : 0 < 2 ^ 40 = omega arith in e)

@@ -33,7 +33,7 @@ use Rattle.world.specs.declared.event.Event.TheVariants as events
 use Rattle.world.specs.declared.place.Place.{Place}
 use Rattle.world.specs.declared.world.WorldClient.{WorldClient}
 use Rattle.world.specs.Cannot.{IsTaken, is_serving}
-use Rattle.world.specs.Doing.{OpensOne, next_number, with_connection}
+use Rattle.world.specs.Doing.{OpensOne, OpensUnless, is_full, next_number, with_connection}
 use Rattle.world.specs.Found.{Named, core_named, is_named, port_of}
 use Rattle.world.specs.Gathering.{Gathers}
 use Rattle.world.specs.Goes.{LosesNothing, NodesGo}
@@ -44,6 +44,7 @@ use Rattle.world.proofs.ExactRuns.{first_done}
 use Rattle.world.proofs.GroupGoes.{acts_go, with_nodes}
 use Rattle.world.proofs.HousedOpened.{housed_opened}
 use Rattle.world.proofs.NamesKept.{names_seen, names_set, position_kept}
+use Rattle.world.proofs.NamesSpent.{first_is_left}
 use Rattle.world.proofs.NewestFound.{its_place, takes_at}
 use Rattle.world.proofs.NodesGoOn.{nodes_go_join}
 use Rattle.world.proofs.PassesOn.{Passes, gathers_passes}
@@ -78,6 +79,11 @@ module _ (name : List ℕ) (before : Core) (a : Moment State Command Output) (ba
   pub can_open_there : is_open before.state.stage ≡ false → IsTaken (core_named name old.clients) ⊎ (is_serving (node_of old.nodes.nodes (suc place)) ≡ false) → ⊥
   can_open_there closed (inl taken) = both_ways (is_open before.state.stage) closed (subst IsTaken there taken)
   can_open_there closed (inr shut) = both_ways (is_serving (node_of old.nodes.nodes (suc place))) shut serving
+
+  has_name : is_full (node_of old.nodes.nodes (suc place)) ≡ false
+  has_name =
+      let joined = can.serves.leads.joined in let high = can.most in let low = can.low in
+      ap is_full can.stands ∙ first_is_left node (omega (arith, joined, high)) (omega (arith, joined, low))
 
   module _ (after : WorldState) (does : OpensOne true name (suc place) old after) where
     abbrev number : ℕ
@@ -189,4 +195,5 @@ module _ (name : List ℕ) (before : Core) (a : Moment State Command Output) (ba
   pub opens_out : (more : List Event) (new : WorldState) → is_open before.state.stage ≡ false → Run (events.Open name (suc place) ∷ more) old new → LosesNothing old new → OpenedTo more new
   opens_out more new closed run none =
       let f = first_done (events.Open name (suc place)) more old new run none (can_open_there closed) in
-      record { after = f.after; has = has_opened f.after f.does; rest = f.rest; whole = f.whole }
+      let does = subst (λ (full : Bool). OpensUnless full true name (suc place) old f.after) has_name f.does in
+      record { after = f.after; has = has_opened f.after does; rest = f.rest; whole = f.whole }
