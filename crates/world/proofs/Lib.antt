@@ -51,3 +51,4 @@ mod AsksOut
 mod ConnackComes
 mod NewPrimary
 mod LeadsOut
+mod WaysWritten

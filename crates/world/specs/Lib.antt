@@ -12,6 +12,7 @@ pub mod Happening
 pub mod Asking
 pub mod Laws
 pub mod Escaping
+pub mod Refusals
 pub use Rattle.client.specs as client
 pub use Rattle.master.specs as master
 pub use Rattle.world_nodes.specs as world_nodes

@@ -3,14 +3,18 @@
 
 mod calling;
 mod carrying;
+mod escape_error;
 mod event;
 mod gathering;
 mod going_on;
 mod laws;
+mod leading_out;
 mod place;
 mod reading;
+mod scheduling;
 mod world;
 
+pub use escape_error::EscapeError;
 pub use event::Event;
 pub use laws::{an_open_past_the_last_changes_nothing, uncounted_is_exact};
 pub use world::World;

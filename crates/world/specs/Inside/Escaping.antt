@@ -1,11 +1,23 @@
--- The events of a way out, by arithmetic.
-use Rattle.std.specs.Prelude.{◌≡◌, ℕ, suc, ◌+◌, ◌-◌, ◌*◌, Bool, true, false, List, [], ◌∷◌, ◌++◌, length, map}
-use Rattle.ballot.specs.Config.{Config}
+-- The events of a way out, by arithmetic, and the member whose log is fetched.
+use Rattle.std.specs.Prelude.{◌≡◌, ◌≤◌, ℕ, suc, ◌+◌, ◌-◌, ◌*◌, Bool, true, false, List, [], ◌∷◌, ◌++◌, Some, length, map, slice_get}
+use Rattle.std.specs.List.{position}
+use Rattle.ballot.specs.Serving.{most_places}
 use Rattle.escaping_nodes.specs.cut_ways.ways_out.Deliveries.{asked_and_answered, way_out}
+use Rattle.world_nodes.specs.Goes.{node_of}
 use Rattle.world.specs.declared.event.Event.{Event}
 use Rattle.world.specs.declared.event.Event.TheVariants as events
-use Rattle.world.specs.Escaping.{configuration_of}
+use Rattle.world.specs.Escaping.{configuration_of, held_in, is_running}
 use Rattle.world.specs.World.{WorldState}
+
+-- ---- the member of the active configuration whose log is fetched
+
+-- the first that runs stands at this place and has this number, and its log has room for two more
+pub record IsFetchedFrom (w : WorldState) (place source : ℕ) : Type 0 where
+  pub first : position (is_running w.nodes.nodes) w.nodes.master.members ≡ Some place
+  pub asked : slice_get w.nodes.master.members place ≡ Some source
+  pub room : held_in (node_of w.nodes.nodes source) + 2 ≤ most_places
+
+-- ---- the events
 
 -- the ballot is led to its start
 abbrev pub group_events : WorldState → List ℕ → ℕ → List Event

@@ -1,0 +1,185 @@
+// A way out of a world.
+
+ghost use Rattle.std.specs.Prelude.{ℕ, ◌≡◌, ◌≤◌, ◌<◌, ◌+◌, ◌*◌, ◌↔◌, true, false, None, Some, length, slice_get, IfOk, IfSome, IsErrOf, OnOk};
+ghost use Rattle.std.specs.List.{list_all, position};
+ghost use Rattle.agreement.specs.MasterState.{refusal};
+ghost use Rattle.broker_base.specs.Commands.{past_of, usual_limits};
+ghost use Rattle.broker_base.specs.Past.{session_of};
+ghost use Rattle.world_nodes.specs.Asking.{log_of};
+ghost use Rattle.world_pipes.specs.Piped.{is_holding};
+ghost use Rattle.world.specs.declared.world.WorldClient.{WorldClient};
+ghost use Rattle.world_nodes.specs.Goes.{node_of};
+ghost use Rattle.world.specs.Escaping.{CanEscape, LeadsOut, configuration_of, held_in, is_running};
+ghost use Rattle.world.specs.Inside.Escaping.{IsFetchedFrom, escaping_events};
+
+use crate::escape_error::EscapeError;
+use crate::event::Event;
+use crate::scheduling::{push_answers, push_client, push_group};
+use crate::world::World;
+use ballot::MOST_PLACES;
+use packet::ClientId;
+use std::alloc::Global;
+use way_numbers::ways_are_short;
+use world_base::{Config, Members, Memory};
+
+// More messages than any memory holds.
+const MOST_MESSAGES: u64 = 4_611_686_018_427_387_904;
+
+impl World {
+    /// Returns a list of events that leads out of where the world stands, at most 6n + 5 for n members: to a ballot of these
+    /// members, the first of them its primary, and to the client online with its session present. It changes nothing.
+    ///
+    /// Given to [`World::run`], where no loss is counted, the ballot that is given next is active then, and what was agreed
+    /// before begins what is agreed. [`EscapeError::Idle`] comes where there is none: for members that no ballot may have,
+    /// after the last ballot, where one of them or all of the active configuration have stopped, where the log that is to be
+    /// fetched has no two places left, and where the client is unknown or has no session after it.
+    /// [`EscapeError::Memory`] comes where memory runs out.
+    pub fn escape(&self, members: &[u8], client: &ClientId) -> Result<Vec<Event>, EscapeError>
+        ensures short { IfOk result (λ events. length events.items ≤ 6 * length members.now + 5) }
+        ensures leads_out { IfOk result (λ events. LeadsOut client.now self.now events.items) }
+
+        // Memory aside, Idle comes exactly where a way out may not be had.
+        ensures idle { IsErrOf result EscapeError.Idle → CanEscape members.now client.now self.now → ⊥ }
+        ensures can { OnOk result (CanEscape members.now client.now self.now) }
+    {
+        let config = configuration(self.alloc, members)?;
+        if !self.can_lead(&config) {
+            return Err(EscapeError::Idle);
+        }
+        let Some((place, source)) = self.fetched() else {
+            return Err(EscapeError::Idle);
+        };
+        let Some(at) = self.place_of(client) else {
+            return Err(EscapeError::Idle);
+        };
+        let name = self.clients[at].piped.core().client();
+        if !self.has_session(source, name)? {
+            return Err(EscapeError::Idle);
+        }
+        ways_are_short();
+        Ok(self.way_out(config, client, place, at)?)
+    }
+
+    // Whether the master gives the next ballot to a configuration, and all its members run.
+    fn can_lead(&self, config: &Config) -> bool
+        ensures { (result ≡ true) ↔ ((refusal self.now.nodes.master config.now ≡ None)
+            × (list_all (is_running self.now.nodes.nodes) config.now.members ≡ true)) }
+    {
+        self.nodes.can_assign(config) && self.are_running(config.members.as_slice())
+    }
+
+    // Whether all these nodes are there and have not stopped.
+    fn are_running(&self, members: &[u8]) -> bool
+        ensures { result ≡ list_all (is_running self.now.nodes.nodes) members.now }
+    {
+        members.iter().all(|member| self.is_running(*member))
+    }
+
+    // The first member of the active configuration that runs, where its log has room for two more: its place, and its number.
+    fn fetched(&self) -> Option<(usize, u8)>
+        ensures some { IfSome result (λ found. IsFetchedFrom self.now found.0 found.1) }
+        ensures none { result ≡ None → (place source : ℕ) → IsFetchedFrom self.now place source → ⊥ }
+    {
+        let place = self.first_running()?;
+        let (_, members) = self.nodes.active();
+        let source = members[place];
+        if self.held(source) <= MOST_PLACES - 2 {
+            Some((place, source))
+        } else {
+            None
+        }
+    }
+
+    // The place of the first member of the active configuration that runs.
+    fn first_running(&self) -> Option<usize>
+        ensures below { IfSome result (λ place. place < length self.now.nodes.master.members) }
+        ensures exact { result ≡ position (is_running self.now.nodes.nodes) self.now.nodes.master.members }
+    {
+        let (_, members) = self.nodes.active();
+        members.iter().position(|member| self.is_running(*member))
+    }
+
+    // How many places the log of a node has; 0 where it is not there.
+    fn held(&self, node: u8) -> u64
+        ensures { result ≡ held_in (node_of self.now.nodes.nodes node) }
+    {
+        match self.nodes.node(node) {
+            Some(core) => core.status().held,
+            None => 0,
+        }
+    }
+
+    // Whether a node is there and has not stopped.
+    fn is_running(&self, node: u8) -> bool
+        ensures { result ≡ is_running self.now.nodes.nodes node }
+    {
+        match self.nodes.node(node) {
+            Some(core) => !core.status().stopped,
+            None => false,
+        }
+    }
+
+    // Whether a client has a session that is not clean after the whole log of a node.
+    fn has_session(&self, node: u8, client: &ClientId) -> Result<bool, Memory>
+        ensures yes { IfOk result (λ has. has ≡ true
+            → session_of (past_of usual_limits (log_of self.now.nodes node)) client.now ≡ Some false) }
+        ensures no { IfOk result (λ has. has ≡ false
+            → session_of (past_of usual_limits (log_of self.now.nodes node)) client.now ≡ Some false → ⊥) }
+    {
+        self.nodes.welcomes_back(node, client)
+    }
+
+    // The events of a way out for the client at a place, where the member at `place` of the active configuration is asked for
+    // its log.
+    fn way_out(
+        &self,
+        config: Config,
+        client: &ClientId,
+        place: usize,
+        at: usize,
+    ) -> Result<Vec<Event>, Memory>
+        requires first { config ≡ configuration_of config.members }
+        requires some { 1 ≤ length config.members }
+        requires few { length config.members ≤ 7 }
+        requires placed { place < length self.now.nodes.master.members }
+        requires there { at < length self.now.clients }
+        ensures { IfOk result (λ events. (found : WorldClient) → slice_get self.now.clients at ≡ Some found →
+            events.items ≡ escaping_events self.now config.members place (is_holding found.piped)
+            client.now (14 + length found.piped.core.state.client)) }
+    {
+        let sent = self.nodes.messages();
+        if sent > MOST_MESSAGES {
+            return Err(Memory);
+        }
+        let (_, active) = self.nodes.active();
+        let members = active.len() as u64;
+        let others = config.members.as_slice().len() as u64 - 1;
+        let primary = config.primary;
+        let number = (self.connections.len() as u64).saturating_add(1);
+        let mut way = Vec::new(self.alloc);
+        push_group(self.alloc, &mut way, config, sent, members, place as u64)?;
+        push_client(&mut way, &self.clients[at].piped, client, primary, number)?;
+        let then = sent + members + 5 * others + 4;
+        push_answers(self.alloc, &mut way, then, others, number)?;
+        Ok(way)
+    }
+}
+
+// A configuration by its members: the first of them is its primary.
+fn configuration(alloc: Global, members: &[u8]) -> Result<Config, Memory>
+    ensures { IfOk result (λ config. config ≡ configuration_of members.now) }
+{
+    let primary = primary_of(members);
+    let members = Members::from_slice(alloc, members)?;
+    Ok(Config { members, primary })
+}
+
+// The first of some members; 0 where there is none.
+fn primary_of(members: &[u8]) -> u8
+    ensures { result ≡ (configuration_of members.now).primary }
+{
+    match members {
+        [] => 0,
+        [first, ..] => *first,
+    }
+}

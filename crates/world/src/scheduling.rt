@@ -1,0 +1,93 @@
+// The events of a way out, in their order.
+
+ghost use Rattle.std.specs.Prelude.{◌≡◌, ◌≤◌, ◌<◌, ◌+◌, ◌*◌, ◌^◌, ◌-◌, ◌∷◌, ◌++◌, length, map, OnOk};
+ghost use Rattle.escaping_nodes.specs.cut_ways.ways_out.Deliveries.{way_out};
+ghost use Rattle.world_pipes.specs.Piped.{is_holding};
+ghost use Rattle.world.specs.declared.event.Event.TheVariants as events;
+ghost use Rattle.world.specs.Inside.Escaping.{answer_events, client_events, leaving};
+
+use crate::event::Event;
+use packet::ClientId;
+use std::alloc::Global;
+use way_numbers::{answers, way_out};
+use world_base::{Config, Memory};
+use world_pipes::PipedClient;
+
+/// Appends an Assign, and that the messages come which lead its ballot to the start. So many were `sent` before, and the member
+/// at `place` of so many `members` is asked for its log.
+pub(crate) fn push_group(
+    alloc: Global,
+    way: &mut Vec<Event>,
+    config: Config,
+    sent: u64,
+    members: u64,
+    place: u64,
+) -> Result<(), Memory>
+    requires some { 1 ≤ length config.members }
+    requires placed { place < members }
+    requires bound { sent + members + 4 * (length config.members - 1) + 4 < 2 ^ 64 }
+    ensures { OnOk result (way.new.items ≡ way.old.items ++ events.Assign config
+        ∷ map events.Deliver (way_out sent members place (length config.members - 1))) }
+{
+    let others = config.members.as_slice().len() as u64 - 1;
+    let numbers = way_out(alloc, sent, members, place, others)?;
+    way.push(Event::Assign(config))?;
+    push_messages(way, numbers.as_slice())
+}
+
+/// Appends that a client opens a connection to the new primary, once it has lost what it holds, and that its CONNECT comes up.
+pub(crate) fn push_client(
+    way: &mut Vec<Event>,
+    piped: &PipedClient,
+    client: &ClientId,
+    primary: u8,
+    number: u64,
+) -> Result<(), Memory>
+    ensures { OnOk result (way.new.items ≡ way.old.items ++ client_events (is_holding piped.now)
+        client.now primary number (14 + length piped.now.core.state.client)) }
+{
+    push_leaving(way, piped, client)?;
+    way.push(Event::Open(client.clone()?, primary))?;
+    let bytes = 14 + piped.core().client().as_str().len() as u64;
+    way.push(Event::CarryUp(number, bytes))?;
+    Ok(())
+}
+
+// Appends that a client loses the connection that it holds; nothing where it holds none.
+fn push_leaving(way: &mut Vec<Event>, piped: &PipedClient, client: &ClientId) -> Result<(), Memory>
+    ensures { OnOk result
+        (way.new.items ≡ way.old.items ++ leaving (is_holding piped.now) client.now) }
+{
+    if !piped.is_open() {
+        return Ok(());
+    }
+    way.push(Event::Abandon(client.clone()?))?;
+    Ok(())
+}
+
+/// Appends that the others hold the command and answer, where so many messages were sent before, and that the CONNACK comes down.
+pub(crate) fn push_answers(
+    alloc: Global,
+    way: &mut Vec<Event>,
+    sent: u64,
+    others: u64,
+    number: u64,
+) -> Result<(), Memory>
+    requires { sent + 2 * others < 2 ^ 64 }
+    ensures { OnOk result (way.new.items ≡ way.old.items ++ answer_events sent others number) }
+{
+    let numbers = answers(alloc, sent, others)?;
+    push_messages(way, numbers.as_slice())?;
+    way.push(Event::CarryDown(number, 4))?;
+    Ok(())
+}
+
+// Appends that the messages of these numbers come.
+fn push_messages(way: &mut Vec<Event>, numbers: &[u64]) -> Result<(), Memory>
+    ensures { OnOk result (way.new.items ≡ way.old.items ++ map events.Deliver numbers.now) }
+{
+    for number in numbers {
+        way.push(Event::Deliver(*number))?;
+    }
+    Ok(())
+}
