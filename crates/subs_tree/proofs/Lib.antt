@@ -3,6 +3,7 @@ pub mod Written
 pub mod TextCut
 pub mod LevelsFound
 pub mod NodeSets
+pub mod RowsSet
 pub mod ChangedSlot
 pub mod Linked
 pub mod Unlinked

@@ -1,7 +1,7 @@
 -- What one node shows once a map of it was changed.
 use Rattle.std.proofs.Common.{◌≡◌, ℕ, List, Bool, true, false, cond, Option, None, [], refl, sym, ◌∙◌, ap, bytes_eq, codes}
 use Rattle.std.specs.Prelude.{option_map}
-use Rattle.std.specs.BTreeMap.{get, get_by, is_at}
+use Rattle.std.specs.BTreeMap.{get_by, is_at}
 use Rattle.std.specs.Map.{lookup}
 use Rattle.std.specs.Cmp.Lexicographic.{slice_cmp, bytes_decides}
 use Rattle.std.specs.Ordering.{nat_cmp}
@@ -9,6 +9,7 @@ use Rattle.packet.specs.declared.qos.QoS.{QoS}
 use Rattle.subs_tree.specs.declared.node.Node.{Node}
 use Rattle.subs_tree.specs.declared.node_id.NodeId.{NodeId}
 use Rattle.subs_tree.specs.Changes.{SetsRow, SetsChild}
+use Rattle.subs_tree.specs.Rows.{row_at, SetsAt, AreNone}
 use Rattle.subs_tree.specs.Inside.{held_in, child_in, HoldsNothing}
 
 abbrev pub number_of : Option NodeId → Option ℕ
@@ -29,7 +30,7 @@ turned x y =
     ] refl
 
 -- a node of empty maps
-pub empty_node : (node : Node) → node.here.entries ≡ [] → node.rest.entries ≡ [] → node.named.entries ≡ [] → node.plus ≡ None → HoldsNothing node
+pub empty_node : (node : Node) → AreNone node.here → AreNone node.rest → node.named.entries ≡ [] → node.plus ≡ None → HoldsNothing node
 empty_node node here rest named plus = record { child = child; held = held }
   where
     child : (level : List ℕ) → child_in node level ≡ None
@@ -40,8 +41,8 @@ empty_node node here rest named plus = record { child = child; held = held }
         by false = ap (λ es. number_of (lookup (is_at (λ key. slice_cmp nat_cmp level key.items)) es)) named
 
     held : (r : Bool) (client : List ℕ) → held_in node r client ≡ None
-    held true client = ap (λ es. lookup (is_at (slice_cmp nat_cmp client)) es) rest
-    held false client = ap (λ es. lookup (is_at (slice_cmp nat_cmp client)) es) here
+    held true client = rest client
+    held false client = here client
 
 -- the child that is looked for
 pub plus_child : (node : Node) (level : List ℕ) → bytes_eq level (codes "+") ≡ true → number_of node.plus ≡ child_in node level
@@ -87,25 +88,25 @@ sets_named old new level below not plus named l =
 -- rows beside the node, and at it
 pub sets_rest :
     (old new : Node) (client : List ℕ) (kept : Option QoS) → new.here ≡ old.here
-    → ((c : List ℕ) → get (slice_cmp nat_cmp) new.rest c ≡ cond (bytes_eq client c) kept (get (slice_cmp nat_cmp) old.rest c))
+    → SetsAt old.rest new.rest client kept
     → SetsRow (held_in old) (held_in new) true client kept
 sets_rest old new client kept here rest true c = rest c
-sets_rest old new client kept here rest false c = ap (λ m. get (slice_cmp nat_cmp) m c) here
+sets_rest old new client kept here rest false c = ap (λ m. row_at m c) here
 
 pub sets_here :
     (old new : Node) (client : List ℕ) (kept : Option QoS) → new.rest ≡ old.rest
-    → ((c : List ℕ) → get (slice_cmp nat_cmp) new.here c ≡ cond (bytes_eq client c) kept (get (slice_cmp nat_cmp) old.here c))
+    → SetsAt old.here new.here client kept
     → SetsRow (held_in old) (held_in new) false client kept
-sets_here old new client kept rest here true c = ap (λ m. get (slice_cmp nat_cmp) m c) rest
+sets_here old new client kept rest here true c = ap (λ m. row_at m c) rest
 sets_here old new client kept rest here false c = here c
 
--- maps with the same entries hold the same rows
-pub same_rows : (old new : Node) → new.here.entries ≡ old.here.entries → new.rest.entries ≡ old.rest.entries → held_in new ≡ held_in old
+-- where the rows of both sides are the same, so are the node's
+pub same_rows : (old new : Node) → row_at new.here ≡ row_at old.here → row_at new.rest ≡ row_at old.rest → held_in new ≡ held_in old
 same_rows old new here rest = λ i r c. go r c i
   where
     go : (r : Bool) (c : List ℕ) → held_in new r c ≡ held_in old r c
-    go true c = ap (λ es. lookup (is_at (slice_cmp nat_cmp c)) es) rest
-    go false c = ap (λ es. lookup (is_at (slice_cmp nat_cmp c)) es) here
+    go true c = λ i. rest i c
+    go false c = λ i. here i c
 
 pub same_children : (old new : Node) → new.named.entries ≡ old.named.entries → new.plus ≡ old.plus → child_in new ≡ child_in old
 same_children old new named plus = λ i l. go l i

@@ -16,6 +16,8 @@ use Rattle.topics.specs.Text.{Levels}
 use Rattle.packet.specs.declared.qos.QoS.{QoS}
 use Rattle.packet.specs.QoS.{qos_number}
 use Rattle.subs_base.proofs.RowsAreGranted.{first}
+use Rattle.subs_tree.specs.declared.rows.Rows.TheVariants as kept
+use Rattle.subs_tree.specs.Rows.{row_at}
 use Rattle.subs_tree.specs.Shape.{Shape}
 use Rattle.subs_tree.specs.Walk.{greatest, Raises, GivesSome, found_at, found_below}
 
@@ -93,6 +95,26 @@ raised_first m n client qos es sorted updates c =
           ap (λ o. greatest o (lookup (is_at (slice_cmp nat_cmp c)) es))
           (updates.0 c ∙ ap (λ b. cond b (greatest (get (slice_cmp nat_cmp) m client) (Some qos)) (get (slice_cmp nat_cmp) m c)) (turned c client e))
     ] refl
+
+-- a client is raised that has the only row, or nobody is
+pub raised_one :
+    (m n : BTreeMap (List ℕ) QoS) (client : List ℕ) (qos : QoS)
+    → Updates (slice_cmp nat_cmp) m n client (greatest (get (slice_cmp nat_cmp) m client) (Some qos))
+    → Raises m n (row_at (kept.One client qos))
+raised_one m n client qos updates c =
+    elim (is_eq (slice_cmp nat_cmp c client)) as (λ v. is_eq (slice_cmp nat_cmp c client) ≡ v → get (slice_cmp nat_cmp) n c ≡ greatest (get (slice_cmp nat_cmp) m c) (cond v (Some qos) None)) [
+      | true ↦ λ e.
+          ap (get (slice_cmp nat_cmp) n) (same c client e)
+          ∙ updates.1
+          ∙ ap (λ k. greatest (get (slice_cmp nat_cmp) m k) (Some qos)) (sym (same c client e))
+      | false ↦ λ e.
+          updates.0 c
+          ∙ ap (λ b. cond b (greatest (get (slice_cmp nat_cmp) m client) (Some qos)) (get (slice_cmp nat_cmp) m c)) (turned c client e)
+          ∙ sym (greatest_none (get (slice_cmp nat_cmp) m c))
+    ] refl
+
+pub raised_none : (m : BTreeMap (List ℕ) QoS) → Raises m m (row_at kept.Empty)
+raised_none m c = sym (greatest_none (get (slice_cmp nat_cmp) m c))
 
 -- what a call of two answers gives, the first of which went well
 pub then_ok : {X E A B : Type 0} (r : Result X E) → (A → B) → OnOk r A → OnOk r B

@@ -8,7 +8,6 @@ use Rattle.std.specs.List.Sorted.{IsStrictlySortedBy}
 use Rattle.std.specs.Cmp.{eq_by_cmp_equiv}
 use Rattle.std.specs.Cmp.Lexicographic.{slice_cmp, nat_list_cmp_total, nat_list_eq_equiv, texts_ties, bytes_decides}
 use Rattle.std.specs.Ordering.{nat_cmp, eq_by_cmp}
-use Rattle.std.specs.declared.vec.Vec.{Vec}
 use Rattle.std.specs.List.{IsDistinct}
 use Rattle.std.specs.Iterator.{DrainsIf}
 use Rattle.std.proofs.lemmas.Iterator.{YieldsList, items_from_drains}
@@ -21,10 +20,16 @@ use Rattle.topics.specs.Text.{levels}
 use Rattle.subs_base.specs.Content.{Content, no_subscriptions, with_row}
 use Rattle.subs_base.specs.ListIndex.{Filters, Clients, at, content_of}
 use Rattle.subs_base.specs.Inside.{listed, AreOrdered}
-use Rattle.subs_tree.specs.Gathered.{Groups, row_in, groups_of, gathered, all_put, filters_told, clients_told}
+use Rattle.subs_tree.specs.declared.group.Group.{Group}
+use Rattle.subs_tree.specs.declared.group.Group.TheVariants.{One}
+use Rattle.subs_tree.specs.Gathered.{Groups, row_in, told, groups_of, gathered, all_put, filters_told, clients_told}
+use Rattle.subs_tree.specs.declared.rows.Rows.{Rows}
+use Rattle.subs_tree.specs.declared.rows.Rows.TheVariants as kept
+use Rattle.subs_tree.specs.Rows.{row_at}
 use Rattle.subs_tree.specs.Inside.{Asked, with_rows}
 use Rattle.subs_tree.proofs.ContentOfTree.{at_texts, same_text}
 use Rattle.subs_tree.proofs.NodeSets.{turned}
+use Rattle.subs_tree.proofs.RowsSet.{one_at}
 
 -- what a client has among rows that there may be
 abbrev pub of_rows : List ℕ → Option (List (List ℕ × QoS)) → Option QoS
@@ -32,69 +37,67 @@ of_rows c o = option_and_then (λ rows. row_in rows c) o
 
 -- ---- one more row
 
-module _ {Z : Type 0} where
-  abbrev in_vec : List ℕ → Option (Vec (List ℕ × QoS) Z) → Option QoS
-  in_vec c o = option_and_then (λ rows. row_in rows.items c) o
+abbrev in_group : List ℕ → Option Group → Option QoS
+in_group c o = option_and_then (λ group. row_in (told group) c) o
 
-  gathered_held : (es : List (List ℕ × Vec (List ℕ × QoS) Z)) (c f : List ℕ) → gathered (groups_of es) c f ≡ in_vec c (lookup (bytes_eq f) es)
-  gathered_held es c f = ap (of_rows c) (lookup-map_values (λ rows. rows.items) (bytes_eq f) es) ∙ opened (lookup (bytes_eq f) es)
-    where
-      opened : (o : Option (Vec (List ℕ × QoS) Z)) → of_rows c (option_map (λ rows. rows.items) o) ≡ in_vec c o
-      opened None = refl
-      opened (Some rows) = refl
+gathered_held : (es : List (List ℕ × Group)) (c f : List ℕ) → gathered (groups_of es) c f ≡ in_group c (lookup (bytes_eq f) es)
+gathered_held es c f = ap (of_rows c) (lookup-map_values told (bytes_eq f) es) ∙ opened (lookup (bytes_eq f) es)
+  where
+    opened : (o : Option Group) → of_rows c (option_map told o) ≡ in_group c o
+    opened None = refl
+    opened (Some rows) = refl
 
-  pub row_added :
-      (old new : List (List ℕ × Vec (List ℕ × QoS) Z)) (filter : List ℕ) (row : List ℕ × QoS) (rows : Vec (List ℕ × QoS) Z)
-      → ((f : List ℕ) → lookup (bytes_eq f) new ≡ cond (bytes_eq filter f) (Some rows) (lookup (bytes_eq f) old))
-      → ((c : List ℕ) → row_in rows.items c ≡ cond (bytes_eq row.0 c) (Some row.1) (in_vec c (lookup (bytes_eq filter) old)))
-      → gathered (groups_of new) ≡ with_row (gathered (groups_of old)) row.0 filter row.1
-  row_added old new filter row rows outer inner = λ i c f. go c f i
-    where
-      both : (b : Bool) (o : Option QoS) → cond b (Some row.1) o ≡ cond (b && true) (Some row.1) o
-      both true o = refl
-      both false o = refl
+pub row_added :
+    (old new : List (List ℕ × Group)) (filter : List ℕ) (row : List ℕ × QoS) (rows : Group)
+    → ((f : List ℕ) → lookup (bytes_eq f) new ≡ cond (bytes_eq filter f) (Some rows) (lookup (bytes_eq f) old))
+    → ((c : List ℕ) → row_in (told rows) c ≡ cond (bytes_eq row.0 c) (Some row.1) (in_group c (lookup (bytes_eq filter) old)))
+    → gathered (groups_of new) ≡ with_row (gathered (groups_of old)) row.0 filter row.1
+row_added old new filter row rows outer inner = λ i c f. go c f i
+  where
+    both : (b : Bool) (o : Option QoS) → cond b (Some row.1) o ≡ cond (b && true) (Some row.1) o
+    both true o = refl
+    both false o = refl
 
-      neither : (b : Bool) (o : Option QoS) → o ≡ cond (b && false) (Some row.1) o
-      neither true o = refl
-      neither false o = refl
+    neither : (b : Bool) (o : Option QoS) → o ≡ cond (b && false) (Some row.1) o
+    neither true o = refl
+    neither false o = refl
 
-      by : (c f : List ℕ) (v : Bool) → bytes_eq filter f ≡ v →
-          in_vec c (cond v (Some rows) (lookup (bytes_eq f) old)) ≡ cond (bytes_eq row.0 c && v) (Some row.1) (in_vec c (lookup (bytes_eq f) old))
-      by c f true e =
-          inner c
-          ∙ ap (λ (x : List ℕ). cond (bytes_eq row.0 c) (Some row.1) (in_vec c (lookup (bytes_eq x) old))) ((bytes_decides filter f).0 e)
-          ∙ both (bytes_eq row.0 c) (in_vec c (lookup (bytes_eq f) old))
-      by c f false e = neither (bytes_eq row.0 c) (in_vec c (lookup (bytes_eq f) old))
+    by : (c f : List ℕ) (v : Bool) → bytes_eq filter f ≡ v →
+        in_group c (cond v (Some rows) (lookup (bytes_eq f) old)) ≡ cond (bytes_eq row.0 c && v) (Some row.1) (in_group c (lookup (bytes_eq f) old))
+    by c f true e =
+        inner c
+        ∙ ap (λ (x : List ℕ). cond (bytes_eq row.0 c) (Some row.1) (in_group c (lookup (bytes_eq x) old))) ((bytes_decides filter f).0 e)
+        ∙ both (bytes_eq row.0 c) (in_group c (lookup (bytes_eq f) old))
+    by c f false e = neither (bytes_eq row.0 c) (in_group c (lookup (bytes_eq f) old))
 
-      go : (c f : List ℕ) → gathered (groups_of new) c f ≡ cond (bytes_eq row.0 c && bytes_eq filter f) (Some row.1) (gathered (groups_of old) c f)
-      go c f =
-          gathered_held new c f
-          ∙ ap (in_vec c) (outer f)
-          ∙ by c f (bytes_eq filter f) refl
-          ∙ ap (cond (bytes_eq row.0 c && bytes_eq filter f) (Some row.1)) (sym (gathered_held old c f))
+    go : (c f : List ℕ) → gathered (groups_of new) c f ≡ cond (bytes_eq row.0 c && bytes_eq filter f) (Some row.1) (gathered (groups_of old) c f)
+    go c f =
+        gathered_held new c f
+        ∙ ap (in_group c) (outer f)
+        ∙ by c f (bytes_eq filter f) refl
+        ∙ ap (cond (bytes_eq row.0 c && bytes_eq filter f) (Some row.1)) (sym (gathered_held old c f))
 
-  -- the row came behind those of the filter
-  pub row_pushed :
-      (old : List (List ℕ × Vec (List ℕ × QoS) Z)) (filter : List ℕ) (row : List ℕ × QoS) (was is : Vec (List ℕ × QoS) Z)
-      → Some was ≡ lookup (bytes_eq filter) old → is.items ≡ was.items ++ row ∷ []
-      → (c : List ℕ) → row_in is.items c ≡ cond (bytes_eq row.0 c) (Some row.1) (in_vec c (lookup (bytes_eq filter) old))
-  row_pushed old filter row was is there items c =
-      ap (λ rows. row_in rows c) items
-      ∙ sym (update_all_push bytes_eq (λ _. None) (row_in was.items) was.items row c refl)
-      ∙ ap (λ o. cond (bytes_eq row.0 c) (Some row.1) (in_vec c o)) there
+-- the row came after those of the filter
+pub row_pushed :
+    (old : List (List ℕ × Group)) (filter : List ℕ) (row : List ℕ × QoS) (was is : Group)
+    → Some was ≡ lookup (bytes_eq filter) old → told is ≡ told was ++ row ∷ []
+    → (c : List ℕ) → row_in (told is) c ≡ cond (bytes_eq row.0 c) (Some row.1) (in_group c (lookup (bytes_eq filter) old))
+row_pushed old filter row was is there items c =
+    ap (λ rows. row_in rows c) items
+    ∙ sym (update_all_push bytes_eq (λ _. None) (row_in (told was)) (told was) row c refl)
+    ∙ ap (λ o. cond (bytes_eq row.0 c) (Some row.1) (in_group c o)) there
 
-  -- it is the first of the filter
-  pub row_first :
-      (old : List (List ℕ × Vec (List ℕ × QoS) Z)) (filter : List ℕ) (row : List ℕ × QoS) (empty is : Vec (List ℕ × QoS) Z)
-      → None ≡ lookup (bytes_eq filter) old → empty.items ≡ [] → is.items ≡ empty.items ++ row ∷ []
-      → (c : List ℕ) → row_in is.items c ≡ cond (bytes_eq row.0 c) (Some row.1) (in_vec c (lookup (bytes_eq filter) old))
-  row_first old filter row empty is none bare items c =
-      ap (λ rows. row_in rows c) (items ∙ ap (λ rows. rows ++ row ∷ []) bare)
-      ∙ ap (λ o. cond (bytes_eq row.0 c) (Some row.1) (in_vec c o)) none
+-- it is the first of the filter
+pub row_first :
+    (old : List (List ℕ × Group)) (filter : List ℕ) (row : List ℕ × QoS)
+    → None ≡ lookup (bytes_eq filter) old
+    → (c : List ℕ) → row_in (told (One row.0 row.1)) c ≡ cond (bytes_eq row.0 c) (Some row.1) (in_group c (lookup (bytes_eq filter) old))
+row_first old filter row none c =
+    ap (λ o. cond (bytes_eq row.0 c) (Some row.1) (in_group c o)) none
 
-  keys_same : (es : List (List ℕ × Vec (List ℕ × QoS) Z)) → keys_of (groups_of es) ≡ keys_of es
-  keys_same [] = refl
-  keys_same (e ∷ es) = ap (λ ks. e.0 ∷ ks) (keys_same es)
+keys_same : (es : List (List ℕ × Group)) → keys_of (groups_of es) ≡ keys_of es
+keys_same [] = refl
+keys_same (e ∷ es) = ap (λ ks. e.0 ∷ ks) (keys_same es)
 
 -- ---- the whole list
 
@@ -177,18 +180,28 @@ same_tests = λ i x y. sym (texts_ties x y) i
 
 -- the rows of one filter were put in
 pub group_put :
-    (old new : Asked) (text filter : List ℕ) (rows : List (List ℕ × QoS)) (clients : BTreeMap (List ℕ) QoS)
+    (old new : Asked) (text filter : List ℕ) (list : List (List ℕ × QoS)) (rows : Rows)
     → text ≡ filter
-    → ((q : List ℕ) → get (slice_cmp nat_cmp) clients q ≡ update_all (eq_by_cmp (slice_cmp nat_cmp)) (λ _. None) rows q)
-    → new ≡ with_rows old (levels text) (get (slice_cmp nat_cmp) clients)
-    → at_texts new ≡ (λ c f. cond (bytes_eq filter f) (row_in rows c) (at_texts old c f))
-group_put old new text filter rows clients is made after = λ i c f. go c f i
+    → row_at rows ≡ row_in list
+    → new ≡ with_rows old (levels text) (row_at rows)
+    → at_texts new ≡ (λ c f. cond (bytes_eq filter f) (row_in list c) (at_texts old c f))
+group_put old new text filter list rows is made after = λ i c f. go c f i
   where
-    go : (c f : List ℕ) → new (levels f) c ≡ cond (bytes_eq filter f) (row_in rows c) (old (levels f) c)
+    go : (c f : List ℕ) → new (levels f) c ≡ cond (bytes_eq filter f) (row_in list c) (old (levels f) c)
     go c f =
         ap (λ (a : Asked). a (levels f) c) after
-        ∙ ap (λ b. cond b (get (slice_cmp nat_cmp) clients c) (old (levels f) c)) (same_text text f ∙ ap (λ t. bytes_eq t f) is)
-        ∙ ap (λ o. cond (bytes_eq filter f) o (old (levels f) c)) (made c ∙ ap (λ e. update_all e (λ _. None) rows c) same_tests)
+        ∙ ap (λ b. cond b (row_at rows c) (old (levels f) c)) (same_text text f ∙ ap (λ t. bytes_eq t f) is)
+        ∙ ap (λ o. cond (bytes_eq filter f) o (old (levels f) c)) (λ i. made i c)
+
+-- a map made of rows holds them, and a single row is held as it is
+pub map_made :
+    (list : List (List ℕ × QoS)) (clients : BTreeMap (List ℕ) QoS)
+    → ((q : List ℕ) → get (slice_cmp nat_cmp) clients q ≡ update_all (eq_by_cmp (slice_cmp nat_cmp)) (λ _. None) list q)
+    → row_at (kept.Many clients) ≡ row_in list
+map_made list clients made = λ i q. (made q ∙ ap (λ e. update_all e (λ _. None) list q) same_tests) i
+
+pub one_made : (client : List ℕ) (qos : QoS) → row_at (kept.One client qos) ≡ row_in ((client, qos) ∷ [])
+one_made client qos = λ i q. one_at client qos q i
 
 put_told : (gs : Groups) (g : List ℕ → Option (List (List ℕ × QoS))) (c f : List ℕ) →
     all_put gs (λ d h. of_rows d (g h)) c f ≡ of_rows c (update_all bytes_eq g gs f)
@@ -202,7 +215,7 @@ put_told (e ∷ gs) g c f =
     into false d h = refl
 
 -- once all are put in, the nodes hold what was gathered
-pub groups_put : {Z : Type 0} → (es : List (List ℕ × Vec (List ℕ × QoS) Z)) → IsDistinct bytes_eq (keys_of es) → all_put (groups_of es) no_subscriptions ≡ gathered (groups_of es)
+pub groups_put : (es : List (List ℕ × Group)) → IsDistinct bytes_eq (keys_of es) → all_put (groups_of es) no_subscriptions ≡ gathered (groups_of es)
 groups_put es distinct = λ i c f. go c f i
   where
     go : (c f : List ℕ) → all_put (groups_of es) no_subscriptions c f ≡ gathered (groups_of es) c f

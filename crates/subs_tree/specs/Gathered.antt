@@ -1,10 +1,11 @@
 -- The rows of each filter, gathered before the nodes are made.
 use Rattle.std.specs.Prelude.{ℕ, List, [], ◌∷◌, bytes_eq, Option, None, option_and_then, if◌then◌else◌, map}
 use Rattle.std.specs.Map.{lookup, update_all}
-use Rattle.std.specs.declared.vec.Vec.{Vec}
 use Rattle.packet.specs.declared.qos.QoS.{QoS}
 use Rattle.subs_base.specs.Content.{Content, with_row}
 use Rattle.subs_base.specs.ListIndex.{Filters, Clients}
+use Rattle.subs_tree.specs.declared.group.Group.{Group}
+use Rattle.subs_tree.specs.declared.group.Group.TheVariants as kinds
 
 -- rows as they came: the last of a client counts
 abbrev pub row_in : List (List ℕ × QoS) → List ℕ → Option QoS
@@ -14,9 +15,14 @@ row_in rows = update_all bytes_eq (λ _. None) rows
 abbrev pub Groups : Type 0
 Groups = List (List ℕ × List (List ℕ × QoS))
 
--- the vectors as lists
-abbrev pub groups_of : {Z : Type 0} → List (List ℕ × Vec (List ℕ × QoS) Z) → Groups
-groups_of entries = map (λ entry. (entry.0, entry.1.items)) entries
+-- the rows of a group, in the order in which they came
+abbrev pub told : Group → List (List ℕ × QoS)
+told (kinds.One client qos) = (client, qos) ∷ []
+told (kinds.More rows) = rows.items
+
+-- the groups as lists
+abbrev pub groups_of : List (List ℕ × Group) → Groups
+groups_of entries = map (λ entry. (entry.0, told entry.1)) entries
 
 -- the QoS at each client and filter
 abbrev pub gathered : Groups → Content

@@ -1,6 +1,6 @@
 -- What a node and the vector of nodes show.
 use Rattle.std.specs.Prelude.{◌≡◌, ℕ, Bool, true, false, is_some, List, bytes_eq, codes, ◌&&◌, Option, None, option_map, option_and_then, if◌then◌else◌, [], ◌∷◌}
-use Rattle.std.specs.BTreeMap.{get, get_by}
+use Rattle.std.specs.BTreeMap.{get_by}
 use Rattle.std.specs.Cmp.Lexicographic.{slice_cmp}
 use Rattle.std.specs.Ordering.{nat_cmp}
 use Rattle.slab.specs.Slab as slab
@@ -9,12 +9,13 @@ use Rattle.packet.specs.declared.qos.QoS.{QoS}
 use Rattle.subs_base.specs.Content.{Content}
 use Rattle.subs_base.specs.ListIndex.{Filters, at}
 use Rattle.subs_tree.specs.declared.node.Node.{Node}
+use Rattle.subs_tree.specs.Rows.{row_at}
 use Rattle.subs_tree.specs.Shape.{Shape}
 
 -- the clients of a node
 abbrev pub held_in : Node → Bool → List ℕ → Option QoS
-held_in node true client = get (slice_cmp nat_cmp) node.rest client
-held_in node false client = get (slice_cmp nat_cmp) node.here client
+held_in node true client = row_at node.rest client
+held_in node false client = row_at node.here client
 
 -- the children of a node, `+` beside the others
 abbrev pub child_in : Node → List ℕ → Option ℕ

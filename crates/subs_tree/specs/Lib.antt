@@ -1,6 +1,7 @@
 pub mod Shape
 pub mod Ways
 pub mod Changes
+pub mod Rows
 pub mod Inside
 pub mod Standing
 pub mod Walk

@@ -6,21 +6,26 @@ ghost use Rattle.std.specs.Cmp.Lexicographic.{slice_cmp};
 ghost use Rattle.std.specs.Ordering.{nat_cmp};
 ghost use Rattle.topics.specs.Text.{levels_of};
 ghost use Rattle.std.specs.Prelude.{Some};
+ghost use Rattle.subs_tree.specs.Rows.{row_at};
 ghost use Rattle.subs_tree.specs.Standing.{shape, root_of};
 ghost use Rattle.subs_tree.specs.Walk.{greatest, Raises, GivesSome, found_at, found_below, found_for, found_behind};
 
-use crate::node::Clients;
 use crate::node_id::NodeId;
 use crate::nodes::Nodes;
+use crate::rows::Rows;
 use crate::slots::child;
 use packet::{ClientId, QoS};
 use std::alloc::AllocError;
+use std::collections::BTreeMap;
 use topics::split_level;
+
+/// The clients that were found, with the QoS of each.
+type Found = BTreeMap<ClientId, QoS>;
 
 impl Nodes {
     /// Raises each client of a filter that matches the topic to its QoS there. No wildcard at the front matches a
     /// topic that begins with `$` (MQTT 4.7.2).
-    pub(crate) fn find(&self, topic: &[u8], found: &mut Clients) -> Result<(), AllocError>
+    pub(crate) fn find(&self, topic: &[u8], found: &mut Found) -> Result<(), AllocError>
         ensures ok { OnOk result (Raises found.old found.new (found_for (shape self.now) (root_of self.now) topic.now)) }
         ensures some { OnErr result (GivesSome (found_for (shape self.now) (root_of self.now) topic.now)) }
     {
@@ -36,12 +41,7 @@ impl Nodes {
 
     // The same of the filters that go on behind a node.
     #[cycle(find_at)]
-    fn find_at(
-        &self,
-        at: NodeId,
-        topic: Option<&[u8]>,
-        found: &mut Clients,
-    ) -> Result<(), AllocError>
+    fn find_at(&self, at: NodeId, topic: Option<&[u8]>, found: &mut Found) -> Result<(), AllocError>
         ensures ok { OnOk result
             (Raises found.old found.new (found_at (shape self.now) at.number (levels_of topic.entry))) }
         ensures some { OnErr result (GivesSome (found_at (shape self.now) at.number (levels_of topic.entry))) }
@@ -64,7 +64,7 @@ impl Nodes {
         &self,
         below: Option<NodeId>,
         behind: Option<&[u8]>,
-        found: &mut Clients,
+        found: &mut Found,
     ) -> Result<(), AllocError>
         ensures ok { OnOk result
             (Raises found.old found.new (found_behind (shape self.now) (option_map (λ id. id.number) below) (levels_of behind.entry))) }
@@ -79,7 +79,19 @@ impl Nodes {
 }
 
 /// Raises each of the clients to its QoS there.
-fn raise_all(clients: &Clients, found: &mut Clients) -> Result<(), AllocError>
+fn raise_all(rows: &Rows, found: &mut Found) -> Result<(), AllocError>
+    ensures ok { OnOk result (Raises found.old found.new (row_at rows.now)) }
+    ensures some { OnErr result (GivesSome (row_at rows.now)) }
+{
+    match rows {
+        Rows::Empty => Ok(()),
+        Rows::One(client, qos) => raise(client, *qos, found),
+        Rows::Many(clients) => raise_each(clients, found),
+    }
+}
+
+/// Raises each of the clients of a map to its QoS there.
+fn raise_each(clients: &BTreeMap<ClientId, QoS>, found: &mut Found) -> Result<(), AllocError>
     ensures ok { OnOk result (Raises found.old found.new (get (slice_cmp nat_cmp) clients.now)) }
     ensures some { OnErr result (GivesSome (get (slice_cmp nat_cmp) clients.now)) }
 {
@@ -90,7 +102,7 @@ fn raise_all(clients: &Clients, found: &mut Clients) -> Result<(), AllocError>
 }
 
 /// Sets the client's QoS to this one, if it is greater than what stands there.
-fn raise(client: &ClientId, qos: QoS, found: &mut Clients) -> Result<(), AllocError>
+fn raise(client: &ClientId, qos: QoS, found: &mut Found) -> Result<(), AllocError>
     ensures { OnOk result (Updates (slice_cmp nat_cmp) found.old found.new client.now
         (greatest (get (slice_cmp nat_cmp) found.old client.now) (Some qos))) }
 {

@@ -10,6 +10,7 @@ ghost use Rattle.subs_base.specs.Inside.{listed};
 ghost use Rattle.subs_tree.specs.Gathered.{gathered, groups_of, clients_told, filters_told};
 ghost use Rattle.subs_tree.specs.Standing.{content_in, IsSound};
 
+use crate::group::Group;
 use crate::nodes::Nodes;
 use indexmap::IndexMap;
 use packet::{ClientId, QoS};
@@ -18,7 +19,7 @@ use std::collections::BTreeMap;
 use topics::Filter;
 
 /// Each filter with its clients, in the order in which they came.
-pub(crate) type Groups = IndexMap<Filter, Vec<(ClientId, QoS)>>;
+pub(crate) type Groups = IndexMap<Filter, Group>;
 
 /// The clients of each filter of a list.
 pub(crate) fn gather(
@@ -63,13 +64,10 @@ fn add_row(
         (gathered (groups_of groups.new.entries)
         ≡ with_row (gathered (groups_of groups.old.entries)) row.0 filter.now row.1) }
 {
-    if let Some(rows) = groups.get_mut(filter) {
-        rows.push(row)?;
-        return Ok(());
+    if let Some(group) = groups.get_mut(filter) {
+        return group.add(alloc, row);
     }
-    let mut rows = Vec::new(alloc);
-    rows.push(row)?;
-    groups.insert(filter.clone()?, rows)?;
+    groups.insert(filter.clone()?, Group::One(row.0, row.1))?;
     Ok(())
 }
 
@@ -79,9 +77,9 @@ pub(crate) fn nodes_of(alloc: Global, groups: Groups) -> Result<Nodes, AllocErro
     ensures sound { IfOk result IsSound }
 {
     let mut nodes = Nodes::new(alloc);
-    for (filter, rows) in groups {
-        let clients = BTreeMap::from_iter(alloc, rows)?;
-        nodes.put(filter.as_str().as_bytes(), clients)?;
+    for (filter, group) in groups {
+        let rows = group.into_rows(alloc)?;
+        nodes.put(filter.as_str().as_bytes(), rows)?;
     }
     Ok(nodes)
 }

@@ -3,11 +3,13 @@
 
 mod finding;
 mod gathering;
+mod group;
 mod making;
 mod node;
 mod node_id;
 mod nodes;
 mod pruning;
+mod rows;
 mod slots;
 #[cfg(test)]
 mod tests;

@@ -1,27 +1,23 @@
 // A node: the clients of the filters that end at it, and the numbers of the nodes of the next levels.
 
 ghost use Rattle.std.specs.Prelude.{◌≡◌, OnOk, OnErr, ◌↔◌, IsTrue, IsSome, is_some, true, false, Some, None, option_map};
-ghost use Rattle.std.specs.Cmp.Lexicographic.{slice_cmp};
-ghost use Rattle.std.specs.Ordering.{nat_cmp};
-ghost use Rattle.std.specs.BTreeMap.{Updates, get};
+ghost use Rattle.subs_tree.specs.Rows.{row_at};
 ghost use Rattle.subs_tree.specs.Inside.{held_in, child_in, HoldsNothing};
 ghost use Rattle.subs_tree.specs.Changes.{SetsRow, SetsSide, SetsChild};
 
 use crate::node_id::NodeId;
+use crate::rows::Rows;
 use packet::{ClientId, QoS};
 use std::alloc::{AllocError, Global};
 use std::collections::BTreeMap;
-
-/// The clients of one filter, with the QoS of their subscriptions.
-pub(crate) type Clients = BTreeMap<ClientId, QoS>;
 
 /// The subscriptions of the filters that end with the same levels, and the nodes of the next levels.
 #[derive(Debug, Drop)]
 pub(crate) struct Node {
     /// The clients of the filter that ends here.
-    pub(crate) here: Clients,
+    pub(crate) here: Rows,
     /// Those of the filter with `#` behind it.
-    pub(crate) rest: Clients,
+    pub(crate) rest: Rows,
     /// The nodes of the next levels, but for `+`.
     named: BTreeMap<Vec<u8>, NodeId>,
     /// The node of `+`.
@@ -34,8 +30,8 @@ impl Node {
         ensures { HoldsNothing result }
     {
         Node {
-            here: BTreeMap::new(alloc),
-            rest: BTreeMap::new(alloc),
+            here: Rows::Empty,
+            rest: Rows::Empty,
             named: BTreeMap::new(alloc),
             plus: None,
         }
@@ -83,21 +79,27 @@ impl Node {
     }
 
     /// Sets the client's row, at `#` beside the node or at its own filter.
-    pub(crate) fn set(&mut self, rest: bool, client: &ClientId, qos: QoS) -> Result<(), AllocError>
+    pub(crate) fn set(
+        &mut self,
+        alloc: Global,
+        rest: bool,
+        client: &ClientId,
+        qos: QoS,
+    ) -> Result<(), AllocError>
         ensures ok { OnOk result (SetsRow (held_in self.old) (held_in self.new) rest client.now (Some qos)) }
         ensures err { OnErr result (held_in self.new ≡ held_in self.old) }
         ensures absent { OnErr result (held_in self.old rest client.now ≡ None) }
         ensures child { child_in self.new ≡ child_in self.old }
     {
         if rest {
-            return set_client(&mut self.rest, client, qos);
+            return self.rest.set(alloc, client, qos);
         }
-        set_client(&mut self.here, client, qos)
+        self.here.set(alloc, client, qos)
     }
 
     /// Puts these rows in the place of those at `#` beside the node, or at its own filter.
-    pub(crate) fn put(&mut self, rest: bool, rows: Clients)
-        ensures rows { SetsSide (held_in self.old) (held_in self.new) rest (get (slice_cmp nat_cmp) rows) }
+    pub(crate) fn put(&mut self, rest: bool, rows: Rows)
+        ensures rows { SetsSide (held_in self.old) (held_in self.new) rest (row_at rows) }
         ensures child { child_in self.new ≡ child_in self.old }
     {
         if rest {
@@ -114,9 +116,9 @@ impl Node {
         ensures child { child_in self.new ≡ child_in self.old }
     {
         if rest {
-            return clear_client(&mut self.rest, client);
+            return self.rest.clear(client);
         }
-        clear_client(&mut self.here, client)
+        self.here.clear(client)
     }
 
     /// Whether the node has neither clients nor children.
@@ -134,25 +136,4 @@ impl Node {
         }
         self.plus.is_none()
     }
-}
-
-fn set_client(clients: &mut Clients, client: &ClientId, qos: QoS) -> Result<(), AllocError>
-    ensures ok { OnOk result
-        (Updates (slice_cmp nat_cmp) clients.old clients.new client.now (Some qos)) }
-    ensures err { OnErr result (clients.new.entries ≡ clients.old.entries) }
-    ensures absent { OnErr result (get (slice_cmp nat_cmp) clients.old client.now ≡ None) }
-{
-    if let Some(kept) = clients.get_mut(client) {
-        *kept = qos;
-        return Ok(());
-    }
-    clients.insert(client.clone()?, qos)?;
-    Ok(())
-}
-
-fn clear_client(clients: &mut Clients, client: &ClientId) -> bool
-    ensures found { result ≡ is_some (get (slice_cmp nat_cmp) clients.old client.now) }
-    ensures after { Updates (slice_cmp nat_cmp) clients.old clients.new client.now None }
-{
-    clients.remove(client).is_some()
 }

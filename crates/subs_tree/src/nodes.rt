@@ -1,17 +1,16 @@
 // The nodes, named by their numbers: one for each front of levels that some filter begins with.
 
 ghost use Rattle.std.specs.Prelude.{◌≡◌, OnOk, OnErr, IfOk, IfSome, ◌↔◌, IsTrue, IsSome, Some, None, option_map};
-ghost use Rattle.std.specs.BTreeMap.{get};
-ghost use Rattle.std.specs.Cmp.Lexicographic.{slice_cmp};
-ghost use Rattle.std.specs.Ordering.{nat_cmp};
 ghost use Rattle.topics.specs.Text.{levels, levels_of};
 ghost use Rattle.topics.specs.Matching.{is_all};
 ghost use Rattle.subs_tree.specs.Ways.{reach, place};
 ghost use Rattle.subs_tree.specs.Inside.{nothing, with_asked, with_rows};
+ghost use Rattle.subs_tree.specs.Rows.{row_at};
 ghost use Rattle.subs_tree.specs.Standing.{shape, root_of, rows_of, IsSound};
 
-use crate::node::{Clients, Node};
+use crate::node::Node;
 use crate::node_id::NodeId;
+use crate::rows::Rows;
 use crate::slots::{Place, child, clear_at, open, put_at, set_at};
 use packet::{ClientId, QoS};
 use slab::Slab;
@@ -58,9 +57,9 @@ impl Nodes {
 
     /// Puts these rows in the place of those of the filter with this text. Without memory some nodes that hold
     /// nothing may stay.
-    pub(crate) fn put(&mut self, text: &[u8], rows: Clients) -> Result<(), AllocError>
+    pub(crate) fn put(&mut self, text: &[u8], rows: Rows) -> Result<(), AllocError>
         requires { IsSound self.old }
-        ensures ok { OnOk result (rows_of self.new ≡ with_rows (rows_of self.old) (levels text.now) (get (slice_cmp nat_cmp) rows)) }
+        ensures ok { OnOk result (rows_of self.new ≡ with_rows (rows_of self.old) (levels text.now) (row_at rows)) }
         ensures sound { OnOk result (IsSound self.new) }
     {
         let root = self.make_root()?;
@@ -121,7 +120,7 @@ impl Nodes {
         ensures root { self.new.root ≡ self.old.root }
     {
         let place = self.make_place(root, Some(text))?;
-        set_at(&mut self.slab, place, client, qos)
+        set_at(&mut self.slab, self.alloc, place, client, qos)
     }
 
     // The place of the filter that goes on with this text behind a node, if its nodes are there.

@@ -1,14 +1,13 @@
 // The vector of nodes: one is put in or taken out, or a row or a child of one is changed.
 
 ghost use Rattle.std.specs.Prelude.{◌≡◌, OnOk, OnErr, IfOk, IsTrue, is_some, true, Some, None, option_map};
-ghost use Rattle.std.specs.BTreeMap.{get};
-ghost use Rattle.std.specs.Cmp.Lexicographic.{slice_cmp};
-ghost use Rattle.std.specs.Ordering.{nat_cmp};
 ghost use Rattle.subs_tree.specs.Changes.{Writes, Fills, Links, Opens, Closes, IsBare};
 ghost use Rattle.subs_tree.specs.Inside.{shape_of};
+ghost use Rattle.subs_tree.specs.Rows.{row_at};
 
-use crate::node::{Clients, Node};
+use crate::node::Node;
 use crate::node_id::NodeId;
+use crate::rows::Rows;
 use packet::{ClientId, QoS};
 use slab::Slab;
 use std::alloc::{AllocError, Global};
@@ -89,6 +88,7 @@ pub(crate) fn unlink(nodes: &mut Slab<Node>, at: NodeId, level: &[u8])
 /// Sets the client's row at a place.
 pub(crate) fn set_at(
     nodes: &mut Slab<Node>,
+    alloc: Global,
     place: Place,
     client: &ClientId,
     qos: QoS,
@@ -99,15 +99,15 @@ pub(crate) fn set_at(
     ensures absent { OnErr result ((shape_of nodes.old).held place.node.number place.rest client.now ≡ None) }
 {
     match nodes.get_mut(place.node.number) {
-        Some(node) => node.set(place.rest, client, qos),
+        Some(node) => node.set(alloc, place.rest, client, qos),
         None => Ok(()),
     }
 }
 
 /// Puts these rows in the place of those at a place.
-pub(crate) fn put_at(nodes: &mut Slab<Node>, place: Place, rows: Clients)
+pub(crate) fn put_at(nodes: &mut Slab<Node>, place: Place, rows: Rows)
     requires { (shape_of nodes.old).used place.node.number ≡ true }
-    ensures { Fills (shape_of nodes.old) (shape_of nodes.new) place.node.number place.rest (get (slice_cmp nat_cmp) rows) }
+    ensures { Fills (shape_of nodes.old) (shape_of nodes.new) place.node.number place.rest (row_at rows) }
 {
     if let Some(node) = nodes.get_mut(place.node.number) {
         node.put(place.rest, rows);

@@ -1,13 +1,9 @@
 -- The filter at the head was put in; at the end none is left.
 use Rattle.std.proofs.Common.{rules, ◌≡◌, ◌∷◌, [], ◌∙◌, sym, ap}
-use Rattle.std.specs.BTreeMap.{IsFromIterResult}
-use Rattle.std.specs.Cmp.Lexicographic.{slice_cmp}
-use Rattle.std.specs.Ordering.{nat_cmp}
-use Rattle.std.proofs.lemmas.Iterator.Adapters.{YieldsList-from_vec}
 use Rattle.topics.specs.Text.{levels}
-use Rattle.subs_tree.specs.Gathered.{all_put, groups_of}
+use Rattle.subs_tree.specs.Gathered.{all_put, told, groups_of}
 use Rattle.subs_tree.specs.Standing.{content_in, rows_of}
-use Rattle.subs_tree.proofs.RowsGathered.{made_of, group_put, groups_put}
+use Rattle.subs_tree.proofs.RowsGathered.{group_put, groups_put}
 use Rattle.subs_tree.proofs.gathering.nodes_of.Goals as goal
 
 pub loop-filter-init : goal.loop-filter-init
@@ -22,14 +18,11 @@ loop-filter-init c =
 
 pub loop-filter-preserved : goal.loop-filter-preserved
 loop-filter-preserved c =
-    let cut : c.loop-filter.filter-iterator ≡ (c.in-Some.filter, c.in-Some.rows) ∷ c.next.new.self = search rules in
-    let ran = c.in_ok-clients.ensures.ran in
-    let made = made_of (λ rows. IsFromIterResult (slice_cmp nat_cmp) rows c.in_ok-clients.clients) ran.1 ran.3
-    (YieldsList-from_vec c.in-Some.rows.items ran.2.0 (search rules)) ran.4 in
+    let cut : c.loop-filter.filter-iterator ≡ (c.in-Some.filter, c.in-Some.group) ∷ c.next.new.self = search rules in
     record {
       whole = ap (all_put (groups_of c.next.new.self))
-          (group_put (rows_of c.loop-filter.nodes) (rows_of c.put.new.self) c.as_bytes.result.now c.in-Some.filter c.in-Some.rows.items c.in_ok-clients.clients
-          (c.as_bytes.ensures.value ∙ c.as_str.ensures.value) made.0 c.in_ok-put.ensures.ok)
+          (group_put (rows_of c.loop-filter.nodes) (rows_of c.put.new.self) c.as_bytes.result.now c.in-Some.filter (told c.in-Some.group) c.in_ok-rows.rows
+          (c.as_bytes.ensures.value ∙ c.as_str.ensures.value) c.in_ok-rows.ensures c.in_ok-put.ensures.ok)
           ∙ ap (λ es. all_put (groups_of es) (content_in c.loop-filter.nodes)) (sym cut)
           ∙ c.loop-filter.invariant.whole;
       sound = c.in_ok-put.ensures.sound;

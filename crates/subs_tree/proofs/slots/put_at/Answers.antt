@@ -1,9 +1,7 @@
 -- The node of the number has the rows.
 use Rattle.std.proofs.Common.{sym}
-use Rattle.std.specs.BTreeMap.{get}
-use Rattle.std.specs.Cmp.Lexicographic.{slice_cmp}
-use Rattle.std.specs.Ordering.{nat_cmp}
 use Rattle.slab.specs.Slab.{with_value}
+use Rattle.subs_tree.specs.Rows.{row_at}
 use Rattle.subs_tree.proofs.ChangedSlot.{wrote, filled}
 use Rattle.subs_tree.proofs.slots.put_at.Goals as goal
 
@@ -11,4 +9,4 @@ pub returns-in-Some : goal.returns-in-Some
 returns-in-Some c =
     let there = sym c.in-Some.ensures.value in
     filled c.args.nodes.now (with_value c.args.nodes.now c.args.place.node.number c.put.new.self) c.args.place.node.number c.in-Some.node.now c.put.new.self there
-    (wrote c.args.nodes.now c.args.place.node.number c.in-Some.node.now c.put.new.self there) c.args.place.rest (get (slice_cmp nat_cmp) c.args.rows) c.put.ensures.rows c.put.ensures.child
+    (wrote c.args.nodes.now c.args.place.node.number c.in-Some.node.now c.put.new.self there) c.args.place.rest (row_at c.args.rows) c.put.ensures.rows c.put.ensures.child

@@ -1,6 +1,5 @@
--- The map of the one side or the other has no such client any more.
+-- The rows of the one side or the other have no such client any more.
 use Rattle.std.proofs.Common.{refl, sym, subst, Bool, None}
-use Rattle.subs_tree.proofs.LevelsFound.{updates_client}
 use Rattle.subs_tree.proofs.NodeSets.{sets_rest, sets_here}
 use Rattle.subs_tree.specs.Changes.{SetsRow}
 use Rattle.subs_tree.specs.Inside.{held_in}
@@ -8,12 +7,10 @@ use Rattle.subs_tree.proofs.node.Node.clear.Goals as goal
 
 pub returns-then-rest-clause-after : goal.returns-then-rest-clause-after
 returns-then-rest-clause-after c =
-    subst (λ (b : Bool). SetsRow (held_in c.args.self.now) (held_in (record c.args.self.now { rest = c.clear_client.new.clients })) b c.args.client.now None) (sym c.if-rest.true)
-    (sets_rest c.args.self.now (record c.args.self.now { rest = c.clear_client.new.clients }) c.args.client.now None refl
-    (λ q. updates_client c.args.self.now.rest c.clear_client.new.clients c.args.client.now None c.clear_client.ensures.after q))
+    subst (λ (b : Bool). SetsRow (held_in c.args.self.now) (held_in (record c.args.self.now { rest = c.clear.new.self })) b c.args.client.now None) (sym c.if-rest.true)
+    (sets_rest c.args.self.now (record c.args.self.now { rest = c.clear.new.self }) c.args.client.now None refl c.clear.ensures.after)
 
 pub returns-clause-after : goal.returns-clause-after
 returns-clause-after c =
-    subst (λ (b : Bool). SetsRow (held_in c.args.self.now) (held_in (record c.args.self.now { here = c.clear_client-2.new.clients })) b c.args.client.now None) (sym c.if-rest.false)
-    (sets_here c.args.self.now (record c.args.self.now { here = c.clear_client-2.new.clients }) c.args.client.now None refl
-    (λ q. updates_client c.args.self.now.here c.clear_client-2.new.clients c.args.client.now None c.clear_client-2.ensures.after q))
+    subst (λ (b : Bool). SetsRow (held_in c.args.self.now) (held_in (record c.args.self.now { here = c.clear-2.new.self })) b c.args.client.now None) (sym c.if-rest.false)
+    (sets_here c.args.self.now (record c.args.self.now { here = c.clear-2.new.self }) c.args.client.now None refl c.clear-2.ensures.after)

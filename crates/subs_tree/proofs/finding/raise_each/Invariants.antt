@@ -7,7 +7,7 @@ use Rattle.std.specs.Cmp.Lexicographic.{slice_cmp}
 use Rattle.std.specs.Ordering.{nat_cmp}
 use Rattle.packet.specs.declared.qos.QoS.{QoS}
 use Rattle.subs_tree.specs.Walk.{greatest}
-use Rattle.subs_tree.proofs.finding.raise_all.Given as goal
+use Rattle.subs_tree.proofs.finding.raise_each.Given as goal
 
 abbrev pub invariant-loop-client : goal.invariant-loop-client
 invariant-loop-client l = record {

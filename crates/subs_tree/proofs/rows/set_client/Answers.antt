@@ -4,7 +4,7 @@ use Rattle.std.specs.BTreeMap.{BTreeMap, Updates}
 use Rattle.std.specs.Cmp.Lexicographic.{slice_cmp}
 use Rattle.std.specs.Ordering.{nat_cmp}
 use Rattle.packet.specs.declared.qos.QoS.{QoS}
-use Rattle.subs_tree.proofs.node.set_client.Goals as goal
+use Rattle.subs_tree.proofs.rows.set_client.Goals as goal
 
 pub returns-clause-ok : goal.returns-clause-ok
 returns-clause-ok c =
