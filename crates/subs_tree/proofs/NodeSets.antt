@@ -9,7 +9,7 @@ use Rattle.packet.specs.declared.qos.QoS.{QoS}
 use Rattle.subs_tree.specs.declared.node.Node.{Node}
 use Rattle.subs_tree.specs.declared.node_id.NodeId.{NodeId}
 use Rattle.subs_tree.specs.Changes.{SetsRow, SetsChild}
-use Rattle.subs_tree.specs.Rows.{row_at, SetsAt, AreNone}
+use Rattle.subs_tree.specs.Rows.{listed, row_at, SetsAt}
 use Rattle.subs_tree.specs.Inside.{held_in, child_in, HoldsNothing}
 
 abbrev pub number_of : Option NodeId → Option ℕ
@@ -30,7 +30,7 @@ turned x y =
     ] refl
 
 -- a node of empty maps
-pub empty_node : (node : Node) → AreNone node.here → AreNone node.rest → node.named.entries ≡ [] → node.plus ≡ None → HoldsNothing node
+pub empty_node : (node : Node) → listed node.here ≡ [] → listed node.rest ≡ [] → node.named.entries ≡ [] → node.plus ≡ None → HoldsNothing node
 empty_node node here rest named plus = record { child = child; held = held }
   where
     child : (level : List ℕ) → child_in node level ≡ None
@@ -41,8 +41,8 @@ empty_node node here rest named plus = record { child = child; held = held }
         by false = ap (λ es. number_of (lookup (is_at (λ key. slice_cmp nat_cmp level key.items)) es)) named
 
     held : (r : Bool) (client : List ℕ) → held_in node r client ≡ None
-    held true client = rest client
-    held false client = here client
+    held true client = ap (λ es. lookup (is_at (slice_cmp nat_cmp client)) es) rest
+    held false client = ap (λ es. lookup (is_at (slice_cmp nat_cmp client)) es) here
 
 -- the child that is looked for
 pub plus_child : (node : Node) (level : List ℕ) → bytes_eq level (codes "+") ≡ true → number_of node.plus ≡ child_in node level

@@ -1,5 +1,5 @@
 -- The clients of one filter, however many there are.
-use Rattle.std.specs.Prelude.{◌≡◌, ℕ, List, [], ◌∷◌, bytes_eq, Option, None, if◌then◌else◌}
+use Rattle.std.specs.Prelude.{◌≡◌, ℕ, List, [], ◌∷◌, bytes_eq, Option, if◌then◌else◌}
 use Rattle.std.specs.BTreeMap.{is_at}
 use Rattle.std.specs.Map.{lookup}
 use Rattle.std.specs.Cmp.Lexicographic.{slice_cmp}
@@ -22,7 +22,3 @@ row_at rows client = lookup (is_at (slice_cmp nat_cmp client)) (listed rows)
 abbrev pub SetsAt : Rows → Rows → List ℕ → Option QoS → Type 0
 SetsAt old new client kept =
     (c : List ℕ) → row_at new c ≡ (if bytes_eq client c then kept else row_at old c)
-
--- no client has a row
-abbrev pub AreNone : Rows → Type 0
-AreNone rows = (client : List ℕ) → row_at rows client ≡ None

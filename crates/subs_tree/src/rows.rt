@@ -1,11 +1,11 @@
 // The clients of one filter.
 
-ghost use Rattle.std.specs.Prelude.{◌≡◌, OnOk, OnErr, IfOk, IsTrue, is_some, Some, None};
+ghost use Rattle.std.specs.Prelude.{◌≡◌, [], OnOk, OnErr, IfOk, IsTrue, is_some, Some, None};
 ghost use Rattle.std.specs.Cmp.Lexicographic.{slice_cmp};
 ghost use Rattle.std.specs.Ordering.{nat_cmp};
 ghost use Rattle.std.specs.BTreeMap.{Updates, get};
 ghost use Rattle.subs_tree.specs.declared.rows.Rows.TheVariants.{One};
-ghost use Rattle.subs_tree.specs.Rows.{row_at, SetsAt, AreNone};
+ghost use Rattle.subs_tree.specs.Rows.{listed, row_at, SetsAt};
 
 use packet::{ClientId, QoS};
 use std::alloc::{AllocError, Global};
@@ -69,7 +69,7 @@ impl Rows {
 
     /// Returns whether there is no client.
     pub(crate) fn is_empty(&self) -> bool
-        ensures { IsTrue result → AreNone self.now }
+        ensures { IsTrue result → listed self.now ≡ [] }
     {
         match self {
             Rows::Empty => true,
