@@ -4,7 +4,7 @@ use crate::tree_index::TreeIndex;
 use packet::{ClientId, QoS};
 use std::alloc::Global;
 use std::test::*;
-use subs_base::SubIndex;
+use subs_base::{ListIndex, SubIndex};
 use topics::Filter;
 
 const FILTERS: u32 = 100_000;
@@ -82,4 +82,31 @@ fn nodes_in_turn(alloc: Global) -> Option<(usize, bool, bool)> {
 #[test]
 fn nodes_are_used_again(rt: HostRuntime) {
     assert_eq!(rt; nodes_in_turn(rt.alloc()), Some((NODES, true, true)));
+}
+
+/// Sets the filters of all numbers in a list, and says whether there was memory.
+fn list_all(alloc: Global, list: &mut ListIndex, client: &ClientId) -> bool {
+    for number in 0..FILTERS {
+        match filter_of(alloc, number) {
+            Some(filter) if list.set(client, &filter, QoS::AtLeastOnce).is_ok() => {}
+            _ => return false,
+        }
+    }
+    true
+}
+
+/// How many nodes the tree has that is built of the list of all filters.
+fn nodes_built(alloc: Global) -> Option<usize> {
+    let client = ClientId::new(alloc, "a").ok()?;
+    let mut list = ListIndex::new(alloc);
+    if !list_all(alloc, &mut list, &client) {
+        return None;
+    }
+    let index = TreeIndex::of_list(alloc, list).ok()?;
+    Some(index.nodes.slab.len())
+}
+
+#[test]
+fn a_list_is_built_into_as_many_nodes(rt: HostRuntime) {
+    assert_eq!(rt; nodes_built(rt.alloc()), Some(NODES));
 }
