@@ -1,0 +1,7 @@
+// A node on worked rows.
+
+mod clients;
+mod full_queue;
+mod keep_alive;
+mod row;
+mod streams;
