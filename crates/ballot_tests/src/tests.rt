@@ -2,6 +2,7 @@ mod changes;
 mod commands;
 mod counting;
 mod cutting;
+mod memory;
 mod opening;
 mod pairs;
 mod replicas;

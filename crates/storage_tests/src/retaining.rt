@@ -1,5 +1,6 @@
 // What a store of retained publications keeps, worked by hand (MQTT 3.3.1.3).
 
+mod memory;
 mod row;
 
 use crate::retaining::row::Row::{Finds, Has, IsFull, Put};

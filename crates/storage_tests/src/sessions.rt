@@ -1,5 +1,6 @@
 // A session, worked by hand from MQTT 3.1.1.
 
+mod memory;
 mod row;
 
 use crate::sessions::row::Row::{

@@ -1,7 +1,9 @@
 // Memory that is refused. Run with each allocation failing in turn: a call answers `Memory`, or the
 // answer that it gives with memory, and nothing else.
 
+use super::cutting::STREAM;
 use super::spelling::write;
+use cutter::{CutError, Cutter};
 use packet::*;
 use std::alloc::Global;
 use std::test::*;
@@ -42,4 +44,60 @@ fn is_free_or_same(alloc: Global, bytes: &[u8]) -> bool {
 fn memory_is_the_one_free_answer(rt: HostRuntime) {
     assert!(rt; is_free_or_same(rt.alloc(), &SUBSCRIBE));
     assert!(rt; is_free_or_same(rt.alloc(), &PUBLISH));
+}
+
+/// Feeds a piece, again where it ran out of memory, which leaves the cutter as it was.
+fn feed(cutter: &mut Cutter, piece: &[u8]) -> bool {
+    match cutter.feed(piece) {
+        Ok(()) => true,
+        Err(CutError::Memory) => cutter.feed(piece).is_ok(),
+        Err(_) => false,
+    }
+}
+
+/// Takes the next packet, again where it ran out of memory.
+fn take(cutter: &mut Cutter) -> Option<Packet> {
+    match cutter.next() {
+        Ok(packet) => packet,
+        Err(CutError::Memory) => match cutter.next() {
+            Ok(packet) => packet,
+            Err(_) => None,
+        },
+        Err(_) => None,
+    }
+}
+
+/// Spells a packet, again where it ran out of memory, which leaves the bytes as they were.
+fn spell(packet: &Packet, out: &mut Vec<u8>) -> bool {
+    let before = out.len();
+    write(packet, out).is_none() || (out.len() == before && write(packet, out).is_none())
+}
+
+/// Takes the next packet and spells it.
+fn is_next(cutter: &mut Cutter, out: &mut Vec<u8>) -> bool {
+    match &take(cutter) {
+        Some(packet) => spell(packet, out),
+        None => false,
+    }
+}
+
+/// Whether a stream in two pieces is cut into its three packets.
+fn is_cut(cutter: &mut Cutter, out: &mut Vec<u8>) -> bool {
+    feed(cutter, &STREAM[..20])
+        && is_next(cutter, out)
+        && feed(cutter, &STREAM[20..])
+        && is_next(cutter, out)
+        && is_next(cutter, out)
+        && out.as_slice() == STREAM.as_slice()
+}
+
+fn is_stream(alloc: Global) -> bool {
+    let mut cutter = Cutter::new(alloc);
+    let mut out = Vec::new(alloc);
+    is_cut(&mut cutter, &mut out)
+}
+
+#[test]
+fn a_cutter_without_memory_is_as_it_was(rt: HostRuntime) {
+    assert!(rt; is_stream(rt.alloc()));
 }

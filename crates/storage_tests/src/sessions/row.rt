@@ -85,7 +85,8 @@ fn topic(alloc: Global) -> Option<TopicName> {
     TopicName::new(alloc, "t/1").ok()
 }
 
-fn publication(alloc: Global, qos: QoS) -> Option<Publication> {
+/// A publication of `x` on `t/1`.
+pub(crate) fn publication(alloc: Global, qos: QoS) -> Option<Publication> {
     Some(Publication {
         retain: false,
         qos,
@@ -131,7 +132,8 @@ fn pubrec(alloc: Global, session: &mut Session, number: u16, wanted: &[Sent]) ->
     session.on_pubrec(id, &mut out).is_ok() && are_sent(out.as_slice(), wanted)
 }
 
-fn are_sent(packets: &[Packet], wanted: &[Sent]) -> bool {
+/// Whether these packets are what is to be sent.
+pub(crate) fn are_sent(packets: &[Packet], wanted: &[Sent]) -> bool {
     packets.len() == wanted.len()
         && packets
             .iter()

@@ -1,0 +1,98 @@
+// Memory that is refused. Run with each allocation failing in turn: a call that finds none leaves
+// the store, and what was found, as they were, and does its work when it is made again.
+
+use crate::retaining::row::put;
+use packet::QoS;
+use retained::{RetainedError, RetainedStore};
+use std::alloc::Global;
+use topics::Filter;
+
+// Puts a publication, again where memory was refused: whether as many topics are kept then as
+// wanted, and as many as before in between.
+fn is_put(
+    alloc: Global,
+    store: &mut RetainedStore,
+    topic: &str,
+    payload: &str,
+    wanted: usize,
+) -> bool {
+    let before = store.len();
+    for _ in 0..2 {
+        match put(alloc, store, topic, QoS::ExactlyOnce, payload) {
+            Some(Ok(())) => return store.len() == wanted,
+            Some(Err(RetainedError::RetainedFull)) => return false,
+            Some(Err(RetainedError::Memory)) | None if store.len() == before => {}
+            _ => return false,
+        }
+    }
+    false
+}
+
+fn filter_of(alloc: Global, text: &str) -> Option<Filter> {
+    match Filter::new(alloc, text) {
+        Ok(filter) => Some(filter),
+        Err(_) => Filter::new(alloc, text).ok(),
+    }
+}
+
+// How many topics a filter finds, none where memory was refused.
+fn count_of(alloc: Global, store: &RetainedStore, filter: &Filter) -> Option<usize> {
+    let mut found = Vec::new(alloc);
+    let is_found = store.matching(filter, &mut found).is_ok()
+        || (found.is_empty() && store.matching(filter, &mut found).is_ok());
+    if is_found { Some(found.len()) } else { None }
+}
+
+fn finds(alloc: Global, store: &RetainedStore, text: &str, wanted: usize) -> bool {
+    match &filter_of(alloc, text) {
+        Some(filter) => count_of(alloc, store, filter) == Some(wanted),
+        None => false,
+    }
+}
+
+fn comes_through(alloc: Global, store: &mut RetainedStore) -> bool {
+    is_put(alloc, store, "t/1", "x", 1)
+        && is_put(alloc, store, "t/2", "y", 2)
+        && is_put(alloc, store, "t/1", "zz", 2)
+        && finds(alloc, store, "t/#", 2)
+        && finds(alloc, store, "t/2", 1)
+        && is_put(alloc, store, "t/1", "", 1)
+        && finds(alloc, store, "+/1", 0)
+}
+
+#[test]
+fn a_store_comes_through(rt: HostRuntime) {
+    let mut store = RetainedStore::new(rt.alloc());
+    assert!(rt; comes_through(rt.alloc(), &mut store));
+}
+
+// The text of a topic by its number; a second try where the first one found no memory.
+fn text_of(alloc: Global, number: usize) -> Option<String> {
+    match format!(in alloc; "t/{number}") {
+        Ok(text) => Some(text),
+        Err(_) => format!(in alloc; "t/{number}").ok(),
+    }
+}
+
+fn is_filled(alloc: Global, store: &mut RetainedStore, number: usize) -> bool {
+    match &text_of(alloc, number) {
+        Some(text) => is_put(alloc, store, text.as_str(), "x", number.saturating_add(1)),
+        None => false,
+    }
+}
+
+// Whether as many topics are kept as may be, and another one is refused; again where memory was
+// refused for the question.
+fn is_full(alloc: Global, store: &mut RetainedStore) -> bool {
+    let full = Some(Err(RetainedError::RetainedFull));
+    (0..16_384).all(|number| is_filled(alloc, store, number))
+        && (put(alloc, store, "new", QoS::AtMostOnce, "x") == full
+            || put(alloc, store, "new", QoS::AtMostOnce, "x") == full)
+        && store.len() == 16_384
+}
+
+#[test]
+fn a_full_store_comes_through(rt: HostRuntime) {
+    let mut store = RetainedStore::new(rt.alloc());
+    assert!(rt; is_full(rt.alloc(), &mut store));
+}
