@@ -1,0 +1,99 @@
+// An inbox of two lanes: it is made, or memory was refused. What its lanes send and its receiver
+// takes needs none.
+
+ghost use Rattle.std.specs.Prelude.{◌≡◌};
+
+use mailbox::{INBOX_ITEMS, Inbox, Lane, Naming, Receiver};
+use std::alloc::Global;
+use std::marker::Brand;
+use std::sync::Wait;
+
+// Whether a lane sends an item.
+fn sends<J: Naming, R: Wait>(rt: &R, lanes: &mut [Lane<u64, J>], place: usize, item: u64) -> bool {
+    match lanes.get_mut(place) {
+        Some(lane) => {
+            let receipt = lane.receipt();
+            lane.send(rt, item, receipt).is_ok()
+        }
+        None => false,
+    }
+}
+
+// Whether this is taken.
+fn takes<J: Naming, R: Wait>(
+    rt: &R,
+    receiver: &mut Receiver<u64, J>,
+    wanted: Option<(u8, u64)>,
+) -> bool {
+    let receipt = receiver.receipt();
+    receiver.take(rt, receipt) == wanted
+}
+
+// Whether two items arrive, in order, and no other.
+fn arrives<J: Naming, R: Wait>(
+    rt: &R,
+    receiver: &mut Receiver<u64, J>,
+    lanes: &mut [Lane<u64, J>],
+) -> bool {
+    sends(rt, lanes, 1, 20)
+        && sends(rt, lanes, 0, 10)
+        && takes(rt, receiver, Some((1, 20)))
+        && takes(rt, receiver, Some((0, 10)))
+        && takes(rt, receiver, None)
+        && sends(rt, lanes, 1, 21)
+}
+
+// Whether one item of each lane was taken, and one of the second is left over; none where memory
+// was refused for the question.
+fn settles<J: Naming, R: Wait>(
+    rt: &R,
+    alloc: Global,
+    receiver: &mut Receiver<u64, J>,
+    lanes: &mut [Lane<u64, J>],
+) -> Option<bool> {
+    let Ok(mut counted) = Vec::from_elem(alloc, 0u64, receiver.lanes()) else {
+        return None;
+    };
+    let Ok(mut over) = Vec::with_capacity(alloc, INBOX_ITEMS) else {
+        return None;
+    };
+    if !receiver.has_all(lanes) {
+        return Some(false);
+    }
+    receiver.settle(rt, lanes, counted.as_mut_slice(), &mut over);
+    Some(counted.as_slice() == [1, 1].as_slice() && over.as_slice() == [(1, 21)].as_slice())
+}
+
+// The same, asked again where memory was refused.
+fn is_settled<J: Naming, R: Wait>(
+    rt: &R,
+    alloc: Global,
+    receiver: &mut Receiver<u64, J>,
+    lanes: &mut [Lane<u64, J>],
+) -> bool {
+    match settles(rt, alloc, receiver, lanes) {
+        Some(is_right) => is_right,
+        None => settles(rt, alloc, receiver, lanes) == Some(true),
+    }
+}
+
+// Whether all arrives, where there is memory for the lanes.
+fn comes_through<J: Naming, R: Wait>(rt: &R, alloc: Global, inbox: Inbox<u64>) -> bool
+    requires { inbox ≡ J.inbox_of 1 }
+{
+    match inbox.named::<J>(1, 2) {
+        Ok((mut receiver, mut lanes)) => {
+            arrives(rt, &mut receiver, lanes.as_mut_slice())
+                && is_settled(rt, alloc, &mut receiver, lanes.as_mut_slice())
+        }
+        Err(_) => true,
+    }
+}
+
+#[test]
+fn an_inbox_is_whole_or_none(rt: HostRuntime) {
+    if let Ok(inbox) = Inbox::new(rt.alloc()) {
+        let is_well = comes_through::<Brand, HostRuntime>(&rt, rt.alloc(), inbox);
+        assert!(rt; is_well);
+    }
+}

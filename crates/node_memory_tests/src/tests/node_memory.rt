@@ -1,0 +1,163 @@
+// A node with its inbox: a step for which memory is refused is counted, and the inbox goes on. What
+// is open then has all that it is to be sent.
+
+ghost use Rattle.std.specs.Prelude.{◌≡◌};
+
+use mailbox::{Inbox, Lane};
+use node::{Config, Handed, Item, Members, NodeCore, NodeNaming, NodeState, Piece, Port, Report};
+use std::alloc::Global;
+use std::marker::Brand;
+use std::sync::Wait;
+
+// CONNECT of client `a` with keep alive 60 and CleanSession 0 (MQTT 3.1).
+const CONNECT: &[u8] = &[
+    0x10, 0x0D, 0x00, 0x04, 0x4D, 0x51, 0x54, 0x54, 0x04, 0x00, 0x00, 0x3C, 0x00, 0x01, 0x61,
+];
+
+// CONNACK 0 without a session present (MQTT 3.2).
+const ACCEPTED: &[u8] = &[0x20, 0x02, 0x00, 0x00];
+
+const PORT: Port = Port(1);
+
+// Node 1, the sole member of ballot 1.
+fn sole(alloc: Global) -> Option<NodeCore> {
+    let config = Config {
+        members: Members::from_slice(alloc, &[1]).ok()?,
+        primary: 1,
+    };
+    NodeCore::new(alloc, 1, &config).ok()
+}
+
+// The CONNECT as a piece, at the second try where memory was refused at the first.
+fn piece(alloc: Global) -> Option<Piece> {
+    match Piece::from_slice(alloc, CONNECT) {
+        Ok(piece) => Some(piece),
+        Err(_) => Piece::from_slice(alloc, CONNECT).ok(),
+    }
+}
+
+// Whether the lane sends an item.
+fn sends<J: NodeNaming, R: Wait>(rt: &R, lanes: &mut [Lane<Item, J>], item: Item) -> bool {
+    match lanes.first_mut() {
+        Some(lane) => {
+            let receipt = lane.receipt();
+            lane.send(rt, item, receipt).is_ok()
+        }
+        None => false,
+    }
+}
+
+// Whether the lane sends that a connection is opened, the CONNECT, and a tick.
+fn sends_all<J: NodeNaming, R: Wait>(rt: &R, alloc: Global, lanes: &mut [Lane<Item, J>]) -> bool {
+    match piece(alloc) {
+        Some(piece) => {
+            sends(rt, lanes, Item::Opened(PORT, 0))
+                && sends(rt, lanes, Item::Bytes(PORT, piece, 0))
+                && sends(rt, lanes, Item::Tick(1))
+        }
+        None => false,
+    }
+}
+
+// Whether an item is taken, or is not, with no effect on other nodes.
+fn takes<J: NodeNaming, R: Wait>(
+    rt: &R,
+    alloc: Global,
+    state: &mut NodeState<J>,
+    wanted: bool,
+) -> bool {
+    let mut effects = Vec::new(alloc);
+    let receipt = state.receipt();
+    state.take_one(rt, &mut effects, receipt) == wanted && effects.is_empty()
+}
+
+// Takes out what is there for the connection. Where that finds no memory, nothing has changed, and
+// it is done again.
+fn look<J: NodeNaming>(state: &mut NodeState<J>, out: &mut Vec<u8>) -> Option<Handed> {
+    match state.outgoing(PORT, out) {
+        Ok(handed) => Some(handed),
+        Err(_) if out.is_empty() => state.outgoing(PORT, out).ok(),
+        Err(_) => None,
+    }
+}
+
+// Whether the CONNECT is answered, or one loss is counted. A connection that is open has its
+// answer.
+fn is_answered<J: NodeNaming>(alloc: Global, state: &mut NodeState<J>) -> bool {
+    let mut out = Vec::new(alloc);
+    let is_whole = match look(state, &mut out) {
+        Some(Handed::Open) => out.as_slice() == ACCEPTED,
+        Some(_) => state.losses() == 1 && ACCEPTED.starts_with(out.as_slice()),
+        None => false,
+    };
+    is_whole && state.losses() <= 1
+}
+
+// Whether each item is taken, in order, and the CONNECT is answered or lost.
+fn goes_through<J: NodeNaming, R: Wait>(
+    rt: &R,
+    alloc: Global,
+    state: &mut NodeState<J>,
+    lanes: &mut [Lane<Item, J>],
+) -> bool {
+    sends_all(rt, alloc, lanes)
+        && (0..3).all(|_| takes(rt, alloc, state, true))
+        && takes(rt, alloc, state, false)
+        && is_answered(alloc, state)
+        && sends(rt, lanes, Item::Tick(2))
+}
+
+// Whether three items were taken, and the last tick is left over.
+fn tells(report: &Report) -> bool {
+    report.taken.as_slice() == [3].as_slice()
+        && report.left.len() == 1
+        && matches!(report.left.first(), Some((0, Item::Tick(2))))
+}
+
+// Whether the node's report tells so, where there is memory for it.
+fn closes<J: NodeNaming, R: Wait>(
+    rt: &R,
+    alloc: Global,
+    state: NodeState<J>,
+    lanes: &mut [Lane<Item, J>],
+) -> bool {
+    match Report::with_room(alloc, state.lanes()) {
+        Ok(room) => state.has_all(lanes) && tells(&state.close(rt, lanes, room, 0)),
+        Err(_) => true,
+    }
+}
+
+// Whether the node goes through and tells what became of its items, where there is memory for the
+// lane.
+fn is_whole_or_counted<J: NodeNaming, R: Wait>(
+    rt: &R,
+    alloc: Global,
+    inbox: Inbox<Item>,
+    core: NodeCore,
+) -> bool
+    requires inbox { inbox ≡ J.inbox_of 1 }
+    requires first { core ≡ J.first_of 1 }
+{
+    match inbox.named::<J>(1, 1) {
+        Ok((receiver, mut lanes)) => {
+            let mut state = NodeState::new(receiver, core);
+            let goes = goes_through(rt, alloc, &mut state, lanes.as_mut_slice());
+            closes(rt, alloc, state, lanes.as_mut_slice()) && goes
+        }
+        Err(_) => true,
+    }
+}
+
+// Whether a node without memory is none, or counts what it lost.
+fn is_well<R: Wait>(rt: &R, alloc: Global) -> bool {
+    match (Inbox::new(alloc), sole(alloc)) {
+        (Ok(inbox), Some(core)) => is_whole_or_counted::<Brand, R>(rt, alloc, inbox, core),
+        _ => true,
+    }
+}
+
+#[test]
+fn a_refused_step_is_counted(rt: HostRuntime) {
+    let is_well = is_well(&rt, rt.alloc());
+    assert!(rt; is_well);
+}
