@@ -1,5 +1,5 @@
-//! A node on worked rows: bytes of clients, times and messages in, bytes out, as MQTT 3.1.1 spells them. Tests alone stand
-//! here.
+//! Nodes that take what comes and hand out what follows, to one another and to clients. Tests alone
+//! stand here.
 #![tactic(auto)]
 
 #[cfg(test)]

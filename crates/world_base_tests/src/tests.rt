@@ -1,11 +1,7 @@
-// A node on worked rows.
+// Nodes, by what they hand out to one another and to their clients.
 
-mod clients;
 mod cutting;
-mod full_queue;
-mod keep_alive;
+mod handling;
 mod memory;
 mod names;
-mod row;
-mod streams;
 mod two_nodes;

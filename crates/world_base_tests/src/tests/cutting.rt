@@ -1,6 +1,6 @@
 // Nodes that cut their logs, and a snapshot that goes over to another node, byte by byte.
 
-use super::row::{ACCEPTED, Effects, PRESENT, bring, give, hands_over, node_of, take, tell};
+use super::handling::{ACCEPTED, Effects, PRESENT, bring, give, hands_over, node_of, take, tell};
 use ballot::Log;
 use std::alloc::Global;
 use world_base::{Body, Command, Effect, Item, Members, NodeCore, Port};

@@ -1,7 +1,7 @@
 // Memory that is refused. Run with each allocation failing in turn: a step in which it was wanting is counted, where
 // none was all comes out as ever, and what is still open then has all that it is to be sent.
 
-use super::row::{ACCEPTED, CONNECT_A, CONNECT_B, bring, primary, take};
+use super::handling::{ACCEPTED, CONNECT_A, CONNECT_B, bring, primary, take};
 use std::alloc::Global;
 use world_base::{Handed, Item, NodeCore, Port};
 

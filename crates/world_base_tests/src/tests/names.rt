@@ -1,6 +1,8 @@
 // Names: the connections of a ballot are numbered from 1.
 
-use super::row::{CONNECT_A, CONNECT_B, Effects, bring, connecting, give, primary, take, tell};
+use super::handling::{
+    CONNECT_A, CONNECT_B, Effects, bring, connecting, give, primary, take, tell,
+};
 use std::alloc::Global;
 use world_base::{Body, Command, Item, Members, NodeCore, Port};
 

@@ -1,6 +1,8 @@
 // Two nodes by hand: the answer to a CONNECT waits until both hold it.
 
-use super::row::{ACCEPTED, CONNECT_A, Effects, NOTHING, bring, give, hands_over, node_of, take};
+use super::handling::{
+    ACCEPTED, CONNECT_A, Effects, NOTHING, bring, give, hands_over, node_of, take,
+};
 use std::alloc::Global;
 use world_base::{Body, Command, Effect, Item, Message, NodeCore, Port};
 
