@@ -5,3 +5,4 @@ pub mod Plain
 pub mod SameDocument
 pub mod SmallNumbers
 pub mod ValuesRead
+pub mod WordsOfWays

@@ -10,6 +10,7 @@ use Rattle.command_line.specs.declared.job.Serve.{Serve}
 use Rattle.command_line.specs.declared.job.Publish.{Publish}
 use Rattle.command_line.specs.declared.job.Subscribe.{Subscribe}
 use Rattle.command_line.specs.declared.job.Play.{Play}
+use Rattle.command_line.specs.declared.job.Escape.{Escape}
 use Rattle.command_line.specs.declared.fault.LineFault.{LineFault}
 use Rattle.command_line.specs.declared.fault.LineFault.TheVariants as faults
 
@@ -46,8 +47,18 @@ pub record IsSubscribe (rows : List Row) (job : Subscribe) : Type 0 where
   pub tries : HasNumber (codes "tries") rows job.tries
   pub addresses : all_of (codes "address") rows ≡ Some (texts job.addresses.items)
 
-abbrev pub IsPlay : List Row → Play → Type 0
-IsPlay rows job = first_of (codes "file") rows ≡ option_map (λ script. script.now) job.script
+-- the members of a way out and its client, both or neither
+abbrev pub IsEscapeOf : Option Text → Option Text → Option Escape → Type 0
+IsEscapeOf None None None = Unit {0}
+IsEscapeOf (Some members) (Some client) (Some job) = (members ≡ job.members.now) × (client ≡ job.client.now)
+IsEscapeOf _ _ _ = ⊥
+
+abbrev pub IsEscape : List Row → Option Escape → Type 0
+IsEscape rows job = IsEscapeOf (first_of (codes "escape") rows) (first_of (codes "client") rows) job
+
+pub record IsPlay (rows : List Row) (job : Play) : Type 0 where
+  pub script : first_of (codes "file") rows ≡ option_map (λ script. script.now) job.script
+  pub escape : IsEscape rows job.escape
 
 -- the job is that of the subcommand of this name, with the values of its matches
 abbrev pub IsJobOf : Text × List Row → Job → Type 0

@@ -13,6 +13,10 @@ abbrev pub required_option : Text → Rule
 required_option name =
     record (new_rule name) { long = Some name; required = true; value_names = 1 }
 
+-- `--name VALUE`, which may be left out
+abbrev pub free_option : Text → Rule
+free_option name = record (new_rule name) { long = Some name; value_names = 1 }
+
 -- `--name N` with a number from `least` to `most`, which has to be there
 abbrev pub number_option : Text → ℕ → ℕ → Rule
 number_option name least most =
@@ -76,7 +80,9 @@ subscribe_app = with_openings
     (required_option (codes "filter"))) qos_rule) count_rule)
 
 abbrev pub play_app : App
-play_app = with_rule (new_app (codes "play")) file_rule
+play_app = with_rule
+    (with_rule (with_rule (new_app (codes "play")) (free_option (codes "escape")))
+    (free_option (codes "client"))) file_rule
 
 -- the program without its subcommands: it has a version, wants a subcommand, and answers no words with the help
 abbrev pub bare_program : App

@@ -1,7 +1,7 @@
 // The arguments of the subcommands.
 
 ghost use Rattle.std.specs.Prelude.{codes};
-ghost use Rattle.command_line.specs.Program.{IsArgument, address_rule, config_rule, count_rule, file_rule, qos_rule, required_option, retain_rule, tries_rule};
+ghost use Rattle.command_line.specs.Program.{IsArgument, address_rule, config_rule, count_rule, file_rule, free_option, qos_rule, required_option, retain_rule, tries_rule};
 
 use clap::builder::ValueParser;
 use clap::{Arg, ArgAction};
@@ -103,6 +103,32 @@ pub(crate) fn addresses<'a>(alloc: Global) -> Arg<'a>
         .required(true)
         .action(ArgAction::Append)
         .help("Servers, as 127.0.0.1:1883, tried in turn")
+}
+
+// `--NAME VALUE`, which may be left out.
+fn free_option<'a>(alloc: Global, name: &'a str, value: &'a str, help: &'a str) -> Arg<'a>
+    ensures { IsArgument (free_option name.entry.now) result }
+{
+    Arg::new(alloc, name)
+        .long(name)
+        .value_name(value)
+        .help(help)
+}
+
+/// `--escape MEMBERS`.
+pub(crate) fn escape<'a>(alloc: Global) -> Arg<'a>
+    ensures { IsArgument (free_option (codes "escape")) result }
+{
+    let help = "Tells the way out to these members, as 1,2, in place of the transcript";
+    free_option(alloc, "escape", "MEMBERS", help)
+}
+
+/// `--client ID`.
+pub(crate) fn client<'a>(alloc: Global) -> Arg<'a>
+    ensures { IsArgument (free_option (codes "client")) result }
+{
+    let help = "The client that the way out brings back; goes with --escape";
+    free_option(alloc, "client", "ID", help)
 }
 
 /// `[FILE]`.

@@ -31,10 +31,14 @@ Example:
 
 const AFTER_PLAY: &str =
     "The first line opens the world: nodes, members, primary, clients. Each later
-line is one event, and is answered by what came of it.
+line is one event, and is answered by what came of it. With --escape and --client
+it prints lines that may follow the script instead: they lead to a ballot of these
+members, the first of them its primary, and to the client back with its session.
+Where there are none, it says `vbroker: idle`, with status 3.
 
-Example:
-  vbroker play examples/primary_crashes.script";
+Examples:
+  vbroker play examples/primary_crashes.script
+  vbroker play --escape 2 --client a examples/primary_crashes.script";
 
 /// The whole command line.
 pub(crate) fn program<'a>(alloc: Global) -> Result<Command<'a>, AllocError>
@@ -130,5 +134,7 @@ fn play<'a>(alloc: Global) -> Result<Command<'a>, AllocError>
 {
     let about = "Plays a script of nodes and clients in memory, and prints what came of it";
     let command = bare(alloc, "play", about, AFTER_PLAY);
+    let command = add(command, arguments::escape(alloc))?;
+    let command = add(command, arguments::client(alloc))?;
     add(command, arguments::file(alloc))
 }

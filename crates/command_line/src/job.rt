@@ -63,4 +63,15 @@ pub struct Subscribe<'a> {
 pub struct Play<'a> {
     /// The file with the script; without one it is standard input.
     pub script: Option<&'a str>,
+    /// Whose way out is told in place of the transcript, if one is.
+    pub escape: Option<Escape<'a>>,
+}
+
+/// To tell the way out of the world where a script ends.
+#[derive(Debug, Drop)]
+pub struct Escape<'a> {
+    /// The members of the next ballot, with commas between them, which are not checked here.
+    pub members: &'a str,
+    /// The Client Identifier, which is not checked here.
+    pub client: &'a str,
 }

@@ -13,7 +13,7 @@ mod parsing;
 mod reading;
 
 pub use fault::{LineFault, TableFault};
-pub use job::{Job, Play, Publish, Serve, Subscribe};
+pub use job::{Escape, Job, Play, Publish, Serve, Subscribe};
 pub use node_table::{ListeningNode, NodeTable};
 pub use parsing::line;
 pub use reading::table;

@@ -1,18 +1,20 @@
 // The job that the matches of a command line stand for.
 
-ghost use Rattle.std.specs.Prelude.{◌≡◌, ℕ, [], Some, None, IfOk, IfErr, IsErrOf, codes};
+ghost use Rattle.std.specs.Prelude.{◌≡◌, ℕ, [], Option, Some, None, IfOk, IfErr, IsErrOf, codes};
 ghost use Rattle.packet.specs.declared.qos.QoS.{QoS};
 ghost use Rattle.command_line.specs.declared.job.Job.{Job};
 ghost use Rattle.command_line.specs.declared.job.Serve.{Serve};
 ghost use Rattle.command_line.specs.declared.job.Publish.{Publish};
 ghost use Rattle.command_line.specs.declared.job.Subscribe.{Subscribe};
+ghost use Rattle.command_line.specs.declared.job.Play.{Play};
+ghost use Rattle.command_line.specs.declared.job.Escape.{Escape};
 ghost use Rattle.packet.specs.QoS.{qos_number};
 ghost use Rattle.clap.specs.Walk.{texts};
 ghost use Rattle.clap.specs.Words.{all_of, first_of, found_of, rows_of, subcommand_rows_of};
-ghost use Rattle.command_line.specs.Jobs.{HasNumber, IsJob, IsPlay, IsPublish, IsRefusal, IsServe, IsSubscribe};
+ghost use Rattle.command_line.specs.Jobs.{HasNumber, IsEscape, IsJob, IsPlay, IsPublish, IsRefusal, IsServe, IsSubscribe};
 
 use crate::fault::LineFault;
-use crate::job::{Job, Play, Publish, Serve, Subscribe};
+use crate::job::{Escape, Job, Play, Publish, Serve, Subscribe};
 use clap::ArgMatches;
 use packet::QoS;
 use std::alloc::Global;
@@ -34,7 +36,7 @@ pub(crate) fn job_of<'a>(alloc: Global, matches: &ArgMatches<'a>) -> Result<Job<
         return Ok(Job::Subscribe(subscribe(alloc, found)?));
     }
     if let Some(found) = matches.subcommand_matches("play") {
-        return Ok(Job::Play(play(found)));
+        return Ok(Job::Play(play(found)?));
     }
     Err(LineFault::Incomplete)
 }
@@ -94,11 +96,30 @@ fn subscribe<'a>(alloc: Global, found: &ArgMatches<'a>) -> Result<Subscribe<'a>,
     })
 }
 
-fn play<'a>(found: &ArgMatches<'a>) -> Play<'a>
-    ensures { IsPlay (rows_of (found_of found.now)) result }
+fn play<'a>(found: &ArgMatches<'a>) -> Result<Play<'a>, LineFault>
+    ensures job { IfOk result (IsPlay (rows_of (found_of found.now))) }
+    ensures refused { IfErr result (IsRefusal []) }
+    ensures missing { IsErrOf result LineFault.Incomplete
+        → (job : Play) → IsPlay (rows_of (found_of found.now)) job → ⊥ }
 {
-    Play {
+    let escape = escape(found)?;
+    Ok(Play {
         script: found.get_str("file"),
+        escape,
+    })
+}
+
+// Whose way out is told, if one is: both of its words are there, or neither.
+fn escape<'a>(found: &ArgMatches<'a>) -> Result<Option<Escape<'a>>, LineFault>
+    ensures job { IfOk result (IsEscape (rows_of (found_of found.now))) }
+    ensures refused { IfErr result (IsRefusal []) }
+    ensures missing { IsErrOf result LineFault.Incomplete
+        → (job : Option Escape) → IsEscape (rows_of (found_of found.now)) job → ⊥ }
+{
+    match (found.get_str("escape"), found.get_str("client")) {
+        (None, None) => Ok(None),
+        (Some(members), Some(client)) => Ok(Some(Escape { members, client })),
+        _ => Err(LineFault::Incomplete),
     }
 }
 

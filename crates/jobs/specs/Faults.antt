@@ -29,6 +29,7 @@ status_of faults.Words = 2
 status_of faults.Config = 3
 status_of (faults.Script number) = 3
 status_of faults.Losses = 1
+status_of faults.Idle = 3
 status_of (faults.Refused number) = 3
 status_of faults.SessionPresent = 1
 status_of faults.Lost = 1
@@ -50,6 +51,7 @@ abbrev pub played_fault_of : PlayError → Fault
 played_fault_of (plays.Line number) = faults.Script number
 played_fault_of plays.Memory = faults.Memory
 played_fault_of plays.Losses = faults.Losses
+played_fault_of plays.Idle = faults.Idle
 
 -- of nodes that were not served
 abbrev pub served_fault_of : ServeError → Fault

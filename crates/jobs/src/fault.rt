@@ -47,6 +47,9 @@ pub enum Fault {
     /// A script was played to its end and its transcript was written, but its world ran out of memory.
     #[error("out of memory: the transcript shows a world that lost something")]
     Losses,
+    /// The world where a script ends has no way out for the members and the client that were named.
+    #[error("idle")]
+    Idle,
     /// A client's identifier, topic, filter or message was refused.
     #[error("refused {0}")]
     Refused(u8),
@@ -76,7 +79,7 @@ impl Fault {
             | Fault::SessionPresent
             | Fault::Lost => 1,
             Fault::Words => 2,
-            Fault::Config | Fault::Script(_) | Fault::Refused(_) => 3,
+            Fault::Config | Fault::Script(_) | Fault::Idle | Fault::Refused(_) => 3,
         }
     }
 }
@@ -152,6 +155,7 @@ impl From<PlayError> for Fault {
             PlayError::Line(number) => Fault::Script(number),
             PlayError::Memory => Fault::Memory,
             PlayError::Losses => Fault::Losses,
+            PlayError::Idle => Fault::Idle,
         }
     }
 }

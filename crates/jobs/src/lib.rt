@@ -13,6 +13,6 @@ mod talking;
 pub use fault::Fault;
 pub use performing::{perform, tell};
 pub use refusing::refuse;
-pub use scripts::play_text;
+pub use scripts::{escape_text, play_text};
 pub use serving::serve_table;
 pub use talking::{publish, subscribe};

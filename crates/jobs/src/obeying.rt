@@ -121,8 +121,8 @@ fn number_of(word: &str) -> Result<u8, u8> {
     }
 }
 
-// Numbers with commas between them.
-fn members_of(alloc: Global, word: &str) -> Result<Members, u8> {
+/// The numbers of a word, with commas between them, or the number by which it is refused.
+pub(crate) fn members_of(alloc: Global, word: &str) -> Result<Members, u8> {
     let mut numbers = Vec::new(alloc);
     for part in word.split(',') {
         let number = number_of(part)?;

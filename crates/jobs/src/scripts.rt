@@ -4,17 +4,28 @@ ghost use Rattle.std.specs.Prelude.{◌≡◌, ◌<◌, ℕ, OnOk, OnErr, IsErrO
 ghost use Rattle.std.specs.Io.KnownBytes.{Appends};
 ghost use Rattle.script.specs.Scripts.{Refuses, lines_of};
 ghost use Rattle.script.specs.declared.error.ScriptError.TheVariants.{Line};
-ghost use Rattle.jobs.specs.Transcripts.{Prints};
+ghost use Rattle.play.specs.Ways.{HasNoWay};
+ghost use Rattle.jobs.specs.Transcripts.{Prints, PrintsWay};
 
 use crate::fault::Fault;
+use crate::obeying::members_of;
 use crate::reading::{bytes_of, rest_of};
-use command_line::Play;
-use play::{PlayError, play};
+use command_line::{Escape, Play};
+use packet::ClientId;
+use play::{PlayError, escape, play};
 use std::alloc::Global;
 use std::io::{BufRead, Write};
 use std::rt::Files;
+use topics::MalformedKind;
 
-/// Plays the script of a file, or of the input where no file is named, and writes its transcript.
+// The number by which a word is refused that lists no members.
+const BAD_MEMBERS: u8 = 20;
+
+// The number of every refusal for want of memory.
+const NO_MEMORY: u8 = 12;
+
+/// Plays the script of a file, or of the input where no file is named, and writes its transcript, or a way out of the world where
+/// it ends.
 pub(crate) fn run<R, I, O>(
     rt: &R,
     job: &Play<'_>,
@@ -30,7 +41,57 @@ where
         Some(file) => bytes_of(rt, file)?,
         None => rest_of(rt.alloc(), input)?,
     };
-    play_text(rt.alloc(), text.as_slice(), output)
+    match &job.escape {
+        Some(escape) => tell_way(rt.alloc(), text.as_slice(), escape, output),
+        None => play_text(rt.alloc(), text.as_slice(), output),
+    }
+}
+
+// Plays a script, and writes a way out of the world where it ends, as the words ask for it.
+fn tell_way<O: Write>(
+    alloc: Global,
+    text: &[u8],
+    job: &Escape<'_>,
+    output: &mut O,
+) -> Result<(), Fault> {
+    let members = match members_of(alloc, job.members) {
+        Ok(members) => members,
+        Err(NO_MEMORY) => return Err(Fault::Memory),
+        Err(_) => return Err(Fault::Refused(BAD_MEMBERS)),
+    };
+    let client = match ClientId::new(alloc, job.client) {
+        Ok(client) => client,
+        Err(MalformedKind::Memory) => return Err(Fault::Memory),
+        Err(fault) => return Err(Fault::Refused(fault.number())),
+    };
+    escape_text(alloc, text, members.as_slice(), &client, output)
+}
+
+/// Plays a script, and writes a way out of the world where it ends, as lines that may follow it.
+pub fn escape_text<O: Write>(
+    alloc: Global,
+    text: &[u8],
+    members: &[u8],
+    client: &ClientId,
+    output: &mut O,
+) -> Result<(), Fault>
+    ensures told { OnOk result (PrintsWay text.now members.now client.now
+        (O.contents output.old) (O.contents output.new)) }
+
+    // Where there is none, nothing is written.
+    ensures idle { IsErrOf result Fault.Idle → HasNoWay text.now members.now client.now }
+    ensures untouched { IsErrOf result Fault.Idle
+        → O.contents output.new ≡ O.contents output.old }
+
+    // A text is no script for its first line that has not its form; nothing is written of it.
+    ensures refused { (number : ℕ) → IsErrOf result (Fault.Script number)
+        → Refuses (lines_of text.now) (Line number) }
+{
+    let mut way = Vec::new(alloc);
+    match escape(alloc, text, members, client, &mut way) {
+        Ok(()) => write(way.as_slice(), output),
+        Err(error) => Err(Fault::from(error)),
+    }
 }
 
 /// Plays a script, and writes its transcript where that is whole.

@@ -3,6 +3,8 @@ use Rattle.ballot.specs.declared.error.OpeningError.{OpeningError}
 use Rattle.ballot.specs.declared.error.OpeningError.TheVariants as openings
 use Rattle.script.specs.declared.error.ScriptError.{ScriptError}
 use Rattle.script.specs.declared.error.ScriptError.TheVariants as scripts
+use Rattle.world.specs.declared.escape_error.EscapeError.{EscapeError}
+use Rattle.world.specs.declared.escape_error.EscapeError.TheVariants as escapes
 use Rattle.play.specs.declared.error.PlayError.{PlayError}
 use Rattle.play.specs.declared.error.PlayError.TheVariants as faults
 
@@ -15,3 +17,8 @@ fault_of scripts.Memory = faults.Memory
 abbrev pub opening_fault_of : OpeningError → PlayError
 opening_fault_of openings.BadMembers = faults.Line 1
 opening_fault_of openings.Memory = faults.Memory
+
+-- of a way out that is not told
+abbrev pub escape_fault_of : EscapeError → PlayError
+escape_fault_of escapes.Idle = faults.Idle
+escape_fault_of escapes.Memory = faults.Memory

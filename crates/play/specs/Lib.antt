@@ -1,4 +1,5 @@
 pub mod Transcripts
+pub mod Ways
 pub mod Events
 pub mod Faults
 pub mod Inside

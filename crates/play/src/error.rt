@@ -4,7 +4,7 @@ use script::ScriptError;
 use std::alloc::{AllocError, AllocFailed};
 use std::error::Error;
 use std::fmt;
-use world::{Memory, OpeningError};
+use world::{EscapeError, Memory, OpeningError};
 
 /// Why a script was not played as it should be.
 #[derive(Clone, Copy, Debug, PartialEq, Eq)]
@@ -16,6 +16,8 @@ pub enum PlayError {
     Memory,
     /// It was played to its end, and in some event memory was wanting.
     Losses,
+    /// The world where it ends has no way out for these members and this client.
+    Idle,
 }
 
 impl fmt::Display for PlayError {
@@ -24,6 +26,7 @@ impl fmt::Display for PlayError {
             PlayError::Line(number) => write!(f, "script line {number}"),
             PlayError::Memory => write!(f, "out of memory"),
             PlayError::Losses => write!(f, "memory was wanting in the world"),
+            PlayError::Idle => write!(f, "no way out"),
         }
     }
 }
@@ -88,6 +91,20 @@ impl From<OpeningError> for PlayError {
             // A script that is read opens a world that may open.
             OpeningError::BadMembers => PlayError::Line(1),
             OpeningError::Memory => PlayError::Memory,
+        }
+    }
+}
+
+impl From<EscapeError> for PlayError {
+    ghost use Rattle.std.specs.Prelude.{◌≡◌};
+    ghost use Rattle.play.specs.Faults.{escape_fault_of};
+
+    ghost from_gives = { λ error fault. fault ≡ escape_fault_of error };
+
+    fn from(error: EscapeError) -> PlayError {
+        match error {
+            EscapeError::Idle => PlayError::Idle,
+            EscapeError::Memory => PlayError::Memory,
         }
     }
 }

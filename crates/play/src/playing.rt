@@ -52,7 +52,11 @@ fn play_whole(
 }
 
 // Lets happen what the orders ask for, one after the other, and appends what came of it.
-fn play_all(stage: &mut Stage, orders: &[Order], transcript: &mut Vec<u8>) -> Result<(), PlayError>
+pub(crate) fn play_all(
+    stage: &mut Stage,
+    orders: &[Order],
+    transcript: &mut Vec<u8>,
+) -> Result<(), PlayError>
     requires told { AreTold stage.old.listeners.items stage.old.world }
     ensures lines { OnOk result (AppendsAll (names_of stage.old.listeners.items) orders.now
         stage.old.world stage.new.world transcript.old.items transcript.new.items) }

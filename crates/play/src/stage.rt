@@ -46,6 +46,7 @@ impl Stage {
         ensures bad { (number : ℕ) → IsErrOf result (PlayError.Line number)
             → can_open opening.nodes opening.config ≡ false }
         ensures whole { IsErrOf result PlayError.Losses → ⊥ }
+        ensures led { IsErrOf result PlayError.Idle → ⊥ }
     {
         let Opening {
             nodes,

@@ -10,4 +10,5 @@ mod reading;
 mod refusals;
 mod rows;
 mod scripts;
+mod ways;
 mod worlds;

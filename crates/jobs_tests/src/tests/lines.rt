@@ -2,7 +2,7 @@
 
 use clap::Error;
 use clap::error::ErrorKind;
-use command_line::{Job, LineFault, Publish, Subscribe, line};
+use command_line::{Job, LineFault, Play, Publish, Subscribe, line};
 use packet::QoS;
 use std::alloc::Global;
 
@@ -54,6 +54,8 @@ enum Outcome<'a> {
     Serves(&'a str),
     /// For a script, in this file or in none.
     Plays(Option<&'a str>),
+    /// For a way out to these members with this client.
+    Escapes(&'a str, &'a str),
     /// For the publication that stands above: the first one, or the one that is retained.
     Publishes,
     Retains,
@@ -61,6 +63,8 @@ enum Outcome<'a> {
     Subscribes,
     /// They are refused for this.
     Refused(ErrorKind),
+    /// One of the words that go together is missing.
+    Incomplete,
     /// They are answered by a text in which this stands.
     Answered(&'a str),
 }
@@ -76,11 +80,22 @@ fn comes(alloc: Global, words: &[&str], outcome: Outcome<'_>) -> bool {
 fn is_job(job: &Job<'_>, outcome: Outcome<'_>) -> bool {
     match (job, outcome) {
         (Job::Serve(job), Outcome::Serves(config)) => job.config == config,
-        (Job::Play(job), Outcome::Plays(script)) => job.script == script,
+        (Job::Play(job), Outcome::Plays(script)) => job.script == script && job.escape.is_none(),
+        (Job::Play(job), Outcome::Escapes(members, client)) => is_way(job, members, client),
         (Job::Publish(job), Outcome::Publishes) => is_usual(job),
         (Job::Publish(job), Outcome::Retains) => job.retain && job.message == "-5",
         (Job::Subscribe(job), Outcome::Subscribes) => is_wanted(job),
         _ => false,
+    }
+}
+
+// Whether it asks for a way out of these words, in the script of the input.
+fn is_way(job: &Play<'_>, members: &str, client: &str) -> bool {
+    match &job.escape {
+        Some(escape) => {
+            job.script.is_none() && escape.members == members && escape.client == client
+        }
+        None => false,
     }
 }
 
@@ -100,6 +115,7 @@ fn is_fault(alloc: Global, fault: &LineFault, outcome: Outcome<'_>) -> bool {
     match (fault, outcome) {
         (LineFault::Words(error), Outcome::Refused(kind)) => error.kind() == kind,
         (LineFault::Words(error), Outcome::Answered(text)) => says(alloc, error, text),
+        (LineFault::Incomplete, Outcome::Incomplete) => true,
         _ => false,
     }
 }
@@ -131,6 +147,15 @@ const ROWS: &[(&[&str], Outcome<'static>)] = &[
     (&SUB, Outcome::Subscribes),
     (&["vbroker", "play"], Outcome::Plays(None)),
     (&["vbroker", "play", "s"], Outcome::Plays(Some("s"))),
+    (
+        &["vbroker", "play", "--client=a", "--escape", "1,2"],
+        Outcome::Escapes("1,2", "a"),
+    ),
+    (
+        &["vbroker", "play", "--escape", "1,2", "s"],
+        Outcome::Incomplete,
+    ),
+    (&["vbroker", "play", "--client", "a"], Outcome::Incomplete),
     (&NEGATIVE, Outcome::Retains),
     (
         &[],
@@ -158,6 +183,11 @@ const REFUSED: &[(&str, ErrorKind)] = &[
     ("vbroker serve --config a b", ErrorKind::UnknownArgument),
     ("vbroker serve --port 1", ErrorKind::UnknownArgument),
     ("vbroker play a b", ErrorKind::UnknownArgument),
+    ("vbroker play --client a --escape", ErrorKind::InvalidValue),
+    (
+        "vbroker play --escape 1 --escape 2 --client a",
+        ErrorKind::ArgumentConflict,
+    ),
     (
         "vbroker sub --id b --filter # --qos 3 --count 1 h:1",
         ErrorKind::ValueValidation,

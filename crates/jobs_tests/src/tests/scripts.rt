@@ -34,6 +34,62 @@ fn scripts_of_the_input_are_played(rt: HostRuntime) {
     }
 }
 
+// A script after which there is a way out, and its lines.
+const ANSWERED: &str = "world 1 1 1 a\nopen a 1\nup 1 all\ndown 1 all\n";
+
+const WAY: &str = "assign 1 1\n\
+    deliver 0\n\
+    deliver 1\n\
+    deliver 2\n\
+    deliver 3\n\
+    deliver 4\n\
+    abandon a\n\
+    open a 1\n\
+    up 2 15\n\
+    down 2 4\n";
+
+// Words that ask for a way out of a script, and how they end.
+const ESCAPED: &[(&[&str], &str, End<'static>)] = &[
+    (
+        &["vbroker", "play", "--escape", "1", "--client", "a"],
+        ANSWERED,
+        (0, WAY, ""),
+    ),
+    (
+        &["vbroker", "play", "--escape", "2", "--client", "a"],
+        ANSWERED,
+        (3, "", "vbroker: idle\n"),
+    ),
+    (
+        &["vbroker", "play", "--escape", "1", "--client", "b"],
+        ANSWERED,
+        (3, "", "vbroker: idle\n"),
+    ),
+    (
+        &["vbroker", "play", "--escape", "x", "--client", "a"],
+        ANSWERED,
+        (3, "", "vbroker: refused 20\n"),
+    ),
+    (
+        &["vbroker", "play", "--escape", "1", "--client", ""],
+        ANSWERED,
+        (3, "", "vbroker: refused 6\n"),
+    ),
+    (
+        &["vbroker", "play", "--escape", "1", "--client", "a"],
+        "",
+        (3, "", "vbroker: script line 1\n"),
+    ),
+];
+
+#[test]
+fn ways_out_are_told(rt: HostRuntime) {
+    for (words, script, end) in ESCAPED {
+        let is_told = ends(&rt, words, script.as_bytes(), *end);
+        assert!(rt; is_told, "{script}");
+    }
+}
+
 // A name that no file has yet.
 fn free_name<R: Clock + AllocGlobal>(rt: &R) -> Option<String> {
     let now = SystemTime::now(rt).ok()?.duration_since(UNIX_EPOCH).ok()?;

@@ -27,7 +27,7 @@ fn is_played_or_told(alloc: Global, row: &[&str; 2]) -> bool {
         Ok(()) => told == row[1].as_bytes(),
         Err(PlayError::Losses) => lines_in(told) == lines_in(row[1].as_bytes()),
         Err(PlayError::Memory) => true,
-        Err(PlayError::Line(_)) => false,
+        Err(PlayError::Line(_) | PlayError::Idle) => false,
     };
     is_so && accepted_in(told) == 0
 }

@@ -1,0 +1,73 @@
+-- The way out of the world where a script ends, and its lines.
+use Rattle.std.specs.Prelude.{◌≡◌, ℕ, List, [], ◌∷◌, ◌++◌, codes}
+use Rattle.std.specs.Fmt.{decimal}
+use Rattle.script.specs.Scripts.{IsScript, lines_of}
+use Rattle.script.specs.declared.reading.Script.{Script}
+use Rattle.world.specs.declared.event.Event.{Event}
+use Rattle.world.specs.declared.event.Event.TheVariants as events
+use Rattle.world.specs.Escaping.{CanEscape, LeadsOut}
+use Rattle.world.specs.Goes.{AreReached}
+use Rattle.world.specs.Standing.{IsReached}
+use Rattle.world.specs.World.{WorldState}
+use Rattle.play.specs.Transcripts.{Played}
+
+-- ---- the lines
+
+-- the members that are left, each after a comma, 44
+abbrev pub more_members : List ℕ → List ℕ
+more_members [] = []
+more_members (member ∷ members) = 44 ∷ (decimal member ++ more_members members)
+
+-- `1,2`
+abbrev pub members_text : List ℕ → List ℕ
+members_text [] = []
+members_text (member ∷ members) = decimal member ++ more_members members
+
+-- a word, a field and the end of the line, or two fields with a space, 32, between them
+abbrev pub one_field : List ℕ → List ℕ → List ℕ
+one_field word field = word ++ (field ++ 10 ∷ [])
+
+abbrev pub two_fields : List ℕ → List ℕ → List ℕ → List ℕ
+two_fields word field other = word ++ (field ++ (32 ∷ (other ++ 10 ∷ [])))
+
+-- the line of each event that a way out may have, as a script writes it
+abbrev pub event_line : Event → List ℕ
+event_line (events.Assign config) = two_fields (codes "assign ") (members_text config.members) (decimal config.primary)
+event_line (events.Deliver number) = one_field (codes "deliver ") (decimal number)
+event_line (events.Open client node) = two_fields (codes "open ") client (decimal node)
+event_line (events.CarryUp connection count) = two_fields (codes "up ") (decimal connection) (decimal count)
+event_line (events.CarryDown connection count) = two_fields (codes "down ") (decimal connection) (decimal count)
+event_line (events.Abandon client) = one_field (codes "abandon ") client
+event_line _ = []
+
+abbrev pub event_lines : List Event → List ℕ
+event_lines [] = []
+event_lines (event ∷ more) = event_line event ++ event_lines more
+
+-- ---- the world where a script ends
+
+-- a text is a script, whose orders lead from the world that it opens to this one, and memory was wanting in none of them
+pub record EndsIn (text : List ℕ) (last : WorldState) : Type 0 where
+  pub script : Script
+  pub is_script : IsScript (lines_of text) script
+  pub first : WorldState
+  pub opened : AreReached script.opening.nodes script.opening.config first.nodes
+  pub exact : IsReached script.opening.nodes script.opening.config script.opening.clients.items first
+  pub lines : List ℕ
+  pub played : Played script.opening.clients.items first script.orders.items lines last
+  pub whole : last.losses ≡ 0
+
+-- the lines were appended of events that lead out of that world
+pub record TellsWay (text members : List ℕ) (client : List ℕ) (old new : List ℕ) : Type 0 where
+  pub last : WorldState
+  pub ends : EndsIn text last
+  pub can : CanEscape members client last
+  pub events : List Event
+  pub leads : LeadsOut client last events
+  pub is : new ≡ old ++ event_lines events
+
+-- there are none
+pub record HasNoWay (text members : List ℕ) (client : List ℕ) : Type 0 where
+  pub last : WorldState
+  pub ends : EndsIn text last
+  pub none : CanEscape members client last → ⊥

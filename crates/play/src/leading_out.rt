@@ -1,0 +1,57 @@
+// The way out of the world where a script ends.
+
+ghost use Rattle.std.specs.Prelude.{◌≡◌, ◌++◌, ℕ, OnOk, OnErr, IsErrOf};
+ghost use Rattle.script.specs.declared.error.ScriptError.TheVariants.{Line};
+ghost use Rattle.script.specs.Scripts.{Refuses, lines_of};
+ghost use Rattle.play.specs.Ways.{HasNoWay, TellsWay, event_lines};
+
+use crate::error::PlayError;
+use crate::event_lines::write_event;
+use crate::playing::play_all;
+use crate::stage::Stage;
+use packet::ClientId;
+use script::{Script, read};
+use std::alloc::Global;
+use world::Event;
+
+/// Plays a script and appends a way out of the world where it ends, as lines that may follow it. No transcript is written.
+/// [`PlayError::Idle`] comes where there is none, by `World::escape`.
+pub fn escape(
+    alloc: Global,
+    text: &[u8],
+    members: &[u8],
+    client: &ClientId,
+    way: &mut Vec<u8>,
+) -> Result<(), PlayError>
+    ensures told { OnOk result
+        (TellsWay text.now members.now client.now way.old.items way.new.items) }
+    ensures idle { IsErrOf result PlayError.Idle → HasNoWay text.now members.now client.now }
+
+    // A text is no script for its first line that has not its form.
+    ensures refused { (number : ℕ) → IsErrOf result (PlayError.Line number)
+        → Refuses (lines_of text.now) (Line number) }
+{
+    let Script { opening, orders } = read(alloc, text)?;
+    let mut stage = match Stage::new(alloc, opening) {
+        Ok(stage) => stage,
+        Err(error) => return Err(error),
+    };
+    let mut transcript = Vec::new(alloc);
+    play_all(&mut stage, orders.as_slice(), &mut transcript)?;
+    if stage.world.losses() > 0 {
+        return Err(PlayError::Losses);
+    }
+    let events = stage.world.escape(members, client)?;
+    write_events(alloc, events.as_slice(), way)
+}
+
+// Appends the lines of events.
+fn write_events(alloc: Global, events: &[Event], way: &mut Vec<u8>) -> Result<(), PlayError>
+    ensures lines { OnOk result (way.new.items ≡ way.old.items ++ event_lines events.now) }
+    ensures memory { OnErr result (IsErrOf result PlayError.Memory) }
+{
+    for event in events {
+        write_event(alloc, event, way)?;
+    }
+    Ok(())
+}
