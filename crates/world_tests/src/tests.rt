@@ -14,3 +14,4 @@ mod repeats;
 mod row;
 mod stale;
 mod travelling;
+mod ways;

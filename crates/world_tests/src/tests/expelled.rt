@@ -21,9 +21,9 @@ const AGREED: &[Said] = &[
     Said::Packet,
 ];
 
-// The events of the script `client_is_expelled` of the folder `examples`. The session of b ends while it is connected, and once more
-// while it has none. What is published then is for nobody. It comes back to no session, and subscribes in its second one.
-const EXPELLED: &[Row] = &[
+/// The events of the script `client_is_expelled` of the folder `examples`. The session of b ends while it is connected, and once more
+/// while it has none. What is published then is for nobody. It comes back to no session, and subscribes in its second one.
+pub const EXPELLED: &[Row] = &[
     Row::Does(Deed::Open("b", 1), 0, 0),
     Row::Does(Deed::Up(1), 0, 1),
     Row::Does(Deed::Down(1), 0, 1),

@@ -1,0 +1,444 @@
+// Ways out: after every event of the known courses, for members and a client, the end that is promised, or Idle.
+
+use crate::tests::crashes::CRASHED;
+use crate::tests::expelled::EXPELLED;
+use crate::tests::row::{Deed, Row, does, is_right, named, opened};
+use crate::tests::stale::STALE;
+use crate::tests::travelling::TRAVELLED;
+use packet::ClientId;
+use std::alloc::Global;
+use world::{Command, EscapeError, Event, World};
+
+// The primary answers a CONNECT once its backup holds it.
+const WAITS: &[Row] = &[
+    Row::Does(Deed::Open("a", 1), 0, 0),
+    Row::Does(Deed::Up(1), 1, 0),
+    Row::Does(Deed::Deliver(0), 2, 1),
+    Row::Does(Deed::Deliver(1), 3, 1),
+    Row::Does(Deed::Down(1), 3, 1),
+];
+
+// A sole member is joined by another one, which becomes the primary. No client comes.
+const CHANGED: &[Row] = &[
+    Row::Does(Deed::Assign(&[1, 2], 2), 1, 0),
+    Row::Does(Deed::Deliver(0), 2, 0),
+    Row::Does(Deed::Deliver(1), 3, 0),
+    Row::Does(Deed::Deliver(2), 4, 0),
+    Row::Does(Deed::Deliver(3), 5, 0),
+    Row::Does(Deed::Deliver(4), 6, 0),
+    Row::Does(Deed::Deliver(5), 7, 0),
+    Row::Does(Deed::Deliver(6), 8, 0),
+    Row::Does(Deed::Deliver(7), 9, 1),
+    Row::Does(Deed::Deliver(8), 10, 1),
+];
+
+// A ballot waits for its activation when the next one is assigned, and never becomes active. The last client comes then.
+const PUT_OUT: &[Row] = &[
+    Row::Does(Deed::Assign(&[1, 2], 2), 1, 0),
+    Row::Does(Deed::Deliver(0), 2, 0),
+    Row::Does(Deed::Deliver(1), 3, 0),
+    Row::Does(Deed::Deliver(2), 4, 0),
+    Row::Does(Deed::Deliver(3), 5, 0),
+    Row::Does(Deed::Deliver(4), 6, 0),
+    Row::Does(Deed::Assign(&[3], 3), 7, 0),
+    Row::Does(Deed::Deliver(5), 8, 0),
+    Row::Does(Deed::Deliver(7), 8, 0),
+    Row::Does(Deed::Deliver(6), 9, 0),
+    Row::Does(Deed::Deliver(8), 10, 0),
+    Row::Does(Deed::Deliver(9), 11, 0),
+    Row::Does(Deed::Deliver(10), 12, 0),
+    Row::Does(Deed::Deliver(11), 12, 1),
+    Row::Idle(Deed::Open("a", 1)),
+    Row::Does(Deed::Open("a", 3), 12, 1),
+    Row::Does(Deed::Up(1), 12, 2),
+    Row::Does(Deed::Down(1), 12, 2),
+];
+
+// A client has a session after the log that is fetched, once so many rows have come and before so many have.
+struct Kept {
+    client: &'static str,
+    from: usize,
+    until: usize,
+}
+
+// A course of events in a world of so many nodes, with these members of ballot 1. One of the active configuration always lives.
+struct Course {
+    name: &'static str,
+    nodes: u8,
+    members: &'static [u8],
+    rows: &'static [Row],
+    kept: &'static [Kept],
+}
+
+// A session that stays.
+const NEVER: usize = usize::MAX;
+
+const COURSES: &[Course] = &[
+    Course {
+        name: "waits",
+        nodes: 2,
+        members: &[1, 2],
+        rows: WAITS,
+        kept: &[Kept {
+            client: "a",
+            from: 2,
+            until: NEVER,
+        }],
+    },
+    Course {
+        name: "changed",
+        nodes: 2,
+        members: &[1],
+        rows: CHANGED,
+        kept: &[],
+    },
+    Course {
+        name: "crashed",
+        nodes: 2,
+        members: &[1, 2],
+        rows: CRASHED,
+        kept: &[
+            Kept {
+                client: "b",
+                from: 2,
+                until: NEVER,
+            },
+            Kept {
+                client: "a",
+                from: 11,
+                until: NEVER,
+            },
+        ],
+    },
+    Course {
+        name: "stale",
+        nodes: 2,
+        members: &[1, 2],
+        rows: STALE,
+        kept: &[
+            Kept {
+                client: "b",
+                from: 2,
+                until: NEVER,
+            },
+            Kept {
+                client: "a",
+                from: 11,
+                until: NEVER,
+            },
+        ],
+    },
+    Course {
+        name: "travelled",
+        nodes: 2,
+        members: &[1],
+        rows: TRAVELLED,
+        kept: &[Kept {
+            client: "a",
+            from: 2,
+            until: NEVER,
+        }],
+    },
+    Course {
+        name: "expelled",
+        nodes: 1,
+        members: &[1],
+        rows: EXPELLED,
+        kept: &[
+            Kept {
+                client: "b",
+                from: 2,
+                until: 12,
+            },
+            Kept {
+                client: "b",
+                from: 22,
+                until: NEVER,
+            },
+            Kept {
+                client: "a",
+                from: 7,
+                until: NEVER,
+            },
+        ],
+    },
+    Course {
+        name: "put out",
+        nodes: 3,
+        members: &[1],
+        rows: PUT_OUT,
+        kept: &[Kept {
+            client: "a",
+            from: 17,
+            until: NEVER,
+        }],
+    },
+];
+
+// Lists of members: the rising ones of nodes 1 to 3, and some that no ballot may have.
+const LISTS: &[&[u8]] = &[
+    &[1],
+    &[2],
+    &[3],
+    &[1, 2],
+    &[1, 3],
+    &[2, 3],
+    &[1, 2, 3],
+    &[],
+    &[2, 1],
+    &[2, 2],
+];
+
+const CLIENTS: &[&str] = &["a", "b", "z"];
+
+// The world after so many rows of a course.
+fn played(alloc: Global, course: &Course, count: usize) -> Option<World> {
+    let mut world = opened(alloc, course.nodes, course.members)?;
+    for row in course.rows.get(..count)? {
+        if !is_right(alloc, &mut world, row) {
+            return None;
+        }
+    }
+    Some(world)
+}
+
+// Whether a node has crashed in these rows.
+fn has_crashed(rows: &[Row], node: u8) -> bool {
+    rows.iter().any(|row| is_crash(row, node))
+}
+
+fn is_crash(row: &Row, node: u8) -> bool {
+    match row {
+        Row::Does(Deed::Crash(crashed), _, _) => *crashed == node,
+        _ => false,
+    }
+}
+
+// The ballot that is given last in these rows.
+fn last_ballot(rows: &[Row]) -> u64 {
+    let mut ballot: u64 = 1;
+    for row in rows {
+        if is_assign(row) {
+            ballot = ballot.saturating_add(1);
+        }
+    }
+    ballot
+}
+
+fn is_assign(row: &Row) -> bool {
+    match row {
+        Row::Does(Deed::Assign(_, _), _, _) => true,
+        _ => false,
+    }
+}
+
+// Whether members may form the next ballot after these rows: they rise, and are nodes that live.
+fn may_lead(course: &Course, rows: &[Row], members: &[u8]) -> bool {
+    let mut last = 0;
+    for member in members {
+        if *member <= last || *member > course.nodes || has_crashed(rows, *member) {
+            return false;
+        }
+        last = *member;
+    }
+    !members.is_empty()
+}
+
+// Whether a client has a session after so many rows.
+fn is_kept(course: &Course, count: usize, client: &str) -> bool {
+    course.kept.iter().any(|kept| kept.client == client && kept.from <= count && count < kept.until)
+}
+
+// Whether a way out of the world after so many rows is told where there is one, and leads to its end, and Idle else.
+fn is_told(alloc: Global, course: &Course, count: usize, members: &[u8], client: &str) -> bool {
+    let Some(world) = played(alloc, course, count) else {
+        return false;
+    };
+    let Some(name) = named(alloc, client) else {
+        return false;
+    };
+    let rows = course.rows.get(..count).unwrap_or(&[]);
+    let may = may_lead(course, rows, members) && is_kept(course, count, client);
+    match world.escape(members, &name) {
+        Ok(way) => {
+            let most = members.len().saturating_mul(6).saturating_add(5);
+            let ballot = last_ballot(rows).saturating_add(1);
+            may && way.len() <= most
+                && match played(alloc, course, count) {
+                    Some(then) => comes_out(alloc, &world, then, way.as_slice(), ballot, client),
+                    None => false,
+                }
+        }
+        Err(error) => error == EscapeError::Idle && !may,
+    }
+}
+
+// Whether each of the events happens, and they end as they are to.
+fn comes_out(
+    alloc: Global,
+    before: &World,
+    mut world: World,
+    way: &[Event],
+    ballot: u64,
+    client: &str,
+) -> bool {
+    for event in way {
+        if world.step(event).is_err() {
+            return false;
+        }
+    }
+    world.losses() == 0
+        && world.active().0 == ballot
+        && begins(before, &world)
+        && is_back(alloc, &world, client)
+}
+
+// Whether a client is online with its session present.
+fn is_back(alloc: Global, world: &World, client: &str) -> bool {
+    match named(alloc, client) {
+        Some(name) => is_served(world, &name),
+        None => false,
+    }
+}
+
+fn is_served(world: &World, client: &ClientId) -> bool {
+    match world.client(client) {
+        Some(core) => core.connected() && core.present(),
+        None => false,
+    }
+}
+
+// Whether what is agreed in a world begins what is agreed in another.
+fn begins(before: &World, after: &World) -> bool {
+    let (first, second) = before.agreed();
+    let (more, most) = after.agreed();
+    before.agreed_len() <= after.agreed_len()
+        && first
+            .iter()
+            .chain(second.iter())
+            .zip(more.iter().chain(most.iter()))
+            .all(|(one, other)| is_same(one, other))
+}
+
+// Whether two commands are of one kind, and say the same of a client, of a ballot.
+fn is_same(one: &Command, other: &Command) -> bool {
+    match (one, other) {
+        (Command::Connect(_, client, clean), Command::Connect(_, name, is_clean)) => {
+            client == name && *clean == *is_clean
+        }
+        (Command::Packet(_, packet), Command::Packet(_, written)) => {
+            packet.packet() == written.packet()
+        }
+        (Command::Start(ballot), Command::Start(number)) => *ballot == *number,
+        (Command::Expel(client), Command::Expel(name)) => client == name,
+        (Command::Lost(_), Command::Lost(_)) => true,
+        _ => false,
+    }
+}
+
+// The first of these rows after which something is not as it is to be: how many had come, for which members.
+fn fault_in(alloc: Global, course: &Course) -> Option<(usize, &'static [u8])> {
+    for count in 0..course.rows.len().saturating_add(1) {
+        for members in LISTS {
+            for client in CLIENTS {
+                if !is_told(alloc, course, count, members, client) {
+                    return Some((count, *members));
+                }
+            }
+        }
+    }
+    None
+}
+
+// CONNACK 0 with session present (MQTT 3.2).
+const PRESENT: &[u8] = b"\x20\x02\x01\x00";
+
+// Whether the client that was answered comes back at node 2 alone after these deeds: before the last event its CONNACK waits, and
+// at the end three commands are agreed in ballot 2.
+fn comes_back(alloc: Global, deeds: &[Deed]) -> Option<bool> {
+    let mut world = answered(alloc, deeds)?;
+    let way = world.escape(&[2], &named(alloc, "a")?).ok()?;
+    let (last, front) = way.as_slice().split_last()?;
+    world.run(front);
+    let waits = world.down(2) == PRESENT;
+    let comes = world.step(last).is_ok() && is_back(alloc, &world, "a");
+    let ends = world.agreed_len() == 3 && world.active().0 == 2 && world.losses() == 0;
+    Some(way.len() == 10 && waits && comes && ends)
+}
+
+// The world where the client was answered, after these deeds.
+fn answered(alloc: Global, deeds: &[Deed]) -> Option<World> {
+    let mut world = opened(alloc, 2, &[1, 2])?;
+    for row in WAITS {
+        if !is_right(alloc, &mut world, row) {
+            return None;
+        }
+    }
+    for deed in deeds {
+        if !does(alloc, &mut world, deed) {
+            return None;
+        }
+    }
+    Some(world)
+}
+
+// Whether there is no way out for these members and this client after these deeds.
+fn is_idle(alloc: Global, deeds: &[Deed], members: &[u8], client: &str) -> Option<bool> {
+    let world = answered(alloc, deeds)?;
+    match world.escape(members, &named(alloc, client)?) {
+        Ok(_) => Some(false),
+        Err(error) => Some(error == EscapeError::Idle && error.number() == 24),
+    }
+}
+
+// Whether a request for memory that is refused is told: no way is told for want of memory, or one that leads to its end, or a loss is
+// counted on it.
+fn is_told_or_counted(alloc: Global) -> bool {
+    let Some(mut world) = answered(alloc, &[]) else {
+        return true;
+    };
+    let Some(name) = named(alloc, "a") else {
+        return true;
+    };
+    match world.escape(&[2], &name) {
+        Ok(way) => {
+            world.run(way.as_slice());
+            world.losses() > 0 || (world.active().0 == 2 && is_served(&world, &name))
+        }
+        Err(error) => error == EscapeError::Memory,
+    }
+}
+
+// Run with each allocation failing in turn.
+#[test]
+fn a_way_out_without_memory(rt: HostRuntime) {
+    assert!(rt; is_told_or_counted(rt.alloc()));
+}
+
+#[test]
+fn a_client_comes_back(rt: HostRuntime) {
+    assert_eq!(rt; comes_back(rt.alloc(), &[]), Some(true));
+    assert_eq!(rt; comes_back(rt.alloc(), &[Deed::Crash(1)]), Some(true));
+    assert_eq!(rt;
+        is_idle(rt.alloc(), &[Deed::Crash(1)], &[1], "a"),
+        Some(true)
+    );
+    assert_eq!(rt; is_idle(rt.alloc(), &[], &[2], "z"), Some(true));
+}
+
+#[test]
+fn nothing_leads_out_where_nobody_lives(rt: HostRuntime) {
+    for members in LISTS {
+        let idle = is_idle(rt.alloc(), &[Deed::Crash(1), Deed::Crash(2)], members, "a");
+        assert_eq!(rt; idle, Some(true));
+    }
+}
+
+#[test]
+fn ways_out(rt: HostRuntime) {
+    for course in COURSES {
+        let name = course.name;
+        let fault = fault_in(rt.alloc(), course);
+        assert!(rt; fault.is_none(), "{name}");
+    }
+}
