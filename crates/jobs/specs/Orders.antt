@@ -1,4 +1,4 @@
--- By which number the order to end a client's session is refused.
+-- By which number the order to end a client's session, or to lead a client out, is refused.
 use Rattle.std.specs.Prelude.{◌≡◌, ℕ, ◌⊎◌, List, Some, None, option_map}
 use Rattle.packet.specs.ClientId.{client_fault}
 use Rattle.topics.specs.Malformed.{number_of}

@@ -1,10 +1,12 @@
 // Scripts of nodes and clients, and their transcripts.
 
-ghost use Rattle.std.specs.Prelude.{◌≡◌, ◌<◌, ℕ, OnOk, OnErr, IsErrOf};
+ghost use Rattle.std.specs.Prelude.{◌≡◌, ◌<◌, ℕ, None, IfErr, IfOk, OnOk, OnErr, IsErrOf};
 ghost use Rattle.std.specs.Io.KnownBytes.{Appends};
 ghost use Rattle.script.specs.Scripts.{Refuses, lines_of};
 ghost use Rattle.script.specs.declared.error.ScriptError.TheVariants.{Line};
+ghost use Rattle.packet.specs.ClientId.{client_fault};
 ghost use Rattle.play.specs.Ways.{HasNoWay};
+ghost use Rattle.jobs.specs.Orders.{IsRefusedBy};
 ghost use Rattle.jobs.specs.Transcripts.{Prints, PrintsWay};
 
 use crate::fault::Fault;
@@ -16,7 +18,6 @@ use play::{PlayError, escape, play};
 use std::alloc::Global;
 use std::io::{BufRead, Write};
 use std::rt::Files;
-use topics::MalformedKind;
 
 // The number by which a word is refused that lists no members.
 const BAD_MEMBERS: u8 = 20;
@@ -59,12 +60,24 @@ fn tell_way<O: Write>(
         Err(NO_MEMORY) => return Err(Fault::Memory),
         Err(_) => return Err(Fault::Refused(BAD_MEMBERS)),
     };
-    let client = match ClientId::new(alloc, job.client) {
+    let client = match client_of(alloc, job.client) {
         Ok(client) => client,
-        Err(MalformedKind::Memory) => return Err(Fault::Memory),
-        Err(fault) => return Err(Fault::Refused(fault.number())),
+        Err(NO_MEMORY) => return Err(Fault::Memory),
+        Err(number) => return Err(Fault::Refused(number)),
     };
     escape_text(alloc, text, members.as_slice(), &client, output)
+}
+
+// The client of this identifier, or the number by which it is refused.
+fn client_of(alloc: Global, word: &str) -> Result<ClientId, u8>
+    ensures value { IfOk result (λ client. client ≡ word.now) }
+    ensures sound { OnOk result (client_fault word.now ≡ None) }
+    ensures refused { IfErr result (IsRefusedBy word.now) }
+{
+    match ClientId::new(alloc, word) {
+        Ok(client) => Ok(client),
+        Err(fault) => Err(fault.number()),
+    }
 }
 
 /// Plays a script, and writes a way out of the world where it ends, as lines that may follow it.
