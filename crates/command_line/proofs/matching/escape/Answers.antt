@@ -15,12 +15,12 @@ pub returns-in-Some-Some-clause-job : goal.returns-in-Some-Some-clause-job
 returns-in-Some-Some-clause-job c =
     let first = word_read (found_of c.args.found.now) (codes "escape") _ _ c.get_str.ensures c.in-Some-Some.is-0 in
     let second = word_read (found_of c.args.found.now) (codes "client") _ _ c.get_str-2.ensures c.in-Some-Some.is-1 in
-    let job : Escape = record {members = c.in-Some-Some.members; client = c.in-Some-Some.client} in
+    let job : Escape = record { members = c.in-Some-Some.members; client = c.in-Some-Some.client } in
     same_words _ _ (Some c.in-Some-Some.members.now) (Some c.in-Some-Some.client.now) (Some job) first second (refl, refl)
 
 pub returns-in_default-clause-missing : goal.returns-in_default-clause-missing
 returns-in_default-clause-missing c _ = elim c.in_default.branch [
-    in_default-via-in-None+in_default w ↦ λ job.
+  | in_default-via-in-None+in_default w ↦ λ job.
       let first = word_read (found_of c.args.found.now) (codes "escape") _ _ c.get_str.ensures w.in_default.is-0 in
       let second = word_read (found_of c.args.found.now) (codes "client") _ _ c.get_str-2.ensures w.in_default.is-1 in
       client_alone _ _ _ job first second
@@ -28,4 +28,4 @@ returns-in_default-clause-missing c _ = elim c.in_default.branch [
       let first = word_read (found_of c.args.found.now) (codes "escape") _ _ c.get_str.ensures w.in_default.is-0 in
       let second = word_read (found_of c.args.found.now) (codes "client") _ _ c.get_str-2.ensures w.in_default.is-1 in
       members_alone _ _ _ job first second
-  ]
+]
