@@ -10,7 +10,7 @@ use Rattle.broker_base.specs.Command.{Command}
 use Rattle.broker_base.specs.Command.TheVariants as commands
 use Rattle.broker_base.specs.Connection.{ConnectionName, same_connection}
 use Rattle.pipes.specs.Pipe.{Joins}
-use Rattle.story.specs.Story.{is_packet_of}
+use Rattle.group_model.specs.story.Story.{is_packet_of}
 use Rattle.group_model.specs.world_base.declared.Port.{Port}
 use Rattle.group_model.specs.world_base.declared.Connection.{Connection}
 use Rattle.group_model.specs.world_base.Core.{CoreState, Turn, serves}

@@ -11,3 +11,5 @@ pub mod RunsKeep
 pub mod CarriedInOrder
 pub use Rattle.group_model.proofs as of_group_model
 pub use Rattle.group_model.proofs.of_node_model as of_node_model
+pub use Rattle.group_model.proofs.of_story as of_story
+pub use Rattle.model.proofs as of_model

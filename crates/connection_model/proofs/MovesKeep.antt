@@ -18,7 +18,7 @@ use Rattle.group_model.specs.snapshots.World.{outputs}
 use Rattle.group_model.proofs.of_snapshots.PastsAgree.{one_primary_a_ballot}
 use Rattle.group_model.specs.snapshots.Agreeing.{IsPrimary}
 use Rattle.pipes.specs.Pipe.{IsPiped}
-use Rattle.story.specs.Sends.{sends_to}
+use Rattle.group_model.specs.story.Sends.{sends_to}
 use Rattle.model.proofs.Answers.{counted_in, nothing_put}
 use Rattle.model.proofs.Lists.{same_or_other}
 use Rattle.group_model.specs.world_base.declared.Connection.{Connection}

@@ -13,8 +13,8 @@ use Rattle.broker_base.specs.Connection.{ConnectionName}
 use Rattle.broker_base.specs.Output.{Output}
 use Rattle.broker_base.specs.State.{State}
 use Rattle.lists.specs.Lists.{IsPrefixOf}
-use Rattle.story.specs.Sends.{put_to, sends_to}
-use Rattle.story.proofs.Deliveries.{sends_append}
+use Rattle.group_model.specs.story.Sends.{put_to, sends_to}
+use Rattle.group_model.proofs.of_story.Deliveries.{sends_append}
 use Rattle.agreement.specs.Giving.{GivesNext, gives_from}
 use Rattle.group_model.specs.snapshots.World.{outputs}
 use Rattle.agreement.proofs.Given.Places.{none_between}

@@ -12,7 +12,7 @@ use Rattle.broker_model.proofs.ConnectionNames.{same_name}
 use Rattle.lists.specs.Lists.{In}
 use Rattle.lists.specs.Lists.In.{here}
 use Rattle.pipes.specs.Pipe.{IsPiped}
-use Rattle.story.specs.Story.{is_packet_of}
+use Rattle.group_model.specs.story.Story.{is_packet_of}
 use Rattle.group_model.specs.snapshots.Past.{Moment}
 use Rattle.group_model.specs.snapshots.Agreeing.{IsPrimary}
 use Rattle.group_model.specs.snapshots.Whole.{whole}

@@ -7,7 +7,7 @@ use Rattle.broker_base.specs.Commands.{past_of, usual_limits}
 use Rattle.broker_base.specs.Connection.{ConnectionName}
 use Rattle.lists.specs.Lists.{IsPrefixOf}
 use Rattle.pipes.specs.Pipe.{Joins}
-use Rattle.story.specs.Sends.{put_to}
+use Rattle.group_model.specs.story.Sends.{put_to}
 use Rattle.group_model.specs.snapshots.Past.{IsAgreed}
 use Rattle.group_model.specs.node_model.Ends.{commands_of}
 use Rattle.group_model.specs.node_model.Puts.{spelled}

@@ -4,10 +4,10 @@ use Rattle.ballot.specs.Config.{Config}
 use Rattle.broker_base.specs.Place.{Client}
 use Rattle.lists.specs.Lists.{Each}
 use Rattle.agreement.specs.World.{can_open}
-use Rattle.model.specs.World.{AreApart, ClientEnds, opening as opening_beside, story_of as story_beside}
-use Rattle.model.specs.World as model
-use Rattle.model.specs.Goes.Reached.{begins as begins_beside}
-use Rattle.model.proofs.Lists.{each_by}
+use Rattle.world_model.specs.model.World.{AreApart, ClientEnds, opening as opening_beside, story_of as story_beside}
+use Rattle.world_model.specs.model.World as model
+use Rattle.world_model.specs.model.Goes.Reached.{begins as begins_beside}
+use Rattle.world_model.proofs.of_model.Lists.{each_by}
 use Rattle.world_model.specs.group_model.Goes.{Went}
 use Rattle.world_model.specs.group_model.Goes.Went.{opened}
 use Rattle.world_model.specs.Carried.{went_of, went_on}

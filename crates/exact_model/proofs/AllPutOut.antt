@@ -10,16 +10,16 @@ use Rattle.lists.specs.Lists.{Each}
 use Rattle.lists.proofs.Places.{get_set}
 use Rattle.story.specs.Sends.{put_to}
 use Rattle.story.specs.Sides.{Connection}
-use Rattle.model.specs.World.{AreApart, ClientEnds, End, World, with_client}
-use Rattle.model.specs.Goes.{HasPipe, Reached}
-use Rattle.model.specs.Goes.Goes.{reads}
-use Rattle.model.specs.Goes.Reached.{goes_on}
-use Rattle.model.specs.PutOut.{broker_rules, end_given}
-use Rattle.model.proofs.Ends.{pipe_at}
-use Rattle.model.proofs.Holds.{HasPipes}
-use Rattle.model.proofs.Lists.{each_get}
-use Rattle.model.proofs.PutOut.{given_is_put_out}
-use Rattle.model.proofs.WorldsExact.{reached_holds}
+use Rattle.world_model.specs.model.World.{AreApart, ClientEnds, End, World, with_client}
+use Rattle.world_model.specs.model.Goes.{HasPipe, Reached}
+use Rattle.world_model.specs.model.Goes.Goes.{reads}
+use Rattle.world_model.specs.model.Goes.Reached.{goes_on}
+use Rattle.world_model.specs.model.PutOut.{broker_rules, end_given}
+use Rattle.world_model.proofs.of_model.Ends.{pipe_at}
+use Rattle.world_model.proofs.of_model.Holds.{HasPipes}
+use Rattle.world_model.proofs.of_model.Lists.{each_get}
+use Rattle.world_model.proofs.of_model.PutOut.{given_is_put_out}
+use Rattle.world_model.proofs.of_model.WorldsExact.{reached_holds}
 use Rattle.world_model.proofs.of_group_model.Placed.{set_same, set_twice}
 use Rattle.exact_model.proofs.Places.{in_turn, take_whole}
 

@@ -21,7 +21,7 @@ use Rattle.broker_form.specs.RangeLaws.{CanBeSpelled}
 use Rattle.broker_form.proofs.EveryAnswer.{answers_are_spelled, lists_are_in_range}
 use Rattle.broker_form.proofs.States.{stays_in_range}
 use Rattle.story.specs.Sends.{put_to, sends_to}
-use Rattle.model.proofs.Answers.{put_place}
+use Rattle.world_model.proofs.of_model.Answers.{put_place}
 use Rattle.exact_model.proofs.Fitting.{IsFitting}
 use Rattle.exact_model.proofs.LostNowhere.{loss_in_range}
 use Rattle.exact_model.proofs.ExpelledNobody.{expel_in_range}

@@ -9,13 +9,13 @@ use Rattle.lists.specs.Lists.{Each, In, IsPrefixOf}
 use Rattle.lists.proofs.Beginnings.{prefix_length}
 use Rattle.story.specs.Sides.{Connection}
 use Rattle.story.specs.Story.{is_packet_of}
-use Rattle.model.specs.World.{AreApart, ClientEnds, End, World}
-use Rattle.model.specs.Exact.{commands_from}
-use Rattle.model.specs.Goes.{HasPipe, Reached, is_of_connection}
-use Rattle.model.specs.Served.{IsOfPipe, IsServed, untaken}
-use Rattle.model.proofs.Answers.{of_name}
-use Rattle.model.proofs.Lists.{each_by, each_get}
-use Rattle.model.proofs.Serving.{worlds_are_served}
+use Rattle.world_model.specs.model.World.{AreApart, ClientEnds, End, World}
+use Rattle.world_model.specs.model.Exact.{commands_from}
+use Rattle.world_model.specs.model.Goes.{HasPipe, Reached, is_of_connection}
+use Rattle.world_model.specs.model.Served.{IsOfPipe, IsServed, untaken}
+use Rattle.world_model.proofs.of_model.Answers.{of_name}
+use Rattle.world_model.proofs.of_model.Lists.{each_by, each_get}
+use Rattle.world_model.proofs.of_model.Serving.{worlds_are_served}
 use Rattle.world_model.proofs.of_group_model.Placed.{get_mapped}
 use Rattle.exact_model.proofs.Untaken.{AreSameUntaken, untaken_connection}
 use Rattle.exact_model.proofs.AllPutOut.{IsFull, all_put_out, end_of, ends_of, filled}

@@ -10,7 +10,7 @@ use Rattle.client_base.specs.declared.request.Request.TheVariants as requests
 use Rattle.story.specs.Sides.{Connection}
 use Rattle.story.specs.Story.{Happens, Story}
 use Rattle.story.specs.Story.Happens.{takes, others_take, receives, opens_anew, loses, disconnects, publishes_one, subscribes, unsubscribes}
-use Rattle.model.specs.Goes.{is_call}
+use Rattle.world_model.specs.model.Goes.{is_call}
 use Rattle.exact_model.proofs.Untaken.{AreSameUntaken, untaken_connection}
 
 -- ---- what is written on the newest connection

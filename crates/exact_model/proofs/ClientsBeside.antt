@@ -17,14 +17,14 @@ use Rattle.story.specs.Sends.{put_to}
 use Rattle.story.specs.Sides.{Connection, Side}
 use Rattle.story.specs.Story.{Happens, Story, any_named}
 use Rattle.story.proofs.publishing.Grown.{handled_grows}
-use Rattle.model.specs.World.{AreApart, ClientEnds, End, IsFresh, World, new_end, story_of, with_client}
-use Rattle.model.specs.Goes.{Reached, after_opening, is_call}
-use Rattle.model.specs.Goes.Goes.{calls, handles, opens}
-use Rattle.model.specs.Goes.Reached.{goes_on}
-use Rattle.model.proofs.Ends.{pipe_at}
-use Rattle.model.proofs.Holds.{HasPipes}
-use Rattle.model.proofs.Lists.{each_get, each_set}
-use Rattle.model.proofs.WorldsExact.{reached_holds}
+use Rattle.world_model.specs.model.World.{AreApart, ClientEnds, End, IsFresh, World, new_end, story_of, with_client}
+use Rattle.world_model.specs.model.Goes.{Reached, after_opening, is_call}
+use Rattle.world_model.specs.model.Goes.Goes.{calls, handles, opens}
+use Rattle.world_model.specs.model.Goes.Reached.{goes_on}
+use Rattle.world_model.proofs.of_model.Ends.{pipe_at}
+use Rattle.world_model.proofs.of_model.Holds.{HasPipes}
+use Rattle.world_model.proofs.of_model.Lists.{each_get, each_set}
+use Rattle.world_model.proofs.of_model.WorldsExact.{reached_holds}
 use Rattle.world_model.proofs.WorldsKeep.{call_writes}
 use Rattle.exact_model.proofs.Untaken.{untaken_connection}
 use Rattle.exact_model.proofs.AllPutOut.{IsFull, all_read, end_of, ends_of}

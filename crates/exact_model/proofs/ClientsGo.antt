@@ -21,9 +21,9 @@ use Rattle.pipes.specs.Pipe.{Joins}
 use Rattle.story.specs.Sends.{put_to}
 use Rattle.story.specs.Sides.{Connection, Side}
 use Rattle.story.specs.Story.{Happens, Story, any_named, is_packet_of}
-use Rattle.model.specs.World.{AreApart}
-use Rattle.model.specs.Goes.{is_call, is_of_connection}
-use Rattle.model.proofs.Lists.{each_by, each_get, each_set, same_or_other, stands_within, there_is}
+use Rattle.world_model.specs.model.World.{AreApart}
+use Rattle.world_model.specs.model.Goes.{is_call, is_of_connection}
+use Rattle.world_model.proofs.of_model.Lists.{each_by, each_get, each_set, same_or_other, stands_within, there_is}
 use Rattle.world_model.specs.node_model.Moves.Deed.{takes}
 use Rattle.world_model.specs.node_model.Puts.{spelled}
 use Rattle.world_model.specs.group_model.Group.{Group}

@@ -10,7 +10,7 @@ use Rattle.broker_base.specs.Command.{Command}
 use Rattle.broker_base.specs.Command.TheVariants as commands
 use Rattle.broker_base.specs.Connection.{ConnectionName, IsConnectionName}
 use Rattle.story.specs.Story.{command_of, is_packet_of}
-use Rattle.model.specs.Goes.{is_of_connection}
+use Rattle.world_model.specs.model.Goes.{is_of_connection}
 use Rattle.world_model.specs.node_model.Ends.{commands_of}
 use Rattle.world_model.specs.group_model.Order.{packets_of}
 use Rattle.exact_model.proofs.Fitting.{IsFitting}

@@ -7,9 +7,9 @@ use Rattle.broker_base.specs.Command.{Command}
 use Rattle.broker_base.specs.Place.{Client}
 use Rattle.lists.specs.Lists.{Each}
 use Rattle.world_model.proofs.of_group_model.of_snapshots.PastsAgree.{has_agreed}
-use Rattle.model.specs.World.{AreApart}
-use Rattle.model.proofs.Lists.{each_get, each_set}
-use Rattle.model.proofs.TakenOn.{map_set}
+use Rattle.world_model.specs.model.World.{AreApart}
+use Rattle.world_model.proofs.of_model.Lists.{each_get, each_set}
+use Rattle.world_model.proofs.of_model.TakenOn.{map_set}
 use Rattle.world_model.specs.world_base.Core.{rules}
 use Rattle.world_model.specs.group_model.Group.{Group, moment_of}
 use Rattle.world_model.specs.group_model.Goes.{MayGo, Went}

@@ -36,3 +36,4 @@ pub mod PublicationAccepted
 pub use Rattle.world_model.proofs as of_world_model
 pub use Rattle.world_model.proofs.of_group_model as of_group_model
 pub use Rattle.world_model.proofs.of_node_model as of_node_model
+pub use Rattle.world_model.proofs.of_model as of_model

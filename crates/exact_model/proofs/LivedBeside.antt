@@ -7,10 +7,10 @@ use Rattle.broker_base.specs.Commands.{past_of, usual_limits}
 use Rattle.broker_base.specs.Place.{Client}
 use Rattle.story.specs.Lives.{Lived}
 use Rattle.story.specs.Story.{Story}
-use Rattle.model.specs.World.{AreApart, ClientEnds, story_of}
-use Rattle.model.proofs.Holds.{IsTold}
-use Rattle.model.proofs.Lists.{each_get}
-use Rattle.model.proofs.WorldsExact.{reached_holds}
+use Rattle.world_model.specs.model.World.{AreApart, ClientEnds, story_of}
+use Rattle.world_model.proofs.of_model.Holds.{IsTold}
+use Rattle.world_model.proofs.of_model.Lists.{each_get}
+use Rattle.world_model.proofs.of_model.WorldsExact.{reached_holds}
 use Rattle.world_model.specs.group_model.Goes.{Went}
 use Rattle.world_model.specs.World.{ClientPipes, World}
 use Rattle.world_model.proofs.of_connection_model.CarriedInOrder.{IsAgreedSo}

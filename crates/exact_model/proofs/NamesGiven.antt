@@ -11,7 +11,7 @@ use Rattle.lists.specs.Lists.{Each, In}
 use Rattle.lists.specs.Lists.In.{here, there}
 use Rattle.lists.proofs.OfEach.{each_append, each_then}
 use Rattle.agreement.specs.MasterState.{refusal}
-use Rattle.model.proofs.Lists.{each_set}
+use Rattle.world_model.proofs.of_model.Lists.{each_set}
 use Rattle.world_model.specs.world_base.declared.Connection.{Connection}
 use Rattle.world_model.specs.world_base.declared.item.Item.{Item}
 use Rattle.world_model.specs.world_base.declared.item.Item.TheVariants.{Peer, Tick, Opened, Bytes, Ended, Expel, Cut, Crash}

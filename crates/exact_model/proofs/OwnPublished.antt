@@ -20,9 +20,9 @@ use Rattle.story.specs.Sides.{Connection, Side}
 use Rattle.story.specs.Story.{Happens, Story}
 use Rattle.story.specs.Story.Happens.{takes, others_take, receives, opens_anew, loses, disconnects, publishes_one, subscribes, unsubscribes}
 use Rattle.story.proofs.carrying.Handles.{handles as handles_kept}
-use Rattle.model.specs.World.{AreApart}
-use Rattle.model.specs.Goes.{is_call}
-use Rattle.model.proofs.Lists.{each_by, each_get, set_get}
+use Rattle.world_model.specs.model.World.{AreApart}
+use Rattle.world_model.specs.model.Goes.{is_call}
+use Rattle.world_model.proofs.of_model.Lists.{each_by, each_get, set_get}
 use Rattle.world_model.specs.world_base.Core.{rules}
 use Rattle.world_model.specs.group_model.Group.{moment_of}
 use Rattle.world_model.specs.group_model.Goes.{Went}

@@ -12,7 +12,7 @@ use Rattle.client_base.specs.Keeper.{Keeper}
 use Rattle.story.specs.Rows.{writer}
 use Rattle.story.specs.Sides.{Connection, Side}
 use Rattle.story.specs.Story.{Happens, Story}
-use Rattle.model.specs.Goes.{is_call}
+use Rattle.world_model.specs.model.Goes.{is_call}
 use Rattle.world_model.specs.world_base.declared.item.Item.TheVariants.{Bytes}
 use Rattle.world_model.specs.world_base.declared.Port.{Port}
 use Rattle.world_model.specs.world_base.Core.{CoreState}

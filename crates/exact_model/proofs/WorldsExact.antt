@@ -14,10 +14,10 @@ use Rattle.story.specs.Carried.{publications_of}
 use Rattle.story.specs.Lives.{IsUnexpelled}
 use Rattle.story.proofs.sessions.FirstSession.{unexpelled_in_step}
 use Rattle.world_model.proofs.of_group_model.of_snapshots.PastsAgree.{has_agreed}
-use Rattle.model.specs.Exact.{IsExactInStep as IsExactBeside}
-use Rattle.model.specs.World.{AreApart, ClientEnds, story_of as story_beside}
-use Rattle.model.proofs.Lists.{each_by, each_get}
-use Rattle.model.proofs.WorldsExact.{worlds_are_exact as worlds_beside_are_exact}
+use Rattle.world_model.specs.model.Exact.{IsExactInStep as IsExactBeside}
+use Rattle.world_model.specs.model.World.{AreApart, ClientEnds, story_of as story_beside}
+use Rattle.world_model.proofs.of_model.Lists.{each_by, each_get}
+use Rattle.world_model.proofs.of_model.WorldsExact.{worlds_are_exact as worlds_beside_are_exact}
 use Rattle.world_model.specs.world_base.Core.{rules}
 use Rattle.world_model.specs.group_model.Group.{moment_of}
 use Rattle.world_model.specs.group_model.Goes.{Went}

@@ -12,10 +12,10 @@ use Rattle.lists.specs.Lists.In.{here, there}
 use Rattle.story.specs.Sides.{Connection}
 use Rattle.story.specs.Story.{command_of, is_packet_of}
 use Rattle.story.proofs.Takes.{same_name_self}
-use Rattle.model.specs.Exact.{commands_from}
-use Rattle.model.specs.Goes.{is_of_connection}
-use Rattle.model.proofs.Answers.{of_name}
-use Rattle.model.proofs.Lists.{each_get, stands_within, there_is}
+use Rattle.world_model.specs.model.Exact.{commands_from}
+use Rattle.world_model.specs.model.Goes.{is_of_connection}
+use Rattle.world_model.proofs.of_model.Answers.{of_name}
+use Rattle.world_model.proofs.of_model.Lists.{each_get, stands_within, there_is}
 use Rattle.world_model.specs.node_model.Ends.{commands_of}
 use Rattle.world_model.specs.group_model.Goes.{Went}
 use Rattle.world_model.specs.group_model.Order.{packets_of as packets_in_list}

@@ -15,7 +15,7 @@ use Rattle.story.specs.Lives.{ExactlyOnceOverSessions, HasOneSession, IsUnexpell
 use Rattle.story.specs.Sides.{Connection}
 use Rattle.story.specs.Story.{Story}
 use Rattle.world_model.specs.group_model.snapshots.Past.{IsAgreed}
-use Rattle.model.specs.World.{AreApart}
+use Rattle.world_model.specs.model.World.{AreApart}
 use Rattle.world_model.specs.group_model.Group.{moment_of}
 use Rattle.world_model.specs.group_model.Goes.{all_put, groups_of}
 use Rattle.world_model.specs.group_model.Pasts.{HasPast}

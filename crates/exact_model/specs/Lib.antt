@@ -8,3 +8,4 @@ pub use Rattle.world_model.specs.connection_model as connection_model
 pub use Rattle.world_model.specs.group_model as group_model
 pub use Rattle.world_model.specs.node_model as node_model
 pub use Rattle.world_model.specs.world_base as world_base
+pub use Rattle.world_model.specs.model as model

@@ -13,3 +13,4 @@ pub mod NamesInGroups
 pub mod Ordered
 pub use Rattle.node_model.proofs as of_node_model
 pub use Rattle.snapshots.proofs as of_snapshots
+pub use Rattle.node_model.proofs.of_story as of_story

@@ -20,7 +20,7 @@ use Rattle.broker_base.specs.Command.{Command}
 use Rattle.broker_base.specs.Command.TheVariants as commands
 use Rattle.broker_base.specs.Output.{Output}
 use Rattle.broker_base.specs.Connection.{ConnectionName}
-use Rattle.story.specs.Story.{is_packet_of}
+use Rattle.node_model.specs.story.Story.{is_packet_of}
 use Rattle.agreement.specs.MasterState.{MasterState}
 use Rattle.agreement.specs.Giving.{GivesNext}
 use Rattle.snapshots.specs.Giving.{given_in as gives_in}

@@ -8,7 +8,7 @@ use Rattle.ballot.specs.Replica.{ReplicaState}
 use Rattle.broker_base.specs.State.{State}
 use Rattle.broker_base.specs.Command.{Command}
 use Rattle.broker_base.specs.Connection.{ConnectionName}
-use Rattle.story.specs.Story.{is_packet_of}
+use Rattle.node_model.specs.story.Story.{is_packet_of}
 use Rattle.snapshots.specs.Past.{IsAgreed}
 use Rattle.agreement.specs.Proposals.{IsOfBallot, IsPartOf, commands_of}
 use Rattle.snapshots.specs.Proposals.{proposals_of, taken_of}

@@ -11,7 +11,7 @@ use Rattle.ballot.specs.Serving.{most_places, proposed}
 use Rattle.broker_base.specs.State.{State}
 use Rattle.broker_base.specs.Command.{Command}
 use Rattle.broker_base.specs.Connection.{ConnectionName}
-use Rattle.story.specs.Story.{is_packet_of}
+use Rattle.node_model.specs.story.Story.{is_packet_of}
 use Rattle.snapshots.specs.Proposals.{proposal_by, taken_by}
 use Rattle.node_model.specs.world_base.Core.{CoreState, rules, serves}
 use Rattle.node_model.specs.Moves.{is_proposal}

@@ -9,7 +9,7 @@ use Rattle.ballot.specs.Serving.{most_places}
 use Rattle.broker_base.specs.Command.{Command}
 use Rattle.broker_base.specs.Command.TheVariants as commands
 use Rattle.broker_base.specs.Connection.{ConnectionName}
-use Rattle.story.specs.Story.{is_packet_of}
+use Rattle.node_model.specs.story.Story.{is_packet_of}
 use Rattle.node_model.specs.world_base.Connections.{asked, left_with}
 use Rattle.node_model.specs.world_base.Core.{CoreState, Turn, serves}
 use Rattle.node_model.specs.world_base.Lossy.{Account, Takes}

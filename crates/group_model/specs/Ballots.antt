@@ -4,7 +4,7 @@ use Rattle.lists.specs.Lists.{Each}
 use Rattle.ballot.specs.Config.{Config}
 use Rattle.broker_base.specs.Command.{Command}
 use Rattle.broker_base.specs.Connection.{ConnectionName}
-use Rattle.story.specs.Story.{is_packet_of}
+use Rattle.node_model.specs.story.Story.{is_packet_of}
 use Rattle.group_model.specs.Group.{Group}
 use Rattle.group_model.specs.Goes.{Went, all_put}
 

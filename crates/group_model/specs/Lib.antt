@@ -8,3 +8,4 @@ pub mod Order
 pub use Rattle.node_model.specs as node_model
 pub use Rattle.snapshots.specs as snapshots
 pub use Rattle.node_model.specs.world_base as world_base
+pub use Rattle.node_model.specs.story as story

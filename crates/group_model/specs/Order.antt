@@ -4,7 +4,7 @@ use Rattle.lists.specs.Lists.{IsPrefixOf}
 use Rattle.ballot.specs.Config.{Config}
 use Rattle.broker_base.specs.Command.{Command}
 use Rattle.broker_base.specs.Connection.{ConnectionName}
-use Rattle.story.specs.Story.{is_packet_of}
+use Rattle.node_model.specs.story.Story.{is_packet_of}
 use Rattle.snapshots.specs.Past.{IsAgreed}
 use Rattle.snapshots.specs.Whole.{whole_log}
 use Rattle.agreement.specs.Proposals.{commands_of}

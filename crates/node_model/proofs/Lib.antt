@@ -35,3 +35,4 @@ pub mod BaseStays
 pub mod LossyRead
 pub mod LossyRuns
 pub mod LossesAreMoves
+pub use Rattle.story.proofs as of_story

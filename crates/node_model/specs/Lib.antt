@@ -11,3 +11,4 @@ pub mod LossyMoves
 pub mod LossyRuns
 pub mod LossyLaws
 pub use Rattle.world_base.specs as world_base
+pub use Rattle.story.specs as story

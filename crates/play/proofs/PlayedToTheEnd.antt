@@ -2,7 +2,7 @@
 use Rattle.std.proofs.Common.{◌≡◌, ◌<◌, ◌≤◌, ◌+◌, ℕ, List, [], ◌∷◌, Result, Ok, Err, OnOk, ◌++◌, length, take, get_or, ap, subst, refl, sym, ◌∙◌, arith}
 use Rattle.std.proofs.lemmas.List.{append-nil, append_assoc, length-take-le, take_more}
 use Rattle.ballot.specs.Config.{Config}
-use Rattle.model.specs.World.{AreApart}
+use Rattle.world.specs.model.World.{AreApart}
 use Rattle.script.specs.Scripts.{IsScript, lines_of}
 use Rattle.script.specs.declared.order.Order.{Order}
 use Rattle.script.specs.declared.reading.Script.{Script}

@@ -7,7 +7,7 @@ use Rattle.agreement.specs.World.{can_open}
 use Rattle.ballot_base.specs.LawfulConfig.{is_lawful}
 use Rattle.script.specs.Fields.{Text, fields_of}
 use Rattle.lists.specs.Lists.{Each}
-use Rattle.model.specs.World.{AreApart}
+use Rattle.world.specs.model.World.{AreApart}
 use Rattle.script.specs.Scripts.{IsOpening, IsScript, are_distinct, are_nodes, has, is_lawful_opening}
 use Rattle.script.specs.Scripts.IsOpening.{world}
 use Rattle.script.specs.declared.opening.Opening.{Opening}

@@ -2,7 +2,7 @@
 
 ghost use Rattle.std.specs.Prelude.{◌≡◌, ◌<◌, ◌++◌, ℕ, false, [], map, IfOk, OnOk, OnErr, IsErrOf};
 ghost use Rattle.agreement.specs.World.{can_open};
-ghost use Rattle.model.specs.World.{AreApart};
+ghost use Rattle.world.specs.model.World.{AreApart};
 ghost use Rattle.world.specs.Goes.{AreReached};
 ghost use Rattle.world.specs.Standing.{IsReached, asked_on};
 ghost use Rattle.play.specs.Inside.{Appends, AreTold, Comes, Ends, Written, lines_untold, names_of, new_listener, told_at};

@@ -5,7 +5,7 @@ use Rattle.ballot.specs.Config.{Config}
 use Rattle.ballot.specs.Losses.{one_more}
 use Rattle.broker_base.specs.Place.{Client}
 use Rattle.exact_model.proofs.WorldsExact.{worlds_are_exact}
-use Rattle.model.specs.World.{AreApart}
+use Rattle.exact_model.specs.model.World.{AreApart}
 use Rattle.session_base.specs.declared.publication.Publication.{Publication}
 use Rattle.exact_model.specs.world_model.World.{World}
 use Rattle.exact_model.specs.world_model.Goes.{Reached}

@@ -4,7 +4,7 @@ use Rattle.std.specs.List.{remove}
 use Rattle.std.proofs.lemmas.List.{length-append}
 use Rattle.std.proofs.lemmas.Option.{none-some, same_Some}
 use Rattle.master.proofs.Counting.{get_there}
-use Rattle.model.proofs.Lists.{same_or_other, take_next}
+use Rattle.exact_model.proofs.of_model.Lists.{same_or_other, take_next}
 use Rattle.world.specs.declared.place.Place.{Place}
 use Rattle.world.specs.Housed.{open_from}
 use Rattle.world.proofs.Turned.{there}

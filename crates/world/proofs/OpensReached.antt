@@ -6,7 +6,7 @@ use Rattle.std.proofs.lemmas.Option.{none-some}
 use Rattle.ballot.specs.Config.{Config}
 use Rattle.agreement.specs.World.{can_open}
 use Rattle.broker_base.specs.Place.{Client}
-use Rattle.model.specs.World.{AreApart}
+use Rattle.exact_model.specs.model.World.{AreApart}
 use Rattle.exact_model.specs.group_model.Group.{opening_group}
 use Rattle.world_base.specs.declared.Port.{Port}
 use Rattle.exact_model.specs.world_model.World.{ClientPipes, Pipe, new_client, opening}

@@ -5,7 +5,7 @@ use Rattle.std.proofs.lemmas.List.{length-set}
 use Rattle.std.proofs.lemmas.Option.{same_Some}
 use Rattle.lists.proofs.Places.{get_set, get_set_other}
 use Rattle.client.specs.Core.{Core}
-use Rattle.model.proofs.Lists.{same_or_other}
+use Rattle.exact_model.proofs.of_model.Lists.{same_or_other}
 use Rattle.world_base.specs.Core.{CountedCore}
 use Rattle.world_base.specs.declared.Port.{Port}
 use Rattle.world_nodes.specs.Goes.{node_of}

@@ -3,7 +3,7 @@ use Rattle.std.proofs.Common.{◌≡◌, inl, inr, ◌⊎◌, ◌≤◌, ◌<◌
 use Rattle.std.proofs.lemmas.Bool.{eq-eqb, ne_eqb}
 use Rattle.std.proofs.lemmas.List.{length-set, take-set, take_all}
 use Rattle.std.proofs.lemmas.Option.{same_Some, slice_get_within}
-use Rattle.model.proofs.Lists.{same_or_other}
+use Rattle.exact_model.proofs.of_model.Lists.{same_or_other}
 use Rattle.world.specs.declared.place.Place.{Place}
 use Rattle.world.specs.Found.{place_numbered}
 use Rattle.world.specs.Gathering.{AskedWhere, GathersAmong, is_open_at}

@@ -17,3 +17,4 @@ pub use Rattle.client.specs as client
 pub use Rattle.master.specs as master
 pub use Rattle.world_nodes.specs as world_nodes
 pub use Rattle.world_pipes.specs as world_pipes
+pub use Rattle.exact_model.specs.model as model

@@ -2,7 +2,7 @@
 use Rattle.std.specs.Prelude.{◌≡◌, ℕ, List, [], ◌∷◌, ◌++◌, map, Option, Some, None, slice_get}
 use Rattle.ballot.specs.Config.{Config}
 use Rattle.broker_base.specs.Place.{Client}
-use Rattle.model.specs.World.{AreApart}
+use Rattle.exact_model.specs.model.World.{AreApart}
 use Rattle.session_base.specs.declared.publication.Publication.{Publication}
 use Rattle.story.specs.Sides.{Connection}
 use Rattle.exact_model.specs.Exact.{IsExact}

@@ -4,7 +4,7 @@ ghost use Rattle.std.specs.Prelude.{ℕ, List, [], ◌≡◌, ◌≤◌, ◌<◌
 ghost use Rattle.session_base.specs.declared.publication.Publication.{Publication};
 ghost use Rattle.agreement.specs.World.{can_open};
 ghost use Rattle.ballot.specs.Losses.{one_more};
-ghost use Rattle.model.specs.World.{AreApart};
+ghost use Rattle.exact_model.specs.model.World.{AreApart};
 ghost use Rattle.exact_model.specs.world_model.World.{new_client};
 ghost use Rattle.world_pipes.specs.Standing.{StandsFor};
 ghost use Rattle.world.specs.Goes.{AgreedGrows, AreReached, CountsOnce, StaysReached, WorldGoesOn};

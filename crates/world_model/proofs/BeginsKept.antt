@@ -6,9 +6,9 @@ use Rattle.client_base.specs.Called.{opens}
 use Rattle.client_base.specs.Keeper.{Written}
 use Rattle.client_base.specs.Written.{writes_first}
 use Rattle.lists.specs.Lists.{Each}
-use Rattle.model.proofs.Lists.{each_get, each_set}
-use Rattle.story.specs.Sides.{Connection}
-use Rattle.story.proofs.publishing.Grown.{handled_grows}
+use Rattle.connection_model.proofs.of_model.Lists.{each_get, each_set}
+use Rattle.connection_model.specs.story.Sides.{Connection}
+use Rattle.connection_model.proofs.of_story.publishing.Grown.{handled_grows}
 use Rattle.world_model.specs.Goes.{Reached, WorldStep}
 use Rattle.world_model.specs.Goes.Reached.{begins, goes_on}
 use Rattle.world_model.specs.Goes.WorldStep.{goes_on as group_goes, calls, connects, is_turned_away, comes_up, goes_down, arrives, handles}

@@ -19,3 +19,4 @@ pub mod DeedsCarry
 pub use Rattle.connection_model.proofs as of_connection_model
 pub use Rattle.connection_model.proofs.of_group_model as of_group_model
 pub use Rattle.connection_model.proofs.of_node_model as of_node_model
+pub use Rattle.connection_model.proofs.of_model as of_model

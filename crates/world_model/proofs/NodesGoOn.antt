@@ -9,7 +9,7 @@ use Rattle.broker_base.specs.Connection.{ConnectionName}
 use Rattle.lists.specs.Lists.{Each, In}
 use Rattle.lists.specs.Lists.In.{here, there}
 use Rattle.agreement.specs.MasterState.{refusal}
-use Rattle.model.proofs.Lists.{same_or_other}
+use Rattle.connection_model.proofs.of_model.Lists.{same_or_other}
 use Rattle.connection_model.specs.world_base.declared.Connection.{Connection}
 use Rattle.connection_model.specs.world_base.declared.item.Item.{Item}
 use Rattle.connection_model.specs.world_base.declared.item.Item.TheVariants.{Peer, Tick, Opened, Bytes, Ended, Expel, Cut, Crash}

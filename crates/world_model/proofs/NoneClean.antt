@@ -10,9 +10,9 @@ use Rattle.client_base.specs.Keeper.{Written}
 use Rattle.lists.specs.Lists.{Each, In, IsPrefixOf}
 use Rattle.lists.specs.Lists.In.{here, there}
 use Rattle.lists.proofs.Members.{in_left}
-use Rattle.model.proofs.Lists.{each_get}
-use Rattle.story.specs.Story.{is_packet_of}
-use Rattle.story.proofs.Takes.{same_name_self}
+use Rattle.connection_model.proofs.of_model.Lists.{each_get}
+use Rattle.connection_model.specs.story.Story.{is_packet_of}
+use Rattle.connection_model.proofs.of_story.Takes.{same_name_self}
 use Rattle.packet.specs.declared.packet.Packet.{Packet}
 use Rattle.connection_model.specs.node_model.Ends.{commands_of}
 use Rattle.connection_model.specs.group_model.Goes.{Went}

@@ -10,7 +10,7 @@ use Rattle.lists.specs.Lists.{Each}
 use Rattle.lists.proofs.OfEach.{each_append}
 use Rattle.pipes.specs.Pipe.{Joins}
 use Rattle.connection_model.specs.node_model.Puts.{spelled}
-use Rattle.story.specs.Sides.{Connection}
+use Rattle.connection_model.specs.story.Sides.{Connection}
 use Rattle.world_model.specs.World.{newly_written, packets_of}
 
 -- ---- packets as bytes

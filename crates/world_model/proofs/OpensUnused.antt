@@ -5,7 +5,7 @@ use Rattle.std.proofs.lemmas.Bool.{both_ways}
 use Rattle.ballot.specs.Config.{Config}
 use Rattle.broker_base.specs.Connection.{ConnectionName}
 use Rattle.lists.proofs.Tests.{eq_same}
-use Rattle.story.specs.Sides.{Connection}
+use Rattle.connection_model.specs.story.Sides.{Connection}
 use Rattle.connection_model.specs.world_base.declared.Connection.{Connection as NodesEnd}
 use Rattle.connection_model.specs.world_base.declared.item.Item.TheVariants.{Opened}
 use Rattle.connection_model.specs.world_base.declared.Port.{Port}

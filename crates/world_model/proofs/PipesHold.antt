@@ -12,8 +12,8 @@ use Rattle.lists.specs.Lists.{Each, In}
 use Rattle.lists.specs.Lists.In.{here, there}
 use Rattle.lists.proofs.Tests.{eq_is, eq_same}
 use Rattle.pipes.specs.Pipe.{Joins}
-use Rattle.story.specs.Sides.{Connection}
-use Rattle.story.proofs.Takes.{same_name_self}
+use Rattle.connection_model.specs.story.Sides.{Connection}
+use Rattle.connection_model.proofs.of_story.Takes.{same_name_self}
 use Rattle.connection_model.specs.world_base.declared.Connection.{Connection as NodesEnd}
 use Rattle.connection_model.specs.world_base.declared.item.Item.TheVariants.{Peer, Tick, Opened, Bytes, Ended, Expel, Cut, Crash}
 use Rattle.connection_model.specs.world_base.declared.Port.{Port}

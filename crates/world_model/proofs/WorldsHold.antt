@@ -8,8 +8,8 @@ use Rattle.client_base.specs.Keeper.{Written}
 use Rattle.cutter.specs.Stream.{Stream}
 use Rattle.lists.specs.Lists.{Each, In}
 use Rattle.lists.proofs.Places.{get_set, get_set_other}
-use Rattle.model.proofs.Lists.{same_or_other, set_get}
-use Rattle.story.specs.Sides.{Connection}
+use Rattle.connection_model.proofs.of_model.Lists.{same_or_other, set_get}
+use Rattle.connection_model.specs.story.Sides.{Connection}
 use Rattle.connection_model.specs.world_base.declared.Connection.{Connection as NodesEnd}
 use Rattle.connection_model.specs.world_base.declared.Port.{Port}
 use Rattle.connection_model.specs.world_base.Core.{CoreState}

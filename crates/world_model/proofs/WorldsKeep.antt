@@ -16,14 +16,14 @@ use Rattle.client_base.specs.Written.{plain, writes, writes_first}
 use Rattle.cutter.specs.Stream.{Stream, Takes}
 use Rattle.lists.specs.Lists.{Each, In}
 use Rattle.lists.proofs.Places.{get_set_other}
-use Rattle.model.proofs.Lists.{same_or_other, set_get}
+use Rattle.connection_model.proofs.of_model.Lists.{same_or_other, set_get}
 use Rattle.connection_model.specs.world_base.declared.Port.{Port}
-use Rattle.model.specs.Goes.{is_call}
-use Rattle.story.specs.Sides.{Connection, Side}
-use Rattle.story.specs.Story.{Happens, Story}
-use Rattle.story.specs.Story.Happens.{takes as takes_next, others_take, receives, opens_anew, loses, disconnects, publishes_one, subscribes, unsubscribes}
-use Rattle.story.proofs.Takes.{same_name_self}
-use Rattle.story.proofs.publishing.Grown.{handled_grows}
+use Rattle.connection_model.specs.model.Goes.{is_call}
+use Rattle.connection_model.specs.story.Sides.{Connection, Side}
+use Rattle.connection_model.specs.story.Story.{Happens, Story}
+use Rattle.connection_model.specs.story.Story.Happens.{takes as takes_next, others_take, receives, opens_anew, loses, disconnects, publishes_one, subscribes, unsubscribes}
+use Rattle.connection_model.proofs.of_story.Takes.{same_name_self}
+use Rattle.connection_model.proofs.of_story.publishing.Grown.{handled_grows}
 use Rattle.connection_model.specs.world_base.declared.Connection.{Connection as NodesEnd}
 use Rattle.connection_model.specs.world_base.declared.item.Item.TheVariants.{Peer, Tick, Opened, Bytes, Ended, Expel, Cut, Crash}
 use Rattle.connection_model.specs.world_base.Core.{CoreState}

@@ -10,10 +10,10 @@ use Rattle.client_base.specs.Called.{new_connection}
 use Rattle.lists.specs.Lists.{In}
 use Rattle.lists.specs.Lists.In.{here, there}
 use Rattle.lists.proofs.Places.{get_set, get_set_other}
-use Rattle.model.proofs.Lists.{same_or_other, set_get}
+use Rattle.connection_model.proofs.of_model.Lists.{same_or_other, set_get}
 use Rattle.pipes.specs.Pipe.{Joins}
-use Rattle.story.specs.Sides.{Connection}
-use Rattle.story.proofs.Takes.{same_name_self}
+use Rattle.connection_model.specs.story.Sides.{Connection}
+use Rattle.connection_model.proofs.of_story.Takes.{same_name_self}
 use Rattle.connection_model.specs.world_base.declared.Connection.{Connection as NodesEnd}
 use Rattle.connection_model.specs.world_base.declared.item.Item.TheVariants.{Opened}
 use Rattle.connection_model.specs.world_base.declared.Port.{Port}

@@ -2,7 +2,7 @@
 use Rattle.std.specs.Prelude.{Bool, List, filter, map}
 use Rattle.session_base.specs.declared.publication.Publication.{Publication}
 use Rattle.client_base.specs.declared.accepted.Accepted.{Accepted}
-use Rattle.story.specs.Carried.{is_two}
+use Rattle.connection_model.specs.story.Carried.{is_two}
 
 abbrev pub publication_accepted : Accepted → Publication
 publication_accepted a = record { retain = a.retain; qos = a.qos; topic = a.topic; payload = a.payload }

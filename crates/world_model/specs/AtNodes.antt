@@ -3,7 +3,7 @@ use Rattle.std.specs.Prelude.{◌≡◌, ℕ, List, slice_get, Some}
 use Rattle.ballot.specs.Config.{Config}
 use Rattle.broker_base.specs.Place.{Client}
 use Rattle.lists.specs.Lists.{In}
-use Rattle.story.specs.Sides.{Connection}
+use Rattle.connection_model.specs.story.Sides.{Connection}
 use Rattle.connection_model.specs.world_base.declared.Connection.{Connection as NodesEnd}
 use Rattle.connection_model.specs.world_base.declared.Port.{Port}
 use Rattle.connection_model.specs.world_base.Core.{CoreState}

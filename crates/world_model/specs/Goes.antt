@@ -12,9 +12,9 @@ use Rattle.broker_base.specs.Place.{Client}
 use Rattle.client_base.specs.Called.{new_connection}
 use Rattle.client_base.specs.Handled.{handled, lost}
 use Rattle.lists.specs.Lists.{Each}
-use Rattle.story.specs.Sides.{Connection, Side}
-use Rattle.story.specs.Story.{Story, Happens}
-use Rattle.model.specs.Goes.{is_call}
+use Rattle.connection_model.specs.story.Sides.{Connection, Side}
+use Rattle.connection_model.specs.story.Story.{Story, Happens}
+use Rattle.connection_model.specs.model.Goes.{is_call}
 use Rattle.connection_model.specs.world_base.declared.Connection.{Connection as NodesEnd}
 use Rattle.connection_model.specs.world_base.declared.Port.{Port}
 use Rattle.connection_model.specs.world_base.declared.item.Item.TheVariants.{Opened, Bytes}

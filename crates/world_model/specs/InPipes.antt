@@ -6,7 +6,7 @@ use Rattle.ballot.specs.Config.{Config}
 use Rattle.broker_base.specs.Command.{Command}
 use Rattle.broker_base.specs.Place.{Client}
 use Rattle.lists.specs.Lists.{Each, IsPrefixOf}
-use Rattle.story.specs.Sides.{Connection}
+use Rattle.connection_model.specs.story.Sides.{Connection}
 use Rattle.connection_model.specs.group_model.snapshots.Past.{IsAgreed}
 use Rattle.connection_model.specs.node_model.Ends.{commands_of}
 use Rattle.connection_model.specs.node_model.Puts.{spelled}

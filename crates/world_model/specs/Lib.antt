@@ -13,3 +13,4 @@ pub use Rattle.connection_model.specs as connection_model
 pub use Rattle.connection_model.specs.group_model as group_model
 pub use Rattle.connection_model.specs.node_model as node_model
 pub use Rattle.connection_model.specs.world_base as world_base
+pub use Rattle.connection_model.specs.model as model

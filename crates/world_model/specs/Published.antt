@@ -3,8 +3,8 @@ use Rattle.std.specs.Prelude.{ℕ, ◌==◌, if◌then◌else◌, List, [], ◌�
 use Rattle.ballot.specs.Config.{Config}
 use Rattle.broker_base.specs.Place.{Client, Limits}
 use Rattle.session_base.specs.declared.publication.Publication.{Publication}
-use Rattle.story.specs.Story.{Story, Happens}
-use Rattle.story.specs.Story.Happens.{takes, others_take, receives, opens_anew, loses, disconnects, publishes_one, subscribes, unsubscribes}
+use Rattle.connection_model.specs.story.Story.{Story, Happens}
+use Rattle.connection_model.specs.story.Story.Happens.{takes, others_take, receives, opens_anew, loses, disconnects, publishes_one, subscribes, unsubscribes}
 use Rattle.world_model.specs.World.{World}
 use Rattle.world_model.specs.Goes.{Reached, WorldStep}
 use Rattle.world_model.specs.Goes.Reached.{begins, goes_on}

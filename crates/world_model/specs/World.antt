@@ -6,7 +6,7 @@ use Rattle.cutter.specs.Stream.{Stream}
 use Rattle.ballot.specs.Config.{Config}
 use Rattle.broker_base.specs.Place.{Client}
 use Rattle.client_base.specs.Keeper.{Keeper, Written, new_keeper}
-use Rattle.story.specs.Sides.{Connection}
+use Rattle.connection_model.specs.story.Sides.{Connection}
 use Rattle.connection_model.specs.world_base.declared.Port.{Port}
 use Rattle.connection_model.specs.node_model.Puts.{spelled}
 use Rattle.connection_model.specs.group_model.Group.{Group, opening_group}

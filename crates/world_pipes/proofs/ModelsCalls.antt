@@ -22,7 +22,7 @@ use Rattle.client_base.specs.Keeper.{Keeper, Written, ids_in_use}
 use Rattle.client_base.specs.Steps.{Call, disconnected, keeper_step, request_refusal, subscribed, unsubscribed}
 use Rattle.client_base.specs.Written.{plain, writes_first}
 use Rattle.client_base.proofs.Follows.{calls_follow}
-use Rattle.model.specs.Goes.{is_call}
+use Rattle.world_model.specs.model.Goes.{is_call}
 use Rattle.story.specs.Sides.{Connection}
 use Rattle.story.specs.Story.{Happens}
 use Rattle.world_model.specs.World.{ClientPipes, packets_of}

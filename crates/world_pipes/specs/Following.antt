@@ -6,7 +6,7 @@ use Rattle.broker_base.specs.Commands.{usual_limits}
 use Rattle.broker_base.specs.Connection.{ConnectionName}
 use Rattle.client_base.specs.declared.error.ClientError.{ClientError}
 use Rattle.client_base.specs.Handled.{lost}
-use Rattle.model.specs.Goes.{is_call}
+use Rattle.world_model.specs.model.Goes.{is_call}
 use Rattle.session_base.specs.declared.publication.Publication.{Publication}
 use Rattle.story.specs.Sides.{Connection}
 use Rattle.story.specs.Story.{Happens, Story}

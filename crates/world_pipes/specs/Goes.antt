@@ -7,7 +7,7 @@ use Rattle.session_base.specs.declared.publication.Publication.{Publication}
 use Rattle.client_base.specs.Handled.{handled}
 use Rattle.story.specs.Sides.{Connection}
 use Rattle.story.specs.Story.{Story, Happens}
-use Rattle.model.specs.Goes.{is_call}
+use Rattle.world_model.specs.model.Goes.{is_call}
 use Rattle.world_model.specs.World.{ClientPipes, Pipe, World, after_writing, with_client, with_pipe}
 use Rattle.world_model.specs.Goes.{CanBeSpelled, WorldStep, after_packet, story_alone}
 use Rattle.world_model.specs.Published.{from_client, published_by, published_in}
