@@ -1,10 +1,13 @@
 pub mod Archived
+pub mod Calling
 pub mod Counted
 pub mod Counting
+pub mod EarlierMembers
 pub mod Groups
 pub mod Happening
 pub mod Holders
 pub mod Lawful
+pub mod LossesCounted
 pub mod Parting
 pub mod Quiet
 pub mod Runs

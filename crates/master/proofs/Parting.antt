@@ -31,6 +31,11 @@ thinned_lost (Out k o) is none = cc
 thinned_lost e is (keeps t) = keeps (thinned_lost e is t)
 thinned_lost e is (loses t) = loses (thinned_lost e is t)
 
+-- a list with something at its end has something
+ends_some : {X : Type 0} {P : Type 0} (xs : List X) (x : X) → xs ++ x ∷ [] ≡ [] → P
+ends_some [] x e = cc
+ends_some (y ∷ xs) x e = cc
+
 -- an output stays
 parted_out : {C O : Type 0} (given left staying : List (Effect C O)) (sent more : List (ℕ × Message C)) (whole : Bool) (e : Effect C O) →
     is_message e ≡ false → Parted given left staying sent more whole → Parted (given ++ e ∷ []) left (staying ++ e ∷ []) sent more whole
@@ -40,6 +45,7 @@ parted_out {C = C} {O = O} given left staying sent more whole (Out k o) is p =
       kept = p.kept ++ Out k o ∷ [];
       thinned = thinned_snoc (Out k o) p.thinned;
       exact = λ h. ap (λ us. us ++ Out k o ∷ []) (p.exact h);
+      idle = λ h. ends_some given (Out k o) h;
       sent_is = p.sent_is ∙ ap (λ us. sent ++ us) (sym (messages-append p.kept (Out k o ∷ []) ∙ append-nil (messages p.kept)));
       outputs_are = outputs-append staying (Out k o ∷ []) ∙ ap (λ us. us ++ (k, o) ∷ []) p.outputs_are
           ∙ append_assoc (outputs left) (outputs p.kept) ((k, o) ∷ [])
@@ -56,6 +62,7 @@ parted_sent given left staying sent more now whole (To r m) is pushed p =
       kept = p.kept ++ To r m ∷ [];
       thinned = thinned_snoc (To r m) p.thinned;
       exact = λ h. ap (λ us. us ++ To r m ∷ []) (p.exact h);
+      idle = λ h. ends_some given (To r m) h;
       sent_is = pushed ∙ ap (λ us. us ++ (r, m) ∷ []) p.sent_is ∙ append_assoc sent (messages p.kept) ((r, m) ∷ [])
           ∙ ap (λ us. sent ++ us) (sym (messages-append p.kept (To r m ∷ [])));
       outputs_are = p.outputs_are ∙ ap (λ us. outputs left ++ us) (sym (outputs-append p.kept (To r m ∷ []) ∙ append-nil (outputs p.kept)));
@@ -70,6 +77,7 @@ parted_lost given left staying sent more now whole e is same p =
       kept = p.kept;
       thinned = thinned_lost e is p.thinned;
       exact = λ h. cc;
+      idle = λ h. ends_some given e h;
       sent_is = same ∙ p.sent_is;
       outputs_are = p.outputs_are;
       messages_are = p.messages_are;
@@ -103,6 +111,7 @@ parting_begins {C = C} {O = O} old from sent within =
             kept = [];
             thinned = none;
             exact = λ h. refl;
+            idle = λ h. refl;
             sent_is = sym (append-nil sent);
             outputs_are = sym (append-nil (outputs (take from old)));
             messages_are = refl;

@@ -1,20 +1,20 @@
 -- Quiet.antt: events that need no memory are done exactly.
 use Rattle.std.proofs.Common.{◌≡◌, ℕ, zero, suc, ◌+◌, ◌-◌, ◌<◌, ◌⊎◌, inl, inr, Bool, true, false, List, [], ◌∷◌, ◌++◌, length, set, Some, None, Option, refl, ap, sym, ◌∙◌, subst, arith}
-use Rattle.std.specs.Prelude.{slice_get, nat_lt, ◌&&◌}
-use Rattle.std.proofs.lemmas.Bool.{and_parts, both_ways, ltb-true}
-use Rattle.std.proofs.lemmas.List.{append-nil, length-append}
+use Rattle.std.specs.Prelude.{IsOk, Result, Ok, Err, slice_get, nat_lt, ◌&&◌}
+use Rattle.std.proofs.lemmas.Bool.{and_parts, both_ways, cases_Bool, ltb-true}
+use Rattle.std.proofs.lemmas.List.{append-nil}
 use Rattle.machine.specs.Machine.{Rules}
 use Rattle.ballot.specs.Config.{Config}
 use Rattle.ballot.specs.Logs.{places}
 use Rattle.ballot.specs.Effect.{Effect}
 use Rattle.ballot.specs.Message.{Message}
-use Rattle.ballot.specs.Losses.{halted}
+use Rattle.ballot.specs.Losses.{IsQuiet, halted}
 use Rattle.ballot.specs.Protocol.{Input, replica_step}
 use Rattle.ballot.specs.Protocol.Input.{Receives, Proposes, Ticks}
 use Rattle.ballot.specs.Replica.{ReplicaState, is_active}
 use Rattle.ballot.specs.Sending.{Outcome, nothing_done}
-use Rattle.ballot.specs.Serving.{added, most_places}
-use Rattle.ballot.proofs.StepRows.{added-log, proposed-adds}
+use Rattle.ballot.specs.Serving.{most_places}
+use Rattle.ballot.proofs.TicksTaken.{ticked-state}
 use Rattle.agreement.specs.MasterState.{AssignRefusal, refusal}
 use Rattle.snapshots.specs.Masters.{MasterOutcome}
 use Rattle.snapshots.specs.Past.{Moment}
@@ -24,9 +24,11 @@ use Rattle.master.specs.declared.event.Event.TheVariants.{Assign, Cut, Deliver, 
 use Rattle.master.specs.Group.{GroupState}
 use Rattle.master.specs.Exact.{NodeTurn, Turn, behind, can_take, gives, turn}
 use Rattle.master.specs.Exact.Turn.{by_node, by_cut, by_master, unheeded}
-use Rattle.master.specs.Inside.{RunsAt}
+use Rattle.master.specs.Copying.{has_numbers_alone}
+use Rattle.master.specs.Inside.{RunsAt, TookTurn}
 use Rattle.master.specs.Steps.{StepsBy, TakesNoMemory, done_exactly}
-use Rattle.master.specs.Steps.TakesNoMemory.{comes_to_nobody, goes_unheeded, does_nothing, stops_a_node}
+use Rattle.master.specs.Steps.TakesNoMemory.{comes_to_nobody, goes_unheeded, is_quiet, stops_a_node}
+use Rattle.master.proofs.Calling.{proposal_busy}
 use Rattle.master.proofs.Counting.{delivers_turn, some_idle, stops_turn, takes_turn}
 
 -- an event that changes nothing is done by doing nothing
@@ -70,16 +72,28 @@ pub steps_exactly_done : {S C O : Type 0} (rules : Rules S C O) (old : GroupStat
 steps_exactly_done {S = S} {C = C} {O = O} rules old event e =
     record { way = inl (ap (λ (z : GroupState S C O). z.moment) e, ap (λ (z : GroupState S C O). z.losses) e); freezes = inr refl }
 
--- a node's turn needs no memory where it does nothing, or where the node stops
+-- a node's turn needs no memory where it is quiet, or where the node stops
 pub node_needs : {S C O : Type 0} {P : Type 0} (rules : Rules S C O) (a : Moment S C O) (event : Event C) (t : NodeTurn S C O) →
-    turn rules a event ≡ Some (by_node t) → ((node : ℕ) → event ≡ Crash node → P) → (t.outcome ≡ nothing_done O t.before → P) →
+    turn rules a event ≡ Some (by_node t) → ((node : ℕ) → event ≡ Crash node → P) → (IsQuiet t.before t.outcome → P) →
     TakesNoMemory rules a event → P
-node_needs rules a event t e stops nothing (comes_to_nobody f) = some_idle e f
-node_needs rules a event t e stops nothing (goes_unheeded f) = let g = sym e ∙ f in cc
-node_needs rules a event t e stops nothing (stops_a_node node f) = stops node f
-node_needs {S = S} {C = C} {O = O} rules a event t e stops nothing (does_nothing s f still) =
+node_needs rules a event t e stops quiet (comes_to_nobody f) = some_idle e f
+node_needs rules a event t e stops quiet (goes_unheeded f) = let g = sym e ∙ f in cc
+node_needs rules a event t e stops quiet (stops_a_node node f) = stops node f
+node_needs {S = S} {C = C} {O = O} rules a event t e stops quiet (is_quiet s f still) =
     let g = sym e ∙ f in let same : t ≡ s = cc in
-    nothing (subst (λ (z : NodeTurn S C O). z.outcome ≡ nothing_done O z.before) (sym same) still)
+    quiet (subst (λ (z : NodeTurn S C O). IsQuiet z.before z.outcome) (sym same) still)
+
+-- a turn that is quiet was done exactly
+pub turn_quiet : {S C O : Type 0} (rules : Rules S C O) (old new : GroupState S C O) (event : Event C) (t : NodeTurn S C O) →
+    turn rules old.moment event ≡ Some (by_node t) → TookTurn rules old t new → IsQuiet t.before t.outcome → new ≡ done_exactly rules old event
+turn_quiet {S = S} {C = C} {O = O} rules old new event t e took quiet =
+    let z = took.quiet quiet in
+    ap (λ (a : Moment S C O). let g : GroupState S C O = record { moment = a; losses = new.losses } in g)
+    (took.moment
+    ∙ ap (λ (s : ReplicaState S C). let a : Moment S C O = record old.moment { world = moved old.moment.world t.place s took.given } in a) z.0
+    ∙ ap (λ (us : List (Effect C O)). let a : Moment S C O = record old.moment { world = moved old.moment.world t.place t.outcome.state us } in a) z.1
+    ∙ ap (behind old.moment) (sym e))
+    ∙ ap (λ k. let g : GroupState S C O = record { moment = behind old.moment (turn rules old.moment event); losses = k } in g) z.2
 
 -- a cut needs some
 pub cut_needs : {S C O : Type 0} {P : Type 0} (rules : Rules S C O) (a : Moment S C O) (node : ℕ) (t : NodeTurn S C O) →
@@ -87,7 +101,7 @@ pub cut_needs : {S C O : Type 0} {P : Type 0} (rules : Rules S C O) (a : Moment 
 cut_needs rules a node t e (comes_to_nobody f) = some_idle e f
 cut_needs rules a node t e (goes_unheeded f) = let g = sym e ∙ f in cc
 cut_needs rules a node t e (stops_a_node other f) = cc
-cut_needs rules a node t e (does_nothing s f still) = let g = sym e ∙ f in cc
+cut_needs rules a node t e (is_quiet s f still) = let g = sym e ∙ f in cc
 
 -- and one of the master needs some
 pub master_needs : {S C O : Type 0} {P : Type 0} (rules : Rules S C O) (a : Moment S C O) (event : Event C) (o : MasterOutcome C) →
@@ -95,16 +109,20 @@ pub master_needs : {S C O : Type 0} {P : Type 0} (rules : Rules S C O) (a : Mome
 master_needs rules a event o e stops (comes_to_nobody f) = some_idle e f
 master_needs rules a event o e stops (goes_unheeded f) = let g = sym e ∙ f in cc
 master_needs rules a event o e stops (stops_a_node node f) = stops node f
-master_needs rules a event o e stops (does_nothing s f still) = let g = sym e ∙ f in cc
+master_needs rules a event o e stops (is_quiet s f still) = let g = sym e ∙ f in cc
 
--- a proposal that is taken does something
+-- a proposal that is taken is not quiet
 pub proposal_does : {S C O : Type 0} {P : Type 0} (rules : Rules S C O) (r : ReplicaState S C) (command : C) → can_take r (Proposes command) ≡ true →
-    replica_step rules r (Proposes command) ≡ nothing_done O r → P
-proposal_does {S = S} {C = C} {O = O} rules r command can nothing =
+    IsQuiet r (replica_step rules r (Proposes command)) → P
+proposal_does {S = S} {C = C} {O = O} rules r command can quiet =
     let p = and_parts (is_active r.role) (nat_lt (places r.log) most_places) can in
-    let e = ap (λ (o : Outcome S C O). places o.state.log) (sym (proposed-adds rules r command p.0 (ltb-true (places r.log) most_places p.1)) ∙ nothing) in
-    let f = ap places (added-log rules r command) in let long = length-append r.log.rest (command ∷ []) in
-    absurd (omega (arith, e, f, long))
+    proposal_busy rules r command p.0 (ltb-true (places r.log) most_places p.1) quiet
+
+-- a tick that is quiet does nothing
+tick_nothing : {S C O : Type 0} (rules : Rules S C O) (r : ReplicaState S C) → IsQuiet r (replica_step rules r Ticks) → replica_step rules r Ticks ≡ nothing_done O r
+tick_nothing {S = S} {C = C} {O = O} rules r quiet =
+    ap (λ (s : ReplicaState S C). let o : Outcome S C O = record { state = s; effects = (replica_step rules r Ticks).effects } in o) (ticked-state O r r.role)
+    ∙ ap (λ (us : List (Effect C O)). let o : Outcome S C O = record { state = r; effects = us } in o) quiet.nothing_sent
 
 -- a tick, where the node would say something and where not
 tick_goes : {S C O : Type 0} (rules : Rules S C O) (old : GroupState S C O) (node at : ℕ) (x : RunsAt old.moment.world.nodes node at) →
@@ -125,9 +143,10 @@ pub tick_says : {S C O : Type 0} {P : Type 0} (rules : Rules S C O) (old : Group
     speaks ≡ true → TakesNoMemory rules old.moment (Tick node) → P
 tick_says {S = S} {C = C} {O = O} rules old node at x seen speaks same exactly on =
     node_needs rules old.moment (Tick node) _ (tick_goes rules old node at x) (λ n f. cc)
-    (λ f. absurd (both_ways speaks (exactly.1 (subst (λ (r : ReplicaState S C). replica_step rules r Ticks ≡ nothing_done O r) (sym same) f)) on))
+    (λ f. absurd (both_ways speaks
+    (exactly.1 (subst (λ (r : ReplicaState S C). replica_step rules r Ticks ≡ nothing_done O r) (sym same) (tick_nothing rules x.replica f))) on))
 
--- a message that comes to a node, where it would do something and where not
+-- a message that comes to a node, which does not heed it
 pub message_passed : {S C O : Type 0} (rules : Rules S C O) (old : GroupState S C O) (k at : ℕ) (x : ℕ × Message C) → slice_get old.moment.world.sent k ≡ Some x →
     (y : RunsAt old.moment.world.nodes x.0 at) (seen : ReplicaState S C) (heeds : Bool) → seen ≡ y.replica →
     (heeds ≡ false → replica_step rules seen (Receives x.1) ≡ nothing_done O seen) × (replica_step rules seen (Receives x.1) ≡ nothing_done O seen → heeds ≡ false) →
@@ -136,13 +155,32 @@ message_passed {S = S} {C = C} {O = O} rules old k at x found y seen heeds same 
     exactly_nothing rules old (Deliver k) at y.replica (replica_step rules y.replica (Receives x.1)) (delivers_turn rules old.moment k at x x.1 found refl y) y.stands
     (subst (λ (r : ReplicaState S C). replica_step rules r (Receives x.1) ≡ nothing_done O r) same (exactly.0 off))
 
-pub message_heeded : {S C O : Type 0} {P : Type 0} (rules : Rules S C O) (old : GroupState S C O) (k at : ℕ) (x : ℕ × Message C) → slice_get old.moment.world.sent k ≡ Some x →
-    (y : RunsAt old.moment.world.nodes x.0 at) (seen : ReplicaState S C) (heeds : Bool) → seen ≡ y.replica →
-    (heeds ≡ false → replica_step rules seen (Receives x.1) ≡ nothing_done O seen) × (replica_step rules seen (Receives x.1) ≡ nothing_done O seen → heeds ≡ false) →
-    heeds ≡ true → TakesNoMemory rules old.moment (Deliver k) → P
-message_heeded {S = S} {C = C} {O = O} rules old k at x found y seen heeds same exactly on =
+-- one that is taken in
+pub message_taken : {S C O : Type 0} (rules : Rules S C O) (old new : GroupState S C O) (k at : ℕ) (x : ℕ × Message C) (m : Message C) →
+    slice_get old.moment.world.sent k ≡ Some x → m ≡ x.1 → (y : RunsAt old.moment.world.nodes x.0 at) →
+    TookTurn rules old (record { place = at; before = y.replica; outcome = replica_step rules y.replica (Receives m) }) new →
+    TakesNoMemory rules old.moment (Deliver k) → new ≡ done_exactly rules old (Deliver k)
+message_taken rules old new k at x m found same y took =
+    let goes = delivers_turn rules old.moment k at x m found same y in
+    node_needs rules old.moment (Deliver k) _ goes (λ n f. cc) (λ quiet. turn_quiet rules old new (Deliver k) _ goes took quiet)
+
+-- a copy for which there is no memory is none
+pub not_copied : {X E : Type 0} (result : Result X E) (error : E) → result ≡ Err error → IsOk result → ⊥
+not_copied (Ok x) error is ok = cc
+not_copied (Err e) error is ok = cc
+
+-- and one for whose copy there is no memory
+pub message_lost : {S C O : Type 0} {P : Type 0} (rules : Rules S C O) (old : GroupState S C O) (k at : ℕ) (x : ℕ × Message C) →
+    slice_get old.moment.world.sent k ≡ Some x → (y : RunsAt old.moment.world.nodes x.0 at) → (has_numbers_alone x.1.body ≡ true → ⊥) →
+    (has_numbers_alone x.1.body ≡ false → IsQuiet y.replica (replica_step rules y.replica (Receives x.1)) → ⊥) → TakesNoMemory rules old.moment (Deliver k) → P
+message_lost rules old k at x found y numbers more =
     node_needs rules old.moment (Deliver k) _ (delivers_turn rules old.moment k at x x.1 found refl y) (λ n f. cc)
-    (λ f. absurd (both_ways heeds (exactly.1 (subst (λ (r : ReplicaState S C). replica_step rules r (Receives x.1) ≡ nothing_done O r) (sym same) f)) on))
+    (λ quiet. absurd (by_kind quiet (cases_Bool (has_numbers_alone x.1.body))))
+  where
+    by_kind : IsQuiet y.replica (replica_step rules y.replica (Receives x.1)) →
+        (has_numbers_alone x.1.body ≡ true) ⊎ (has_numbers_alone x.1.body ≡ false) → ⊥
+    by_kind quiet (inl e) = numbers e
+    by_kind quiet (inr e) = more e quiet
 
 -- a node that stops
 pub exactly_stopped : {S C O : Type 0} (rules : Rules S C O) (old new : GroupState S C O) (node at : ℕ) (x : RunsAt old.moment.world.nodes node at) →

@@ -7,11 +7,10 @@ use Rattle.machine.specs.Machine.{Rules}
 use Rattle.ballot.specs.Message.{Message}
 use Rattle.ballot.specs.Effect.{Effect}
 use Rattle.ballot.specs.Replica.{ReplicaState, CountedReplica, opening, status_of}
-use Rattle.ballot.specs.Losses.{Stepped, Steps, Loses, Thinned, halted, one_more}
+use Rattle.ballot.specs.Losses.{IsQuiet, Loses, Thinned, halted, one_more}
 use Rattle.ballot.specs.Losses.Thinned.{none, keeps, loses}
 use Rattle.ballot.specs.Sending.{Outcome}
 use Rattle.ballot.specs.Protocol.{Input, replica_step}
-use Rattle.ballot.proofs.ThinnedEffects.{Thinned-same}
 use Rattle.ballot.specs.Config.{Config}
 use Rattle.agreement.specs.MasterState.{MasterState, opening_master}
 use Rattle.snapshots.specs.Past.{Moment, opening_moment}
@@ -22,51 +21,16 @@ use Rattle.snapshots.specs.Past.{opening_nodes, opening_world}
 use Rattle.master.specs.Exact.{NodeTurn, cut_turn, running, unless_stopped}
 use Rattle.master.specs.Group.{GroupState}
 use Rattle.master.proofs.Archived.{recorded_by}
-use Rattle.master.specs.Inside.{RunsAt, TookCut, TookIn, Parted, TookTurn, moment_of, world_of}
+use Rattle.master.proofs.Calling.{thinned_nothing}
+use Rattle.master.proofs.LossesCounted.{quiet_count}
+use Rattle.master.specs.Inside.{IsRead, RunsAt, TookCut, TookIn, Parted, TookTurn, moment_of, world_of}
 
--- an exact step is one in which nothing was lost
-loses_of : {S C O : Type 0} (rules : Rules S C O) {old : CountedReplica S C} {o : Outcome S C O} {new : CountedReplica S C} {given : List (Effect C O)} →
-    Steps rules old o new given → Loses rules old.state o new.state given
-loses_of {S = S} {C = C} {O = O} rules {o = o} {given = given} (inl e) =
-    inl (e.0, subst (λ (us : List (Effect C O)). Thinned us o.effects) (sym e.1) (Thinned-same o.effects))
-loses_of rules (inr e) = e.0
-
--- a step that was not counted is exact, below the greatest count
-exact_of : {S C O : Type 0} (rules : Rules S C O) {old : CountedReplica S C} {o : Outcome S C O} {new : CountedReplica S C} {given : List (Effect C O)} →
-    Steps rules old o new given → new.losses ≡ old.losses → old.losses < 2 ^ 64 - 1 → (new.state ≡ o.state) × (given ≡ o.effects)
-exact_of rules (inl e) same below = (e.0, e.1)
-exact_of rules {old = old} (inr e) same below = let f : old.losses ≡ min (old.losses + 1) (2 ^ 64 - 1) = sym same ∙ e.1 in absurd (omega (arith, f, below))
-
-pub took_in : {S C O : Type 0} {rules : Rules S C O} {old : CountedReplica S C} {o : Outcome S C O} {new : CountedReplica S C} {before behind : List (Effect C O)} (whole : Bool) →
-    Stepped rules old o new before behind → (whole ≡ true → (new.losses ≡ old.losses) × (old.losses < 2 ^ 64 - 1)) →
-    TookIn rules old.state o new.state before behind whole
-took_in {rules = rules} whole s same =
-    record {
-      given = s.given;
-      appended = s.appended;
-      loses = loses_of rules s.steps;
-      exact = λ h. exact_of rules s.steps (same h).0 (same h).1;
-    }
-
--- the same step by other names
-pub stepped_as : {S C O : Type 0} (rules : Rules S C O) (old new new' : CountedReplica S C) (i i' : Input C) (before behind behind' : List (Effect C O)) →
-    i' ≡ i → new' ≡ new → behind' ≡ behind → Stepped rules old (replica_step rules old.state i) new before behind →
-    Stepped rules old (replica_step rules old.state i') new' before behind'
-stepped_as {S = S} {C = C} {O = O} rules old new new' i i' before behind behind' e f h s =
-    subst (λ (j : Input C). Stepped rules old (replica_step rules old.state j) new' before behind') (sym e)
-    (subst (λ (n : CountedReplica S C). Stepped rules old (replica_step rules old.state i) n before behind') (sym f)
-    (subst (λ (us : List (Effect C O)). Stepped rules old (replica_step rules old.state i) new before us) (sym h) s))
-
+-- messages that are missing of messages that are missing
 thinned_then : {C O : Type 0} {xs ys zs : List (Effect C O)} → Thinned xs ys → Thinned ys zs → Thinned xs zs
 thinned_then t none = t
 thinned_then (keeps t) (keeps s) = keeps (thinned_then t s)
 thinned_then (loses t) (keeps s) = loses (thinned_then t s)
 thinned_then t (loses s) = loses (thinned_then t s)
-
-thinned_nothing : {C O : Type 0} {xs ys : List (Effect C O)} → ys ≡ [] → Thinned xs ys → xs ≡ []
-thinned_nothing e none = refl
-thinned_nothing e (keeps t) = cc
-thinned_nothing e (loses t) = cc
 
 -- more messages are lost
 lost_more : {S C O : Type 0} (rules : Rules S C O) {old : ReplicaState S C} {o : Outcome S C O} {new : ReplicaState S C} {given kept : List (Effect C O)} →
@@ -93,24 +57,35 @@ moved_is {S = S} {C = C} {O = O} archive nodes sent more left parted kept n new 
     ∙ ap (λ xs. let z : World S C O = record { nodes = set (map (λ (r : CountedReplica S C). r.state) nodes) n new.state; sent = xs; left = outputs parted; archive = archive } in z) e
     ∙ ap (λ xs. let z : World S C O = record { nodes = set (map (λ (r : CountedReplica S C). r.state) nodes) n new.state; sent = sent ++ messages kept; left = xs; archive = archive } in z) f
 
+-- how losses were counted
+pub count_is : (first second : Bool) (losses counted : ℕ) → counted ≡ cond (first && second) losses (one_more losses) →
+    ((first ≡ true) × (second ≡ true) × (counted ≡ losses)) ⊎ (counted ≡ one_more losses)
+count_is true true losses counted e = inl (refl, refl, e)
+count_is true false losses counted e = inr e
+count_is false second losses counted e = inr e
+
 -- a turn of a group
 pub took_turn : {S C O : Type 0} {rules : Rules S C O} (archive : List C) (m : MasterState) (nodes : List (CountedReplica S C)) (sent more : List (ℕ × Message C)) (left behind parted : List (Effect C O))
-    (losses counted n from : ℕ) (old new : CountedReplica S C) (o : ReplicaState S C → Outcome S C O) (r : ReplicaState S C) (whole kept : Bool) →
+    (losses counted n from : ℕ) (old new : CountedReplica S C) (input : Input C) (r : ReplicaState S C) (whole kept : Bool) →
     n < length nodes → old ≡ get_or nodes n old → slice_get (map (λ (z : CountedReplica S C). z.state) nodes) n ≡ Some r → from ≡ length left →
-    TookIn rules old.state (o old.state) new.state left behind whole → Parted (drop from behind) (take from behind) parted sent more kept →
-    ((whole ≡ true) × (kept ≡ true) × (counted ≡ losses)) ⊎ (counted ≡ one_more losses) →
+    TookIn rules old input new left behind whole → Parted (drop from behind) (take from behind) parted sent more kept →
+    counted ≡ cond (whole && kept) losses (one_more losses) → IsRead rules r input → old.losses ≤ losses → losses ≤ 2 ^ 64 - 1 →
     TookTurn rules (record { moment = moment_of archive m nodes sent left; losses = losses })
-    (record { place = n; before = r; outcome = o r })
+    (record { place = n; before = r; outcome = replica_step rules r input })
     (record { moment = moment_of archive m (set nodes n new) more parted; losses = counted })
-took_turn {S = S} {C = C} {O = O} {rules = rules} archive m nodes sent more left behind parted losses counted n from old new o r whole kept below read stands at t p way =
+took_turn {S = S} {C = C} {O = O} {rules = rules} archive m nodes sent more left behind parted losses counted n from old new input r whole kept below read stands at t p count reads low high =
     record {
       state = new.state;
       given = p.kept;
       moment = ap (λ (w : World S C O). let z : Moment S C O = record { master = m; world = w } in z)
           (moved_is archive nodes sent more left parted p.kept n new p.sent_is (p.outputs_are ∙ ap (λ us. outputs us ++ outputs p.kept) front));
-      way = by_way way;
+      way = by_way (count_is whole kept losses counted count);
+      quiet = quietly;
     }
   where
+    o : ReplicaState S C → Outcome S C O
+    o s = replica_step rules s input
+
     same : old.state ≡ r
     same = let e = sym (stands_at nodes n old below read) ∙ stands in cc
 
@@ -130,6 +105,15 @@ took_turn {S = S} {C = C} {O = O} {rules = rules} archive m nodes sent more left
         ⊎ (Loses rules r (o r) new.state p.kept × (counted ≡ one_more losses))
     by_way (inl (a, b, c)) = inl ((t.exact a).0 ∙ ap (λ (s : ReplicaState S C). (o s).state) same, p.exact b ∙ rest ∙ (t.exact a).1 ∙ ap (λ (s : ReplicaState S C). (o s).effects) same, c)
     by_way (inr c) = inr (lossy, c)
+
+    quietly : IsQuiet r (o r) → (new.state ≡ (o r).state) × (p.kept ≡ (o r).effects) × (counted ≡ losses)
+    quietly q =
+        let z = t.quiet (subst (λ (s : ReplicaState S C). IsQuiet s (o s)) (sym same) q) (subst (λ (s : ReplicaState S C). IsRead rules s input) (sym same) reads) in
+        let nothing : drop from behind ≡ [] = rest ∙ z.1 ∙ ap (λ (s : ReplicaState S C). (o s).effects) same ∙ q.nothing_sent in (
+          z.0 ∙ ap (λ (s : ReplicaState S C). (o s).state) same,
+          thinned_nothing nothing p.thinned ∙ sym q.nothing_sent,
+          quiet_count whole kept losses counted old.losses count (p.idle nothing) low high (λ below. t.told z.2 below),
+        )
 
 -- the node of a number
 pub runs_at : {S C : Type 0} (nodes : List (CountedReplica S C)) (node : ℕ) (r : CountedReplica S C) → 0 < node → node ≤ length nodes → r ≡ get_or nodes (node - 1) r →
@@ -186,6 +170,7 @@ crash_turn {S = S} {C = C} {O = O} rules archive m nodes sent left losses n old 
           (moved_is archive nodes sent sent left left [] n new (sym (append-nil sent)) (sym (append-nil (outputs left)))
           ∙ ap (λ (s : ReplicaState S C). moved (world_of archive nodes sent left) n s []) (stopped ∙ ap (halted rules) same));
       way = inl (refl, refl, refl);
+      quiet = λ q. (refl, refl, refl);
     }
   where
     same : old.state ≡ r
@@ -228,13 +213,6 @@ opened_more {S = S} {C = C} rules config items more new at before opens pushed =
     ap (map (λ (z : CountedReplica S C). z.state)) pushed ∙ map-append (λ (z : CountedReplica S C). z.state) items (new ∷ [])
     ∙ ap (λ us. us ++ new.state ∷ []) before ∙ ap (λ s. opening_nodes rules at config ++ s ∷ []) opens
     ∙ sym (ap (λ k. opening_nodes rules k config) next)
-
--- how losses were counted
-pub count_is : (first second : Bool) (losses counted : ℕ) → counted ≡ cond (first && second) losses (one_more losses) →
-    ((first ≡ true) × (second ≡ true) × (counted ≡ losses)) ⊎ (counted ≡ one_more losses)
-count_is true true losses counted e = inl (refl, refl, e)
-count_is true false losses counted e = inr e
-count_is false second losses counted e = inr e
 
 pub opened_moment : {S C O : Type 0} (rules : Rules S C O) (archive : List C) (config : Config) (nodes at : ℕ) (m : MasterState) (items : List (CountedReplica S C)) (sent : List (ℕ × Message C)) (left : List (Effect C O)) →
     m ≡ opening_master config → map (λ (z : CountedReplica S C). z.state) items ≡ opening_nodes rules at config → at ≡ nodes → sent ≡ [] → left ≡ [] → archive ≡ [] →

@@ -1,5 +1,5 @@
 -- Viewed.antt: how long the agreed list of a group is and where its places stand, by the record and the logs that are kept.
-use Rattle.std.proofs.Common.{◌≡◌, ℕ, zero, suc, Bool, false, ◌-◌, ◌<◌, ◌≤◌, List, [], ◌∷◌, ◌++◌, length, map, take, get_or, Some, None, Option, refl, ap, sym, ◌∙◌, subst, arith}
+use Rattle.std.proofs.Common.{◌≡◌, ℕ, zero, suc, Bool, false, ◌+◌, ◌-◌, ◌<◌, ◌≤◌, List, [], ◌∷◌, ◌++◌, length, map, take, get_or, Some, None, Option, refl, ap, sym, ◌∙◌, subst, arith}
 use Rattle.std.specs.Prelude.{slice_get}
 use Rattle.std.proofs.lemmas.List.{append-nil, length-take-le, take-append-le, take-take}
 use Rattle.machine.specs.Machine.{Rules}
@@ -7,8 +7,8 @@ use Rattle.lists.specs.Lists.{In}
 use Rattle.ballot.specs.Config.{Config}
 use Rattle.ballot.specs.Logs.{Log, places}
 use Rattle.ballot.specs.Message.{Message}
-use Rattle.ballot.specs.Protocol.{replica_step}
-use Rattle.ballot.specs.Protocol.Input.{Receives}
+use Rattle.ballot.specs.Protocol.{Input, replica_step}
+use Rattle.ballot.specs.Protocol.Input.{Receives, Proposes, Ticks}
 use Rattle.ballot.specs.Sending.{nothing_done}
 use Rattle.ballot.specs.Unread.{is_unread}
 use Rattle.ballot.specs.Replica.{ReplicaState}
@@ -17,11 +17,13 @@ use Rattle.agreement.specs.Past.{IsAgreed}
 use Rattle.agreement.specs.World.{log_of}
 use Rattle.snapshots.specs.Past.{Moment, Past, whole_moment}
 use Rattle.snapshots.specs.Whole.{whole, whole_log}
+use Rattle.snapshots.specs.World.{MayTake}
 use Rattle.snapshots.proofs.Continues.{agreed_back, agreed_in}
 use Rattle.snapshots.proofs.Fronts.{whole_long}
+use Rattle.snapshots.proofs.PastsAgree.{snapshots_are_read}
 use Rattle.snapshots.proofs.PastsKept.{StandsFor, past_stands}
 use Rattle.snapshots.proofs.Views.{get_whole}
-use Rattle.master.specs.Inside.{HasCounted, HoldsAt, IsShort, ToldIn, held_by, least_but_one}
+use Rattle.master.specs.Inside.{HasCounted, HoldsAt, IsRead, IsShort, ToldIn, held_by, least_but_one}
 use Rattle.master.proofs.Counted.{counted_length, member_front, sole_length, some_long}
 use Rattle.master.proofs.Lawful.{AreLawful, past_lawful}
 use Rattle.master.proofs.WholeTold.{counted_whole}
@@ -140,6 +142,13 @@ heeded {S = S} {C = C} {O = O} rules r seen message heeds same read exactly = by
 
     by_state : Exactly r → (heeds ≡ false → replica_step rules r (Receives message) ≡ nothing_done O r) × (replica_step rules r (Receives message) ≡ nothing_done O r → heeds ≡ false)
     by_state (off, on) = (λ e. (off e).0, λ e. on (e, read))
+
+-- so whatever a node takes in is read
+pub taken_is_read : {S C O : Type 0} (rules : Rules S C O) (config : Config) (a : Moment S C O) (past : List (Moment S C O)) → Past rules config (a ∷ past) →
+    (n : ℕ) (input : Input C) (r : ReplicaState S C) → MayTake a.world n input → IsRead rules r input
+taken_is_read rules config a past came n (Receives message) r sent = snapshots_are_read rules config a past came (n + 1) message sent r
+taken_is_read rules config a past came n (Proposes command) r may = tt
+taken_is_read rules config a past came n Ticks r may = tt
 
 -- the members that the master has are lawful
 pub group_lawful : {S C O : Type 0} (rules : Rules S C O) (config : Config) (a : Moment S C O) (past : List (Moment S C O)) → Past rules config (a ∷ past) →

@@ -1,5 +1,5 @@
 -- Inside.antt: what the helpers of a group say of nodes, effects, turns and counters.
-use Rattle.std.specs.Prelude.{ℕ, Bool, true, false, ◌-◌, ◌<◌, ◌≤◌, ◌≡◌, ◌⊎◌, List, [], ◌∷◌, ◌++◌, length, map, min, get_or, slice_get, Option, Some, None, nat_lt, if◌then◌else◌}
+use Rattle.std.specs.Prelude.{ℕ, Bool, true, false, ◌-◌, ◌^◌, ◌<◌, ◌≤◌, ◌≡◌, ◌⊎◌, List, [], ◌∷◌, ◌++◌, length, map, min, get_or, slice_get, Option, Some, None, nat_lt, if◌then◌else◌}
 use Rattle.machine.specs.Machine.{Rules}
 use Rattle.ballot.specs.Body.{Body}
 use Rattle.ballot.specs.Body.TheVariants.{Activate}
@@ -8,12 +8,12 @@ use Rattle.ballot.specs.Message.{Message}
 use Rattle.ballot.specs.Effect.{Effect}
 use Rattle.ballot.specs.Effect.TheVariants.{To, Out}
 use Rattle.ballot.specs.Logs.{places}
-use Rattle.ballot.specs.Losses.{Thinned, Loses, one_more}
-use Rattle.lists.specs.Lists.{In}
-use Rattle.ballot.specs.Protocol.{Input}
+use Rattle.ballot.specs.Losses.{IsQuiet, Thinned, Loses, one_more}
+use Rattle.lists.specs.Lists.{Each, In}
+use Rattle.ballot.specs.Protocol.{Input, replica_step}
 use Rattle.ballot.specs.Protocol.Input.{Receives, Proposes, Ticks}
 use Rattle.ballot.specs.Replica.{ReplicaState, CountedReplica}
-use Rattle.ballot.specs.Sending.{Outcome}
+use Rattle.ballot.specs.Unread.{is_unread}
 use Rattle.master.specs.ToldLengths.{most_told}
 use Rattle.agreement.specs.MasterState.{MasterState}
 use Rattle.snapshots.specs.Masters.{MasterOutcome}
@@ -63,30 +63,53 @@ input_of (Received message) = Receives message
 input_of (Proposed command) = Proposes command
 input_of Ticked = Ticks
 
--- a replica took its step, perhaps with losses, and without any where it was whole
-pub record TookIn {S C O : Type 0} (rules : Rules S C O) (old : ReplicaState S C)
-    (outcome : Outcome S C O) (new : ReplicaState S C) (before behind : List (Effect C O)) (whole : Bool) : Type 0 where
+-- no snapshot has to be read that stands for no machine
+abbrev pub IsRead : {S C O : Type 0} → Rules S C O → ReplicaState S C → Input C → Type 0
+IsRead rules r (Receives message) = is_unread rules r message.body ≡ false
+IsRead rules r (Proposes command) = Unit {0}
+IsRead rules r Ticks = Unit {0}
+
+-- a replica took its step exactly, and counted nothing
+abbrev pub TookExactly : {S C O : Type 0} → Rules S C O → CountedReplica S C → Input C →
+    CountedReplica S C → List (Effect C O) → Type 0
+TookExactly rules old input new given =
+    (new.state ≡ (replica_step rules old.state input).state)
+    × (given ≡ (replica_step rules old.state input).effects)
+    × (new.losses ≡ old.losses)
+
+-- a replica took its step, perhaps with losses, and without any where it was whole. A step that sends
+-- nothing, leaves the log as it is and applies nothing has none; it is whole where the replica's count
+-- is below its greatest number, at which it tells nothing
+pub record TookIn {S C O : Type 0} (rules : Rules S C O) (old : CountedReplica S C) (input : Input C)
+    (new : CountedReplica S C) (before behind : List (Effect C O)) (whole : Bool) : Type 0 where
   pub given : List (Effect C O)
   pub appended : behind ≡ before ++ given
-  pub loses : Loses rules old outcome new given
-  pub exact : whole ≡ true → (new ≡ outcome.state) × (given ≡ outcome.effects)
+  pub loses : Loses rules old.state (replica_step rules old.state input) new.state given
+  pub exact : whole ≡ true → TookExactly rules old input new given
+  pub counted : (new.losses ≡ old.losses) ⊎ (new.losses ≡ one_more old.losses)
+  pub quiet : IsQuiet old.state (replica_step rules old.state input) → IsRead rules old.state input →
+      TookExactly rules old input new given
+  pub told : new.losses ≡ old.losses → old.losses < 2 ^ 64 - 1 → whole ≡ true
 
 -- whether an effect is a message
 abbrev pub is_message : {C O : Type 0} → Effect C O → Bool
 is_message (To receiver message) = true
 is_message (Out place output) = false
 
--- messages among effects were moved behind those sent before, save some that were lost
+-- messages among effects were moved behind those sent before, save some that were lost; none is lost
+-- where there is none
 pub record Parted {C O : Type 0} (given left parted : List (Effect C O))
     (sent more : List (ℕ × Message C)) (whole : Bool) : Type 0 where
   pub kept : List (Effect C O)
   pub thinned : Thinned kept given
   pub exact : whole ≡ true → kept ≡ given
+  pub idle : given ≡ [] → whole ≡ true
   pub sent_is : more ≡ sent ++ messages kept
   pub outputs_are : outputs parted ≡ outputs left ++ outputs kept
   pub messages_are : messages parted ≡ messages left
 
--- a group after a turn of one node, or one with losses that was counted
+-- a group after a turn of one node, or one with losses that was counted; none is where the node sends
+-- nothing, leaves its log as it is and applies nothing
 pub record TookTurn {S C O : Type 0} (rules : Rules S C O) (old : GroupState S C O)
     (t : NodeTurn S C O) (new : GroupState S C O) : Type 0 where
   pub state : ReplicaState S C
@@ -95,6 +118,8 @@ pub record TookTurn {S C O : Type 0} (rules : Rules S C O) (old : GroupState S C
       ≡ record old.moment { world = moved old.moment.world t.place state given }
   pub way : ((state ≡ t.outcome.state) × (given ≡ t.outcome.effects) × (new.losses ≡ old.losses))
       ⊎ (Loses rules t.before t.outcome state given × (new.losses ≡ one_more old.losses))
+  pub quiet : IsQuiet t.before t.outcome →
+      (state ≡ t.outcome.state) × (given ≡ t.outcome.effects) × (new.losses ≡ old.losses)
 
 -- a group after a cut of one node's log, or one for which memory ran out, which was counted
 pub record TookCut {S C O : Type 0} (rules : Rules S C O) (old : GroupState S C O)
@@ -128,6 +153,10 @@ abbrev pub moment_of : {S C O : Type 0} → List C → MasterState → List (Cou
     List (ℕ × Message C) → List (Effect C O) → Moment S C O
 moment_of archive m nodes sent left =
     record { master = m; world = world_of archive nodes sent left }
+
+-- no replica has counted more losses than its group, which counts each of them
+abbrev pub CountsAtMost : {S C : Type 0} → ℕ → List (CountedReplica S C) → Type 0
+CountsAtMost {S} {C} losses nodes = Each (λ (r : CountedReplica S C). r.losses ≤ losses) nodes
 
 -- how many places the node of each number told in a ballot
 pub record ToldIn : Type 0 where

@@ -1,4 +1,5 @@
 pub mod Agreement
+pub mod Copying
 pub mod Exact
 pub mod Group
 pub mod Inside

@@ -2,9 +2,8 @@
 use Rattle.std.specs.Prelude.{◌^◌, ◌-◌, ◌<◌, ◌≡◌, ◌⊎◌, ℕ, List, [], ◌∷◌, Option, Some, None}
 use Rattle.machine.specs.Machine.{Rules}
 use Rattle.ballot.specs.Effect.{Effect}
-use Rattle.ballot.specs.Losses.{Loses, one_more}
+use Rattle.ballot.specs.Losses.{IsQuiet, Loses, one_more}
 use Rattle.ballot.specs.Replica.{ReplicaState}
-use Rattle.ballot.specs.Sending.{nothing_done}
 use Rattle.snapshots.specs.Masters.{MasterOutcome}
 use Rattle.snapshots.specs.Past.{Moment}
 use Rattle.snapshots.specs.World.{moved}
@@ -26,14 +25,15 @@ pub data Happens {S C O : Type 0} (rules : Rules S C O) :
   master_goes : {a : Moment S C O} {e : Event C} (o : MasterOutcome C) →
       turn rules a e ≡ Some (by_master o) → Happens rules a e (record a { master = o.state })
 
--- an event for which no memory is needed: it comes to nobody, or to a master that does not heed it,
--- the node that it comes to does nothing by the protocol, or it stops a node
+-- an event for which no memory is needed: it comes to nobody, or to a master that does not heed it; by
+-- the protocol the node that it comes to sends nothing, leaves its log as it is and applies nothing,
+-- though it may learn something, as what a member holds; or the event stops a node
 pub data TakesNoMemory {S C O : Type 0} (rules : Rules S C O) (a : Moment S C O) (e : Event C) :
     Type 0 where
   comes_to_nobody : turn rules a e ≡ None → TakesNoMemory rules a e
   goes_unheeded : turn rules a e ≡ Some unheeded → TakesNoMemory rules a e
-  does_nothing : (t : NodeTurn S C O) → turn rules a e ≡ Some (by_node t) →
-      t.outcome ≡ nothing_done O t.before → TakesNoMemory rules a e
+  is_quiet : (t : NodeTurn S C O) → turn rules a e ≡ Some (by_node t) →
+      IsQuiet t.before t.outcome → TakesNoMemory rules a e
   stops_a_node : (node : ℕ) → e ≡ Crash node → TakesNoMemory rules a e
 
 -- a group behind an event that was done exactly, with no loss

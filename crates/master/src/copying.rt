@@ -1,17 +1,19 @@
 // Copies of messages that were sent, to be delivered once more.
 
-ghost use Rattle.std.specs.Prelude.{◌≡◌, IfOk};
+ghost use Rattle.std.specs.Prelude.{◌≡◌, true, IfOk, IsOk};
+ghost use Rattle.master.specs.Copying.{has_numbers_alone};
 
 use ballot::{Body, Config, Members, Message, copy_log};
 use machine::{Machine, Memory};
 use std::alloc::Global;
 
-/// A copy of a message. The only error is want of memory.
+/// Returns a copy of a message. The only error is want of memory; one that has numbers alone takes none.
 pub fn copy_of<M: Machine>(
     alloc: Global,
     message: &Message<M::Command>,
 ) -> Result<Message<M::Command>, Memory>
-    ensures { IfOk result (λ copied. copied ≡ message.now) }
+    ensures same { IfOk result (λ copied. copied ≡ message.now) }
+    ensures numbers { has_numbers_alone message.now.body ≡ true → IsOk result }
 {
     let from = message.from;
     let body = match &message.body {

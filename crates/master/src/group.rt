@@ -6,7 +6,7 @@ ghost use Rattle.ballot.specs.Cutting.{can_cut};
 ghost use Rattle.ballot.specs.Protocol.{replica_step};
 ghost use Rattle.ballot.specs.Protocol.Input.{Receives};
 ghost use Rattle.ballot.specs.Sending.{nothing_done};
-ghost use Rattle.ballot.specs.Losses.{one_more};
+ghost use Rattle.ballot.specs.Losses.{IsQuiet, one_more};
 ghost use Rattle.ballot.specs.Replica.{ReplicaState};
 ghost use Rattle.lists.specs.Lists.{In};
 ghost use Rattle.snapshots.specs.Masters.{activated, assigned};
@@ -15,6 +15,7 @@ ghost use Rattle.snapshots.specs.Past.{IsAgreed, Moment, Past, opening_moment};
 ghost use Rattle.snapshots.specs.World.{MayTake};
 ghost use Rattle.agreement.specs.World.{can_open};
 ghost use Rattle.master.specs.Agreement.{AgreesAfter};
+ghost use Rattle.master.specs.Copying.{has_numbers_alone};
 ghost use Rattle.master.specs.Exact.{cut_turn, turn, group_step, group_run, running};
 ghost use Rattle.master.specs.Inside.{HoldsAt, IsShort, MasterTook, RunsAt, TookCut, TookTurn, held_by, input_of};
 ghost use Rattle.master.specs.Steps.{Run, StepsBy, TakesNoMemory, LosesNothing, done_exactly};
@@ -52,7 +53,7 @@ pub struct Group<M: Machine> {
 impl<M: Machine> Model for Group<M> {
     ghost use Rattle.std.specs.Prelude.{◌≡◌, []};
     ghost use Rattle.master.specs.Group.{GroupState};
-    ghost use Rattle.master.specs.Inside.{IsGroup, moment_of};
+    ghost use Rattle.master.specs.Inside.{CountsAtMost, IsGroup, moment_of};
     ghost use Rattle.snapshots.specs.World.{messages};
 
     ghost Value = { GroupState M M.Command M.Output };
@@ -63,11 +64,12 @@ impl<M: Machine> Model for Group<M> {
           losses = g.losses;
         } };
 
-    // Some past led up to here.
+    // Some past led up to here, and each loss of a replica was counted.
     ghost invariant = { λ g.
         (messages g.left.items ≡ []) ×
         IsGroup M.rules (moment_of g.archive.items g.master g.nodes.items g.sent.items g.left.items)
-        g.told g.next };
+        g.told g.next ×
+        CountsAtMost g.losses g.nodes.items };
 }
 
 impl<M: Machine> Group<M> {
@@ -419,14 +421,19 @@ impl<M: Machine> Group<M> {
         Some(at)
     }
 
-    // Whether a message that was sent would do anything at a node.
+    // Whether a message that was sent would do anything at a node. One that would, and has more than
+    // numbers, sends something or adds to the log.
     fn heeds(&self, at: usize, message: &Message<M::Command>) -> bool
         requires at { at < length self.now.moment.world.nodes }
         requires sent { (to : ℕ) × In (to, message.now) self.now.moment.world.sent }
-        ensures { (r : ReplicaState M M.Command) →
+        ensures nothing { (r : ReplicaState M M.Command) →
             slice_get self.now.moment.world.nodes at ≡ Some r →
             ((result ≡ false) ↔
             (replica_step M.rules r (Receives message.now) ≡ nothing_done M.Output r)) }
+        ensures more { (r : ReplicaState M M.Command) →
+            slice_get self.now.moment.world.nodes at ≡ Some r → result ≡ true →
+            has_numbers_alone message.now.body ≡ false →
+            IsQuiet r (replica_step M.rules r (Receives message.now)) → ⊥ }
     {
         self.nodes[at].heeds(message)
     }

@@ -3,7 +3,6 @@
 ghost use Rattle.std.specs.Prelude.{◌≡◌, ◌≤◌, false, [], ◌∷◌, ◌++◌, length, take, drop, ◌&&◌, if◌then◌else◌};
 ghost use Rattle.ballot.specs.Losses.{one_more};
 ghost use Rattle.std.specs.Bool.{OnTrue, OnFalse};
-ghost use Rattle.ballot.specs.Protocol.{replica_step};
 ghost use Rattle.snapshots.specs.World.{messages};
 ghost use Rattle.master.specs.Inside.{Parted, TookIn, input_of, is_message};
 
@@ -28,9 +27,8 @@ pub fn take_in<M: Machine>(
     out: &mut Vec<Effect<M::Command, M::Output>>,
 ) -> bool
     requires { replica.old.state.stopped ≡ false }
-    ensures { TookIn M.rules replica.old.state
-        (replica_step M.rules replica.old.state (input_of taken))
-        replica.new.state out.old.items out.new.items result }
+    ensures { TookIn M.rules replica.old (input_of taken) replica.new
+        out.old.items out.new.items result }
 {
     let before = replica.losses();
     match taken {

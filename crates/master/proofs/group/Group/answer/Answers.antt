@@ -1,7 +1,8 @@
-use Rattle.std.proofs.Common.{sym, ◌∙◌}
+use Rattle.std.proofs.Common.{sym, ◌∙◌, arith}
 use Rattle.snapshots.specs.Masters.{activated}
 use Rattle.agreement.specs.MasterState.{is_granted}
 use Rattle.master.proofs.Groups.{answer_is, group_answers, master_tells, took_as_seen, turned, world_is}
+use Rattle.master.proofs.LossesCounted.{counts_told}
 use Rattle.master.proofs.group.Group.answer.Goals as goal
 
 pub invariant_of-self : goal.invariant_of-self
@@ -19,6 +20,8 @@ invariant_of-self g c =
           (turned c.self.inside.told c.self.inside.next c.turn_over.new.told c.turn_over.new.next m.active c.activate-activation.new.self.active
           (λ e. c.turn_over.ensures.stays (c.active-before.ensures.ballot ∙ e ∙ sym c.active-behind.ensures.ballot))
           (λ ne. c.turn_over.ensures.turns (λ e. ne (sym c.active-before.ensures.ballot ∙ e ∙ c.active-behind.ensures.ballot)))),
+      counts_told c.tell-told.result _ c.self.inside.losses c.counted-self-inside.result c.self.inside.nodes.items (omega arith) c.counted-self-inside.ensures
+          c.self.invariant.2,
     )
 
 pub returns : goal.returns

@@ -1,9 +1,10 @@
-use Rattle.std.proofs.Common.{◌-◌, ap, refl, rules as rules_of}
+use Rattle.std.proofs.Common.{◌-◌, ap, refl, arith, rules as rules_of}
 use Rattle.ballot.specs.Replica.{CountedReplica}
 use Rattle.master.specs.declared.event.Event.TheVariants.{Crash}
 use Rattle.master.proofs.Counting.{some_idle, steps_idle, stops_turn, steps_turn}
 use Rattle.master.proofs.Groups.{group_stops}
-use Rattle.master.proofs.Turns.{crash_group, crash_turn}
+use Rattle.master.proofs.LossesCounted.{counts_at, counts_set}
+use Rattle.master.proofs.Turns.{below_of, crash_group, crash_turn}
 use Rattle.master.proofs.Quiet.{exactly_none, exactly_stopped}
 use Rattle.master.specs.Exact.{stopping}
 use Rattle.master.proofs.group.Group.crash.Goals as goal
@@ -15,7 +16,13 @@ invariant_of-self g c =
     let took = crash_turn rules c.self.inside.archive.items c.self.inside.master c.self.inside.nodes.items c.self.inside.sent.items c.self.inside.left.items c.self.inside.losses c.in-Some.at
     c.index_mut-replica.result.now c.stop.new.self x.replica c.index_mut-replica.ensures.value x.stands
     (ap (λ (z : CountedReplica g.row.M.Denot g.row.M-Command.Denot). z.state) c.stop.ensures) in
-    (c.self.invariant.0, group_stops rules _ _ c.self.inside.told c.self.inside.next _ _ c.in-Some.at x.replica c.self.invariant.1 refl refl x.stands x.going took refl)
+    let same = ap (λ (z : CountedReplica g.row.M.Denot g.row.M-Command.Denot). z.losses) c.stop.ensures in
+    let low = counts_at c.self.inside.losses c.self.inside.nodes.items c.in-Some.at c.index_mut-replica.result.now c.self.invariant.2
+    (below_of c.self.inside.nodes.items c.in-Some.at x.replica x.stands) c.index_mut-replica.ensures.value in (
+      c.self.invariant.0,
+      group_stops rules _ _ c.self.inside.told c.self.inside.next _ _ c.in-Some.at x.replica c.self.invariant.1 refl refl x.stands x.going took refl,
+      counts_set c.self.inside.losses c.self.inside.nodes.items c.in-Some.at c.stop.new.self c.self.invariant.2 (omega (arith, same, low)),
+    )
 
 pub returns-clause-step : goal.returns-clause-step
 returns-clause-step g c =

@@ -3,6 +3,7 @@ use Rattle.ballot.specs.Replica.{CountedReplica, ReplicaState}
 use Rattle.master.specs.Exact.{cut_turn}
 use Rattle.master.proofs.Archived.{begins_by, taken_back}
 use Rattle.master.proofs.Groups.{group_cuts, group_kept}
+use Rattle.master.proofs.LossesCounted.{counts_at, counts_cut, counts_lost, counts_set}
 use Rattle.master.proofs.Turns.{below_of, cut_lost, cut_not, cut_read, same_replica}
 use Rattle.master.proofs.Viewed.{within_of}
 use Rattle.master.proofs.group.Group.cut_at.Goals as goal
@@ -24,6 +25,7 @@ invariant_of-self g c =
       c.self.invariant.0,
       group_kept rules c.self.inside.archive.items c.truncate.new.self.items c.self.inside.master c.self.inside.nodes.items c.self.inside.nodes.items c.self.inside.sent.items
           c.self.inside.left.items c.self.inside.told c.self.inside.next kept refl c.self.invariant.1,
+      counts_lost c.self.inside.losses c.counted-self-inside.result c.self.inside.nodes.items (omega arith) c.counted-self-inside.ensures c.self.invariant.2,
     )
 
 pub returns-in_default : goal.returns-in_default
@@ -52,6 +54,10 @@ invariant_of-self-then-cut g c =
     c.rest.ensures.rest c.in-Ok.ensures.ok (c.cut.ensures.done c.if-cut.true).1 (c.cut.ensures.thaws c.if-cut.true) in (
       c.self.invariant.0,
       group_cuts rules _ _ c.self.inside.told c.self.inside.next _ _ c.args.at there.0 c.self.invariant.1 refl refl there.1 there.2 took refl,
+      counts_set c.self.inside.losses c.self.inside.nodes.items c.args.at c.cut.new.self c.self.invariant.2
+          (let same = ap (λ (z : CountedReplica g.row.M.Denot g.row.M-Command.Denot). z.losses) (c.cut.ensures.done c.if-cut.true).1 in
+          let low = counts_at c.self.inside.losses c.self.inside.nodes.items c.args.at c.index_mut-replica.result.now c.self.invariant.2
+          (below_of c.self.inside.nodes.items c.args.at there.0 there.1) c.index_mut-replica.ensures.value in omega (arith, same, low)),
     )
 
 pub returns-then-cut : goal.returns-then-cut
@@ -75,6 +81,10 @@ invariant_of-self-2 g c =
       c.self.invariant.0,
       group_kept rules c.self.inside.archive.items c.truncate-2.new.self.items c.self.inside.master c.self.inside.nodes.items _ c.self.inside.sent.items
           c.self.inside.left.items c.self.inside.told c.self.inside.next kept same c.self.invariant.1,
+      counts_cut c.self.inside.losses c.counted-self-inside-2.result c.self.inside.nodes.items c.args.at c.index_mut-replica.result.now c.cut.new.self there.0
+          (below_of c.self.inside.nodes.items c.args.at there.0 there.1) c.index_mut-replica.ensures.value
+          (same_replica c.self.inside.nodes.items c.args.at c.index_mut-replica.result.now there.0 c.index_mut-replica.ensures.value there.1) there.2
+          (c.cut.ensures.tells c.if-cut.false) (omega arith) c.counted-self-inside-2.ensures c.self.invariant.2,
     )
 
 pub returns : goal.returns

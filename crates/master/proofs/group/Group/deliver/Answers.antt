@@ -5,7 +5,7 @@ use Rattle.lists.proofs.Members.{in_at}
 use Rattle.master.specs.declared.event.Event.TheVariants.{Deliver}
 use Rattle.master.specs.Group.{GroupState}
 use Rattle.master.proofs.Counting.{asked_in, came_in, delivers_to_master, delivers_turn, delivers_nothing, hears_ballot, hears_nothing, not_sent, steps_master, steps_unheeded, get_there, get_past, some_idle, steps_turn, steps_lost, steps_idle}
-use Rattle.master.proofs.Quiet.{exactly_none, exactly_unheeded, master_needs, message_heeded, message_passed, steps_exactly_done}
+use Rattle.master.proofs.Quiet.{exactly_none, exactly_unheeded, master_needs, message_lost, message_passed, message_taken, not_copied, steps_exactly_done}
 use Rattle.master.proofs.group.Group.deliver.Goals as goal
 
 pub returns-in_default-clause-step : goal.returns-in_default-clause-step
@@ -50,7 +50,7 @@ returns-in-Ok-clause-step g c =
     (ltb-true c.args.number (length c.deref.result.now) (sym c.in-Some.ensures.lookup.0)) c.in-Some.ensures.lookup.1 in
     let x = c.in-Some-running.ensures.some in
     steps_turn rules c.args.self.now c.take_turn.new.self (Deliver c.args.number) _
-    (delivers_turn rules c.args.self.now.moment c.args.number c.in-Some-running.at c.in-Some.field-0.now c.in-Ok.message found c.in-Ok.ensures x)
+    (delivers_turn rules c.args.self.now.moment c.args.number c.in-Some-running.at c.in-Some.field-0.now c.in-Ok.message found c.in-Ok.ensures.same x)
     (c.take_turn.ensures x.replica x.stands)
 
 pub returns-in-Ok-clause-idle : goal.returns-in-Ok-clause-idle
@@ -92,7 +92,7 @@ take_turn-requires-clause-may g c =
     let sent : c.deref.result.now ≡ c.args.self.now.moment.world.sent = c.deref.ensures.value ∙ ap (λ (z : GroupState _ _ _). z.moment.world.sent) c.self.view_is in
     let found = ap (λ us. slice_get us c.args.number) (sym sent) ∙ get_there c.deref.result.now c.args.number c.in-Some.field-0.now
     (ltb-true c.args.number (length c.deref.result.now) (sym c.in-Some.ensures.lookup.0)) c.in-Some.ensures.lookup.1 in
-    came_in c.args.self.now.moment.world.nodes c.args.self.now.moment.world.sent c.args.number c.in-Some-running.at c.in-Some.field-0.now c.in-Ok.message found c.in-Ok.ensures
+    came_in c.args.self.now.moment.world.nodes c.args.self.now.moment.world.sent c.args.number c.in-Some-running.at c.in-Some.field-0.now c.in-Ok.message found c.in-Ok.ensures.same
     c.in-Some-running.ensures.some
 
 pub returns-in-Some-asks_for-clause-step : goal.returns-in-Some-asks_for-clause-step
@@ -156,7 +156,7 @@ returns-then-not-heeds-clause-step g c =
     let found = ap (λ us. slice_get us c.args.number) (sym sent) ∙ get_there c.deref.result.now c.args.number c.in-Some.field-0.now
     (ltb-true c.args.number (length c.deref.result.now) (sym c.in-Some.ensures.lookup.0)) c.in-Some.ensures.lookup.1 in
     let x = c.in-Some-running.ensures.some in
-    steps_exactly_done rules c.args.self.now (Deliver c.args.number) (message_passed rules c.args.self.now c.args.number c.in-Some-running.at c.in-Some.field-0.now found x x.replica c.heeds.result refl (c.heeds.ensures x.replica x.stands) c.if-not-heeds.true)
+    steps_exactly_done rules c.args.self.now (Deliver c.args.number) (message_passed rules c.args.self.now c.args.number c.in-Some-running.at c.in-Some.field-0.now found x x.replica c.heeds.result refl (c.heeds.ensures.nothing x.replica x.stands) c.if-not-heeds.true)
 
 pub returns-then-not-heeds-clause-idle : goal.returns-then-not-heeds-clause-idle
 returns-then-not-heeds-clause-idle g c =
@@ -174,7 +174,7 @@ returns-then-not-heeds-clause-quiet g c =
     let found = ap (λ us. slice_get us c.args.number) (sym sent) ∙ get_there c.deref.result.now c.args.number c.in-Some.field-0.now
     (ltb-true c.args.number (length c.deref.result.now) (sym c.in-Some.ensures.lookup.0)) c.in-Some.ensures.lookup.1 in
     let x = c.in-Some-running.ensures.some in
-    λ q. message_passed rules c.args.self.now c.args.number c.in-Some-running.at c.in-Some.field-0.now found x x.replica c.heeds.result refl (c.heeds.ensures x.replica x.stands) c.if-not-heeds.true
+    λ q. message_passed rules c.args.self.now c.args.number c.in-Some-running.at c.in-Some.field-0.now found x x.replica c.heeds.result refl (c.heeds.ensures.nothing x.replica x.stands) c.if-not-heeds.true
 
 pub returns-in-Ok-clause-quiet : goal.returns-in-Ok-clause-quiet
 returns-in-Ok-clause-quiet g c =
@@ -183,7 +183,8 @@ returns-in-Ok-clause-quiet g c =
     let found = ap (λ us. slice_get us c.args.number) (sym sent) ∙ get_there c.deref.result.now c.args.number c.in-Some.field-0.now
     (ltb-true c.args.number (length c.deref.result.now) (sym c.in-Some.ensures.lookup.0)) c.in-Some.ensures.lookup.1 in
     let x = c.in-Some-running.ensures.some in
-    λ q. message_heeded rules c.args.self.now c.args.number c.in-Some-running.at c.in-Some.field-0.now found x x.replica c.heeds.result refl (c.heeds.ensures x.replica x.stands) c.if-not-heeds.false q
+    message_taken rules c.args.self.now c.take_turn.new.self c.args.number c.in-Some-running.at c.in-Some.field-0.now c.in-Ok.message found c.in-Ok.ensures.same x
+    (c.take_turn.ensures x.replica x.stands)
 
 pub returns-in-Err-clause-quiet : goal.returns-in-Err-clause-quiet
 returns-in-Err-clause-quiet g c =
@@ -192,7 +193,8 @@ returns-in-Err-clause-quiet g c =
     let found = ap (λ us. slice_get us c.args.number) (sym sent) ∙ get_there c.deref.result.now c.args.number c.in-Some.field-0.now
     (ltb-true c.args.number (length c.deref.result.now) (sym c.in-Some.ensures.lookup.0)) c.in-Some.ensures.lookup.1 in
     let x = c.in-Some-running.ensures.some in
-    λ q. message_heeded rules c.args.self.now c.args.number c.in-Some-running.at c.in-Some.field-0.now found x x.replica c.heeds.result refl (c.heeds.ensures x.replica x.stands) c.if-not-heeds.false q
+    message_lost rules c.args.self.now c.args.number c.in-Some-running.at c.in-Some.field-0.now found x
+    (λ e. not_copied c.copy_of.result _ c.in-Err.is (c.copy_of.ensures.numbers e)) (λ e. c.heeds.ensures.more x.replica x.stands c.if-not-heeds.false e)
 
 pub returns-in-Some-asks_for-clause-quiet : goal.returns-in-Some-asks_for-clause-quiet
 returns-in-Some-asks_for-clause-quiet g c =

@@ -1,7 +1,8 @@
-use Rattle.std.proofs.Common.{◌≡◌, ap, ◌∙◌}
+use Rattle.std.proofs.Common.{◌≡◌, ap, ◌∙◌, arith}
 use Rattle.snapshots.specs.Masters.{assigned}
 use Rattle.agreement.specs.MasterState.{assigning, refusal}
 use Rattle.master.proofs.Groups.{group_gives, master_tells, new_ballot_is, took_given, world_is}
+use Rattle.master.proofs.LossesCounted.{counts_told}
 use Rattle.master.proofs.group.Group.give.Goals as goal
 
 pub give-ballot-requires : goal.give-ballot-requires
@@ -23,6 +24,8 @@ invariant_of-self g c =
       c.self.invariant.0,
       group_gives rules _ _ c.args.config.now c.self.inside.told c.self.inside.next c.begin.new.self c.self.invariant.1 granted state (world_is world)
           (c.begin.ensures.ballot ∙ c.give-ballot.ensures.ballot) c.begin.ensures.counted,
+      counts_told c.tell-told.result _ c.self.inside.losses c.counted-self-inside.result c.self.inside.nodes.items (omega arith) c.counted-self-inside.ensures
+          c.self.invariant.2,
     )
 
 pub returns-clause-ok : goal.returns-clause-ok

@@ -1,10 +1,12 @@
 use Rattle.std.proofs.Common.{◌≡◌, false, subst, arith}
+use Rattle.std.proofs.lemmas.Bool.{both_ways}
 use Rattle.std.proofs.lemmas.List.{length-map}
 use Rattle.ballot.specs.Protocol.{replica_step}
 use Rattle.ballot.specs.Protocol.Input.{Receives}
 use Rattle.ballot.specs.Replica.{ReplicaState, CountedReplica}
 use Rattle.ballot.specs.Sending.{nothing_done}
 use Rattle.snapshots.proofs.PastsAgree.{snapshots_are_read}
+use Rattle.master.proofs.EarlierMembers.{names_some, quiet_does_nothing}
 use Rattle.master.proofs.Turns.{same_replica}
 use Rattle.master.proofs.Viewed.{heeded}
 use Rattle.master.proofs.group.Group.heeds.Goals as goal
@@ -15,11 +17,22 @@ index-requires g c =
     let long = length-map c.self.inside.nodes.items (λ (z : CountedReplica g.row.M.Denot g.row.M-Command.Denot). z.state) in
     let all = c.self.inside.nodes.ok.0 in omega (arith, low, long, all)
 
-pub returns : goal.returns
-returns g c =
+pub returns-clause-nothing : goal.returns-clause-nothing
+returns-clause-nothing g c =
     let rules = g.M.Machine.rules in
     let there = c.self.invariant.1 in
     let sent = rw (← c.self.view_is) at c.requires.sent in
     rw (← c.self.view_is) (λ r stands. heeded rules r c.index.result.now.state c.args.message.now c.heeds.result
     (same_replica c.self.inside.nodes.items c.args.at c.index.result.now r c.index.ensures stands)
     (snapshots_are_read rules there.config _ there.past there.came sent.0 c.args.message.now sent.1 r) c.heeds.ensures)
+
+pub returns-clause-more : goal.returns-clause-more
+returns-clause-more g c =
+    let rules = g.M.Machine.rules in
+    let there = c.self.invariant.1 in
+    let sent = rw (← c.self.view_is) at c.requires.sent in
+    rw (← c.self.view_is) (λ r stands on more quiet. both_ways c.heeds.result ((heeded rules r c.index.result.now.state c.args.message.now c.heeds.result
+    (same_replica c.self.inside.nodes.items c.args.at c.index.result.now r c.index.ensures stands)
+    (snapshots_are_read rules there.config _ there.past there.came sent.0 c.args.message.now sent.1 r) c.heeds.ensures).1
+    (quiet_does_nothing rules r c.args.message.now.from c.args.message.now.body more
+    (names_some rules there.config _ there.past there.came sent.0 c.args.message.now sent.1) quiet)) on)

@@ -25,20 +25,20 @@ returns-in-Some-asks_for-clause-goes c =
 
 pub returns-clause-step : goal.returns-clause-step
 returns-clause-step c =
-    came_on c.act.result _ c.in-Some.field-0.now c.in-Ok.message c.args.self.now c.act.new.self c.in-Some.ensures.some c.if-receiver-eq0.false c.in-Ok.ensures c.act.ensures.step
+    came_on c.act.result _ c.in-Some.field-0.now c.in-Ok.message c.args.self.now c.act.new.self c.in-Some.ensures.some c.if-receiver-eq0.false c.in-Ok.ensures.same c.act.ensures.step
 
 pub returns-clause-goes : goal.returns-clause-goes
 returns-clause-goes c =
     comes_on c.act.result _ c.args.self.now c.act.new.self
-    (came_on c.act.result _ c.in-Some.field-0.now c.in-Ok.message c.args.self.now c.act.new.self c.in-Some.ensures.some c.if-receiver-eq0.false c.in-Ok.ensures c.act.ensures.step)
+    (came_on c.act.result _ c.in-Some.field-0.now c.in-Ok.message c.args.self.now c.act.new.self c.in-Some.ensures.some c.if-receiver-eq0.false c.in-Ok.ensures.same c.act.ensures.step)
 
 pub returns-clause-acts : goal.returns-clause-acts
 returns-clause-acts c =
-    may_come_on c.act.result _ c.in-Some.field-0.now c.in-Ok.message c.args.self.now c.act.new.self c.in-Some.ensures.some c.if-receiver-eq0.false c.in-Ok.ensures c.act.ensures.acts
+    may_come_on c.act.result _ c.in-Some.field-0.now c.in-Ok.message c.args.self.now c.act.new.self c.in-Some.ensures.some c.if-receiver-eq0.false c.in-Ok.ensures.same c.act.ensures.acts
 
 pub act-requires : goal.act-requires
 act-requires c =
-    sent_copy c.args.self.now.sent c.args.number c.in-Some.field-0.now c.in-Ok.message c.in-Some.ensures.some c.in-Ok.ensures
+    sent_copy c.args.self.now.sent c.args.number c.in-Some.field-0.now c.in-Ok.message c.in-Some.ensures.some c.in-Ok.ensures.same
 
 pub returns-in-Some-asks_for-clause-acts : goal.returns-in-Some-asks_for-clause-acts
 returns-in-Some-asks_for-clause-acts c =

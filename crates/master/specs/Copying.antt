@@ -1,0 +1,18 @@
+-- Copying.antt: which messages are copied without memory.
+use Rattle.std.specs.Prelude.{Bool, true, false}
+use Rattle.ballot.specs.Body.{Body}
+use Rattle.ballot.specs.Body.TheVariants.{NewBallot, Join, State, Install, Installed, Activate, Activated, Superseded, Append, Held, Commit}
+
+-- whether a message has numbers alone: no members, no log and no command
+abbrev pub has_numbers_alone : {C : Type 0} → Body C → Bool
+has_numbers_alone (NewBallot ballot members previous previous_members) = false
+has_numbers_alone (Join ballot previous) = true
+has_numbers_alone (State ballot log) = false
+has_numbers_alone (Install ballot log) = false
+has_numbers_alone (Installed ballot held) = true
+has_numbers_alone (Activate ballot) = true
+has_numbers_alone (Activated ballot) = true
+has_numbers_alone (Superseded ballot) = true
+has_numbers_alone (Append ballot place command) = false
+has_numbers_alone (Held ballot held) = true
+has_numbers_alone (Commit ballot committed) = true
