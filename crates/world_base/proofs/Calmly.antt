@@ -1,7 +1,12 @@
 -- Calmly.antt: a step on an item that takes no memory says nothing, and puts nothing out.
-use Rattle.std.proofs.Common.{◌≡◌, Bool, true, false, if◌then◌else◌, Option, Some, None, List, [], ◌∷◌, length, map, refl, sym, ap, subst, ◌∙◌}
+use Rattle.std.proofs.Common.{◌≡◌, ◌⊎◌, inl, inr, Bool, true, false, if◌then◌else◌, Option, Some, None, List, [], ◌∷◌, length, map, refl, sym, ap, subst, ◌∙◌}
 use Rattle.std.specs.List.{filter, find}
 use Rattle.lists.specs.Lists.{Each}
+use Rattle.broker_model.specs.declared.command.Command.{Command}
+use Rattle.broker_model.specs.declared.command.Output.{Output}
+use Rattle.ballot.specs.Effect.{Effect}
+use Rattle.ballot.specs.Message.{Message}
+use Rattle.ballot.specs.Protocol.Input.{Receives}
 use Rattle.node_connections.specs.declared.port.Port.{Port}
 use Rattle.node_connections.specs.declared.connection.Connection.{Connection}
 use Rattle.node_connections.specs.Connections.{changed, closed, handed, has_failed, is_at, is_listed, is_open_at}
@@ -10,10 +15,10 @@ use Rattle.world_base.specs.declared.item.Item.TheVariants.{Peer, Tick, Opened, 
 use Rattle.world_base.specs.Core.{CoreState, Turn, serves}
 use Rattle.world_base.specs.Failing.{loses_all_failed, loses_failed}
 use Rattle.world_base.specs.Handing.{bytes_of, hands_over, left_by, listed_at}
-use Rattle.world_base.specs.Losses.{TakesNoMemory, WaitsNothing, is_told}
+use Rattle.world_base.specs.Losses.{IsHeardQuietly, IsIgnored, ReadsNone, TakesNoMemory, WaitsNothing, is_told}
 use Rattle.world_base.specs.Reading.{changes, ends, loses_open, open_at}
 use Rattle.world_base.specs.Step.{acts_on, crashed, node_step, settled, takes_in}
-use Rattle.world_base.specs.Turns.{quiet, then_also}
+use Rattle.world_base.specs.Turns.{delivered, drives, heard, quiet, then_also}
 use Rattle.world_base.proofs.Failures.{failed_next}
 use Rattle.world_base.proofs.Idle.{closing_fails_none, quiet_repeated, takes_nothing}
 
@@ -103,8 +108,27 @@ ends_calmly port core untold = by (open_at port core) refl untold
           waits = λ each. closing_keeps (is_open_at port) core.connections each;
         }
 
+-- a message of which the replica learns something, and no more
+hears_calmly : (message : Message Command) (core : CoreState) → IsHeardQuietly message core → GoesCalmly (Peer message) core
+unfolding drives
+hears_calmly message core heard_so =
+    record {
+      next = learnt;
+      is = ap (λ (es : List (Effect Command Output)). delivered es learnt) heard_so.0.nothing_sent;
+      fails_none = λ none. none;
+      waits = λ each. each;
+    }
+  where
+    learnt : CoreState
+    learnt = record core { replica = record core.replica { state = (heard (Receives message) core.replica.state).state } }
+
+message_calmly : (message : Message Command) (core : CoreState) → IsIgnored (Receives message) core ⊎ IsHeardQuietly message core → ReadsNone message core →
+    GoesCalmly (Peer message) core
+message_calmly message core (inl ignored) reads = nothing_goes (Peer message) core (takes_nothing (Peer message) core (ignored, reads))
+message_calmly message core (inr heard_so) reads = hears_calmly message core heard_so
+
 goes_calmly : (item : Item) (core : CoreState) → TakesNoMemory item core → GoesCalmly item core
-goes_calmly (Peer message) core takes = nothing_goes (Peer message) core (takes_nothing (Peer message) core takes)
+goes_calmly (Peer message) core takes = message_calmly message core takes.0 takes.1
 goes_calmly (Tick now) core takes = nothing_goes (Tick now) core (takes_nothing (Tick now) core takes)
 goes_calmly (Opened port now) core takes = nothing_goes (Opened port now) core (takes_nothing (Opened port now) core takes)
 goes_calmly (Bytes port piece now) core takes = nothing_goes (Bytes port piece now) core (takes_nothing (Bytes port piece now) core takes)

@@ -1,11 +1,12 @@
 -- Idle.antt: an item that does nothing is a step that does nothing, exact or not.
-use Rattle.std.proofs.Common.{◌≡◌, inl, inr, ◌↔◌, ℕ, zero, suc, Bool, true, false, if◌then◌else◌, Option, Some, None, is_some, not, List, [], ◌∷◌, refl, sym, ap, subst, ◌∙◌}
+use Rattle.std.proofs.Common.{◌≡◌, ◌⊎◌, inl, inr, ◌↔◌, ℕ, zero, suc, Bool, true, false, if◌then◌else◌, Option, Some, None, is_some, not, List, [], ◌∷◌, refl, sym, ap, subst, ◌∙◌}
 use Rattle.std.specs.List.{find, position}
 use Rattle.broker_base.specs.State.{State}
 use Rattle.broker_model.specs.declared.command.Command.{Command}
 use Rattle.broker_model.specs.declared.command.Command.TheVariants as commands
 use Rattle.broker_model.specs.declared.command.Output.{Output}
 use Rattle.ballot.specs.Effect.{Effect}
+use Rattle.ballot.specs.Message.{Message}
 use Rattle.ballot.specs.Protocol.{Input}
 use Rattle.ballot.specs.Protocol.Input.{Receives, Ticks}
 use Rattle.ballot.specs.Sending.{Outcome}
@@ -18,7 +19,7 @@ use Rattle.world_base.specs.Core.{CoreState, Turn}
 use Rattle.world_base.specs.Failing.{loses_all_failed}
 use Rattle.world_base.specs.Inside.{IsCalm, Ran, Running, Turns}
 use Rattle.world_base.specs.KeepAlive.{ends_all_silent, ends_silent}
-use Rattle.world_base.specs.Losses.{DoesNothing, IsIgnored, TakesNoMemory, is_told}
+use Rattle.world_base.specs.Losses.{DoesNothing, IsHeardQuietly, IsIgnored, ReadsNone, TakesNoMemory, is_told}
 use Rattle.world_base.specs.Lossy.{Account, Drives, Repeated, quietly}
 use Rattle.world_base.specs.Lossy.Delivers.{nothing}
 use Rattle.world_base.specs.LossyStep.{ActsOn, EndsSilent, LosesAllFailed, ReadsAll, ReadsNext, TakesIn}
@@ -185,18 +186,29 @@ heeded : (item : Item) (a c : Running) (ignored : Bool) → ignored ≡ false �
     c.wanting ≡ a.wanting
 heeded item a c ignored is decides idle = (let e = decides.1 idle in absurd cc)
 
--- what takes no memory, and does something, is a crash or the end of a connection of which the broker did not hear
+-- a message that is heeded is heard quietly
+heard_then : (message : Message Command) (a b c : Running) (ignored : Bool) → ignored ≡ false → (ignored ≡ true) ↔ DoesNothing (Peer message) a.core →
+    (IsHeardQuietly message a.core → ReadsNone message a.core → IsCalm a b) → (find has_failed b.core.connections ≡ None → c ≡ b) →
+    IsIgnored (Receives message) a.core ⊎ IsHeardQuietly message a.core → ReadsNone message a.core → find has_failed a.core.connections ≡ None →
+    c.wanting ≡ a.wanting
+heard_then message a b c ignored is decides heard none (inl idle) reads failed = heeded (Peer message) a c ignored is decides (idle, reads)
+heard_then message a b c ignored is decides heard none (inr quiet) reads failed = calm_then a b c (heard quiet reads) none failed
+
+-- what takes no memory, and does something, is a message that is heard quietly, a crash or the end of a connection of which the broker
+-- did not hear
 pub quiet_otherwise : (item : Item) (a b c : Running) (ignored : Bool) → ignored ≡ false → (ignored ≡ true) ↔ DoesNothing item a.core →
+    ((message : Message Command) → item ≡ Peer message → IsHeardQuietly message a.core → ReadsNone message a.core → IsCalm a b) →
     (item ≡ Crash → IsCalm a b) → ((port : Port) → item ≡ Ended port → is_told (open_at port a.core) ≡ false → IsCalm a b) →
     (find has_failed b.core.connections ≡ None → c ≡ b) → TakesNoMemory item a.core → find has_failed a.core.connections ≡ None → c.wanting ≡ a.wanting
-quiet_otherwise (Peer message) a b c ignored is decides crash ended none takes failed = heeded (Peer message) a c ignored is decides takes
-quiet_otherwise (Tick now) a b c ignored is decides crash ended none takes failed = heeded (Tick now) a c ignored is decides takes
-quiet_otherwise (Opened port now) a b c ignored is decides crash ended none takes failed = heeded (Opened port now) a c ignored is decides takes
-quiet_otherwise (Bytes port piece now) a b c ignored is decides crash ended none takes failed = heeded (Bytes port piece now) a c ignored is decides takes
-quiet_otherwise (Ended port) a b c ignored is decides crash ended none takes failed = calm_then a b c (ended port refl takes) none failed
-quiet_otherwise (Expel client) a b c ignored is decides crash ended none takes failed = heeded (Expel client) a c ignored is decides takes
-quiet_otherwise Cut a b c ignored is decides crash ended none takes failed = heeded Cut a c ignored is decides takes
-quiet_otherwise Crash a b c ignored is decides crash ended none takes failed = calm_then a b c (crash refl) none failed
+quiet_otherwise (Peer message) a b c ignored is decides heard crash ended none takes failed =
+    heard_then message a b c ignored is decides (heard message refl) none takes.0 takes.1 failed
+quiet_otherwise (Tick now) a b c ignored is decides heard crash ended none takes failed = heeded (Tick now) a c ignored is decides takes
+quiet_otherwise (Opened port now) a b c ignored is decides heard crash ended none takes failed = heeded (Opened port now) a c ignored is decides takes
+quiet_otherwise (Bytes port piece now) a b c ignored is decides heard crash ended none takes failed = heeded (Bytes port piece now) a c ignored is decides takes
+quiet_otherwise (Ended port) a b c ignored is decides heard crash ended none takes failed = calm_then a b c (ended port refl takes) none failed
+quiet_otherwise (Expel client) a b c ignored is decides heard crash ended none takes failed = heeded (Expel client) a c ignored is decides takes
+quiet_otherwise Cut a b c ignored is decides heard crash ended none takes failed = heeded Cut a c ignored is decides takes
+quiet_otherwise Crash a b c ignored is decides heard crash ended none takes failed = calm_then a b c (crash refl) none failed
 
 -- no other connection fails where one is closed
 pub closing_fails_none : (test : Connection → Bool) (cs : List Connection) → find has_failed cs ≡ None → find has_failed (changed test closed cs) ≡ None

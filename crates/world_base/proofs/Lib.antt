@@ -15,6 +15,7 @@ mod Fronts
 mod FrontsRun
 mod GapsClosed
 mod HandsOver
+mod Hearing
 mod Idle
 mod ItemsRun
 mod Opens

@@ -1,12 +1,12 @@
 -- How the steps of a node are counted in which memory was wanting, and which never are.
-use Rattle.std.specs.Prelude.{◌≡◌, ◌⊎◌, Bool, false, List, [], ◌++◌, Option, Some, None}
+use Rattle.std.specs.Prelude.{◌≡◌, ◌⊎◌, ◌<◌, ◌^◌, ◌-◌, Bool, false, List, [], ◌++◌, Option, Some, None}
 use Rattle.std.specs.List.{find}
 use Rattle.lists.specs.Lists.{Each}
 use Rattle.broker_model.specs.declared.command.Command.{Command}
 use Rattle.broker_model.specs.declared.command.Output.{Output}
 use Rattle.ballot.specs.Effect.{Effect}
 use Rattle.ballot.specs.Cutting.{can_cut}
-use Rattle.ballot.specs.Losses.{one_more}
+use Rattle.ballot.specs.Losses.{IsQuiet, one_more}
 use Rattle.ballot.specs.Protocol.{Input}
 use Rattle.ballot.specs.Protocol.Input.{Receives, Ticks}
 use Rattle.ballot.specs.Sending.{nothing_done}
@@ -51,9 +51,20 @@ abbrev pub is_told : Option Connection → Bool
 is_told None = false
 is_told (Some c) = is_proposed c.stage
 
--- An item takes no memory where it does nothing. So does a crash, and so does the end of a connection of which the broker did not
--- hear: that is closed, and no more.
+-- By the protocol a message makes the replica send nothing, leave its log as it is and apply
+-- nothing. It may learn something: what a member holds, that one lacks the log no longer, or that its
+-- ballot was put out. The replica's count of losses is below its greatest number, at which it no
+-- longer tells whether a call lost something.
+abbrev pub IsHeardQuietly : Message Command → CoreState → Type 0
+IsHeardQuietly message core =
+    IsQuiet core.replica.state (heard (Receives message) core.replica.state)
+    × (core.replica.losses < 2 ^ 64 - 1)
+
+-- An item takes no memory where it does nothing. So does a message that is heard quietly, a crash, and
+-- the end of a connection of which the broker did not hear: that is closed, and no more.
 abbrev pub TakesNoMemory : Item → CoreState → Type 0
+TakesNoMemory (Peer message) core =
+    (IsIgnored (Receives message) core ⊎ IsHeardQuietly message core) × ReadsNone message core
 TakesNoMemory (Ended port) core = is_told (open_at port core) ≡ false
 TakesNoMemory Crash core = Unit {0}
 TakesNoMemory item core = DoesNothing item core

@@ -4,7 +4,8 @@ ghost use Rattle.std.specs.Prelude.{◌≡◌, ◌<◌, ◌-◌, ◌^◌, false,
 ghost use Rattle.ballot.specs.Protocol.Input.{Receives, Ticks};
 ghost use Rattle.ballot.specs.Serving.{proposed};
 ghost use Rattle.world_base.specs.Core.{rules, serves};
-ghost use Rattle.world_base.specs.Inside.{Acts, Answered, Delivered, Does, Hears, ProposedBy, Ran, Turns};
+ghost use Rattle.world_base.specs.Inside.{Acts, Answered, Delivered, Does, Hears, IsCalm, ProposedBy, Ran, Turns};
+ghost use Rattle.world_base.specs.Losses.{IsHeardQuietly, ReadsNone};
 ghost use Rattle.world_base.specs.Lossy.{Drives, Serves, quietly};
 ghost use Rattle.world_base.specs.LossyStep.{Cuts};
 ghost use Rattle.world_base.specs.Step.{cuts};
@@ -53,6 +54,8 @@ impl Serving {
             (drives (Receives message) self.old.core) }
         ensures run { Ran (Drives (Receives message)) self.old.core self.new.core
             effects.old.items effects.new.items }
+        ensures quiet { IsHeardQuietly message self.old.core → ReadsNone message self.old.core →
+            IsCalm self.old self.new }
     {
         let mut given = Vec::new(self.alloc);
         self.hear(message, &mut given);
@@ -66,6 +69,8 @@ impl Serving {
             (heard (Receives message) self.old.core.replica.state) given.new.items }
         ensures acts { Acts (heard (Receives message) self.old.core.replica.state)
             self.old.core self.new.core given.new.items }
+        ensures quiet { IsHeardQuietly message self.old.core → ReadsNone message self.old.core →
+            IsCalm self.old self.new × (given.new.items ≡ []) }
     {
         let before = self.replica.losses();
         // A replica that stops counts a loss, and one that has stopped does nothing.
@@ -114,6 +119,8 @@ impl Serving {
         ensures none { self.new.wanting ≡ false →
             (self.old.wanting ≡ false) ×
             ((self.old.core.replica.losses ≡ before) × (before < 2 ^ 64 - 1)) }
+        ensures same { self.old.core.replica.losses ≡ before → before < 2 ^ 64 - 1 →
+            self.new ≡ self.old }
     {
         let after = self.replica.losses();
         if after != before || after == u64::MAX {
@@ -131,6 +138,7 @@ impl Serving {
             (delivered given.items self.old.core) }
         ensures run { Delivered given.items self.old.core self.new.core
             effects.old.items effects.new.items }
+        ensures nothing { given.items ≡ [] → self.new ≡ self.old }
     {
         for effect in given {
             self.handle(effect, effects);

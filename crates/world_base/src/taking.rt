@@ -7,7 +7,7 @@ ghost use Rattle.broker_model.specs.Sized.{IsSized};
 ghost use Rattle.node_connections.specs.Connections.{closed, has_failed, holding, is_first, is_proposed};
 ghost use Rattle.world_base.specs.Inside.{BeginsOrSays, IsCalm, Ran, TellsLost, Turns};
 ghost use Rattle.world_base.specs.declared.item.Item.TheVariants as items;
-ghost use Rattle.world_base.specs.Losses.{DoesNothing, TakesNoMemory, is_told};
+ghost use Rattle.world_base.specs.Losses.{DoesNothing, IsHeardQuietly, ReadsNone, TakesNoMemory, is_told};
 ghost use Rattle.world_base.specs.Lossy.{Proposes, quietly};
 ghost use Rattle.world_base.specs.LossyStep.{ActsOn, Connects, Ends, EndsAllSilent, Holds, LosesAllFailed, LosesFailed, ReadsAll, ReadsNext, Says, TakesIn};
 ghost use Rattle.world_base.specs.Failing.{loses_all_failed, loses_failed};
@@ -62,6 +62,9 @@ impl Serving {
         ensures turns { Turns self.old self.new effects.old.items effects.new.items
             (takes_in item self.old.core) }
         ensures run { Ran (TakesIn item) self.old.core self.new.core effects.old.items effects.new.items }
+        ensures heard { (message : Message Command) → item ≡ items.Peer message →
+            IsHeardQuietly message self.old.core → ReadsNone message self.old.core →
+            IsCalm self.old self.new }
         ensures crash { item ≡ items.Crash → IsCalm self.old self.new }
         ensures ended { (port : Port) → item ≡ items.Ended port →
             is_told (open_at port self.old.core) ≡ false → IsCalm self.old self.new }

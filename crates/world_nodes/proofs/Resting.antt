@@ -6,27 +6,35 @@ use Rattle.std.proofs.lemmas.Option.{same_Some, slice_get_within}
 use Rattle.ballot.specs.Body.{Body}
 use Rattle.ballot.specs.Body.TheVariants.{NewBallot, Join, State, Install, Installed, Activate, Activated, Superseded, Append, Held, Commit}
 use Rattle.ballot.specs.Effect.{Effect}
-use Rattle.master.specs.Inside.{asks_for}
-use Rattle.ballot.specs.Losses.{one_more}
+use Rattle.master.specs.Copying.{has_numbers_alone}
+use Rattle.master.specs.Inside.{ToldIn, asks_for}
+use Rattle.master.proofs.EarlierMembers.{NamesSome, names_some, quiet_does_nothing}
+use Rattle.ballot.specs.Losses.{IsQuiet, one_more}
 use Rattle.ballot.specs.Message.{Message}
+use Rattle.ballot.specs.Protocol.{replica_step}
+use Rattle.ballot.specs.Protocol.Input.{Receives}
+use Rattle.ballot.specs.Replica.{ReplicaState}
+use Rattle.ballot.specs.Sending.{nothing_done}
 use Rattle.lists.specs.Lists.{In}
 use Rattle.lists.proofs.Members.{in_at}
 use Rattle.broker_base.specs.Command.{Command}
 use Rattle.broker_base.specs.Output.{Output}
+use Rattle.broker_base.specs.State.{State as BrokerState}
 use Rattle.world_base.specs.Connections.{has_failed}
 use Rattle.world_base.specs.declared.item.Item.{Item}
 use Rattle.world_base.specs.declared.item.Item.TheVariants.{Peer}
-use Rattle.world_base.specs.Core.{CoreState, CountedCore}
-use Rattle.world_base.specs.Losses.{DoesNothing, IsExactly, Stepped, TakesNoMemory}
+use Rattle.world_base.specs.Core.{CoreState, CountedCore, rules}
+use Rattle.world_base.specs.Losses.{DoesNothing, IsExactly, IsHeardQuietly, IsIgnored, Stepped, TakesNoMemory}
 use Rattle.world_base.specs.LossyStep.{RunsOn}
 use Rattle.world_base.specs.Step.{node_step}
 use Rattle.world_base.proofs.Calmly.{says_nothing}
+use Rattle.world_model.specs.group_model.Group.{moment_of}
 use Rattle.world_model.specs.node_model.Moves.Deed.{takes}
 use Rattle.world_nodes.specs.Nodes.{NodesState}
 use Rattle.world_nodes.specs.Goes.{Acts, Comes, HeardByMaster, TakesExactly, behind_deed, running}
 use Rattle.world_nodes.specs.Quiet.{ComesUnheeded, IsUnheeded, RestsAt}
 use Rattle.world_nodes.specs.Steps.{ActsOrRests, ComesIn, ComesOrRests, LosesNothing, TakesIn}
-use Rattle.world_nodes.specs.Inside.{IsPassedOver, Keeps, RunsAt, TookItem}
+use Rattle.world_nodes.specs.Inside.{HaveCounted, IsPassedOver, Keeps, RunsAt, TookItem}
 use Rattle.world_nodes.proofs.Acts.{behind_turn_of, not_one_more, same_core, took_by, whole_turn}
 use Rattle.world_nodes.proofs.Exactly.{exactly}
 
@@ -143,15 +151,43 @@ passes_at_rest at number old p rests =
     positive_node (λ (n : ℕ). ComesUnheeded (Some (n, p.message)) old → RestsAt n (Peer p.message) old) p.node p.runs.positive (λ k r. r)
     (subst (λ (o : Option (ℕ × Message Command)). ComesUnheeded o old) p.sent rests)
 
--- a message that a node heeds takes memory
+-- what a node does with a message that has more than numbers, where it does it quietly, is nothing
+more_ignored : (message : Message Command) (core : CoreState) → has_numbers_alone message.body ≡ false → NamesSome message.body → IsHeardQuietly message core →
+    IsIgnored (Receives message) core
+more_ignored message core more names quiet = by core.replica.state.stopped quiet.0
+  where
+    r : ReplicaState BrokerState Command
+    r = core.replica.state
+
+    by : (b : Bool) → IsQuiet r (if b then nothing_done Output r else replica_step rules r (Receives message)) →
+        (if b then nothing_done Output r else replica_step rules r (Receives message)) ≡ nothing_done Output r
+    by true q = refl
+    by false q = quiet_does_nothing rules r message.from message.body more names q
+
+does_nothing : (message : Message Command) (core : CoreState) → has_numbers_alone message.body ≡ false → NamesSome message.body →
+    TakesNoMemory (Peer message) core → DoesNothing (Peer message) core
+does_nothing message core more names free = (by free.0, free.1)
+  where
+    by : IsIgnored (Receives message) core ⊎ IsHeardQuietly message core → IsIgnored (Receives message) core
+    by (inl ignored) = ignored
+    by (inr quiet) = more_ignored message core more names quiet
+
+-- the messages of nodes were sent in a group
+pub names_sent : (n : NodesState) (told next : ToldIn) → HaveCounted n told next → (number : ℕ) (found : ℕ × Message Command) → slice_get n.sent number ≡ Some found →
+    NamesSome found.1.body
+names_sent n told next c number found there =
+    names_some rules c.counts.config (moment_of c.group) c.counts.past c.counts.came found.0 found.1
+    (subst (λ (sent : List (ℕ × Message Command)). In {X = ℕ × Message Command} (found.0, found.1) sent) (sym c.stands.sent) (in_at n.sent number found there))
+
+-- a message that a node heeds takes memory, or has numbers alone
 pub heeded_takes : {X : Type 0} (old : NodesState) (number receiver at : ℕ) (found : ℕ × Message Command) (core : CountedCore) (heeds : Bool) → slice_get old.sent number ≡ Some found
     → receiver ≡ found.0 → (receiver ≡ 0 → ⊥) → (x : RunsAt old.nodes receiver at) → core ≡ x.core → heeds ≡ true → (heeds ≡ false) ↔ DoesNothing (Peer found.1) core.core
-    → ComesUnheeded (slice_get old.sent number) old → X
-heeded_takes old number receiver at (zero, message) core heeds there is positive x same heeded decides rests = absurd (positive is)
-heeded_takes old number receiver at (suc k, message) core heeds there is positive x same heeded decides rests =
+    → has_numbers_alone found.1.body ≡ false → NamesSome found.1.body → ComesUnheeded (slice_get old.sent number) old → X
+heeded_takes old number receiver at (zero, message) core heeds there is positive x same heeded decides more names rests = absurd (positive is)
+heeded_takes old number receiver at (suc k, message) core heeds there is positive x same heeded decides more names rests =
     let r : RestsAt (suc k) (Peer message) old = subst (λ (o : Option (ℕ × Message Command)). ComesUnheeded o old) there rests in
     let one : r.core ≡ core = same_node old.nodes receiver at x r.core (subst (λ (n : ℕ). running old.nodes n ≡ Some r.core) (sym is) r.runs) ∙ sym same in
-    let unheeded : heeds ≡ false = decides.1 (subst (λ (c : CountedCore). DoesNothing (Peer message) c.core) one r.takes) in
+    let unheeded : heeds ≡ false = decides.1 (subst (λ (c : CountedCore). DoesNothing (Peer message) c.core) one (does_nothing message r.core.core more names r.takes)) in
     absurd (let e : true ≡ false = sym heeded ∙ unheeded in cc)
 
 pub is_passed : (old : NodesState) (number at : ℕ) (found : ℕ × Message Command) (z : CountedCore) (heeds : Bool) → slice_get old.sent number ≡ Some found → (x : RunsAt old.nodes found.0 at)
@@ -194,3 +230,8 @@ pub unasked : (old : NodesState) (number : ℕ) (found : ℕ × Message Command)
 unasked old number (zero, message) there is asks =
     subst (λ (o : Option (ℕ × Message Command)). Comes o old old) (sym there) (not_asked message.from message.body old asks)
 unasked old number (suc k, message) there is asks = cc
+
+-- one that has numbers alone is copied
+pub copied_or : {X : Type 0} (numbers : Bool) → (numbers ≡ true → ⊥) → (numbers ≡ false → X) → X
+copied_or true never more = absurd (never refl)
+copied_or false never more = more refl

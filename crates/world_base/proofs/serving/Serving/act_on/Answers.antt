@@ -20,5 +20,5 @@ returns-clause-run c =
 
 pub returns-clause-quiet : goal.returns-clause-quiet
 returns-clause-quiet c =
-    quiet_otherwise c.args.item _ _ _ c.ignores.result c.if-ignores.false c.ignores.ensures c.take_in.ensures.crash c.take_in.ensures.ended
+    quiet_otherwise c.args.item _ _ _ c.ignores.result c.if-ignores.false c.ignores.ensures c.take_in.ensures.heard c.take_in.ensures.crash c.take_in.ensures.ended
     c.lose_failed-2.ensures.none

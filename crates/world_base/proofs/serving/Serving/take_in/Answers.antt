@@ -4,12 +4,16 @@ use Rattle.world_base.specs.declared.item.Item.TheVariants.{Peer, Tick, Opened, 
 use Rattle.world_base.specs.Lossy.{Drives}
 use Rattle.world_base.specs.LossyStep.{EndsAllSilent, Holds, ReadsAll}
 use Rattle.world_base.proofs.Accounts.{ran_then}
+use Rattle.world_base.proofs.Hearing.{peer_calmly}
 use Rattle.world_base.proofs.Idle.{ended_calmly}
 use Rattle.world_base.proofs.ItemsRun.{ran_crashed, ran_cut, ran_item, ran_opened}
 use Rattle.world_base.proofs.serving.Serving.take_in.Goals as goal
 
 pub returns-in-Peer-clause-run : goal.returns-in-Peer-clause-run
 returns-in-Peer-clause-run c = ran_item c.args.item (Peer c.in-Peer.message) _ _ _ _ c.in-Peer.is c.receive.ensures.run
+
+pub returns-in-Peer-clause-heard : goal.returns-in-Peer-clause-heard
+returns-in-Peer-clause-heard c = λ message is. peer_calmly message c.in-Peer.message c.args.item _ _ c.in-Peer.is is c.receive.ensures.quiet
 
 pub returns-in-Tick-clause-run : goal.returns-in-Tick-clause-run
 returns-in-Tick-clause-run c =

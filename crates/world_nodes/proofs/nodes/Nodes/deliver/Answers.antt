@@ -1,8 +1,10 @@
 use Rattle.std.proofs.Common.{sym, refl, ◌∙◌}
+use Rattle.master.specs.Copying.{has_numbers_alone}
+use Rattle.master.proofs.Quiet.{not_copied}
 use Rattle.world_nodes.specs.Nodes.{NodesState}
 use Rattle.world_nodes.proofs.MasterActs.{asked_in, came_on, came_to_master, comes_exactly, comes_on, comes_or_rests, heard_ballot, heard_or_lost, may_come_on, sent_copy}
 use Rattle.world_nodes.proofs.Acts.{same_core}
-use Rattle.world_nodes.proofs.Resting.{asked_takes, heeded_takes, is_passed}
+use Rattle.world_nodes.proofs.Resting.{asked_takes, copied_or, heeded_takes, is_passed, names_sent}
 use Rattle.world_nodes.proofs.nodes.Nodes.deliver.Goals as goal
 
 pub answer-requires : goal.answer-requires
@@ -62,14 +64,17 @@ pub returns-in_default-copy_of-clause-quiet : goal.returns-in_default-copy_of-cl
 returns-in_default-copy_of-clause-quiet c =
     let there = rw (← c.self.view_is) at c.in-Some.ensures.some in
     let runs = rw (← c.self.view_is) at c.in-Some-running.ensures.some in
-    rw (← c.self.view_is) (heeded_takes (let old : NodesState = record {
+    let old : NodesState = record {
       master = c.self.inside.master;
       nodes = c.self.inside.nodes.items;
       sent = c.self.inside.sent.items;
       archive = c.self.inside.archive.items;
       losses = c.self.inside.losses;
-    } in old) c.args.number c.in-Some.field-0.now.0 c.in-Some-running.at c.in-Some.field-0.now c.index.result.now c.heeds.result there refl c.if-receiver-eq0.false runs
-    (same_core c.self.inside.nodes.items c.in-Some-running.at runs.core c.index.result.now runs.stands c.index.ensures) c.if-not-heeds.false c.heeds.ensures)
+    } in
+    rw (← c.self.view_is) (λ rests. copied_or (has_numbers_alone c.in-Some.field-0.now.1.body) (λ e. not_copied c.copy_of.result _ c.in_default-copy_of.is (c.copy_of.ensures.numbers e))
+    (λ more. heeded_takes old c.args.number c.in-Some.field-0.now.0 c.in-Some-running.at c.in-Some.field-0.now c.index.result.now c.heeds.result there refl c.if-receiver-eq0.false runs
+    (same_core c.self.inside.nodes.items c.in-Some-running.at runs.core c.index.result.now runs.stands c.index.ensures) c.if-not-heeds.false c.heeds.ensures
+    more (names_sent old _ _ c.self.invariant c.args.number c.in-Some.field-0.now there) rests))
 
 pub returns-in-Some-asks_for-clause-quiet : goal.returns-in-Some-asks_for-clause-quiet
 returns-in-Some-asks_for-clause-quiet c =
