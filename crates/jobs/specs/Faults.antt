@@ -22,6 +22,7 @@ status_of faults.Memory = 1
 status_of faults.Input = 1
 status_of faults.Output = 1
 status_of faults.Clock = 1
+status_of faults.Threads = 1
 status_of (faults.Files count) = 1
 status_of (faults.File file kind) = 1
 status_of (faults.Address address kind) = 1
@@ -58,6 +59,7 @@ abbrev pub served_fault_of : ServeError → Fault
 served_fault_of serves.BadMembers = faults.Config
 served_fault_of serves.Memory = faults.Memory
 served_fault_of serves.Clock = faults.Clock
+served_fault_of serves.Threads = faults.Threads
 
 -- of a table of nodes that was not read
 abbrev pub table_fault_of : TableFault → Fault

@@ -26,6 +26,9 @@ pub enum Fault {
     /// The clock could not be read.
     #[error("the clock could not be read")]
     Clock,
+    /// Fewer threads could be started than the nodes need.
+    #[error("too few threads could be started: a node needs 63")]
+    Threads,
     /// Fewer files can be open at once than the nodes need.
     #[error("too few files can be open at once: {0} more are needed (ulimit -n)")]
     Files(usize),
@@ -72,6 +75,7 @@ impl Fault {
             | Fault::Input
             | Fault::Output
             | Fault::Clock
+            | Fault::Threads
             | Fault::Files(_)
             | Fault::File(_, _)
             | Fault::Address(_, _)
@@ -112,6 +116,7 @@ impl From<ServeError> for Fault {
             ServeError::BadMembers => Fault::Config,
             ServeError::Memory => Fault::Memory,
             ServeError::Clock => Fault::Clock,
+            ServeError::Threads => Fault::Threads,
         }
     }
 }

@@ -1,4 +1,5 @@
 pub mod Crossing
 mod Growing
+mod ItsLanes
 pub mod Replaying
 pub mod WrittenBack

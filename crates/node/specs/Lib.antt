@@ -1,5 +1,5 @@
 pub mod Growth
-pub mod Passing
+pub mod Running
 pub mod Report
 pub mod State
 pub use Rattle.world_base.specs.Core

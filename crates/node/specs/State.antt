@@ -1,5 +1,5 @@
 -- A node and the items that it took.
-use Rattle.std.specs.Prelude.{◌≡◌, ℕ, [], List, ◌∷◌, ◌++◌}
+use Rattle.std.specs.Prelude.{◌≡◌, ℕ, ◌+◌, ◌-◌, ◌^◌, [], List, ◌∷◌, ◌++◌, min}
 use Rattle.mailbox.specs.Ends.{Taker}
 use Rattle.world_base.specs.Command.{Command}
 use Rattle.world_base.specs.Output.{Output}
@@ -22,10 +22,15 @@ pub data Replays (first : CountedCore) : List (ℕ × Item) → CountedCore → 
       → Replays first history core
       → Replays first history (record core { core = hands_over port core.core })
 
--- what a node shows: its inbox with all that was taken from it, and itself
+-- what a node shows: its inbox with all that was taken from it, itself, and how often an item was asked for
 pub record Seen : Type 0 where
   pub taker : Taker Item
   pub node : CountedCore
+  pub turns : ℕ
+
+-- the number of the next asking, from 1; it stays at 2^64 - 1
+abbrev pub next_turn : ℕ → ℕ
+next_turn turns = min (turns + 1) (2 ^ 64 - 1)
 
 -- one item was taken, and the node's step with it was done
 pub record TakesOne (old new : Seen) (before behind : List (Effect Command Output)) : Type 0 where

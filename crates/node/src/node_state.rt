@@ -9,7 +9,7 @@ ghost use Rattle.world_base.specs.Stands.{standing_of};
 ghost use Rattle.world_base.specs.Handing.{answer_of, bytes_of, hands_over, idle_ports, listed_at};
 ghost use Rattle.node.specs.Growth.{wants_cut};
 ghost use Rattle.node.specs.Report.{HasRoom};
-ghost use Rattle.node.specs.State.{Replays, TakesOne};
+ghost use Rattle.node.specs.State.{Replays, TakesOne, next_turn};
 
 use crate::growth::{grown, is_large};
 use crate::naming::NodeNaming;
@@ -27,6 +27,8 @@ pub struct NodeState<J: NodeNaming> {
     core: NodeCore,
     /// How many bytes the items brought that were taken since the last cut, at most 2^64 - 1.
     grown: u64,
+    /// How many times [`NodeState::take_one`] was called, at most 2^64 - 1.
+    turns: u64,
 }
 
 impl<J: NodeNaming> Model for NodeState<J> {
@@ -36,7 +38,7 @@ impl<J: NodeNaming> Model for NodeState<J> {
 
     ghost Value = { Seen };
 
-    ghost view = { λ state. record { taker = state.receiver; node = state.core } };
+    ghost view = { λ state. record { taker = state.receiver; node = state.core; turns = state.turns } };
 
     ghost invariant = { λ state.
         Replays (J.first_of state.receiver.inbox) state.receiver.taken state.core
@@ -48,12 +50,13 @@ impl<J: NodeNaming> NodeState<J> {
     pub fn new(receiver: Receiver<Item, J>, core: NodeCore) -> NodeState<J>
         requires fresh { receiver.taken ≡ [] }
         requires first { core ≡ J.first_of receiver.inbox }
-        ensures { result ≡ record { taker = receiver; node = core } }
+        ensures { result ≡ record { taker = receiver; node = core; turns = 0 } }
     {
         NodeState {
             receiver,
             core,
             grown: 0,
+            turns: 0,
         }
     }
 
@@ -92,8 +95,16 @@ impl<J: NodeNaming> NodeState<J> {
         self.receiver.receipt()
     }
 
+    /// Returns the number of the next call of [`NodeState::take_one`], from 1. It stays at 2^64 - 1.
+    pub fn next_turn(&self) -> u64
+        ensures { result ≡ next_turn self.now.turns }
+    {
+        self.turns.saturating_add(1)
+    }
+
     /// Takes the item that came first and does the node's step with it. Returns whether there was one. There is none only
     /// if the inbox was empty at some moment of the call. Then every item that was sent, as the receipt tells, was taken before.
+    /// Each call is counted, whether an item waited or not.
     pub fn take_one<R: Wait>(
         &mut self,
         rt: &R,
@@ -108,12 +119,16 @@ impl<J: NodeNaming> NodeState<J> {
         ensures replays { Replays
             (J.first_of self.old.taker.inbox) self.old.taker.taken self.old.node }
 
-        // No item waited, and nothing changed: all was taken of which the receipt tells.
+        ensures turns { self.new.turns ≡ next_turn self.old.turns }
+
+        // No item waited, and nothing else changed: all was taken of which the receipt tells.
         ensures empty { result ≡ false → WasEmpty self.old.taker receipt }
         ensures arrived { result ≡ false → HasArrived receipt self.old.taker.taken }
-        ensures same { result ≡ false → self.new ≡ self.old }
+        ensures same { result ≡ false →
+            self.new ≡ record self.old { turns = next_turn self.old.turns } }
         ensures silent { result ≡ false → effects.new.items ≡ effects.old.items }
     {
+        self.turns = self.turns.saturating_add(1);
         match self.receiver.take(rt, receipt) {
             Some((_, item)) => {
                 self.grown = grown(self.grown, &item);
@@ -235,6 +250,7 @@ impl<J: NodeNaming> NodeState<J> {
             mut receiver,
             core,
             grown: _grown,
+            turns: _turns,
         } = self;
         let mut report = room;
         report.base = core.snapshot().0;

@@ -4,5 +4,6 @@ mod connections;
 mod devices;
 mod echoing;
 mod fakes;
+mod gates;
 mod inboxes;
 mod nodes;

@@ -1,13 +1,47 @@
 // What steps of a node gave for others, carried message by message in its order.
 
-ghost use Rattle.std.specs.Prelude.{[], ◌∷◌};
+ghost use Rattle.std.specs.Prelude.{◌≡◌, [], ◌∷◌};
 ghost use Rattle.node.specs.Effect.TheVariants.{To};
 ghost use Rattle.node.specs.Lists.{Each};
 ghost use Rattle.post.specs.Carrying.{CarriesAll, letters_of};
 ghost use Rattle.post.specs.Letters.{WasGiven};
 
 use node::{Command, Effect, Message, Output};
+use std::marker::Model;
 use std::sync::Wait;
+
+/// What steps of a node gave, in their order. It can't be let go: only [`carry_all`] and [`Peers::hand_on`] take it, so
+/// whoever has it hands it on.
+///
+/// [`Peers::hand_on`]: crate::Peers::hand_on
+pub struct Given {
+    effects: Vec<Effect<Command, Output>>,
+}
+
+impl Model for Given {
+    ghost use Rattle.std.specs.Prelude.{List};
+    ghost use Rattle.node.specs.Command.{Command};
+    ghost use Rattle.node.specs.Output.{Output};
+    ghost use Rattle.node.specs.Effect.{Effect};
+    ghost use Rattle.node.specs.Lists.{Each};
+    ghost use Rattle.post.specs.Given.{WasGiven};
+
+    ghost Value = { List (Effect Command Output) };
+
+    ghost view = { λ given. given.effects.items };
+
+    ghost invariant = { λ given. Each WasGiven given.effects.items };
+}
+
+impl Given {
+    /// Returns what steps of a node gave.
+    pub fn new(effects: Vec<Effect<Command, Output>>) -> Given
+        requires { Each WasGiven effects.items }
+        ensures { result ≡ effects.items }
+    {
+        Given { effects }
+    }
+}
 
 /// Who carries messages to the nodes, or to the master, that they are for.
 pub trait Carrier {
@@ -25,11 +59,15 @@ pub trait Carrier {
 }
 
 /// Carries all that steps of a node gave for others, in its order, each message once. Outputs are for no other node.
-pub fn carry_all<C: Carrier, R: Wait>(
-    rt: &R,
-    carrier: &mut C,
-    effects: Vec<Effect<Command, Output>>,
-)
+pub fn carry_all<C: Carrier, R: Wait>(rt: &R, carrier: &mut C, given: Given)
+    ensures { CarriesAll C.carries carrier.old (letters_of given) carrier.new }
+{
+    let Given { effects } = given;
+    carry_each(rt, carrier, effects);
+}
+
+// Carries what each of these effects has for another node.
+fn carry_each<C: Carrier, R: Wait>(rt: &R, carrier: &mut C, effects: Vec<Effect<Command, Output>>)
     requires { Each WasGiven effects.items }
     ensures { CarriesAll C.carries carrier.old (letters_of effects.items) carrier.new }
 {

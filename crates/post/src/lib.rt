@@ -15,7 +15,7 @@ mod superseding;
 mod tray;
 mod waking;
 
-pub use carrier::{Carrier, carry_all};
+pub use carrier::{Carrier, Given, carry_all};
 pub use laws::{later_commits_suffice, later_counts_suffice, open_bytes_are_counted};
 pub use order_error::OrderError;
 pub use peer::Peer;

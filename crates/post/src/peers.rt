@@ -3,18 +3,17 @@
 ghost use Rattle.std.specs.Prelude.{◌≡◌, IfOk, IfSome, IsErrOf, IsOk, None, false, true};
 ghost use Rattle.ballot_base.specs.LawfulConfig.{is_lawful};
 ghost use Rattle.lists.specs.Lists.{has_id};
-ghost use Rattle.node.specs.Lists.{Each};
 ghost use Rattle.node.specs.Effect.TheVariants.{To};
 ghost use Rattle.post.specs.Letters.{WasGiven};
 ghost use Rattle.post.specs.Numbers.{numbers_of};
 
-use crate::carrier::{Carrier, carry_all};
+use crate::carrier::{Carrier, Given, carry_all};
 use crate::choosing::{Shown, primary_of};
 use crate::messaging_master::{Answer, MASTER, MessagingMaster};
 use crate::order_error::OrderError;
 use crate::peer::Peer;
 use master::AssignError;
-use node::{Command, Config, Effect, Item, Members, Memory, Message, OpeningError, Output, Status};
+use node::{Command, Config, Item, Members, Memory, Message, OpeningError, Status};
 use packet::ClientId;
 use std::alloc::Global;
 use std::marker::Model;
@@ -164,10 +163,8 @@ impl Peers {
     }
 
     /// Hands on what steps of a node gave for others, in its order. What goes to nobody is lost.
-    pub fn hand_on<R: Wait>(&self, rt: &R, effects: Vec<Effect<Command, Output>>)
-        requires { Each WasGiven effects.items }
-    {
-        carry_all(rt, &mut Round { peers: self }, effects);
+    pub fn hand_on<R: Wait>(&self, rt: &R, given: Given) {
+        carry_all(rt, &mut Round { peers: self }, given);
     }
 
     // Leaves a message that a step of a node gave for a node.

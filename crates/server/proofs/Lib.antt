@@ -4,3 +4,4 @@ mod GivenBySteps
 mod HandedOver
 mod OwnSendsJoin
 mod PortsApart
+mod TurnsEnd

@@ -3,4 +3,5 @@ pub mod Cutting
 pub mod Laws
 pub mod Refusals
 pub mod Serving
+pub mod Turns
 pub mod Working

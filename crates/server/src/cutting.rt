@@ -4,10 +4,9 @@ ghost use Rattle.std.specs.Prelude.{◌≡◌};
 ghost use Rattle.server.specs.Cutting.{cuts_after};
 ghost use Rattle.server.specs.Serving.{SendsOwn};
 
-use crate::served::Served;
 use crate::shared::Shared;
 use mailbox::Lane;
-use node::{Gate, Item, NodeNaming};
+use node::{Gate, Item, NodeNaming, Stated};
 use std::sync::Wait;
 use std::time::Clock;
 
@@ -17,7 +16,7 @@ const TICKS_A_CUT: u64 = 50;
 /// How many ticks lie between the first cuts of nodes of neighbouring numbers.
 const APART: u64 = 7;
 
-impl<'a, J: NodeNaming, S: Served<J>, G: Gate> Shared<'a, J, S, G> {
+impl<'a, J: NodeNaming, S: Stated<J>, G: Gate> Shared<'a, J, S, G> {
     /// Has the log cut, if that is due after so many ticks.
     pub(crate) fn cut_in_time<R: Wait + Clock>(&self, rt: &R, lane: &mut Lane<Item, J>, ticks: u64)
         ensures { SendsOwn self.now.seat.node.now.number lane.old.sent lane.new.sent }

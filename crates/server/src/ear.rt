@@ -2,11 +2,10 @@
 
 ghost use Rattle.std.specs.Prelude.{◌≡◌, ◌≤◌, ◌++◌, ◌∷◌, []};
 
-use crate::served::Served;
 use crate::shared::Shared;
 use connection::{Hearer, PIECE_BYTES};
 use mailbox::Lane;
-use node::{Gate, Item, NodeNaming, Standing};
+use node::{Gate, Item, NodeNaming, Standing, Stated};
 use std::alloc::Global;
 use std::sync::{Arc, Wait};
 use std::time::Clock;
@@ -14,13 +13,13 @@ use streams::Link;
 
 /// A connection's lane. What it heard is what the lane sent.
 #[derive(Drop)]
-pub(crate) struct Ear<'e, 'a, J: NodeNaming, S: Served<J>, G: Gate> {
+pub(crate) struct Ear<'e, 'a, J: NodeNaming, S: Stated<J>, G: Gate> {
     pub(crate) shared: &'e Shared<'a, J, S, G>,
     pub(crate) link: &'e Arc<Link, Global>,
     pub(crate) lane: Lane<Item, J>,
 }
 
-impl<'e, 'a, J: NodeNaming, S: Served<J>, G: Gate> Hearer for Ear<'e, 'a, J, S, G> {
+impl<'e, 'a, J: NodeNaming, S: Stated<J>, G: Gate> Hearer for Ear<'e, 'a, J, S, G> {
     ghost heard = { λ ear. ear.lane.sent };
 
     fn now<R: Clock>(&self, rt: &R) -> u64 {

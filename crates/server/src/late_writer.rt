@@ -1,8 +1,7 @@
 // The thread that goes on with connections whose sockets were full.
 
-use crate::served::Served;
 use crate::shared::Shared;
-use node::{Gate, NodeNaming, Standing};
+use node::{Gate, NodeNaming, Standing, Stated};
 use std::alloc::Global;
 use std::mem;
 use std::sync::{Arc, Wait};
@@ -17,7 +16,7 @@ const FIRST_MILLIS: u64 = 1;
 
 const MOST_MILLIS: u64 = 16;
 
-impl<'a, J: NodeNaming, S: Served<J>, G: Gate> Shared<'a, J, S, G> {
+impl<'a, J: NodeNaming, S: Stated<J>, G: Gate> Shared<'a, J, S, G> {
     /// Goes on with connections whose sockets were full, until the door is closed. Nobody waits for this thread, and it waits
     /// for no socket: between its tries it sleeps, longer each time while all stay full.
     pub(crate) fn write_late<R: Wait>(&self, rt: &R) {

@@ -7,17 +7,16 @@ use crate::node_report::NodeReport;
 use crate::outcome::Outcome;
 use crate::seat::Seat;
 use crate::serve_error::ServeError;
-use crate::served::Served;
 use crate::shared::Shared;
-use crate::working::{Desk, LANES, run};
+use crate::starting::can_start;
+use crate::working::{Desk, LANES, THREADS, run};
 use mailbox::{Inbox, Lane};
 use node::{
-    Config, Gate, Item, Memory, NoGate, NodeCore, NodeNaming, NodeState, OpeningError, Passage,
-    Report,
+    Config, Gate, Item, Memory, NoGate, Node, NodeCore, NodeNaming, NodeState, OpeningError, Report,
 };
 use post::Peers;
 use std::alloc::Global;
-use std::marker::{Brand, PhantomData};
+use std::marker::Brand;
 use std::net::{Net, TcpStream};
 use std::sync::{Mutex, Wait};
 use std::thread;
@@ -27,9 +26,10 @@ use streams::{CONNECTIONS, Place};
 
 /// Serves the clients of several nodes, each at its place, while `attend` runs beside it with the nodes in
 /// hand, and gives what that returned; all connections are ended then. The nodes open in ballot 1 of this
-/// configuration. A node for which no thread can be started is not served.
+/// configuration.
 ///
-/// The errors are those of the opening.
+/// The errors are those of the opening, and [`ServeError::Threads`] if fewer threads can be started than the nodes need: then
+/// nothing is served. A node for which none can be started later is not served.
 pub fn serve_while<R, T, F>(
     rt: &R,
     alloc: Global,
@@ -43,7 +43,7 @@ where
     F: FnOnce(&Peers) -> T,
     requires { F.IsAlwaysCallable attend }
 {
-    let (answer, _reports) = serve_gated(rt, alloc, places, config, &NoGate, attend)?;
+    let (answer, _reports) = serve_all(rt, alloc, places, config, None::<&NoGate>, attend)?;
     Ok(answer)
 }
 
@@ -67,7 +67,29 @@ where
     F: FnOnce(&Peers) -> T,
     requires { F.IsAlwaysCallable attend }
 {
+    serve_all(rt, alloc, places, config, Some(gate), attend)
+}
+
+// The same with a gate or without one.
+fn serve_all<R, G, T, F>(
+    rt: &R,
+    alloc: Global,
+    places: &[Place],
+    config: &Config,
+    gate: Option<&G>,
+    attend: F,
+) -> Result<(T, Vec<NodeReport>), ServeError>
+where
+    R: Threads + Wait + Clock + Sync + Net<Stream = TcpStream>,
+    G: Gate + Sync,
+    T: Drop,
+    F: FnOnce(&Peers) -> T,
+    requires { F.IsAlwaysCallable attend }
+{
     let peers = open_post(alloc, places, config)?;
+    if !can_start(rt, places.len().saturating_mul(THREADS)) {
+        return Err(ServeError::Threads);
+    }
     let Ok(start) = Instant::now(rt) else {
         return Err(ServeError::Clock);
     };
@@ -91,7 +113,7 @@ where
                         serve(rt, alloc, seat, config, gate),
                     ));
                     if served.is_err() {
-                        tell(rt, told, Err(ServeError::Memory));
+                        tell(rt, told, Err(ServeError::Threads));
                     }
                 }
             }
@@ -122,7 +144,7 @@ fn serve<G: Gate + Sync, R: Threads + Wait + Clock + Sync>(
     alloc: Global,
     seat: Seat<'_>,
     config: &Config,
-    gate: &G,
+    gate: Option<&G>,
 ) -> Result<NodeReport, ServeError> {
     let number = seat.place.number;
     if number == 0 || number > 15 {
@@ -145,14 +167,13 @@ fn serve_named<J: NodeNaming + Send + Sync, G: Gate + Sync, R: Threads + Wait + 
     config: &Config,
     inbox: Inbox<Item>,
     core: NodeCore,
-    gate: &G,
+    gate: Option<&G>,
 ) -> Result<Report, Memory>
-    requires named { inbox ≡ J.inbox_of 1 }
-    requires first { core ≡ J.first_of 1 }
+    requires named { inbox ≡ J.inbox_of seat.place.now.number }
+    requires first { core ≡ J.first_of seat.place.now.number }
     requires opens { EachOpensAs seat.place.now.number config.now J.first_of }
 {
-    let (receiver, lanes) = inbox.named::<J>(1, LANES)?;
-    let room = Report::with_room(alloc, lanes.len())?;
+    let (receiver, lanes) = inbox.named::<J>(seat.place.number, LANES)?;
     let mut back = Vec::with_capacity(alloc, lanes.len())?;
     seat.node.publish(rt, core.status());
     let mut desks: Vec<Desk<J>> = lanes.into_iter().map(Some).collect(alloc)?;
@@ -160,17 +181,15 @@ fn serve_named<J: NodeNaming + Send + Sync, G: Gate + Sync, R: Threads + Wait + 
     desks.push(None)?;
     let shared = Shared {
         alloc,
-        node: Mutex::new(NodeState::new(receiver, core)),
-        passage: Passage::new(gate, seat.place.number),
+        node: Node::start(alloc, NodeState::new(receiver, core), gate)?,
         seat,
         config,
         late: Mutex::new(Vec::with_capacity(alloc, usize::from(CONNECTIONS))?),
         late_waker: Parker::new(),
-        naming: PhantomData,
     };
     run_state(rt, &shared, desks.as_mut_slice());
     gather(desks, &mut back);
-    shared.close(rt, back.as_mut_slice(), room)
+    shared.close(rt, back.as_mut_slice())
 }
 
 // The same at the type that a node's state has. That it may be shared by threads is asked here alone.

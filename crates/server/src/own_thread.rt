@@ -6,10 +6,9 @@ ghost use Rattle.post.specs.Letters.{IsLeft};
 ghost use Rattle.server.specs.Closing.{is_overdue};
 ghost use Rattle.server.specs.Serving.{SendsOwn};
 
-use crate::served::Served;
 use crate::shared::Shared;
 use mailbox::Lane;
-use node::{Gate, Item, NodeNaming, Standing};
+use node::{Gate, Item, NodeNaming, Standing, Stated};
 use std::hint;
 use std::sync::Wait;
 use std::time::{Clock, Duration};
@@ -34,7 +33,7 @@ struct Told {
     ticks: u64,
 }
 
-impl<'a, J: NodeNaming, S: Served<J>, G: Gate> Shared<'a, J, S, G> {
+impl<'a, J: NodeNaming, S: Stated<J>, G: Gate> Shared<'a, J, S, G> {
     /// Does the work of the node's own thread by its lane, until the door is closed: the lane.
     pub(crate) fn keep_going<R: Wait + Clock>(&self, rt: &R, lane: Lane<Item, J>) -> Lane<Item, J>
         ensures { SendsOwn self.now.seat.node.now.number lane.sent result.sent }

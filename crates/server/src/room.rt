@@ -2,9 +2,8 @@
 
 ghost use Rattle.std.specs.Prelude.{◌≤◌};
 
-use crate::served::Served;
 use crate::shared::Shared;
-use node::{Gate, NodeNaming, Port, Standing};
+use node::{Gate, NodeNaming, Port, Standing, Stated};
 use std::sync::Wait;
 use std::thread;
 use std::time::{Clock, Duration};
@@ -12,7 +11,7 @@ use std::time::{Clock, Duration};
 /// How long a thread sleeps before it asks again whether the node takes more, in milliseconds.
 const ROOM_MILLIS: u64 = 1;
 
-impl<'a, J: NodeNaming, S: Served<J>, G: Gate> Shared<'a, J, S, G> {
+impl<'a, J: NodeNaming, S: Stated<J>, G: Gate> Shared<'a, J, S, G> {
     /// Waits until the node takes this many bytes more of its clients. Returns how many count as on their way. None do
     /// where there is only one node, nor on a connection that the node has closed, whose bytes do nothing.
     pub(crate) fn await_room<R: Wait + Clock>(&self, rt: &R, port: Port, bytes: u64) -> u64

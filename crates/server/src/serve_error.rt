@@ -16,6 +16,8 @@ pub enum ServeError {
     Memory,
     /// The clock cannot be read.
     Clock,
+    /// Fewer threads can be started than the nodes need.
+    Threads,
 }
 
 impl fmt::Display for ServeError {
@@ -24,6 +26,7 @@ impl fmt::Display for ServeError {
             ServeError::BadMembers => OpeningError::BadMembers.fmt(f),
             ServeError::Memory => Memory.fmt(f),
             ServeError::Clock => f.write_str("the clock could not be read"),
+            ServeError::Threads => f.write_str("too few threads could be started"),
         }
     }
 }

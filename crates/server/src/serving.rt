@@ -5,11 +5,10 @@ ghost use Rattle.std.specs.Arc.{arc_value};
 ghost use Rattle.server.specs.Serving.{SendsRow, SendsWhole, TellsOne, port_of};
 
 use crate::ear::Ear;
-use crate::served::Served;
 use crate::shared::Shared;
 use connection::{Counted, listen};
 use mailbox::Lane;
-use node::{Gate, Item, NodeNaming, Port};
+use node::{Gate, Item, NodeNaming, Port, Stated};
 use std::alloc::Global;
 use std::net::TcpStream;
 use std::sync::{Arc, Wait};
@@ -25,7 +24,7 @@ const CONNECTIONS_OF_LANE: u64 = 1 << 56;
 /// By this the ports of a lane's connections rise. A lane's number is below it.
 const PORTS_APART: u64 = 256;
 
-impl<'a, J: NodeNaming, S: Served<J>, G: Gate> Shared<'a, J, S, G> {
+impl<'a, J: NodeNaming, S: Stated<J>, G: Gate> Shared<'a, J, S, G> {
     /// Serves one client after the other by a lane, until the door is closed: the lane, which sent for each
     /// in turn all that is told of its connection, at a port that no other has, and nothing else.
     pub(crate) fn serve_lane<R: Wait + Clock>(&self, rt: &R, lane: Lane<Item, J>) -> Lane<Item, J>

@@ -2,14 +2,15 @@
 
 ghost use Rattle.std.specs.Prelude.{◌≡◌, ◌++◌, ◌∷◌, [], true, false};
 ghost use Rattle.mailbox.specs.Ends.{all_met, unmet};
-ghost use Rattle.node.specs.Lists.{Each};
-ghost use Rattle.post.specs.Letters.{EachOpens, WasGiven};
+ghost use Rattle.node.specs.Running.{IsNext};
+ghost use Rattle.post.specs.Letters.{EachOpens};
+ghost use Rattle.server.specs.Turns.{Turns};
 
-use crate::served::Served;
 use crate::shared::Shared;
 use crate::working::OWN_LANE;
 use mailbox::Lane;
-use node::{Command, Effect, Gate, Item, Leave, NodeNaming, NodeState, Output};
+use node::{Gate, Item, Leave, NodeNaming, NodeState, Stated};
+use post::Given;
 use std::alloc::Global;
 use std::sync::{Arc, Wait};
 use std::time::Clock;
@@ -18,7 +19,7 @@ use streams::{CONNECTIONS, IdleLanes, Link};
 /// How many connections are written to in most turns.
 const FEW: usize = 8;
 
-impl<'a, J: NodeNaming, S: Served<J>, G: Gate> Shared<'a, J, S, G> {
+impl<'a, J: NodeNaming, S: Stated<J>, G: Gate> Shared<'a, J, S, G> {
     /// Sends an item by a lane, and takes what waits in the inbox, that item with it. The connection at this place is
     /// written to first. Once it returns the node has taken all that the lane sent, and the lane knows it.
     pub(crate) fn send<R: Wait + Clock>(
@@ -88,36 +89,36 @@ impl<'a, J: NodeNaming, S: Served<J>, G: Gate> Shared<'a, J, S, G> {
         unreachable!()
     }
 
-    // Takes some items: whether more may wait. Where there is a gate it is asked before each, while no lock
-    // is held.
+    // Takes some items: whether more may wait. Where there is a gate it is asked before each, while the node's state
+    // is not locked.
     fn take_some<R: Wait + Clock>(&self, rt: &R, lane: &mut Lane<Item, J>) -> bool
         ensures more { result ≡ true → lane.new ≡ lane.old }
 
         // Where none waits, all was taken that the lane sent.
         ensures none { result ≡ false → lane.new ≡ all_met lane.old }
     {
-        let leave = self.passage.pass(rt);
+        let leave = self.node.pass(rt);
         let more = self.take_locked(rt, &leave, lane);
-        self.passage.done(rt, leave);
+        self.node.done(rt, leave);
         more
     }
 
     // Takes items under one lock, as many as there is leave for: whether more may wait. What the node has for
     // others is handed on while the lock is held, so that it keeps the order of the node's steps. So is how it stands.
-    fn take_locked<R: Wait>(&self, rt: &R, leave: &Leave, lane: &mut Lane<Item, J>) -> bool
+    fn take_locked<R: Wait>(&self, rt: &R, leave: &Leave<'_>, lane: &mut Lane<Item, J>) -> bool
         ensures more { result ≡ true → lane.new ≡ lane.old }
         ensures none { result ≡ false → lane.new ≡ all_met lane.old }
     {
-        let mut effects = Vec::new(self.alloc);
         let mut node = self.node.lock(rt);
         let state = node.state();
-        // The lane is one of this node's inbox, but of what stands behind a lock no clause tells that.
-        if state.number() != lane.number() {
+        // The lane is one of this node's inbox, and the leave is for its next taking, but of what stands behind a lock no clause
+        // tells that.
+        if state.number() != lane.number() || !leave.is_for(state) {
             return true;
         }
-        let more = take_up_to(rt, state, leave, lane, &mut effects);
+        let (more, given) = take_up_to(rt, self.alloc, state, leave, lane);
         self.seat.node.publish(rt, state.status());
-        self.seat.peers.hand_on(rt, effects);
+        self.seat.peers.hand_on(rt, given);
         // The node's own thread has the log cut.
         if state.wants_cut() {
             self.seat.node.wake(rt);
@@ -126,31 +127,34 @@ impl<'a, J: NodeNaming, S: Served<J>, G: Gate> Shared<'a, J, S, G> {
     }
 }
 
-// Takes items until the inbox is empty, as many as there is leave for: whether more may wait.
+// Takes items until the inbox is empty, as many as there is leave for: whether more may wait, and what the node's steps gave.
 fn take_up_to<J: NodeNaming, R: Wait>(
     rt: &R,
+    alloc: Global,
     node: &mut NodeState<J>,
-    leave: &Leave,
+    leave: &Leave<'_>,
     lane: &mut Lane<Item, J>,
-    effects: &mut Vec<Effect<Command, Output>>,
-) -> bool
+) -> (bool, Given)
     requires inbox { lane.old.inbox ≡ node.old.taker.inbox }
     requires opens { EachOpens J.first_of }
-    requires before { Each WasGiven effects.old.items }
-    ensures given { Each WasGiven effects.new.items }
-    ensures more { result ≡ true → lane.new ≡ lane.old }
+    requires next { IsNext leave.now node.old }
+
+    // What the steps of the node gave, from the state before to that behind, and nothing else.
+    ensures given { Turns node.old node.new result.1 }
+    ensures more { result.0 ≡ true → lane.new ≡ lane.old }
 
     // Where none waits, all was taken that the lane sent: the node has its items in its history.
-    ensures none { result ≡ false → lane.new ≡ all_met lane.old }
+    ensures none { result.0 ≡ false → lane.new ≡ all_met lane.old }
 {
+    let mut effects = Vec::new(alloc);
     for _ in 0..leave.most() {
         let receipt = lane.receipt();
-        if !node.take_one(rt, effects, receipt) {
+        if !node.take_one(rt, &mut effects, receipt) {
             node.meet(lane);
-            return false;
+            return (false, Given::new(effects));
         }
     }
-    true
+    (true, Given::new(effects))
 }
 
 // Returns a list with room for so many, or without room if memory runs out.

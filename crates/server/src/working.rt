@@ -3,10 +3,9 @@
 ghost use Rattle.std.specs.Prelude.{ℕ, ◌<◌, length, slice_index_or};
 ghost use Rattle.server.specs.Working.{ComesBack, SendsSo};
 
-use crate::served::Served;
 use crate::shared::Shared;
 use mailbox::Lane;
-use node::{Gate, Item, NodeNaming};
+use node::{Gate, Item, NodeNaming, Stated};
 use std::sync::Wait;
 use std::thread;
 use std::thread::Threads;
@@ -30,7 +29,7 @@ pub(crate) type Desk<J> = Option<Lane<Item, J>>;
 pub(crate) fn run<J, S, G, R>(rt: &R, shared: &Shared<J, S, G>, desks: &mut [Desk<J>])
 where
     J: NodeNaming + Send + Sync,
-    S: Served<J> + Send,
+    S: Stated<J> + Send,
     G: Gate + Sync,
     R: Threads + Wait + Clock + Sync,
     ensures { (place : ℕ) (other : _) → place < length desks.old →
@@ -40,7 +39,7 @@ where
     thread::for_each_mut(rt, desks, THREADS, &|_, desk| shared.sit(rt, desk));
 }
 
-impl<'a, J: NodeNaming, S: Served<J>, G: Gate> Shared<'a, J, S, G> {
+impl<'a, J: NodeNaming, S: Stated<J>, G: Gate> Shared<'a, J, S, G> {
     // Works with the lane of a desk, and puts it back. Where there is none it goes on with full sockets.
     fn sit<R: Wait + Clock>(&self, rt: &R, desk: &mut Desk<J>)
         ensures { ComesBack self.now.seat.node.now.number desk.old desk.new }

@@ -1,21 +1,20 @@
 // What the node put out for a connection, onto its stream.
 
-use crate::served::Served;
 use crate::shared::Shared;
 use connection::{Counted, Flow, Outlet, write_out};
-use node::{Gate, Handed, Memory, NodeNaming, Port};
+use node::{Gate, Handed, Memory, NodeNaming, Port, Stated};
 use std::alloc::Global;
 use std::sync::{Arc, Wait};
 use streams::{Link, Pen};
 
 // What the node behind its lock puts out for a port.
 #[derive(Drop)]
-struct Tap<'e, 'a, J: NodeNaming, S: Served<J>, G: Gate> {
+struct Tap<'e, 'a, J: NodeNaming, S: Stated<J>, G: Gate> {
     shared: &'e Shared<'a, J, S, G>,
     port: Port,
 }
 
-impl<'e, 'a, J: NodeNaming, S: Served<J>, G: Gate> Outlet for Tap<'e, 'a, J, S, G> {
+impl<'e, 'a, J: NodeNaming, S: Stated<J>, G: Gate> Outlet for Tap<'e, 'a, J, S, G> {
     ghost use Rattle.server.specs.Serving.{PutsOut};
 
     ghost hands = { λ tap bytes answer _. PutsOut J.first_of tap.port bytes answer };
@@ -26,7 +25,7 @@ impl<'e, 'a, J: NodeNaming, S: Served<J>, G: Gate> Outlet for Tap<'e, 'a, J, S, 
     }
 }
 
-impl<'a, J: NodeNaming, S: Served<J>, G: Gate> Shared<'a, J, S, G> {
+impl<'a, J: NodeNaming, S: Stated<J>, G: Gate> Shared<'a, J, S, G> {
     /// Writes what the node put out for a connection, unless another thread writes there: that one is told
     /// to look again. What a full socket does not take is left to the late writer. The node's own thread does not wait for it.
     pub(crate) fn flush<R: Wait>(&self, rt: &R, link: &Arc<Link, Global>, waits: bool) {

@@ -3,7 +3,10 @@
 ghost use Rattle.std.specs.Prelude.{◌≡◌, ◌≤◌};
 
 use mailbox::{Inbox, Lane};
-use node::{Config, Handed, Item, Members, NodeCore, NodeNaming, NodeState, Piece, Port, Report};
+use node::{
+    Config, Handed, Item, Members, NoGate, Node, NodeCore, NodeNaming, NodeState, Piece, Port,
+    Report,
+};
 use std::alloc::Global;
 use std::marker::Brand;
 use std::sync::{Mutex, Wait};
@@ -141,7 +144,7 @@ fn is_right<J: NodeNaming, R: Wait>(
 fn all_is_right<J: NodeNaming, R: Wait>(
     rt: &R,
     alloc: Global,
-    node: &Mutex<NodeState<J>>,
+    node: &Node<'_, J, NodeState<J>, NoGate>,
     lanes: &mut [Lane<Item, J>],
     acts: &[Act<'_>],
 ) -> bool {
@@ -163,14 +166,27 @@ fn tells(report: &Report, story: &Story<'_>) -> bool {
 // Whether the node's report is that of the story, once its lanes send no more.
 fn closes<J: NodeNaming, R: Wait>(
     rt: &R,
+    node: Node<'_, J, NodeState<J>, NoGate>,
+    lanes: &mut [Lane<Item, J>],
+    story: &Story<'_>,
+) -> bool {
+    node.has_all(lanes) && tells(&node.close(rt, lanes), story)
+}
+
+// Whether a story comes out as it says with a node that is started for it.
+fn goes<J: NodeNaming, R: Wait>(
+    rt: &R,
     alloc: Global,
     state: NodeState<J>,
     lanes: &mut [Lane<Item, J>],
     story: &Story<'_>,
 ) -> bool {
-    match Report::with_room(alloc, state.lanes()) {
-        Ok(room) if state.has_all(lanes) => tells(&state.close(rt, lanes, room, 0), story),
-        _ => false,
+    match Node::start(alloc, state, None::<&NoGate>) {
+        Ok(node) => {
+            let right = all_is_right(rt, alloc, &node, lanes, story.acts);
+            closes(rt, node, lanes, story) && right
+        }
+        Err(_) => false,
     }
 }
 
@@ -187,11 +203,13 @@ fn comes_out<J: NodeNaming, R: Wait>(
     requires lanes { (1 ≤ story.now.lanes) × (story.now.lanes ≤ 16) }
 {
     match inbox.named::<J>(1, story.lanes) {
-        Ok((receiver, mut lanes)) => {
-            let node = Mutex::new(NodeState::new(receiver, core));
-            let right = all_is_right(rt, alloc, &node, lanes.as_mut_slice(), story.acts);
-            closes(rt, alloc, node.into_inner(), lanes.as_mut_slice(), story) && right
-        }
+        Ok((receiver, mut lanes)) => goes(
+            rt,
+            alloc,
+            NodeState::new(receiver, core),
+            lanes.as_mut_slice(),
+            story,
+        ),
         Err(_) => false,
     }
 }
@@ -320,11 +338,11 @@ impl<J: NodeNaming> Two<J> {
     }
 }
 
-// An inbox with what its node is at first.
+/// An inbox with what its node is at first.
 #[derive(Drop)]
-struct Start {
-    inbox: Inbox<Item>,
-    core: NodeCore,
+pub(super) struct Start {
+    pub(super) inbox: Inbox<Item>,
+    pub(super) core: NodeCore,
 }
 
 // Goes through the rows with two nodes: the first that comes out otherwise.
@@ -380,7 +398,8 @@ const MET: &[Deed] = &[
     Deed::Meet(1, 1, Some(2)),
 ];
 
-fn fresh(alloc: Global, number: u8) -> Result<Start, Fail>
+/// An unused inbox, and the node of this number, the sole member of ballot 1.
+pub(super) fn fresh(alloc: Global, number: u8) -> Result<Start, Fail>
     requires { (1 ≤ number) × (number ≤ 15) }
 {
     let inbox = Inbox::new(alloc)?;

@@ -76,6 +76,10 @@ struct Meeting {
     nodes: usize,
     there: Mutex<[bool; 3]>,
     met: Mutex<bool>,
+    /// How many takings each node has done.
+    done: Mutex<[u64; 3]>,
+    /// Each call named the taking after those that were done.
+    in_order: Mutex<bool>,
 }
 
 impl Meeting {
@@ -85,6 +89,22 @@ impl Meeting {
             nodes,
             there: Mutex::new([false; 3]),
             met: Mutex::new(false),
+            done: Mutex::new([0; 3]),
+            in_order: Mutex::new(true),
+        }
+    }
+
+    // A node asks for a taking, or has done it.
+    fn hears<R: Wait>(&self, rt: &R, node: u8, taking: u64, is_done: bool) {
+        let mut done = self.done.lock(rt);
+        let Some(done) = done.get_mut(usize::from(node).wrapping_sub(1)) else {
+            return;
+        };
+        if taking != done.saturating_add(1) {
+            *self.in_order.lock(rt) = false;
+        }
+        if is_done {
+            *done = taking;
         }
     }
 
@@ -103,31 +123,32 @@ impl Meeting {
 }
 
 impl Gate for Meeting {
-    fn is_always_open(&self) -> bool {
-        false
-    }
+    // Of what stands behind a lock no clause tells.
+    ghost opens = { λ _ _ _. Unit {0} };
 
-    fn open<R: Wait>(&self, rt: &R, node: u8, _taking: u64) -> bool {
+    fn open<R: Wait>(&self, rt: &R, node: u8, taking: u64) -> bool {
+        self.hears(rt, node, taking, false);
         if self.sees(rt, node, true) {
             *self.met.lock(rt) = true;
         }
         self.has_met(rt)
     }
 
-    fn answered<R: Wait>(&self, rt: &R, node: u8, _taking: u64) {
+    fn answered<R: Wait>(&self, rt: &R, node: u8, taking: u64) {
+        self.hears(rt, node, taking, true);
         self.sees(rt, node, false);
     }
 }
 
 impl Watched for Meeting {
-    // Whether the nodes meet within ten seconds, and client `a` is answered then.
+    // Whether the nodes meet within ten seconds, client `a` is answered then, and each taking was asked for by its number.
     fn attend<R>(&self, rt: &R, _peers: &Peers, place: Option<&Place>) -> bool
     where
         R: AllocGlobal + Wait + Clock + Net<Stream = TcpStream>,
     {
         for _ in 0..1_000 {
             if self.has_met(rt) {
-                return visits(rt, place);
+                return visits(rt, place) && *self.in_order.lock(rt);
             }
             thread::sleep(rt, Duration::from_millis(10));
         }
@@ -197,9 +218,7 @@ impl Bar {
 }
 
 impl Gate for Bar {
-    fn is_always_open(&self) -> bool {
-        false
-    }
+    ghost opens = { λ _ _ _. Unit {0} };
 
     fn open<R: Wait>(&self, rt: &R, node: u8, _taking: u64) -> bool {
         node != 3 || !*self.shut.lock(rt)

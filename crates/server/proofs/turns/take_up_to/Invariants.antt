@@ -1,11 +1,13 @@
 use Rattle.std.proofs.Common.{◌≡◌}
 use Rattle.node.specs.Lists.{Each}
 use Rattle.post.specs.Letters.{WasGiven}
+use Rattle.server.specs.Turns.{Turns}
 use Rattle.server.proofs.turns.take_up_to.Given as goal
 
 abbrev pub invariant-loop : goal.invariant-loop
 invariant-loop g l = record {
   given : Each WasGiven l.effects.items;
+  turns : Turns l.initial.node l.node l.effects.items;
   lane : l.lane ≡ l.initial.lane;
   inbox : l.lane.inbox ≡ l.node.taker.inbox;
 }

@@ -2,7 +2,7 @@ use Rattle.std.specs.Vec.Iter.{into_iter_items}
 use Rattle.node.specs.Lists.{Each}
 use Rattle.post.specs.Carrying.{CarriesAll, letters_of}
 use Rattle.post.specs.Letters.{WasGiven}
-use Rattle.post.proofs.carrier.carry_all.Given as goal
+use Rattle.post.proofs.carrier.carry_each.Given as goal
 
 abbrev pub invariant-loop-effect : goal.invariant-loop-effect
 invariant-loop-effect g l = record {

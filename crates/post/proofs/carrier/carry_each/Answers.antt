@@ -1,7 +1,7 @@
 use Rattle.std.proofs.Common.{rules}
 use Rattle.post.specs.Carrying.CarriesAll.{none}
 use Rattle.post.proofs.CarriesJoin.{carries_more}
-use Rattle.post.proofs.carrier.carry_all.Goals as goal
+use Rattle.post.proofs.carrier.carry_each.Goals as goal
 
 pub loop-effect-init : goal.loop-effect-init
 loop-effect-init g c = record { given = search rules; carried = none }

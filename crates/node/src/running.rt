@@ -1,0 +1,187 @@
+// A node that runs: its state behind a lock, its gate, and its end.
+
+ghost use Rattle.std.specs.Prelude.{◌≡◌, ◌↔◌, All, IfOk, IfSome, IsTrue, map, true};
+ghost use Rattle.mailbox.specs.Ends.{ArrivesWhole, unmet};
+ghost use Rattle.node.specs.Running.{AreItsLanes, HasOpened, ReportsOn};
+
+use crate::leave::Leave;
+use crate::naming::NodeNaming;
+use crate::node_state::NodeState;
+use crate::report::Report;
+use mailbox::Lane;
+use node_base::Gate;
+use std::alloc::Global;
+use std::marker::{Model, PhantomData};
+use std::sync::{Mutex, MutexGuard, Wait};
+use std::thread;
+use std::time::{Clock, Duration};
+use world_base::{Item, Memory};
+
+/// How often a gate that does not open is asked before one taking, and how long the thread sleeps after
+/// each time, in milliseconds.
+const ASKS: u32 = 10_000;
+
+const ASK_MILLIS: u64 = 1;
+
+/// What the lock of a node holds. Whether it may be handed from thread to thread is asked of it as a whole, and not of all
+/// that a node is made of at each thread that is started.
+pub trait Stated<J: NodeNaming>: Drop {
+    /// Returns the node's state.
+    fn state(&mut self) -> &mut NodeState<J>;
+}
+
+impl<J: NodeNaming> Stated<J> for NodeState<J> {
+    fn state(&mut self) -> &mut NodeState<J> {
+        self
+    }
+}
+
+/// A node that runs: its state behind a lock, and the gate before each of its takings. It has no thread of its own: whoever
+/// sent it an item takes what waits, one thread after the other.
+#[derive(Drop)]
+pub struct Node<'g, J: NodeNaming, S: Stated<J>, G: Gate> {
+    state: Mutex<S>,
+    number: u8,
+    gate: Option<&'g G>,
+    /// Whoever has this asks the gate, takes, and tells the gate.
+    turn: Mutex<()>,
+    /// For how many takings the gate did not open, at most 2^64 - 1.
+    missed: Mutex<u64>,
+    /// The room for what it reports at its end.
+    room: Report,
+    naming: PhantomData<J>,
+}
+
+impl<'g, J: NodeNaming, S: Stated<J>, G: Gate> Model for Node<'g, J, S, G> {
+    ghost use Rattle.std.specs.Prelude.{length};
+    ghost use Rattle.node.specs.Report.{HasRoom};
+    ghost use Rattle.node.specs.Running.{Running};
+
+    ghost Value = { Running };
+
+    ghost view = { λ node. record { number = node.number; lanes = length node.room.taken.items } };
+
+    ghost invariant = { λ node. HasRoom (length node.room.taken.items) node.room };
+}
+
+impl<'g, J: NodeNaming, G: Gate> Node<'g, J, NodeState<J>, G> {
+    /// Starts a node, with a gate before each of its takings or without one. The room for its report is made now. The only
+    /// error is that memory runs out: the state is dropped then.
+    pub fn start(
+        alloc: Global,
+        state: NodeState<J>,
+        gate: Option<&'g G>,
+    ) -> Result<Node<'g, J, NodeState<J>, G>, Memory>
+        ensures number { IfOk result (λ node. node.number ≡ state.taker.inbox) }
+        ensures lanes { IfOk result (λ node. node.lanes ≡ state.taker.lanes) }
+    {
+        let number = state.number();
+        let room = Report::with_room(alloc, state.lanes())?;
+        Ok(Node {
+            state: Mutex::new(state),
+            number,
+            gate,
+            turn: Mutex::new(()),
+            missed: Mutex::new(0),
+            room,
+            naming: PhantomData,
+        })
+    }
+
+    /// Ends the node, once its lanes send no more, and reports what became of all that they sent. It takes no memory.
+    pub fn close<R: Wait>(self, rt: &R, lanes: &mut [Lane<Item, J>]) -> Report
+        requires lanes { AreItsLanes self lanes.old }
+
+        // What was taken and what is left over are, lane by lane and in order, all that was sent.
+        ensures whole { All (ArrivesWhole result.taken.items result.left.items) lanes.new }
+        ensures lanes { map unmet lanes.new ≡ map unmet lanes.old }
+
+        // It tells of a node that was the replay of what was taken: how many items of each lane these were, and where its
+        // log begins.
+        ensures tells { ReportsOn (J.first_of self.entry.number) result }
+    {
+        let Node {
+            state,
+            number,
+            missed,
+            room,
+            ..
+        } = self;
+        let state = state.into_inner();
+        // They are all its lanes, but of what stood behind a lock no clause tells that.
+        if state.number() == number && state.lanes() == room.taken.len() && state.has_all(lanes) {
+            return state.close(rt, lanes, room, missed.into_inner());
+        }
+        for _ in rt.forever() {}
+        unreachable!()
+    }
+}
+
+impl<'g, J: NodeNaming, S: Stated<J>, G: Gate> Node<'g, J, S, G> {
+    /// Returns the node's number, that of its inbox.
+    pub fn number(&self) -> u8
+        ensures { result ≡ self.now.number }
+    {
+        self.number
+    }
+
+    /// Returns whether these are all lanes of the node's inbox, in the order of their numbers.
+    pub fn has_all(&self, lanes: &[Lane<Item, J>]) -> bool
+        ensures { IsTrue result ↔ AreItsLanes self.now lanes.now }
+    {
+        if lanes.len() != self.room.taken.len() {
+            return false;
+        }
+        for (place, lane) in lanes.iter().enumerate() {
+            if lane.number() != self.number || usize::from(lane.lane()) != place {
+                return false;
+            }
+        }
+        true
+    }
+
+    /// Locks the node's state. While it is locked nobody takes an item.
+    pub fn lock<R: Wait>(&self, rt: &R) -> MutexGuard<'_, S> {
+        self.state.lock(rt)
+    }
+
+    /// Begins a turn: waits until the gate opens for the node's next taking, if it opens in time. Without a gate it does not
+    /// wait. Where there is one, turns come one after the other: until this one is done no other begins.
+    pub fn pass<R: Wait + Clock>(&self, rt: &R) -> Leave<'_>
+        ensures one { IfSome result.taking (λ _. result.most ≡ 1) }
+
+        // It is open only if the gate opened for this node and the number of the taking.
+        ensures open { result.is_open ≡ true → IfSome result.taking (λ taking.
+            HasOpened G.opens self.now.number taking) }
+    {
+        let Some(gate) = self.gate else {
+            return Leave::free();
+        };
+        let turn = self.turn.lock(rt);
+        let taking = self.lock(rt).state().next_turn();
+        let is_open = self.ask(rt, gate, taking);
+        Leave::after(taking, is_open, turn)
+    }
+
+    // Waits until the gate opens for a taking. Returns whether it did; one that does not in time is counted.
+    fn ask<R: Wait + Clock>(&self, rt: &R, gate: &G, taking: u64) -> bool
+        ensures { result ≡ true → HasOpened G.opens self.now.number taking }
+    {
+        for _ in 0..ASKS {
+            if gate.open(rt, self.number, taking) {
+                return true;
+            }
+            thread::sleep(rt, Duration::from_millis(ASK_MILLIS));
+        }
+        let mut missed = self.missed.lock(rt);
+        *missed = missed.saturating_add(1);
+        false
+    }
+
+    /// Ends a turn: tells the gate that the taking is done.
+    pub fn done<R: Wait>(&self, rt: &R, leave: Leave<'_>) {
+        if let (Some(gate), Some(taking)) = (self.gate, leave.taking()) {
+            gate.answered(rt, self.number, taking);
+        }
+    }
+}

@@ -1,0 +1,235 @@
+// Nodes that are held at a gate, each in a thread of its own.
+
+ghost use Rattle.std.specs.Prelude.{◌≡◌};
+
+use super::nodes::{Start, fresh};
+use mailbox::Lane;
+use node::{Gate, Item, Node, NodeNaming, NodeState, Report, Stated};
+use std::alloc::Global;
+use std::marker::Brand;
+use std::sync::{Mutex, Wait};
+use std::test::Fail;
+use std::thread;
+use std::thread::Threads;
+use std::time::Clock;
+
+// What a gate heard of a node: how many takings are done, and whether each call named the taking after these.
+#[derive(Clone, Copy)]
+struct Heard {
+    done: u64,
+    is_there: bool,
+    is_right: bool,
+}
+
+// At this gate nodes 1 and 2 wait for each other before their first taking. Later it is open, or stays shut.
+#[derive(Drop)]
+struct Meeting {
+    heard: Mutex<[Heard; 2]>,
+    shut_after: u64,
+}
+
+impl Meeting {
+    fn new(shut_after: u64) -> Meeting {
+        let heard = Heard {
+            done: 0,
+            is_there: false,
+            is_right: true,
+        };
+        Meeting {
+            heard: Mutex::new([heard, heard]),
+            shut_after,
+        }
+    }
+
+    // Whether each node did so many takings, and each was asked for and told by its number.
+    fn heard_all<R: Wait>(&self, rt: &R, done: u64) -> bool {
+        self.heard
+            .lock(rt)
+            .iter()
+            .all(|heard| heard.is_right && heard.done == done)
+    }
+}
+
+// Notes that a node asks for a taking, or has done it.
+fn note(all: &mut [Heard], node: u8, taking: u64, is_done: bool) {
+    if let Some(heard) = all.get_mut(usize::from(node).wrapping_sub(1)) {
+        heard.is_there = true;
+        heard.is_right = heard.is_right && taking == heard.done.saturating_add(1);
+        if is_done {
+            heard.done = taking;
+        }
+    }
+}
+
+impl Gate for Meeting {
+    // Of what stands behind a lock no clause tells.
+    ghost opens = { λ _ _ _. Unit {0} };
+
+    fn open<R: Wait>(&self, rt: &R, node: u8, taking: u64) -> bool {
+        let mut heard = self.heard.lock(rt);
+        note(heard.as_mut_slice(), node, taking, false);
+        taking <= self.shut_after && heard.iter().all(|heard| heard.is_there)
+    }
+
+    fn answered<R: Wait>(&self, rt: &R, node: u8, taking: u64) {
+        note(self.heard.lock(rt).as_mut_slice(), node, taking, true);
+    }
+}
+
+// Whether a node takes an item, as its gate lets it.
+fn takes<J, S, R>(rt: &R, alloc: Global, node: &Node<'_, J, S, Meeting>) -> bool
+where
+    J: NodeNaming,
+    S: Stated<J>,
+    R: Wait + Clock,
+{
+    let leave = node.pass(rt);
+    let took = {
+        let mut locked = node.lock(rt);
+        let state = locked.state();
+        let mut effects = Vec::new(alloc);
+        let receipt = state.receipt();
+        leave.is_for(state) && state.take_one(rt, &mut effects, receipt) && effects.is_empty()
+    };
+    node.done(rt, leave);
+    took
+}
+
+// Whether a node takes so many items, one after the other.
+fn takes_all<J, S, R>(rt: &R, alloc: Global, node: &Node<'_, J, S, Meeting>, count: u64) -> bool
+where
+    J: NodeNaming,
+    S: Stated<J>,
+    R: Wait + Clock,
+{
+    (0..count).all(|_| takes(rt, alloc, node))
+}
+
+// Whether both nodes take so many items, each in a thread of its own.
+fn take_both<J, S, R>(
+    rt: &R,
+    alloc: Global,
+    first: &Node<'_, J, S, Meeting>,
+    second: &Node<'_, J, S, Meeting>,
+    count: u64,
+) -> bool
+where
+    J: NodeNaming + Send + Sync,
+    S: Stated<J> + Send,
+    R: Threads + Wait + Clock + Sync,
+{
+    let (one, other) = thread::join(
+        rt,
+        || takes_all(rt, alloc, first, count),
+        || takes_all(rt, alloc, second, count),
+    );
+    one && other
+}
+
+// The same at the type that a node's state has.
+fn take_both_states<J, R>(
+    rt: &R,
+    alloc: Global,
+    first: &Node<'_, J, NodeState<J>, Meeting>,
+    second: &Node<'_, J, NodeState<J>, Meeting>,
+    count: u64,
+) -> bool
+where
+    J: NodeNaming + Send + Sync,
+    R: Threads + Wait + Clock + Sync,
+{
+    take_both::<J, NodeState<J>, R>(rt, alloc, first, second, count)
+}
+
+// Whether three ticks are sent by the only lane of a node.
+fn sends_three<J: NodeNaming, R: Wait>(rt: &R, lanes: &mut [Lane<Item, J>]) -> bool {
+    let Some(lane) = lanes.first_mut() else {
+        return false;
+    };
+    for now in 1..=3u64 {
+        let receipt = lane.receipt();
+        if lane.send(rt, Item::Tick(now), receipt).is_err() {
+            return false;
+        }
+    }
+    true
+}
+
+// Whether a report tells that so many of three ticks were taken and the others are left over, and that the gate was missed so
+// many times.
+fn tells(report: &Report, taken: u64, missed: u64) -> bool {
+    report.taken.as_slice() == [taken].as_slice()
+        && report.left.len() as u64 == 3u64.saturating_sub(taken)
+        && report.left.iter().zip(taken.saturating_add(1)..=3).all(|((lane, item), time)| {
+            *lane == 0 && matches!(item, Item::Tick(now) if *now == time)
+        })
+        && report.gate_missed == missed
+}
+
+// Whether a node reports so at its end.
+fn closes<J: NodeNaming, R: Wait>(
+    rt: &R,
+    node: Node<'_, J, NodeState<J>, Meeting>,
+    lanes: &mut [Lane<Item, J>],
+    taken: u64,
+    missed: u64,
+) -> bool {
+    node.has_all(lanes) && tells(&node.close(rt, lanes), taken, missed)
+}
+
+// Whether two nodes meet at a gate that shuts after so many takings, go on, and report so: each is sent three ticks and takes
+// two.
+fn meet<J, R>(rt: &R, alloc: Global, first: Start, second: Start, gate: &Meeting) -> bool
+where
+    J: NodeNaming + Send + Sync,
+    R: Threads + Wait + Clock + Sync,
+    requires inbox { first.inbox ≡ J.inbox_of 1 }
+    requires core { first.core ≡ J.first_of 1 }
+    requires other_inbox { second.inbox ≡ J.inbox_of 2 }
+    requires other_core { second.core ≡ J.first_of 2 }
+{
+    let Ok((receiver, mut lanes)) = first.inbox.named::<J>(1, 1) else {
+        return false;
+    };
+    let Ok((other_receiver, mut other_lanes)) = second.inbox.named::<J>(2, 1) else {
+        return false;
+    };
+    let Ok(node) = Node::start(alloc, NodeState::new(receiver, first.core), Some(gate)) else {
+        return false;
+    };
+    let Ok(other) = Node::start(
+        alloc,
+        NodeState::new(other_receiver, second.core),
+        Some(gate),
+    ) else {
+        return false;
+    };
+    let missed = 2u64.saturating_sub(gate.shut_after);
+    let sent = sends_three(rt, lanes.as_mut_slice()) && sends_three(rt, other_lanes.as_mut_slice());
+    let took = take_both_states(rt, alloc, &node, &other, 2);
+    let closed = closes(rt, node, lanes.as_mut_slice(), 2, missed)
+        && closes(rt, other, other_lanes.as_mut_slice(), 2, missed);
+    sent && took && closed && gate.heard_all(rt, 2)
+}
+
+// Were one thread to run both nodes, or a lock round them held while the gate is asked, they would not meet.
+#[test]
+fn nodes_meet_at_their_gate(rt: HostRuntime) -> Result<(), Fail> {
+    let gate = Meeting::new(u64::MAX);
+    let first = fresh(rt.alloc(), 1)?;
+    let second = fresh(rt.alloc(), 2)?;
+    let met = meet::<Brand, HostRuntime>(&rt, rt.alloc(), first, second, &gate);
+    assert!(rt; met);
+    Ok(())
+}
+
+// The gate shuts after the first taking: before the second it is asked ten thousand times, and then the nodes go on.
+#[test]
+fn a_gate_that_stays_shut_is_passed(rt: HostRuntime) -> Result<(), Fail> {
+    let gate = Meeting::new(1);
+    let first = fresh(rt.alloc(), 1)?;
+    let second = fresh(rt.alloc(), 2)?;
+    let met = meet::<Brand, HostRuntime>(&rt, rt.alloc(), first, second, &gate);
+    assert!(rt; met);
+    Ok(())
+}

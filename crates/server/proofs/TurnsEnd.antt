@@ -1,0 +1,22 @@
+-- TurnsEnd.antt: how turns of a node begin, and how they end where no item waits.
+use Rattle.std.proofs.Common.{◌≡◌, List, [], sym, subst}
+use Rattle.node.specs.Command.{Command}
+use Rattle.node.specs.Output.{Output}
+use Rattle.node.specs.Effect.{Effect}
+use Rattle.node.specs.Lists.{Each}
+use Rattle.node.specs.State.{Seen, next_turn}
+use Rattle.post.specs.Letters.{WasGiven}
+use Rattle.server.specs.Turns.{Turns}
+use Rattle.server.specs.Turns.Turns.{begins, finds_none}
+
+-- nothing was given yet
+pub given_none : (node : Seen) (given : List (Effect Command Output)) → given ≡ [] → Each WasGiven given × Turns node node given
+given_none node given none = subst (λ (l : List (Effect Command Output)). Each WasGiven l × Turns node node l) (sym none) (tt, begins)
+
+-- no item waited
+pub found_none : (old seen new : Seen) (given behind : List (Effect Command Output))
+    → Turns old seen given → new ≡ record seen { turns = next_turn seen.turns } → behind ≡ given → Turns old new behind
+found_none old seen new given behind turns is same =
+    subst (λ (s : Seen). Turns old s behind) (sym is)
+    (subst (λ (l : List (Effect Command Output)). Turns old (record seen { turns = next_turn seen.turns }) l) (sym same)
+    (finds_none turns))
