@@ -1,5 +1,5 @@
 -- PiecesJoin.antt: pieces that are told one behind the other are what the device gave, in its order.
-use Rattle.std.specs.Prelude.{◌≡◌, ℕ, Option, None, Some, List, [], ◌∷◌, ◌++◌, refl}
+use Rattle.std.specs.Prelude.{◌≡◌, ℕ, Option, None, Some, Ok, Err, List, [], ◌∷◌, ◌++◌, refl}
 use Rattle.std.proofs.Common.{sym, ◌∙◌, ap, subst, lit≤, append_assoc}
 use Rattle.std.proofs.lemmas.List.{append-nil, map-append}
 use Rattle.std.proofs.lemmas.List.Concat.{flat_map-append}
@@ -9,7 +9,8 @@ use Rattle.world_base.specs.declared.item.Item.{Item}
 use Rattle.world_base.specs.declared.item.Item.TheVariants.{Opened, Bytes, Ended}
 use Rattle.connection.specs.declared.ending.Ending.{Ending}
 use Rattle.connection.specs.declared.ending.Ending.TheVariants as endings
-use Rattle.connection.specs.Hearing.{Came, Hears, joined, pieces_told}
+use Rattle.connection.specs.Hearing.{Came, Hears, Rises, joined, pieces_told}
+use Rattle.connection.specs.Hearing.Rises.{opens, comes}
 use Rattle.connection.specs.Inside.{HearsOn, HearsPiece, HearsPieces, HearsSome}
 
 -- what is read in two steps is read in one
@@ -54,18 +55,23 @@ pieces_join port a b c first second lost x y z h k =
 
 -- a piece that was told behind others
 pub one_more :
-    (port : Port) (a b c : List Item) (x y z : Option (List ℕ))
-    → HearsSome port a b x y → HearsPiece port b c None y z → HearsSome port a c x z
-one_more port a b c x y z some (piece, h) = record {
-  pieces = some.pieces ++ piece ∷ [];
-  hears = pieces_join port a b c some.pieces (piece ∷ []) [] x y z some.hears h;
-}
+    (port : Port) (opened last now : ℕ) (a b c : List Item) (x y z : Option (List ℕ))
+    → HearsSome port opened last a b x y → HearsPiece port last b c (Ok now) y z
+    → HearsSome port opened now a c x z
+one_more port opened last now a b c x y z some (later, (bytes, h)) =
+    let piece : Came = record { bytes = bytes; now = now } in
+    record {
+      pieces = some.pieces ++ piece ∷ [];
+      hears = pieces_join port a b c some.pieces (piece ∷ []) [] x y z some.hears h;
+      times = comes piece some.times later;
+    }
 
 -- an end behind some pieces
 pub ends_behind :
-    (port : Port) (a b c : List Item) (ending : Ending) (x y z : Option (List ℕ))
-    → HearsSome port a b x y → HearsPiece port b c (Some ending) y z → HearsOn port a c ending x z
-ends_behind port a b c ending x y z some (same, (lost, gave, ends)) =
+    (port : Port) (opened last : ℕ) (a b c : List Item) (ending : Ending) (x y z : Option (List ℕ))
+    → HearsSome port opened last a b x y → HearsPiece port last b c (Err ending) y z
+    → HearsOn port opened a c ending x z
+ends_behind port opened last a b c ending x y z some (same, (lost, gave, ends)) =
     let none : HearsPieces port b c [] lost y z =
     record { told = same ∙ sym (append-nil b); gave = gave } in
     let joins = pieces_join port a b c some.pieces [] lost x y z some.hears none in
@@ -74,29 +80,35 @@ ends_behind port a b c ending x y z some (same, (lost, gave, ends)) =
       lost = lost;
       hears = joins;
       ends = ends (some.pieces ++ []);
+      last = last;
+      times = subst (λ (pieces : List Came). Rises opened pieces last) (sym (append-nil some.pieces)) some.times;
     }
 
 -- nothing was told yet
-pub none_yet : (port : Port) (a : List Item) (x : Option (List ℕ)) → HearsSome port a a x x
-none_yet port a x = record {
+pub none_yet : (port : Port) (opened : ℕ) (a : List Item) (x : Option (List ℕ)) → HearsSome port opened opened a a x x
+none_yet port opened a x = record {
   pieces = [];
   hears = record { told = sym (append-nil a); gave = gives_none x };
+  times = opens;
 }
 
 -- nothing was told, since memory was wanting
-pub none_for_memory : (port : Port) (a : List Item) (x : Option (List ℕ)) → HearsOn port a a endings.Memory x x
+pub none_for_memory :
+    (port : Port) (opened : ℕ) (a : List Item) (x : Option (List ℕ)) → HearsOn port opened a a endings.Memory x x
 unfolding none_yet
-none_for_memory port a x = record {
+none_for_memory port opened a x = record {
   pieces = [];
   lost = [];
-  hears = (none_yet port a x).hears;
+  hears = (none_yet port opened a x).hears;
   ends = lit≤ tt;
+  last = opened;
+  times = opens;
 }
 
 -- what was told between a connection's first item and its last
 pub framed :
     (port : Port) (opened : ℕ) (a b c d : List Item) (ending : Ending) (x y : Option (List ℕ))
-    → b ≡ a ++ Opened port opened ∷ [] → HearsOn port b c ending x y → d ≡ c ++ Ended port ∷ []
+    → b ≡ a ++ Opened port opened ∷ [] → HearsOn port opened b c ending x y → d ≡ c ++ Ended port ∷ []
     → Hears port a d ending x y
 framed port opened a b c d ending x y first h last =
     let middle = pieces_told port h.pieces in
@@ -113,15 +125,19 @@ framed port opened a b c d ending x y first h last =
       told = told;
       gave = h.hears.gave;
       ends = h.ends;
+      last = h.last;
+      times = h.times;
     }
 
 -- a connection that was not let in
 pub refused :
-    (port : Port) (a : List Item) (x : Option (List ℕ)) → HearsOn port a a endings.Refused x x
+    (port : Port) (opened : ℕ) (a : List Item) (x : Option (List ℕ)) → HearsOn port opened a a endings.Refused x x
 unfolding none_yet
-refused port a x = record {
+refused port opened a x = record {
   pieces = [];
   lost = [];
-  hears = (none_yet port a x).hears;
+  hears = (none_yet port opened a x).hears;
   ends = (refl, refl);
+  last = opened;
+  times = opens;
 }

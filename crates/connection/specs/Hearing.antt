@@ -15,6 +15,12 @@ pub record Came : Type 0 where
   pub bytes : List ℕ
   pub now : ℕ
 
+-- the times of these pieces do not fall, from the opening of the connection on; the last of them
+pub data Rises (opened : ℕ) : List Came → ℕ → Type 0 where
+  opens : Rises opened [] opened
+  comes : {pieces : List Came} {last : ℕ} (piece : Came)
+      → Rises opened pieces last → last ≤ piece.now → Rises opened (pieces ++ piece ∷ []) piece.now
+
 -- the items of these pieces, in their order
 abbrev pub pieces_told : Port → List Came → List Item
 pieces_told port pieces = map (λ (piece : Came). Bytes port piece.bytes piece.now) pieces
@@ -40,7 +46,8 @@ abbrev pub faults_after : Ending → ℕ → ℕ
 faults_after endings.Fault faults = counted_once faults
 faults_after _ faults = faults
 
--- What was told behind what was told before is a whole connection, and its pieces are what the device gave.
+-- What was told behind what was told before is a whole connection, its pieces are what the device
+-- gave, and their times do not fall.
 pub record Hears (port : Port) (old new : List Item) (ending : Ending) (before behind : Option (List ℕ))
     : Type 0 where
   pub opened : ℕ
@@ -49,3 +56,5 @@ pub record Hears (port : Port) (old new : List Item) (ending : Ending) (before b
   pub told : new ≡ old ++ told_of port opened pieces
   pub gave : Consumes before behind (joined pieces ++ lost)
   pub ends : EndsSo ending pieces lost behind
+  pub last : ℕ
+  pub times : Rises opened pieces last

@@ -1,10 +1,10 @@
 -- What the parts of listening do.
-use Rattle.std.specs.Prelude.{◌≡◌, ℕ, List, [], ◌∷◌, ◌++◌, Option, Some, None}
+use Rattle.std.specs.Prelude.{◌≡◌, ℕ, ◌≤◌, List, [], ◌∷◌, ◌++◌, Option, Result, Ok, Err}
 use Rattle.std.specs.Io.KnownBytes.{Consumes}
 use Rattle.world_base.specs.declared.Port.{Port}
 use Rattle.world_base.specs.declared.item.Item.{Item}
 use Rattle.connection.specs.declared.ending.Ending.{Ending}
-use Rattle.connection.specs.Hearing.{Came, EndsSo, faults_after, joined, pieces_told}
+use Rattle.connection.specs.Hearing.{Came, EndsSo, Rises, faults_after, joined, pieces_told}
 
 -- these pieces were told, and what was read is these and what was lost
 pub record HearsPieces
@@ -14,29 +14,39 @@ pub record HearsPieces
   pub told : new ≡ old ++ pieces_told port pieces
   pub gave : Consumes before behind (joined pieces ++ lost)
 
--- pieces were told, and then it ended so
-pub record HearsOn (port : Port) (old new : List Item) (ending : Ending) (before behind : Option (List ℕ))
+-- pieces were told, the connection opened at a time, and then it ended so
+pub record HearsOn
+    (port : Port) (opened : ℕ) (old new : List Item) (ending : Ending)
+    (before behind : Option (List ℕ))
     : Type 0 where
   pub pieces : List Came
   pub lost : List ℕ
   pub hears : HearsPieces port old new pieces lost before behind
   pub ends : EndsSo ending pieces lost behind
+  pub last : ℕ
+  pub times : Rises opened pieces last
 
--- some pieces were told, and none was lost
-pub record HearsSome (port : Port) (old new : List Item) (before behind : Option (List ℕ)) : Type 0 where
+-- some pieces were told, the last at this time, and none was lost
+pub record HearsSome
+    (port : Port) (opened last : ℕ) (old new : List Item) (before behind : Option (List ℕ))
+    : Type 0 where
   pub pieces : List Came
   pub hears : HearsPieces port old new pieces [] before behind
+  pub times : Rises opened pieces last
 
--- one piece was told, or none and it ended
+-- one piece was told, with a time that is not before the last one, or none and it ended
 abbrev pub HearsPiece :
-    Port → List Item → List Item → Option Ending → Option (List ℕ) → Option (List ℕ) → Type 0
-HearsPiece port old new None before behind =
-    (piece : Came) × HearsPieces port old new (piece ∷ []) [] before behind
-HearsPiece port old new (Some ending) before behind =
+    Port → ℕ → List Item → List Item → Result ℕ Ending
+    → Option (List ℕ) → Option (List ℕ) → Type 0
+HearsPiece port last old new (Ok now) before behind =
+    (last ≤ now)
+    × ((bytes : List ℕ)
+    × HearsPieces port old new (record { bytes = bytes; now = now } ∷ []) [] before behind)
+HearsPiece port last old new (Err ending) before behind =
     (new ≡ old)
     × ((lost : List ℕ) × Consumes before behind lost × ((pieces : List Came) → EndsSo ending pieces lost behind))
 
 -- the count of the device's failed calls after one piece
-abbrev pub faults_so_far : Option Ending → ℕ → ℕ
-faults_so_far None faults = faults
-faults_so_far (Some ending) faults = faults_after ending faults
+abbrev pub faults_so_far : Result ℕ Ending → ℕ → ℕ
+faults_so_far (Ok now) faults = faults
+faults_so_far (Err ending) faults = faults_after ending faults

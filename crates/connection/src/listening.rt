@@ -30,20 +30,22 @@ pub fn listen<R: Wait + Clock, H: Hearer, D: Read>(
 {
     let opened = hearer.now(rt);
     hearer.tell(rt, Item::Opened(port, opened));
-    let ending = hear_on(rt, alloc, port, device, hearer);
+    let ending = hear_on(rt, alloc, port, opened, device, hearer);
     hearer.tell(rt, Item::Ended(port));
     ending
 }
 
-// Tells each piece that the device gives, until it ends, if the connection is let in.
+// Tells each piece that the device gives, until it ends, if the connection is let in, that was
+// opened at a time.
 fn hear_on<R: Wait + Clock, H: Hearer, D: Read>(
     rt: &R,
     alloc: Global,
     port: Port,
+    opened: u64,
     device: &mut Counted<D>,
     hearer: &mut H,
 ) -> Ending
-    ensures hears { HearsOn port (H.heard hearer.old) (H.heard hearer.new)
+    ensures hears { HearsOn port opened (H.heard hearer.old) (H.heard hearer.new)
         result (D.remaining device.old.device) (D.remaining device.new.device) }
     ensures faults { device.new.faults ≡ faults_after result device.old.faults }
 {
@@ -54,37 +56,42 @@ fn hear_on<R: Wait + Clock, H: Hearer, D: Read>(
         return Ending::Memory;
     };
     let room = bytes.as_mut_slice();
+    let mut last = opened;
     for _ in rt.forever() {
-        if let Some(ending) = hear_piece(rt, alloc, port, device, room, hearer) {
-            return ending;
+        match hear_piece(rt, alloc, port, last, device, room, hearer) {
+            Ok(now) => last = now,
+            Err(ending) => return ending,
         }
     }
     unreachable!()
 }
 
-// Reads a piece by one call of the device and tells it: how the connection ended, if it did.
+// Reads a piece by one call of the device and tells it, with a time that is not before the last
+// one. Returns that time, or how the connection ended.
 fn hear_piece<R: Wait + Clock, H: Hearer, D: Read>(
     rt: &R,
     alloc: Global,
     port: Port,
+    last: u64,
     device: &mut Counted<D>,
     room: &mut [u8],
     hearer: &mut H,
-) -> Option<Ending>
+) -> Result<u64, Ending>
     requires { length room.old ≡ PIECE_BYTES }
-    ensures hears { HearsPiece port (H.heard hearer.old) (H.heard hearer.new)
+    ensures hears { HearsPiece port last (H.heard hearer.old) (H.heard hearer.new)
         result (D.remaining device.old.device) (D.remaining device.new.device) }
     ensures faults { device.new.faults ≡ faults_so_far result device.old.faults }
 {
     let count = match device.read_piece(room) {
         ReadOutcome::Bytes(count) => count,
-        ReadOutcome::End => return Some(Ending::End),
-        ReadOutcome::Fault => return Some(Ending::Fault),
+        ReadOutcome::End => return Err(Ending::End),
+        ReadOutcome::Fault => return Err(Ending::Fault),
     };
     let Ok(piece) = Piece::from_slice(alloc, &room[..count]) else {
-        return Some(Ending::Memory);
+        return Err(Ending::Memory);
     };
-    let now = hearer.now(rt);
+    let shown = hearer.now(rt);
+    let now = shown.max(last);
     hearer.tell(rt, Item::Bytes(port, piece, now));
-    None
+    Ok(now)
 }

@@ -3,22 +3,22 @@ use Rattle.connection.proofs.PiecesJoin.{ends_behind, none_for_memory, none_yet,
 use Rattle.connection.proofs.listening.hear_on.Goals as goal
 
 pub returns-in_default-clause-hears : goal.returns-in_default-clause-hears
-returns-in_default-clause-hears g c = none_for_memory _ _ _
+returns-in_default-clause-hears g c = none_for_memory _ _ _ _
 
 pub loop-init : goal.loop-init
-loop-init g c = record { can = tt; ends = tt; heard = none_yet _ _ _; faults = refl }
+loop-init g c = record { can = tt; ends = tt; heard = none_yet _ _ _ _; faults = refl }
 
-pub returns-in-Some-hear_piece-clause-hears : goal.returns-in-Some-hear_piece-clause-hears
-returns-in-Some-hear_piece-clause-hears g c =
-    ends_behind _ _ _ _ _ _ _ _ c.loop.invariant.heard c.in-Some-hear_piece.ensures.hears
+pub returns-in-Err-clause-hears : goal.returns-in-Err-clause-hears
+returns-in-Err-clause-hears g c =
+    ends_behind _ _ _ _ _ _ _ _ _ _ c.loop.invariant.heard c.in-Err.ensures.hears
 
 pub loop-preserved : goal.loop-preserved
 loop-preserved g c = record {
   can = tt;
   ends = tt;
-  heard = one_more _ _ _ _ _ _ _ c.loop.invariant.heard c.in_default-hear_piece.ensures.hears;
-  faults = c.in_default-hear_piece.ensures.faults ∙ c.loop.invariant.faults;
+  heard = one_more _ _ _ _ _ _ _ _ _ _ c.loop.invariant.heard c.in-Ok-hear_piece.ensures.hears;
+  faults = c.in-Ok-hear_piece.ensures.faults ∙ c.loop.invariant.faults;
 }
 
 pub returns-then-not-lets_in-clause-hears : goal.returns-then-not-lets_in-clause-hears
-returns-then-not-lets_in-clause-hears g c = refused _ _ _
+returns-then-not-lets_in-clause-hears g c = refused _ _ _ _

@@ -6,7 +6,7 @@ abbrev pub invariant-loop : goal.invariant-loop
 invariant-loop g l = record {
   can : (goal.iterator-loop g).can_next l.iterator';
   ends : (goal.iterator-loop g).is_finite l.iterator';
-  heard : HearsSome l.port (g.H.Hearer.heard l.initial.hearer) (g.H.Hearer.heard l.hearer)
+  heard : HearsSome l.port l.opened l.last (g.H.Hearer.heard l.initial.hearer) (g.H.Hearer.heard l.hearer)
       (g.D.Read.remaining l.initial.device.device) (g.D.Read.remaining l.device.device);
   faults : l.device.faults ≡ l.initial.device.faults;
 }
