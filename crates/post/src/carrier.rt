@@ -1,17 +1,17 @@
 // What steps of a node gave for others, carried message by message in its order.
 
 ghost use Rattle.std.specs.Prelude.{◌≡◌, [], ◌∷◌};
-ghost use Rattle.node.specs.Effect.TheVariants.{To};
 ghost use Rattle.node.specs.Lists.{Each};
 ghost use Rattle.post.specs.Carrying.{CarriesAll, letters_of};
 ghost use Rattle.post.specs.Letters.{WasGiven};
 
-use node::{Command, Effect, Message, Output};
+use crate::parcel::Parcel;
+use node::{Command, Effect, Output};
 use std::marker::Model;
 use std::sync::Wait;
 
-/// What steps of a node gave, in their order. It can't be let go: only [`carry_all`] and [`Peers::hand_on`] take it, so
-/// whoever has it hands it on.
+/// What steps of a node gave, in their order. It can't be let go: only [`carry_all`] and
+/// [`Peers::hand_on`] take it, so whoever has it hands it on.
 ///
 /// [`Peers::hand_on`]: crate::Peers::hand_on
 pub struct Given {
@@ -52,10 +52,9 @@ pub trait Carrier {
     // Before a call, whom the message is for, the message, and behind it.
     ghost carries: { Self → ℕ → Message Command → Self → Type 0 };
 
-    /// Carries a message that a step of a node gave to the node of this number; 0 is the master.
-    fn carry<R: Wait>(&mut self, rt: &R, receiver: u8, message: Message<Command>)
-        requires { WasGiven (To receiver message) }
-        ensures { carries self.old receiver message self.new };
+    /// Carries a message that a step of a node gave to the node that it is for.
+    fn carry<R: Wait>(&mut self, rt: &R, parcel: Parcel)
+        ensures { carries self.old parcel.receiver parcel.message self.new };
 }
 
 /// Carries all that steps of a node gave for others, in its order, each message once. Outputs are for no other node.
@@ -82,7 +81,7 @@ fn carry_one<C: Carrier, R: Wait>(rt: &R, carrier: &mut C, effect: Effect<Comman
     ensures { CarriesAll C.carries carrier.old (letters_of (effect ∷ [])) carrier.new }
 {
     match effect {
-        Effect::To(receiver, message) => carrier.carry(rt, receiver, message),
+        Effect::To(receiver, message) => carrier.carry(rt, Parcel::new(receiver, message)),
         Effect::Out(_, _) => {}
     }
 }

@@ -4,6 +4,7 @@ ghost use Rattle.std.specs.Prelude.{◌≡◌, ◌+◌, ◌↔◌, None, Some, f
 ghost use Rattle.agreement.specs.MasterState.{opening_master, refusal};
 ghost use Rattle.agreement.specs.MasterState.AssignRefusal.{bad_members, ballots_spent};
 ghost use Rattle.ballot_base.specs.LawfulConfig.{is_lawful};
+ghost use Rattle.lists.specs.Lists.{has_id};
 ghost use Rattle.snapshots.specs.Masters.{assigned};
 ghost use Rattle.node.specs.Command.{Command};
 ghost use Rattle.node.specs.Effect.TheVariants.{To};
@@ -11,6 +12,8 @@ ghost use Rattle.post.specs.Letters.{WasAnswered, WasGiven};
 ghost use Rattle.post.specs.Mastering.{answer_to, body_of, letter_if, letter_of, master_after};
 
 use crate::order_error::OrderError;
+use crate::peers::Peers;
+use crate::tray::Tray;
 use master::{Activation, AssignError, Master};
 use node::{Body, Command, Config, Members, Message};
 use std::alloc::Global;
@@ -20,7 +23,7 @@ use std::marker::Model;
 pub(crate) const MASTER: u8 = 0;
 
 /// A message of the master with the number of its receiver. Only a [`MessagingMaster`] makes one.
-#[derive(Drop)]
+/// It can't be let go: it ends in a tray of its receiver, or lost if nobody has that number.
 pub(crate) struct Answer {
     receiver: u8,
     message: Message<Command>,
@@ -45,12 +48,38 @@ impl Answer {
         self.receiver
     }
 
-    /// Returns the message.
+    /// Loses the answer, since no node has the number of its receiver.
+    pub(crate) fn lose(self, peers: &Peers)
+        requires { has_id self.receiver peers.now ≡ false }
+    {
+        let _ = peers;
+        let Answer {
+            receiver: _receiver,
+            message: _message,
+        } = self;
+    }
+
+    /// Loses the answer, since a tray is not of its receiver.
+    pub(crate) fn lose_at(self, tray: &Tray)
+        requires { tray.now.number ≡ self.receiver → ⊥ }
+    {
+        let _ = tray;
+        let Answer {
+            receiver: _receiver,
+            message: _message,
+        } = self;
+    }
+
+    /// Returns the message, for a tray.
     pub(crate) fn into_message(self) -> Message<Command>
         ensures is { result ≡ self.message }
         ensures answered { WasAnswered self.receiver result }
     {
-        self.message
+        let Answer {
+            receiver: _receiver,
+            message,
+        } = self;
+        message
     }
 }
 

@@ -8,6 +8,7 @@ use crate::bell::Bell;
 use crate::intake::Intake;
 use crate::messaging_master::{Answer, MessagingMaster};
 use crate::order_error::OrderError;
+use crate::parcel::Parcel;
 use crate::tray::Tray;
 use crate::waking::is_urgent;
 use node::{Config, Item, Memory, Status};
@@ -55,6 +56,31 @@ impl Peer {
             self.bell.ring(rt);
         }
         is_left
+    }
+
+    /// Leaves a message of another node for the node, and wakes it unless it is a Commit. If there
+    /// is no room or memory for it, it is lost, as the protocol allows.
+    pub(crate) fn leave_parcel<R: Wait>(&self, rt: &R, parcel: Parcel)
+        requires { parcel.receiver ≡ self.now.number }
+    {
+        let urgent = parcel.is_urgent();
+        self.lay_parcel(rt, parcel);
+        if urgent {
+            self.bell.ring(rt);
+        }
+    }
+
+    // Puts a message of another node into the node's tray.
+    fn lay_parcel<R: Wait>(&self, rt: &R, parcel: Parcel)
+        requires { parcel.receiver ≡ self.now.number }
+    {
+        let mut tray = self.tray.lock(rt);
+        // It is this node's, but of what stands behind a lock no clause tells that.
+        if tray.number() == self.number {
+            let _ = parcel.lay(&mut tray);
+        } else {
+            parcel.lose_at(&tray);
+        }
     }
 
     /// Leaves the order to crash, unless it was left before. Returns whether it is left now. If memory runs out, it is not.
@@ -129,6 +155,8 @@ impl Peer {
         // It is this node's, but of what stands behind a lock no clause tells that.
         if tray.number() == self.number {
             let _ = tray.leave_answer(answer);
+        } else {
+            answer.lose_at(&tray);
         }
     }
 

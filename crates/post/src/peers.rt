@@ -3,17 +3,16 @@
 ghost use Rattle.std.specs.Prelude.{◌≡◌, IfOk, IfSome, IsErrOf, IsOk, None, false, true};
 ghost use Rattle.ballot_base.specs.LawfulConfig.{is_lawful};
 ghost use Rattle.lists.specs.Lists.{has_id};
-ghost use Rattle.node.specs.Effect.TheVariants.{To};
-ghost use Rattle.post.specs.Letters.{WasGiven};
 ghost use Rattle.post.specs.Numbers.{numbers_of};
 
 use crate::carrier::{Carrier, Given, carry_all};
 use crate::choosing::{Shown, primary_of};
 use crate::messaging_master::{Answer, MASTER, MessagingMaster};
 use crate::order_error::OrderError;
+use crate::parcel::Parcel;
 use crate::peer::Peer;
 use master::AssignError;
-use node::{Command, Config, Item, Members, Memory, Message, OpeningError, Status};
+use node::{Config, Members, Memory, OpeningError, Status};
 use packet::ClientId;
 use std::alloc::Global;
 use std::marker::Model;
@@ -168,29 +167,38 @@ impl Peers {
     }
 
     // Leaves a message that a step of a node gave for a node.
-    fn leave<R: Wait>(&self, rt: &R, number: u8, message: Message<Command>)
-        requires { WasGiven (To number message) }
+    fn leave<R: Wait>(&self, rt: &R, parcel: Parcel)
+        requires { parcel.receiver ≡ 0 → ⊥ }
     {
-        if let Some(node) = self.node(number) {
-            // Where there is no memory for it, it is lost, as the protocol allows.
-            let _ = node.leave(rt, Item::Peer(message));
+        match self.node(parcel.receiver()) {
+            Some(node) => node.leave_parcel(rt, parcel),
+            None => parcel.lose(self),
         }
     }
 
     // Has the master answer a message that a step of a node gave for it.
-    fn ask_master<R: Wait>(&self, rt: &R, message: Message<Command>)
-        requires { WasGiven (To 0 message) }
+    fn ask_master<R: Wait>(&self, rt: &R, parcel: Parcel)
+        requires { parcel.receiver ≡ 0 }
     {
-        let answer = self.master.lock(rt).answer(message);
-        if let Some(answer) = answer {
-            self.leave_answer(rt, answer);
+        match self.answer(rt, parcel) {
+            Some(answer) => self.leave_answer(rt, answer),
+            None => {}
         }
+    }
+
+    // Returns the master's answer to a message that a step of a node gave for it.
+    fn answer<R: Wait>(&self, rt: &R, parcel: Parcel) -> Option<Answer>
+        requires { parcel.receiver ≡ 0 }
+    {
+        let mut master = self.master.lock(rt);
+        parcel.ask(&mut master)
     }
 
     // Leaves an answer of the master for its receiver.
     fn leave_answer<R: Wait>(&self, rt: &R, answer: Answer) {
-        if let Some(node) = self.node(answer.receiver()) {
-            node.leave_answer(rt, answer);
+        match self.node(answer.receiver()) {
+            Some(node) => node.leave_answer(rt, answer),
+            None => answer.lose(self),
         }
     }
 }
@@ -226,12 +234,12 @@ impl<'a> Carrier for Round<'a> {
     // Of what stands behind a lock no clause tells.
     ghost carries = { λ _ _ _ _. Unit {0} };
 
-    fn carry<R: Wait>(&mut self, rt: &R, receiver: u8, message: Message<Command>) {
+    fn carry<R: Wait>(&mut self, rt: &R, parcel: Parcel) {
         let peers = self.peers;
-        if receiver == MASTER {
-            peers.ask_master(rt, message);
+        if parcel.receiver() == MASTER {
+            peers.ask_master(rt, parcel);
         } else {
-            peers.leave(rt, receiver, message);
+            peers.leave(rt, parcel);
         }
     }
 }
