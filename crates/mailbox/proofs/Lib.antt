@@ -1,7 +1,7 @@
 mod AllLanesByPlace
 mod CountsAreKept
 mod EachView
-mod ItemsOfALane
+pub mod ItemsOfALane
 mod LanesSettle
 mod MeetingKeepsTheRule
 mod PassesKeepTheRule

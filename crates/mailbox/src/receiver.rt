@@ -156,6 +156,9 @@ impl<T: Drop, J: Naming> Receiver<T, J> {
         ensures counted { EachIndex counts.new (λ k.
             slice_index counts.new k ≡ length (items_of k self.old.taken)) }
 
+        // All that was sent is taken.
+        ensures arrived { All (IsTaken self.new.taken) lanes.new }
+
         // Those left over were taken now, and nothing was sent.
         ensures taken { self.new ≡ record self.old { taken = self.old.taken ++ left.new.items } }
         ensures lanes { map unmet lanes.new ≡ map unmet lanes.old }
