@@ -1,5 +1,8 @@
--- The room that a node's report takes.
-use Rattle.std.specs.Prelude.{◌≡◌, ℕ, ◌≤◌, [], length, vec_capacity}
+-- The room that a node's report takes, and what it tells of a lane.
+use Rattle.std.specs.Prelude.{◌≡◌, ℕ, ◌≤◌, List, [], ◌++◌, length, vec_capacity}
+use Rattle.mailbox.specs.Delivery.{items_of}
+use Rattle.mailbox.specs.Ends.{Sender}
+use Rattle.world_base.specs.declared.item.Item.{Item}
 use Rattle.node.specs.declared.report.Report.{Report}
 
 -- nothing is left over yet, and there is room for what an inbox of so many lanes holds
@@ -8,3 +11,7 @@ HasRoom lanes report =
     (length report.taken.items ≡ lanes)
     × (report.left.items ≡ [])
     × (1024 ≤ vec_capacity report.left)
+
+-- what was taken of a lane and what is left over of it are, in order, all that it sent
+abbrev pub TellsAll : List (ℕ × Item) → List (ℕ × Item) → Sender Item → Type 0
+TellsAll taken left lane = items_of lane.lane taken ++ items_of lane.lane left ≡ lane.sent

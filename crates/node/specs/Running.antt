@@ -1,18 +1,22 @@
 -- A node that runs behind a lock, its turns, and its end.
-use Rattle.std.specs.Prelude.{◌≡◌, ℕ, ◌<◌, List, Option, Bool, length, slice_index, slice_index_or, EachIndex, IfSome}
+use Rattle.std.specs.Prelude.{◌≡◌, ℕ, ◌<◌, List, Option, Bool, length, slice_index, slice_index_or, All, EachIndex, IfSome}
 use Rattle.mailbox.specs.Delivery.{items_of}
 use Rattle.mailbox.specs.Ends.{Sender}
 use Rattle.world_base.specs.Core.{CountedCore}
 use Rattle.world_base.specs.declared.item.Item.{Item}
+use Rattle.node.specs.Report.{TellsAll}
 use Rattle.node.specs.State.{Replays, Seen, next_turn}
 use Rattle.node.specs.declared.report.Report.{Report}
 
--- what a node shows beside its lock: its number, and how many lanes its inbox has
+-- what a node shows beside its lock: its number, how many lanes its inbox has, and whether a gate
+-- is asked before each taking
 pub record Running : Type 0 where
   pub number : ℕ
   pub lanes : ℕ
+  pub is_gated : Bool
 
--- leave to take so many items; where there is a gate, the number of the taking, and whether the gate opened for it
+-- leave to take so many items; where there is a gate, the number of the taking, and whether the
+-- gate opened for it
 pub record Permit : Type 0 where
   pub taking : Option ℕ
   pub most : ℕ
@@ -22,10 +26,17 @@ pub record Permit : Type 0 where
 abbrev pub IsNext : Permit → Seen → Type 0
 IsNext leave seen = IfSome leave.taking (λ taking. taking ≡ next_turn seen.turns)
 
--- a gate opened for the taking of this number of the node of this number
-pub record HasOpened {G : Type 0} (opens : G → ℕ → ℕ → Type 0) (node taking : ℕ) : Type 0 where
+-- a gate was asked for the taking of this number of the node of this number, and answered this
+pub record WasAsked {G : Type 0}
+    (answers : G → ℕ → ℕ → Bool → Type 0) (node taking : ℕ) (answer : Bool)
+    : Type 0 where
   pub gate : G
-  pub opened : opens gate node taking
+  pub answered : answers gate node taking answer
+
+-- a gate heard that the node of this number has done its taking of this number
+pub record WasTold {G : Type 0} (hears : G → ℕ → ℕ → Type 0) (node taking : ℕ) : Type 0 where
+  pub gate : G
+  pub heard : hears gate node taking
 
 -- these are all lanes of a node's inbox, in the order of their numbers
 pub record AreItsLanes (node : Running) (lanes : List (Sender Item)) : Type 0 where
@@ -35,12 +46,15 @@ pub record AreItsLanes (node : Running) (lanes : List (Sender Item)) : Type 0 wh
   pub placed : (place : ℕ) (other : Sender Item) → place < length lanes →
       (slice_index_or lanes place other).lane ≡ place
 
--- The report is of a node that was the replay of what it took, from this first state on: it tells how many items of each lane
--- these were, and where the node's log begins.
-pub record ReportsOn (first : CountedCore) (report : Report) : Type 0 where
+-- The report is of a node that was the replay of what it took, from this first state on. What it
+-- took of each lane and what is left over are, in order, all that the lane sent. The report tells
+-- how many items of each lane it took, and where the node's log begins.
+pub record ReportsOn (first : CountedCore) (lanes : List (Sender Item)) (report : Report)
+    : Type 0 where
   pub taken : List (ℕ × Item)
   pub node : CountedCore
   pub replays : Replays first taken node
+  pub whole : All (TellsAll taken report.left.items) lanes
   pub counted : EachIndex report.taken.items (λ lane.
       slice_index report.taken.items lane ≡ length (items_of lane taken))
   pub base : report.base ≡ node.core.replica.state.log.base

@@ -22,7 +22,8 @@ pub data Replays (first : CountedCore) : List (ℕ × Item) → CountedCore → 
       → Replays first history core
       → Replays first history (record core { core = hands_over port core.core })
 
--- what a node shows: its inbox with all that was taken from it, itself, and how often an item was asked for
+-- what a node shows: its inbox with all that was taken from it, itself, and how often an item was
+-- asked for
 pub record Seen : Type 0 where
   pub taker : Taker Item
   pub node : CountedCore

@@ -11,7 +11,8 @@ use std::sync::MutexGuard;
 /// How many items may be taken at once if there is no gate.
 const AT_ONCE: u32 = 16;
 
-/// Leave to take items of a node. Only a node's `pass` gives it: where there is a gate after asking that, for one item.
+/// Leave to take items of a node. Only a node's `pass` gives it: where there is a gate after asking
+/// that, for one item.
 #[derive(Drop)]
 pub struct Leave<'n> {
     /// The number of the taking, if there is a gate.
@@ -29,7 +30,11 @@ impl<'n> Model for Leave<'n> {
 
     ghost Value = { Permit };
 
-    ghost view = { λ leave. record { taking = leave.taking; most = leave.most; is_open = leave.is_open } };
+    ghost view = { λ leave. record {
+      taking = leave.taking;
+      most = leave.most;
+      is_open = leave.is_open;
+    } };
 
     ghost invariant = { λ leave. IfSome leave.taking (λ _. leave.most ≡ 1) };
 }
@@ -74,7 +79,8 @@ impl<'n> Leave<'n> {
         self.taking
     }
 
-    /// Returns whether the node's next taking is the one that a gate was asked for. Without a gate it is.
+    /// Returns whether the node's next taking is the one that a gate was asked for. Without a gate
+    /// it is.
     pub fn is_for<J: NodeNaming>(&self, state: &NodeState<J>) -> bool
         ensures { IsTrue result ↔ IsNext self.now state.now }
     {

@@ -8,7 +8,7 @@ ghost use Rattle.lists.specs.Lists.{IsPrefixOf};
 ghost use Rattle.world_base.specs.Stands.{standing_of};
 ghost use Rattle.world_base.specs.Handing.{answer_of, bytes_of, hands_over, idle_ports, listed_at};
 ghost use Rattle.node.specs.Growth.{wants_cut};
-ghost use Rattle.node.specs.Report.{HasRoom};
+ghost use Rattle.node.specs.Report.{HasRoom, TellsAll};
 ghost use Rattle.node.specs.State.{Replays, TakesOne, next_turn};
 
 use crate::growth::{grown, is_large};
@@ -38,7 +38,11 @@ impl<J: NodeNaming> Model for NodeState<J> {
 
     ghost Value = { Seen };
 
-    ghost view = { λ state. record { taker = state.receiver; node = state.core; turns = state.turns } };
+    ghost view = { λ state. record {
+      taker = state.receiver;
+      node = state.core;
+      turns = state.turns;
+    } };
 
     ghost invariant = { λ state.
         Replays (J.first_of state.receiver.inbox) state.receiver.taken state.core
@@ -95,7 +99,8 @@ impl<J: NodeNaming> NodeState<J> {
         self.receiver.receipt()
     }
 
-    /// Returns the number of the next call of [`NodeState::take_one`], from 1. It stays at 2^64 - 1.
+    /// Returns the number of the next call of [`NodeState::take_one`], from 1. It stays at 2^64 -
+    /// 1.
     pub fn next_turn(&self) -> u64
         ensures { result ≡ next_turn self.now.turns }
     {
@@ -236,6 +241,9 @@ impl<J: NodeNaming> NodeState<J> {
         // What was taken and what is left over are, lane by lane and in order, all that was sent.
         ensures whole { All (ArrivesWhole result.taken.items result.left.items) lanes.new }
         ensures lanes { map unmet lanes.new ≡ map unmet lanes.old }
+
+        // The same of what the node replayed.
+        ensures all { All (TellsAll self.taker.taken result.left.items) lanes.new }
 
         // Of each lane so many items were taken as the node replayed.
         ensures counted { EachIndex result.taken.items (λ lane.

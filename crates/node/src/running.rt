@@ -1,8 +1,8 @@
 // A node that runs: its state behind a lock, its gate, and its end.
 
-ghost use Rattle.std.specs.Prelude.{◌≡◌, ◌↔◌, All, IfOk, IfSome, IsTrue, map, true};
+ghost use Rattle.std.specs.Prelude.{◌≡◌, ◌↔◌, All, IfOk, IfSome, IsSomeAnd, IsTrue, is_some, map, true};
 ghost use Rattle.mailbox.specs.Ends.{ArrivesWhole, unmet};
-ghost use Rattle.node.specs.Running.{AreItsLanes, HasOpened, ReportsOn};
+ghost use Rattle.node.specs.Running.{AreItsLanes, ReportsOn, WasAsked, WasTold};
 
 use crate::leave::Leave;
 use crate::naming::NodeNaming;
@@ -17,14 +17,14 @@ use std::thread;
 use std::time::{Clock, Duration};
 use world_base::{Item, Memory};
 
-/// How often a gate that does not open is asked before one taking, and how long the thread sleeps after
-/// each time, in milliseconds.
+/// How often a gate that does not open is asked before one taking, and how long the thread sleeps
+/// after each time, in milliseconds.
 const ASKS: u32 = 10_000;
 
 const ASK_MILLIS: u64 = 1;
 
-/// What the lock of a node holds. Whether it may be handed from thread to thread is asked of it as a whole, and not of all
-/// that a node is made of at each thread that is started.
+/// What the lock of a node holds. Whether it may be handed from thread to thread is asked of it as
+/// a whole, and not of all that a node is made of at each thread that is started.
 pub trait Stated<J: NodeNaming>: Drop {
     /// Returns the node's state.
     fn state(&mut self) -> &mut NodeState<J>;
@@ -36,8 +36,8 @@ impl<J: NodeNaming> Stated<J> for NodeState<J> {
     }
 }
 
-/// A node that runs: its state behind a lock, and the gate before each of its takings. It has no thread of its own: whoever
-/// sent it an item takes what waits, one thread after the other.
+/// A node that runs: its state behind a lock, and the gate before each of its takings. It has no
+/// thread of its own: whoever sent it an item takes what waits, one thread after the other.
 #[derive(Drop)]
 pub struct Node<'g, J: NodeNaming, S: Stated<J>, G: Gate> {
     state: Mutex<S>,
@@ -53,20 +53,24 @@ pub struct Node<'g, J: NodeNaming, S: Stated<J>, G: Gate> {
 }
 
 impl<'g, J: NodeNaming, S: Stated<J>, G: Gate> Model for Node<'g, J, S, G> {
-    ghost use Rattle.std.specs.Prelude.{length};
+    ghost use Rattle.std.specs.Prelude.{is_some, length};
     ghost use Rattle.node.specs.Report.{HasRoom};
     ghost use Rattle.node.specs.Running.{Running};
 
     ghost Value = { Running };
 
-    ghost view = { λ node. record { number = node.number; lanes = length node.room.taken.items } };
+    ghost view = { λ node. record {
+      number = node.number;
+      lanes = length node.room.taken.items;
+      is_gated = is_some node.gate;
+    } };
 
     ghost invariant = { λ node. HasRoom (length node.room.taken.items) node.room };
 }
 
 impl<'g, J: NodeNaming, G: Gate> Node<'g, J, NodeState<J>, G> {
-    /// Starts a node, with a gate before each of its takings or without one. The room for its report is made now. The only
-    /// error is that memory runs out: the state is dropped then.
+    /// Starts a node, with a gate before each of its takings or without one. The room for its
+    /// report is made now. The only error is that memory runs out: the state is dropped then.
     pub fn start(
         alloc: Global,
         state: NodeState<J>,
@@ -74,6 +78,7 @@ impl<'g, J: NodeNaming, G: Gate> Node<'g, J, NodeState<J>, G> {
     ) -> Result<Node<'g, J, NodeState<J>, G>, Memory>
         ensures number { IfOk result (λ node. node.number ≡ state.taker.inbox) }
         ensures lanes { IfOk result (λ node. node.lanes ≡ state.taker.lanes) }
+        ensures gated { IfOk result (λ node. node.is_gated ≡ is_some gate.entry) }
     {
         let number = state.number();
         let room = Report::with_room(alloc, state.lanes())?;
@@ -88,7 +93,8 @@ impl<'g, J: NodeNaming, G: Gate> Node<'g, J, NodeState<J>, G> {
         })
     }
 
-    /// Ends the node, once its lanes send no more, and reports what became of all that they sent. It takes no memory.
+    /// Ends the node, once its lanes send no more, and reports what became of all that they sent.
+    /// It takes no memory.
     pub fn close<R: Wait>(self, rt: &R, lanes: &mut [Lane<Item, J>]) -> Report
         requires lanes { AreItsLanes self lanes.old }
 
@@ -96,9 +102,9 @@ impl<'g, J: NodeNaming, G: Gate> Node<'g, J, NodeState<J>, G> {
         ensures whole { All (ArrivesWhole result.taken.items result.left.items) lanes.new }
         ensures lanes { map unmet lanes.new ≡ map unmet lanes.old }
 
-        // It tells of a node that was the replay of what was taken: how many items of each lane these were, and where its
-        // log begins.
-        ensures tells { ReportsOn (J.first_of self.entry.number) result }
+        // It tells of a node that was the replay of what was taken: how many items of each lane
+        // these were, the first that the lane sent, and where its log begins.
+        ensures tells { ReportsOn (J.first_of self.entry.number) lanes.new result }
     {
         let Node {
             state,
@@ -145,14 +151,16 @@ impl<'g, J: NodeNaming, S: Stated<J>, G: Gate> Node<'g, J, S, G> {
         self.state.lock(rt)
     }
 
-    /// Begins a turn: waits until the gate opens for the node's next taking, if it opens in time. Without a gate it does not
-    /// wait. Where there is one, turns come one after the other: until this one is done no other begins.
+    /// Begins a turn: waits until the gate opens for the node's next taking, if it opens in time.
+    /// Without a gate it does not wait. Where there is one, turns come one after the other: until
+    /// this one is done no other begins.
     pub fn pass<R: Wait + Clock>(&self, rt: &R) -> Leave<'_>
         ensures one { IfSome result.taking (λ _. result.most ≡ 1) }
 
-        // It is open only if the gate opened for this node and the number of the taking.
-        ensures open { result.is_open ≡ true → IfSome result.taking (λ taking.
-            HasOpened G.opens self.now.number taking) }
+        // A gate was asked for this node and the number of the taking, and leave tells what it
+        // answered.
+        ensures asked { self.now.is_gated ≡ true → IsSomeAnd result.taking (λ taking.
+            WasAsked G.answers self.now.number taking result.is_open) }
     {
         let Some(gate) = self.gate else {
             return Leave::free();
@@ -163,23 +171,30 @@ impl<'g, J: NodeNaming, S: Stated<J>, G: Gate> Node<'g, J, S, G> {
         Leave::after(taking, is_open, turn)
     }
 
-    // Waits until the gate opens for a taking. Returns whether it did; one that does not in time is counted.
+    // Waits until the gate opens for a taking, but not for ever. Returns what it answered last: a
+    // taking for which it did not open is counted.
     fn ask<R: Wait + Clock>(&self, rt: &R, gate: &G, taking: u64) -> bool
-        ensures { result ≡ true → HasOpened G.opens self.now.number taking }
+        ensures { WasAsked G.answers self.now.number taking result }
     {
-        for _ in 0..ASKS {
+        for _ in 1..ASKS {
             if gate.open(rt, self.number, taking) {
                 return true;
             }
             thread::sleep(rt, Duration::from_millis(ASK_MILLIS));
         }
-        let mut missed = self.missed.lock(rt);
-        *missed = missed.saturating_add(1);
-        false
+        let is_open = gate.open(rt, self.number, taking);
+        if !is_open {
+            let mut missed = self.missed.lock(rt);
+            *missed = missed.saturating_add(1);
+        }
+        is_open
     }
 
     /// Ends a turn: tells the gate that the taking is done.
-    pub fn done<R: Wait>(&self, rt: &R, leave: Leave<'_>) {
+    pub fn done<R: Wait>(&self, rt: &R, leave: Leave<'_>)
+        ensures { self.now.is_gated ≡ true → IfSome leave.entry.taking (λ taking.
+            WasTold G.hears self.now.number taking) }
+    {
         if let (Some(gate), Some(taking)) = (self.gate, leave.taking()) {
             gate.answered(rt, self.number, taking);
         }

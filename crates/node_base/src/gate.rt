@@ -2,21 +2,27 @@
 
 use std::sync::Wait;
 
-/// What is asked before a node takes an item. Whoever holds nodes at it sees which of them go on without
-/// the others. Several nodes may ask it at once, and the lock of a node's state is not held meanwhile.
+/// What is asked before a node takes an item. Whoever holds nodes at it sees which of them go on
+/// without the others. Several nodes may ask it at once, and the lock of a node's state is not held
+/// meanwhile.
 pub trait Gate {
-    ghost use Rattle.std.specs.Prelude.{◌≡◌, ℕ, true};
+    ghost use Rattle.std.specs.Prelude.{ℕ, Bool};
 
-    // It opened for the node of this number and its taking of this number.
-    ghost opens: { Self → ℕ → ℕ → Type 0 };
+    // Asked whether the node of this number may go on to its taking of this number, it answered
+    // this.
+    ghost answers: { Self → ℕ → ℕ → Bool → Type 0 };
 
-    /// Returns whether the node of this number may go on to its taking of this number, from 1. If not,
-    /// it is asked again, a while later.
+    // It heard that the node of this number has done its taking of this number.
+    ghost hears: { Self → ℕ → ℕ → Type 0 };
+
+    /// Returns whether the node of this number may go on to its taking of this number, from 1. If
+    /// not, it is asked again, a while later.
     fn open<R: Wait>(&self, rt: &R, node: u8, taking: u64) -> bool
-        ensures { result ≡ true → opens self.now node taking };
+        ensures { answers self.now node taking result };
 
     /// Hears that the node has done its taking of this number, whether an item waited or not.
-    fn answered<R: Wait>(&self, rt: &R, node: u8, taking: u64);
+    fn answered<R: Wait>(&self, rt: &R, node: u8, taking: u64)
+        ensures { hears self.now node taking };
 }
 
 /// Stands for no gate where a type is asked for. As a gate it is always open.
@@ -26,11 +32,12 @@ pub struct NoGate;
 impl Gate for NoGate {
     ghost use Rattle.std.specs.Prelude.{◌≡◌, true};
 
-    ghost opens = { λ _ _ _. Unit {0} };
+    ghost answers = { λ _ _ _ answer. answer ≡ true };
+
+    ghost hears = { λ _ _ _. Unit {0} };
 
     fn open<R: Wait>(&self, _rt: &R, _node: u8, _taking: u64) -> bool
-        ensures always { result ≡ true }
-        ensures opens { result ≡ true → Unit {0} }
+        ensures { result ≡ true }
     {
         true
     }

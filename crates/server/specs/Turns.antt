@@ -5,11 +5,12 @@ use Rattle.node.specs.Output.{Output}
 use Rattle.node.specs.Effect.{Effect}
 use Rattle.node.specs.State.{Seen, TakesOne, next_turn}
 
--- From a state of a node on, one item after the other was taken, and this is all that the steps gave, in their order; or none
--- waited.
+-- From a state of a node on, one item after the other was taken, and this is all that the steps
+-- gave, in their order; or none waited.
 pub data Turns (old : Seen) : Seen → List (Effect Command Output) → Type 0 where
   begins : Turns old old []
-  takes : {seen : Seen} {given : List (Effect Command Output)} (next : Seen) (behind : List (Effect Command Output))
+  takes : {seen : Seen} {given : List (Effect Command Output)}
+      (next : Seen) (behind : List (Effect Command Output))
       → Turns old seen given → TakesOne seen next given behind → Turns old next behind
   finds_none : {seen : Seen} {given : List (Effect Command Output)}
       → Turns old seen given → Turns old (record seen { turns = next_turn seen.turns }) given

@@ -28,8 +28,9 @@ use streams::{CONNECTIONS, Place};
 /// hand, and gives what that returned; all connections are ended then. The nodes open in ballot 1 of this
 /// configuration.
 ///
-/// The errors are those of the opening, and [`ServeError::Threads`] if fewer threads can be started than the nodes need: then
-/// nothing is served. A node for which none can be started later is not served.
+/// The errors are those of the opening, and [`ServeError::Threads`] if fewer threads can be started
+/// than the nodes need: then nothing is served. A node for which none can be started later is not
+/// served.
 pub fn serve_while<R, T, F>(
     rt: &R,
     alloc: Global,

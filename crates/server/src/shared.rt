@@ -1,8 +1,8 @@
 // What the threads of a node share.
 
-ghost use Rattle.std.specs.Prelude.{◌≡◌, All, IfOk, OnOk, map};
+ghost use Rattle.std.specs.Prelude.{◌≡◌, All, IfOk, OnErr, OnOk, map};
 ghost use Rattle.mailbox.specs.Ends.{ArrivesWhole, unmet};
-ghost use Rattle.node.specs.Running.{ReportsOn};
+ghost use Rattle.node.specs.Running.{AreItsLanes, ReportsOn};
 ghost use Rattle.post.specs.Letters.{EachOpensAs};
 
 use crate::seat::Seat;
@@ -13,7 +13,8 @@ use std::sync::{Mutex, Wait};
 use std::thread::Parker;
 use streams::Late;
 
-/// What the threads of a node share. No thread holds one of the locks while it waits, but for its turn at a gate.
+/// What the threads of a node share. No thread holds one of the locks while it waits, but for its
+/// turn at a gate.
 #[derive(Drop)]
 pub(crate) struct Shared<'a, J: NodeNaming, S: Stated<J>, G: Gate> {
     pub(crate) alloc: Global,
@@ -29,8 +30,8 @@ pub(crate) struct Shared<'a, J: NodeNaming, S: Stated<J>, G: Gate> {
 }
 
 impl<'a, J: NodeNaming, G: Gate> Shared<'a, J, NodeState<J>, G> {
-    /// Ends the node, whose threads have returned, and reports what became of the items that were sent to it by these lanes.
-    /// The error comes if they are not all its lanes, in their order.
+    /// Ends the node, whose threads have returned, and reports what became of the items that were
+    /// sent to it by these lanes. The error comes if they are not all its lanes, in their order.
     pub(crate) fn close<R: Wait>(
         self,
         rt: &R,
@@ -41,7 +42,8 @@ impl<'a, J: NodeNaming, G: Gate> Shared<'a, J, NodeState<J>, G> {
             All (ArrivesWhole report.taken.items report.left.items) lanes.new) }
         ensures lanes { OnOk result (map unmet lanes.new ≡ map unmet lanes.old) }
         ensures tells { IfOk result (λ report.
-            ReportsOn (J.first_of self.entry.node.number) report) }
+            ReportsOn (J.first_of self.entry.node.number) lanes.new report) }
+        ensures err { OnErr result (AreItsLanes self.entry.node lanes.old → ⊥) }
     {
         let Shared { node, .. } = self;
         if !node.has_all(lanes) {

@@ -89,8 +89,8 @@ impl<'a, J: NodeNaming, S: Stated<J>, G: Gate> Shared<'a, J, S, G> {
         unreachable!()
     }
 
-    // Takes some items: whether more may wait. Where there is a gate it is asked before each, while the node's state
-    // is not locked.
+    // Takes some items: whether more may wait. Where there is a gate it is asked before each, while
+    // the node's state is not locked.
     fn take_some<R: Wait + Clock>(&self, rt: &R, lane: &mut Lane<Item, J>) -> bool
         ensures more { result ≡ true → lane.new ≡ lane.old }
 
@@ -111,8 +111,8 @@ impl<'a, J: NodeNaming, S: Stated<J>, G: Gate> Shared<'a, J, S, G> {
     {
         let mut node = self.node.lock(rt);
         let state = node.state();
-        // The lane is one of this node's inbox, and the leave is for its next taking, but of what stands behind a lock no clause
-        // tells that.
+        // The lane is one of this node's inbox, and the leave is for its next taking, but of what
+        // stands behind a lock no clause tells that.
         if state.number() != lane.number() || !leave.is_for(state) {
             return true;
         }
@@ -127,7 +127,8 @@ impl<'a, J: NodeNaming, S: Stated<J>, G: Gate> Shared<'a, J, S, G> {
     }
 }
 
-// Takes items until the inbox is empty, as many as there is leave for: whether more may wait, and what the node's steps gave.
+// Takes items until the inbox is empty, as many as there is leave for: whether more may wait, and
+// what the node's steps gave.
 fn take_up_to<J: NodeNaming, R: Wait>(
     rt: &R,
     alloc: Global,

@@ -13,7 +13,8 @@ use std::thread;
 use std::thread::Threads;
 use std::time::Clock;
 
-// What a gate heard of a node: how many takings are done, and whether each call named the taking after these.
+// What a gate heard of a node: how many takings are done, and whether each call named the taking
+// after these.
 #[derive(Clone, Copy)]
 struct Heard {
     done: u64,
@@ -21,7 +22,8 @@ struct Heard {
     is_right: bool,
 }
 
-// At this gate nodes 1 and 2 wait for each other before their first taking. Later it is open, or stays shut.
+// At this gate nodes 1 and 2 wait for each other before their first taking. Later it is open, or
+// stays shut.
 #[derive(Drop)]
 struct Meeting {
     heard: Mutex<[Heard; 2]>,
@@ -63,7 +65,9 @@ fn note(all: &mut [Heard], node: u8, taking: u64, is_done: bool) {
 
 impl Gate for Meeting {
     // Of what stands behind a lock no clause tells.
-    ghost opens = { λ _ _ _. Unit {0} };
+    ghost answers = { λ _ _ _ _. Unit {0} };
+
+    ghost hears = { λ _ _ _. Unit {0} };
 
     fn open<R: Wait>(&self, rt: &R, node: u8, taking: u64) -> bool {
         let mut heard = self.heard.lock(rt);
@@ -155,8 +159,8 @@ fn sends_three<J: NodeNaming, R: Wait>(rt: &R, lanes: &mut [Lane<Item, J>]) -> b
     true
 }
 
-// Whether a report tells that so many of three ticks were taken and the others are left over, and that the gate was missed so
-// many times.
+// Whether a report tells that so many of three ticks were taken and the others are left over, and
+// that the gate was missed so many times.
 fn tells(report: &Report, taken: u64, missed: u64) -> bool {
     report.taken.as_slice() == [taken].as_slice()
         && report.left.len() as u64 == 3u64.saturating_sub(taken)
@@ -177,8 +181,8 @@ fn closes<J: NodeNaming, R: Wait>(
     node.has_all(lanes) && tells(&node.close(rt, lanes), taken, missed)
 }
 
-// Whether two nodes meet at a gate that shuts after so many takings, go on, and report so: each is sent three ticks and takes
-// two.
+// Whether two nodes meet at a gate that shuts after so many takings, go on, and report so: each is
+// sent three ticks and takes two.
 fn meet<J, R>(rt: &R, alloc: Global, first: Start, second: Start, gate: &Meeting) -> bool
 where
     J: NodeNaming + Send + Sync,
@@ -212,7 +216,8 @@ where
     sent && took && closed && gate.heard_all(rt, 2)
 }
 
-// Were one thread to run both nodes, or a lock round them held while the gate is asked, they would not meet.
+// Were one thread to run both nodes, or a lock round them held while the gate is asked, they would
+// not meet.
 #[test]
 fn nodes_meet_at_their_gate(rt: HostRuntime) -> Result<(), Fail> {
     let gate = Meeting::new(u64::MAX);
@@ -223,7 +228,8 @@ fn nodes_meet_at_their_gate(rt: HostRuntime) -> Result<(), Fail> {
     Ok(())
 }
 
-// The gate shuts after the first taking: before the second it is asked ten thousand times, and then the nodes go on.
+// The gate shuts after the first taking: before the second it is asked ten thousand times, and then
+// the nodes go on.
 #[test]
 fn a_gate_that_stays_shut_is_passed(rt: HostRuntime) -> Result<(), Fail> {
     let gate = Meeting::new(1);

@@ -124,7 +124,9 @@ impl Meeting {
 
 impl Gate for Meeting {
     // Of what stands behind a lock no clause tells.
-    ghost opens = { λ _ _ _. Unit {0} };
+    ghost answers = { λ _ _ _ _. Unit {0} };
+
+    ghost hears = { λ _ _ _. Unit {0} };
 
     fn open<R: Wait>(&self, rt: &R, node: u8, taking: u64) -> bool {
         self.hears(rt, node, taking, false);
@@ -141,7 +143,8 @@ impl Gate for Meeting {
 }
 
 impl Watched for Meeting {
-    // Whether the nodes meet within ten seconds, client `a` is answered then, and each taking was asked for by its number.
+    // Whether the nodes meet within ten seconds, client `a` is answered then, and each taking was
+    // asked for by its number.
     fn attend<R>(&self, rt: &R, _peers: &Peers, place: Option<&Place>) -> bool
     where
         R: AllocGlobal + Wait + Clock + Net<Stream = TcpStream>,
@@ -218,7 +221,9 @@ impl Bar {
 }
 
 impl Gate for Bar {
-    ghost opens = { λ _ _ _. Unit {0} };
+    ghost answers = { λ _ _ _ _. Unit {0} };
+
+    ghost hears = { λ _ _ _. Unit {0} };
 
     fn open<R: Wait>(&self, rt: &R, node: u8, _taking: u64) -> bool {
         node != 3 || !*self.shut.lock(rt)

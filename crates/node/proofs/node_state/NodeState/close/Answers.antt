@@ -1,6 +1,10 @@
-use Rattle.std.proofs.Common.{All, EachIndex, length, slice_index, ◌≡◌, subst, sym, arith}
+use Rattle.std.proofs.Common.{All, EachIndex, ℕ, length, slice_index, ◌≡◌, ◌∙◌, ap, subst, sym, arith}
+use Rattle.std.specs.Prelude.{slice_index_or}
 use Rattle.mailbox.specs.Delivery.{items_of}
-use Rattle.mailbox.specs.Ends.{ArrivesWhole}
+use Rattle.mailbox.specs.Ends.{ArrivesWhole, Taker}
+use Rattle.mailbox.proofs.ItemsOfALane.{items_of-append}
+use Rattle.world_base.specs.declared.item.Item.{Item}
+use Rattle.node.specs.Report.{TellsAll}
 use Rattle.node.specs.State.{Seen}
 use Rattle.node.proofs.WrittenBack.{written_back}
 use Rattle.node.proofs.node_state.NodeState.close.Goals as goal
@@ -17,3 +21,13 @@ returns-clause-counted g c =
     (sym (written_back c.args.room.taken.len c.settle.new.counts c.args.room.taken.items (omega (arith, c.as_mut_slice.ensures.len))))
     (subst (λ (s : Seen). EachIndex c.settle.new.counts (λ lane. slice_index c.settle.new.counts lane ≡ length (items_of lane s.taker.taken)))
     c.self.view_is c.settle.ensures.counted)
+
+pub returns-clause-all : goal.returns-clause-all
+returns-clause-all g c =
+    subst (λ (s : Seen). All (TellsAll s.taker.taken c.settle.new.left.items) c.settle.new.lanes)
+    c.self.view_is
+    (λ place other within.
+    let lane : ℕ = (slice_index_or c.settle.new.lanes place other).lane in
+    sym (items_of-append lane _ c.settle.new.left.items)
+    ∙ sym (ap (λ (r : Taker Item). items_of lane r.taken) c.settle.ensures.taken)
+    ∙ c.settle.ensures.arrived place other within)
