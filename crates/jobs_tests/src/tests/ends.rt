@@ -209,6 +209,8 @@ fn faults_are_told_so(rt: HostRuntime) {
     assert!(rt; is_told(alloc, Fault::Output, text, 1));
     let text = "vbroker: the clock could not be read\n";
     assert!(rt; is_told(alloc, Fault::Clock, text, 1));
+    let text = "vbroker: too few threads could be started: a node needs 63\n";
+    assert!(rt; is_told(alloc, Fault::Threads, text, 1));
     let text = "vbroker: the words of the command line could not be read; try vbroker --help\n";
     assert!(rt; is_told(alloc, Fault::Words, text, 2));
     let text = "vbroker: script line 3\n";

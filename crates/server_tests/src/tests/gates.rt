@@ -95,7 +95,7 @@ impl Meeting {
     }
 
     // A node asks for a taking, or has done it.
-    fn hears<R: Wait>(&self, rt: &R, node: u8, taking: u64, is_done: bool) {
+    fn notes<R: Wait>(&self, rt: &R, node: u8, taking: u64, is_done: bool) {
         let mut done = self.done.lock(rt);
         let Some(done) = done.get_mut(usize::from(node).wrapping_sub(1)) else {
             return;
@@ -129,7 +129,7 @@ impl Gate for Meeting {
     ghost hears = { λ _ _ _. Unit {0} };
 
     fn open<R: Wait>(&self, rt: &R, node: u8, taking: u64) -> bool {
-        self.hears(rt, node, taking, false);
+        self.notes(rt, node, taking, false);
         if self.sees(rt, node, true) {
             *self.met.lock(rt) = true;
         }
@@ -137,7 +137,7 @@ impl Gate for Meeting {
     }
 
     fn answered<R: Wait>(&self, rt: &R, node: u8, taking: u64) {
-        self.hears(rt, node, taking, true);
+        self.notes(rt, node, taking, true);
         self.sees(rt, node, false);
     }
 }
