@@ -58,8 +58,8 @@ pub(crate) fn is_answered(
     is_given(alloc, broker, event, &mut given) && are_wanted(alloc, &given, wanted)
 }
 
-/// Appends the answers to an event, and tells whether memory was found.
-pub(crate) fn is_given(
+// Appends the answers to an event, and tells whether memory was found.
+fn is_given(
     alloc: Global,
     broker: &mut BrokerMachine,
     event: Event<'_>,
@@ -71,12 +71,8 @@ pub(crate) fn is_given(
     }
 }
 
-/// Does a command, and tells whether memory was found.
-pub(crate) fn is_done(
-    broker: &mut BrokerMachine,
-    command: &Command,
-    given: &mut Vec<Output>,
-) -> bool {
+// Does a command, and tells whether memory was found.
+fn is_done(broker: &mut BrokerMachine, command: &Command, given: &mut Vec<Output>) -> bool {
     broker.apply(command, given).is_ok()
 }
 

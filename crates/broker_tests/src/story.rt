@@ -3,7 +3,7 @@
 use crate::row::{Row, other_answer};
 use crate::tests::forms::Step;
 use crate::tests::queues::{Part, other_part};
-use crate::tests::{forms, random, windows};
+use crate::tests::{forms, windows};
 use broker::BrokerMachine;
 use machine::Machine;
 use std::alloc::Global;
@@ -31,18 +31,11 @@ pub(crate) enum Story<'a> {
     SendsSeventeen,
     /// With a window of 16 a PUBACK frees its identifier.
     FreesItsIdentifier,
-    /// It answers a long list of commands as one that is frozen and thawed.
-    AnswersAlike,
-}
-
-/// A broker that begins, if there is memory.
-pub(crate) fn fresh(alloc: Global) -> Option<BrokerMachine> {
-    BrokerMachine::fresh(alloc).ok()
 }
 
 fn started(alloc: Global, start: Start<'_>) -> Option<BrokerMachine> {
     match start {
-        Start::Fresh => fresh(alloc),
+        Start::Fresh => BrokerMachine::fresh(alloc).ok(),
         Start::Thawed(bytes) => BrokerMachine::thaw(alloc, bytes).ok(),
     }
 }
@@ -60,7 +53,6 @@ fn fault_of(alloc: Global, broker: &mut BrokerMachine, story: Story<'_>) -> Opti
         Story::Parts(parts) => other_part(alloc, broker, parts),
         Story::SendsSeventeen => fault_unless(windows::sends_seventeen(alloc, broker)),
         Story::FreesItsIdentifier => fault_unless(windows::frees_its_identifier(alloc, broker)),
-        Story::AnswersAlike => random::first_difference(alloc, broker),
     }
 }
 

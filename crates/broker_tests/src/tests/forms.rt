@@ -17,7 +17,7 @@ pub(crate) const FRESH_BEFORE: &[u8] = &[1, 0, 0, 0, 0];
 const FRESH_NARROW: &[u8] = &[2, 0x10, 0, 0, 0, 0];
 
 /// Client `a`, whose session is not clean, on connection 1 of ballot 1.
-pub(crate) const ONE_SESSION: &[u8] = &[
+const ONE_SESSION: &[u8] = &[
     2, 0x40, 0, 1, 0, 1, 0x61, 0, 1, 0, 0, 0, 0, 0, 0, 0, 1, 0, 0, 0, 0, 0, 0, 0, 1, 0, 0, 0, 0, 0,
     0, 0, 0, 0,
 ];
@@ -36,9 +36,10 @@ const ONE_SESSION_NARROW: &[u8] = &[
 /// The same client without a connection.
 const AWAY: &[u8] = &[2, 0x40, 0, 1, 0, 1, 0x61, 0, 0, 0, 0, 0, 0, 0, 0, 0, 0, 0];
 
-/// The same as [`ONE_SESSION`] with the subscription of `t/#` at QoS 2, the received identifier 1, an entry
-/// that waits for the PUBREC of identifier 1, and that publication retained: `x` on `t/1` at QoS 2.
-pub(crate) const ONE_ENTRY: &[u8] = &[
+/// The same as [`ONE_SESSION`] with the subscription of `t/#` at QoS 2, the received identifier 1,
+/// an entry that waits for the PUBREC of identifier 1, and that publication retained: `x` on `t/1`
+/// at QoS 2.
+const ONE_ENTRY: &[u8] = &[
     2, 0x40, 0, 1, 0, 1, 0x61, 0, 1, 0, 0, 0, 0, 0, 0, 0, 1, 0, 0, 0, 0, 0, 0, 0, 1, 1, 0, 3, 0x74,
     0x2F, 0x23, 2, 0, 1, 0, 1, 0, 1, 0, 1, 1, 0, 2, 0, 3, 0x74, 0x2F, 0x31, 0, 0, 0, 1, 0x78, 0, 0,
     0, 1, 2, 0, 3, 0x74, 0x2F, 0x31, 0, 0, 0, 1, 0x78,
@@ -76,10 +77,10 @@ const FULL_NARROW: &[u8] = &[
 ];
 
 /// PUBLISH of `x` on `t/1` at QoS 2 with RETAIN 1 and identifier 1.
-pub(crate) const RETAINED: &[u8] = &[0x35, 8, 0, 3, 0x74, 0x2F, 0x31, 0, 1, 0x78];
+const RETAINED: &[u8] = &[0x35, 8, 0, 3, 0x74, 0x2F, 0x31, 0, 1, 0x78];
 
-/// Appends the bytes of a broker, and tells whether memory was found.
-pub(crate) fn is_frozen(broker: &BrokerMachine, bytes: &mut Vec<u8>) -> bool {
+// Appends the bytes of a broker, and tells whether memory was found.
+fn is_frozen(broker: &BrokerMachine, bytes: &mut Vec<u8>) -> bool {
     broker.freeze(bytes).is_ok()
 }
 

@@ -1,6 +1,6 @@
 // Bytes that are of neither form are refused.
 
-use super::forms::ONE_ENTRY;
+use super::giving::ONE_ENTRY;
 use broker::BrokerMachine;
 use machine::{Machine, ThawFault};
 use std::alloc::Global;

@@ -1,8 +1,6 @@
 // A long list of commands by a fixed rule.
 
-use super::forms::has_bytes;
-use crate::row::{Event, is_given};
-use crate::story::{Start, Story, first_fault, fresh};
+use super::giving::{Event, has_bytes, is_given};
 use broker::BrokerMachine;
 use machine::Machine;
 use std::alloc::Global;
@@ -134,18 +132,15 @@ fn other_answer(
 }
 
 /// The first command that a broker and one that is frozen and thawed answer otherwise.
-pub(crate) fn first_difference(alloc: Global, whole: &mut BrokerMachine) -> Option<usize> {
-    match fresh(alloc) {
-        Some(mut thawed) => other_answer(alloc, whole, &mut thawed),
-        None => Some(0),
+fn first_difference(alloc: Global) -> Option<usize> {
+    match (BrokerMachine::fresh(alloc), BrokerMachine::fresh(alloc)) {
+        (Ok(mut whole), Ok(mut thawed)) => other_answer(alloc, &mut whole, &mut thawed),
+        _ => Some(0),
     }
 }
 
 // A broker that is frozen and thawed after each of the first commands answers as one that is not.
 #[test]
 fn a_long_list_of_commands(rt: HostRuntime) {
-    assert_eq!(rt;
-        first_fault(rt.alloc(), Start::Fresh, Story::AnswersAlike),
-        None
-    );
+    assert_eq!(rt; first_difference(rt.alloc()), None);
 }

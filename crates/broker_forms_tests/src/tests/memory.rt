@@ -1,13 +1,17 @@
 // Memory that is refused. Run with each allocation failing in turn: a call reports that it
 // is out of memory or answers as it does with memory, and what it was to append to is as it was.
 
-use super::forms::{ONE_ENTRY, ONE_SESSION, RETAINED, is_frozen};
-use super::handshakes::SUBSCRIBE;
-use crate::row::{Event, is_given};
+use super::giving::{Event, ONE_ENTRY, ONE_SESSION, is_frozen, is_given};
 use broker::BrokerMachine;
 use machine::{Machine, ThawFault};
 use std::alloc::Global;
 use std::test::*;
+
+/// SUBSCRIBE of `t/#` at QoS 2 with identifier 1.
+const SUBSCRIBE: &[u8] = &[0x82, 8, 0, 1, 0, 3, 0x74, 0x2F, 0x23, 2];
+
+/// PUBLISH of `x` on `t/1` at QoS 2 with RETAIN 1 and identifier 1.
+const RETAINED: &[u8] = &[0x35, 8, 0, 3, 0x74, 0x2F, 0x31, 0, 1, 0x78];
 
 /// What became of a call.
 #[derive(Clone, Copy, PartialEq, Eq)]
