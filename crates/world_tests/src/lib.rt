@@ -1,4 +1,4 @@
-//! Worlds in which known things happen. Tests alone stand here.
+//! Long runs of worlds, and one client with its pipes. Tests alone stand here.
 #![tactic(auto)]
 
 #[cfg(test)]

@@ -1,17 +1,9 @@
-// What no clause says: which events are idle, what is carried on connections, and what clients take in.
+// What no clause says: that long runs lose nothing, and what is carried between one client and its
+// pipes.
 
 mod changes;
 mod course;
-mod crashes;
-mod cuts;
-mod expelled;
-mod handshakes;
 mod long;
-mod losing;
 mod memory;
+mod opening;
 mod piped;
-mod repeats;
-mod row;
-mod stale;
-mod travelling;
-mod ways;

@@ -1,6 +1,6 @@
 // How a long run of events by a fixed rule goes on.
 
-use crate::tests::row::{config_of, named};
+use crate::tests::opening::{config_of, named};
 use packet::{ClientId, Payload, QoS};
 use session_base::Publication;
 use std::alloc::Global;

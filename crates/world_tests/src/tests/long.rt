@@ -1,7 +1,7 @@
 // Twenty thousand events by a fixed rule, over three nodes and four clients.
 
 use crate::tests::course::{CLIENTS, Course, goes_on, primary_crashes};
-use crate::tests::row::{named, opened_for};
+use crate::tests::opening::{named, opened_for};
 use packet::QoS;
 use std::alloc::Global;
 use world::{Accepted, World};

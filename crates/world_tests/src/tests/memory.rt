@@ -2,7 +2,7 @@
 // of the primary's log after them. Run with each allocation failing in turn: a step that runs out of memory is counted,
 // and else all comes as ever.
 
-use crate::tests::row::{named, opened};
+use crate::tests::opening::{named, opened};
 use std::alloc::Global;
 use world::{Event, World};
 

@@ -1,6 +1,8 @@
 // A primary of a ballot that is over.
 
-use crate::tests::row::{Deed, Row, Said, Table, fault_in};
+use crate::tests::row::{Deed, Row, Said, Table, fault_in, is_right, opened};
+use std::alloc::Global;
+use world::World;
 
 // What a subscriber is sent when it comes back (MQTT 3.1.1): its session is present (3.2), and the publication again with
 // DUP (3.3).
@@ -77,4 +79,39 @@ const TABLES: &[Table] = &[Table {
 #[test]
 fn a_stale_primary_is_not_heard(rt: HostRuntime) {
     assert_eq!(rt; fault_in(rt.alloc(), TABLES), None);
+}
+
+// Whether a PUBREL (MQTT 3.6) begins at some byte.
+fn has_pubrel(bytes: &[u8]) -> bool {
+    bytes
+        .iter()
+        .zip(bytes.iter().skip(1))
+        .any(|(first, second)| (*first, *second) == (0x62, 0x02))
+}
+
+// Whether none waits to come down on a connection.
+fn is_free_of_pubrel(world: &World) -> bool {
+    (1..4u64).all(|connection| !has_pubrel(world.down(connection)))
+}
+
+// Whether each row holds, and none waits after any of them.
+fn stays_free(alloc: Global, world: &mut World) -> bool {
+    for row in STALE {
+        if !is_right(alloc, world, row) || !is_free_of_pubrel(world) {
+            return false;
+        }
+    }
+    true
+}
+
+fn stays_free_from_the_opening(alloc: Global) -> bool {
+    match opened(alloc, 2, &[1, 2]) {
+        Some(mut world) => stays_free(alloc, &mut world),
+        None => false,
+    }
+}
+
+#[test]
+fn no_pubrel_is_ever_on_its_way_down(rt: HostRuntime) {
+    assert!(rt; stays_free_from_the_opening(rt.alloc()));
 }

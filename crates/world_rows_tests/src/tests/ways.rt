@@ -2,6 +2,7 @@
 
 use crate::tests::crashes::CRASHED;
 use crate::tests::expelled::EXPELLED;
+use crate::tests::put_out::PUT_OUT;
 use crate::tests::row::{Deed, Row, does, is_right, named, opened};
 use crate::tests::stale::STALE;
 use crate::tests::travelling::TRAVELLED;
@@ -30,28 +31,6 @@ const CHANGED: &[Row] = &[
     Row::Does(Deed::Deliver(6), 8, 0),
     Row::Does(Deed::Deliver(7), 9, 1),
     Row::Does(Deed::Deliver(8), 10, 1),
-];
-
-// A ballot waits for its activation when the next one is assigned, and never becomes active. The last client comes then.
-const PUT_OUT: &[Row] = &[
-    Row::Does(Deed::Assign(&[1, 2], 2), 1, 0),
-    Row::Does(Deed::Deliver(0), 2, 0),
-    Row::Does(Deed::Deliver(1), 3, 0),
-    Row::Does(Deed::Deliver(2), 4, 0),
-    Row::Does(Deed::Deliver(3), 5, 0),
-    Row::Does(Deed::Deliver(4), 6, 0),
-    Row::Does(Deed::Assign(&[3], 3), 7, 0),
-    Row::Does(Deed::Deliver(5), 8, 0),
-    Row::Does(Deed::Deliver(7), 8, 0),
-    Row::Does(Deed::Deliver(6), 9, 0),
-    Row::Does(Deed::Deliver(8), 10, 0),
-    Row::Does(Deed::Deliver(9), 11, 0),
-    Row::Does(Deed::Deliver(10), 12, 0),
-    Row::Does(Deed::Deliver(11), 12, 1),
-    Row::Idle(Deed::Open("a", 1)),
-    Row::Does(Deed::Open("a", 3), 12, 1),
-    Row::Does(Deed::Up(1), 12, 2),
-    Row::Does(Deed::Down(1), 12, 2),
 ];
 
 // A client has a session after the log that is fetched, once so many rows have come and before so many have.
@@ -169,7 +148,7 @@ const COURSES: &[Course] = &[
         rows: PUT_OUT,
         kept: &[Kept {
             client: "a",
-            from: 17,
+            from: 24,
             until: NEVER,
         }],
     },

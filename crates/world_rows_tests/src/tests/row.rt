@@ -68,23 +68,19 @@ pub struct Table {
     pub rows: &'static [Row],
 }
 
-/// A world of so many nodes, these members of ballot 1 with node 1 as primary, and clients `a` and `b`.
+/// A world of `nodes` nodes and clients `a` and `b`. These are the members of ballot 1, and node 1
+/// is its primary.
 pub fn opened(alloc: Global, nodes: u8, members: &[u8]) -> Option<World> {
-    opened_for(alloc, nodes, members, &["a", "b"])
-}
-
-/// The same with clients of these names.
-pub fn opened_for(alloc: Global, nodes: u8, members: &[u8], names: &[&str]) -> Option<World> {
     let config = config_of(alloc, members, 1)?;
     let mut clients = Vec::new(alloc);
-    for name in names {
-        clients.push(ClientId::new(alloc, name).ok()?).ok()?;
+    for name in ["a", "b"] {
+        clients.push(named(alloc, name)?).ok()?;
     }
     World::opening(alloc, nodes, config, clients.as_slice()).ok()
 }
 
-/// A configuration.
-pub fn config_of(alloc: Global, members: &[u8], primary: u8) -> Option<Config> {
+// A configuration.
+fn config_of(alloc: Global, members: &[u8], primary: u8) -> Option<Config> {
     let members: Result<Members, Memory> = Members::from_slice(alloc, members);
     Some(Config {
         members: members.ok()?,
@@ -230,8 +226,8 @@ pub fn named(alloc: Global, client: &str) -> Option<ClientId> {
     ClientId::new(alloc, client).ok()
 }
 
-/// A publication of `x` about `t/1`.
-pub fn publication(alloc: Global) -> Option<Publication> {
+// A publication of `x` about `t/1`.
+fn publication(alloc: Global) -> Option<Publication> {
     Some(Publication {
         retain: false,
         qos: QoS::ExactlyOnce,

@@ -1,0 +1,14 @@
+// What no clause says: which events are idle, what is carried on connections, and what clients take
+// in.
+
+mod crashes;
+mod cuts;
+mod expelled;
+mod handshakes;
+mod losing;
+mod put_out;
+mod repeats;
+mod row;
+mod stale;
+mod travelling;
+mod ways;

@@ -1,0 +1,60 @@
+// A ballot that waits for its activation when the next one is given.
+
+use crate::tests::row::{Deed, Row, Said, Table, fault_in};
+
+// CONNECT of client `a` with CleanSession 0 and keep alive 0, and CONNACK 0 without a session
+// present (MQTT 3.1, 3.2).
+const CONNECT: &[u8] = b"\x10\x0D\x00\x04MQTT\x04\x00\x00\x00\x00\x01a";
+
+const ACCEPTED: &[u8] = b"\x20\x02\x00\x00";
+
+const AFTER: &[Said] = &[Said::Start(3), Said::Connect("a")];
+
+/// The events of the script `ballot_is_put_out` of the folder `examples`. The primary of ballot 2
+/// asks for its activation by message 5, and is refused by message 7, since ballot 3 was given
+/// meanwhile. A client finds the primary of ballot 3 alone.
+pub const PUT_OUT: &[Row] = &[
+    Row::Does(Deed::Assign(&[1, 2], 2), 1, 0),
+    Row::Does(Deed::Deliver(0), 2, 0),
+    Row::Does(Deed::Deliver(1), 3, 0),
+    Row::Does(Deed::Deliver(2), 4, 0),
+    Row::Does(Deed::Deliver(3), 5, 0),
+    Row::Does(Deed::Deliver(4), 6, 0),
+    Row::Does(Deed::Assign(&[3], 3), 7, 0),
+    Row::Does(Deed::Deliver(5), 8, 0),
+    Row::Active(1),
+    Row::Does(Deed::Deliver(7), 8, 0),
+    Row::Does(Deed::Deliver(6), 9, 0),
+    Row::Does(Deed::Deliver(8), 10, 0),
+    Row::Does(Deed::Deliver(9), 11, 0),
+    Row::Active(1),
+    Row::Does(Deed::Deliver(10), 12, 0),
+    Row::Active(3),
+    Row::Does(Deed::Deliver(11), 12, 1),
+    Row::Agrees(&[Said::Start(3)]),
+    Row::Idle(Deed::Open("a", 1)),
+    Row::Idle(Deed::Open("a", 2)),
+    Row::Does(Deed::Open("a", 3), 12, 1),
+    Row::HasUp(1, CONNECT),
+    Row::HasDown(1, b""),
+    Row::Does(Deed::Up(1), 12, 2),
+    Row::HasUp(1, b""),
+    Row::HasDown(1, ACCEPTED),
+    Row::Does(Deed::Down(1), 12, 2),
+    Row::HasDown(1, b""),
+    Row::Took("a", 0, 0),
+    Row::Active(3),
+    Row::Agrees(AFTER),
+];
+
+const TABLES: &[Table] = &[Table {
+    name: "put out",
+    nodes: 3,
+    members: &[1],
+    rows: PUT_OUT,
+}];
+
+#[test]
+fn a_ballot_is_put_out(rt: HostRuntime) {
+    assert_eq!(rt; fault_in(rt.alloc(), TABLES), None);
+}
