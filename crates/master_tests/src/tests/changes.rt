@@ -1,5 +1,6 @@
 use super::groups::*;
 use super::stories::{Story, goes};
+use ballot::{Body, Message};
 use machine::{Tally, TallyCommand};
 use master::{Event, Group};
 use std::alloc::Global;
@@ -54,6 +55,20 @@ const PUT_OUT: &[Row] = &[
     (11, 12, 0, 1),
 ];
 
+// Whether the primary of ballot 2 asks the master for its activation by message 5, and is refused
+// by message 7.
+fn is_refused(group: &Group<Tally>) -> bool {
+    let asks = match group.sent().get(5) {
+        Some((0, Message { from: 2, body })) => matches!(body, Body::Activate(2)),
+        _ => false,
+    };
+    let refuses = match group.sent().get(7) {
+        Some((2, Message { from: 0, body })) => matches!(body, Body::Superseded(2)),
+        _ => false,
+    };
+    asks && refuses
+}
+
 /// Whether the ballot of members 1 and 2 is put out by that of member 3, and messages come as these
 /// rows say.
 pub fn is_put_out(group: &mut Group<Tally>, alloc: Global) -> bool {
@@ -61,7 +76,9 @@ pub fn is_put_out(group: &mut Group<Tally>, alloc: Global) -> bool {
         && come(group, WAITING)
         && gives_to(group, alloc, &[3], 3)
         && come(group, PUT_OUT)
+        && is_refused(group)
         && is_active(group, 3)
+        && agrees(group, &[TallyCommand::Start(3)])
 }
 
 // The counts that are told of a ballot that is put out while it waits: message 5 is Activate(2), and

@@ -1,6 +1,6 @@
 // A node crashes after an event of a script, each node after each event, and the script goes on.
 
-use crate::tests::scripts::SCRIPTS;
+use crate::tests::scripts::{SCRIPTS, SNAPSHOT_TRAVELS};
 use play::play;
 use std::alloc::Global;
 use std::str;
@@ -99,4 +99,5 @@ fn a_crash_anywhere_takes_nothing_back(rt: HostRuntime) {
     for row in &SCRIPTS {
         assert!(rt; survives_after_each(rt.alloc(), row), "{}", row[0]);
     }
+    assert!(rt; survives_after_each(rt.alloc(), &SNAPSHOT_TRAVELS));
 }

@@ -338,6 +338,34 @@ pub const SCRIPTS: [&[&str; 2]; 6] = [
     &CLIENT_IS_EXPELLED,
 ];
 
+// The messages of an answer come again in the reverse order: the backup holds the place once more
+// and says so, and nothing else comes of it.
+const REVERSED: [&str; 2] = [
+    "world 2 1,2 1 a\n\
+    open a 1\n\
+    up 1 all\n\
+    deliver 0\n\
+    deliver 1\n\
+    down 1 all\n\
+    deliver 2\n\
+    deliver 1\n\
+    deliver 0\n",
+    "0 ok msgs=0 agreed=0\n\
+    1 ok msgs=1 agreed=0\n\
+    2 ok msgs=2 agreed=1\n\
+    3 ok msgs=3 agreed=1\n\
+    4 ok msgs=3 agreed=1\n\
+    5 ok msgs=3 agreed=1\n\
+    6 ok msgs=3 agreed=1\n\
+    7 ok msgs=4 agreed=1\n\
+    end agreed=1 active=1\n",
+];
+
+#[test]
+fn messages_come_again_in_the_reverse_order(rt: HostRuntime) {
+    assert!(rt; gives(rt.alloc(), REVERSED[0], REVERSED[1]));
+}
+
 #[test]
 fn scripts_give_their_transcripts(rt: HostRuntime) {
     for row in &SCRIPTS {
