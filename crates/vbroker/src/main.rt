@@ -4,9 +4,12 @@
 
 mod standard_error;
 
+ghost use Rattle.std.specs.Prelude.{◌≡◌, ◌≢◌};
+
 use command_line::line;
 use jobs::{Fault, perform, refuse, tell};
 use standard_error::StandardError;
+use std::io::ErrorKind;
 use std::net::{Net, TcpListener, TcpStream};
 use std::process::ExitCode;
 use std::rt::{Env, Files};
@@ -42,6 +45,19 @@ where
 
 // The words of the command line.
 fn words<R: Env + AllocGlobal>(rt: &R) -> Result<Vec<String>, Fault> {
-    let words = env::args(rt).ok().ok_or(Fault::Words)?;
-    Ok(words.collect(rt.alloc())?)
+    match env::args(rt) {
+        Ok(words) => Ok(words.collect(rt.alloc())?),
+        Err(error) => Err(fault_of(error.kind())),
+    }
+}
+
+// Why there are no words: memory ran out, or one of them is no UTF-8.
+fn fault_of(kind: ErrorKind) -> Fault
+    ensures memory { kind ≡ ErrorKind.OutOfMemory → result ≡ Fault.Memory }
+    ensures words { kind ≢ ErrorKind.OutOfMemory → result ≡ Fault.Words }
+{
+    match kind {
+        ErrorKind::OutOfMemory => Fault::Memory,
+        _ => Fault::Words,
+    }
 }
