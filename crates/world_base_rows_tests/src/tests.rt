@@ -3,5 +3,6 @@
 mod clients;
 mod full_queue;
 mod keep_alive;
+mod memory;
 mod row;
 mod streams;

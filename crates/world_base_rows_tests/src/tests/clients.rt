@@ -22,16 +22,17 @@ const PUBREL: &[u8] = &[0x62, 0x02, 0x00, 0x01];
 const PUBCOMP: &[u8] = &[0x70, 0x02, 0x00, 0x01];
 
 // A second connection of the same client takes over.
+const TAKEN_OVER: &[Row<'static>] = &[
+    (0, 1, Act::Open, NOTHING, true),
+    (0, 1, Act::Bytes(CONNECT_A), ACCEPTED, true),
+    (0, 2, Act::Open, NOTHING, true),
+    (0, 2, Act::Bytes(CONNECT_A), PRESENT, true),
+    (0, 1, Act::Look, NOTHING, false),
+];
+
 #[test]
 fn a_second_connection_takes_over(rt: HostRuntime) {
-    let rows: [Row<'static>; 5] = [
-        (0, 1, Act::Open, NOTHING, true),
-        (0, 1, Act::Bytes(CONNECT_A), ACCEPTED, true),
-        (0, 2, Act::Open, NOTHING, true),
-        (0, 2, Act::Bytes(CONNECT_A), PRESENT, true),
-        (0, 1, Act::Look, NOTHING, false),
-    ];
-    assert_eq!(rt; first_fault(rt.alloc(), &rows), None);
+    assert_eq!(rt; first_fault(rt.alloc(), TAKEN_OVER), None);
 }
 
 // CONNECT of client `a` with this level and these connect flags.
@@ -47,104 +48,108 @@ const NO_CLIENT: &[u8] = &[
     0x10, 0x0C, 0x00, 0x04, 0x4D, 0x51, 0x54, 0x54, 0x04, 0x00, 0x00, 0x3C, 0x00, 0x00,
 ];
 
+const REFUSED: &[Row<'static>] = &[
+    (0, 1, Act::Open, NOTHING, true),
+    (0, 1, Act::Bytes(LEVEL_3), &[0x20, 0x02, 0x00, 0x01], false),
+    (0, 2, Act::Open, NOTHING, true),
+    (
+        0,
+        2,
+        Act::Bytes(USER_NAME),
+        &[0x20, 0x02, 0x00, 0x05],
+        false,
+    ),
+    (0, 3, Act::Open, NOTHING, true),
+    (
+        0,
+        3,
+        Act::Bytes(NO_CLIENT),
+        &[0x20, 0x02, 0x00, 0x02],
+        false,
+    ),
+    (0, 4, Act::Open, NOTHING, true),
+    (0, 4, Act::Bytes(&[0xC0, 0x00]), NOTHING, false),
+];
+
 #[test]
 fn connect_is_refused(rt: HostRuntime) {
-    let rows: [Row<'static>; 8] = [
-        (0, 1, Act::Open, NOTHING, true),
-        (0, 1, Act::Bytes(LEVEL_3), &[0x20, 0x02, 0x00, 0x01], false),
-        (0, 2, Act::Open, NOTHING, true),
-        (
-            0,
-            2,
-            Act::Bytes(USER_NAME),
-            &[0x20, 0x02, 0x00, 0x05],
-            false,
-        ),
-        (0, 3, Act::Open, NOTHING, true),
-        (
-            0,
-            3,
-            Act::Bytes(NO_CLIENT),
-            &[0x20, 0x02, 0x00, 0x02],
-            false,
-        ),
-        (0, 4, Act::Open, NOTHING, true),
-        (0, 4, Act::Bytes(&[0xC0, 0x00]), NOTHING, false),
-    ];
-    assert_eq!(rt; first_fault(rt.alloc(), &rows), None);
+    assert_eq!(rt; first_fault(rt.alloc(), REFUSED), None);
 }
 
 // QoS 2 with a repeat before PUBREL, and PUBREL twice.
+const REPEATED: &[Row<'static>] = &[
+    (0, 1, Act::Open, NOTHING, true),
+    (0, 1, Act::Bytes(CONNECT_B), ACCEPTED, true),
+    (0, 1, Act::Bytes(SUBSCRIBE), SUBACK, true),
+    (0, 2, Act::Open, NOTHING, true),
+    (0, 2, Act::Bytes(CONNECT_A), ACCEPTED, true),
+    (0, 2, Act::Bytes(PUBLISH), PUBREC, true),
+    (0, 1, Act::Look, PUBLISH, true),
+    (0, 2, Act::Bytes(PUBLISH_DUP), PUBREC, true),
+    (0, 1, Act::Look, NOTHING, true),
+    (0, 2, Act::Bytes(PUBREL), PUBCOMP, true),
+    (0, 2, Act::Bytes(PUBREL), PUBCOMP, true),
+];
+
 #[test]
 fn a_repeat_enters_once(rt: HostRuntime) {
-    let rows: [Row<'static>; 11] = [
-        (0, 1, Act::Open, NOTHING, true),
-        (0, 1, Act::Bytes(CONNECT_B), ACCEPTED, true),
-        (0, 1, Act::Bytes(SUBSCRIBE), SUBACK, true),
-        (0, 2, Act::Open, NOTHING, true),
-        (0, 2, Act::Bytes(CONNECT_A), ACCEPTED, true),
-        (0, 2, Act::Bytes(PUBLISH), PUBREC, true),
-        (0, 1, Act::Look, PUBLISH, true),
-        (0, 2, Act::Bytes(PUBLISH_DUP), PUBREC, true),
-        (0, 1, Act::Look, NOTHING, true),
-        (0, 2, Act::Bytes(PUBREL), PUBCOMP, true),
-        (0, 2, Act::Bytes(PUBREL), PUBCOMP, true),
-    ];
-    assert_eq!(rt; first_fault(rt.alloc(), &rows), None);
+    assert_eq!(rt; first_fault(rt.alloc(), REPEATED), None);
 }
 
 // A retained message comes without RETAIN to who is subscribed, and with it to who subscribes then.
+const RETAINED: &[Row<'static>] = &[
+    (0, 1, Act::Open, NOTHING, true),
+    (0, 1, Act::Bytes(CONNECT_B), ACCEPTED, true),
+    (0, 1, Act::Bytes(SUBSCRIBE), SUBACK, true),
+    (0, 2, Act::Open, NOTHING, true),
+    (0, 2, Act::Bytes(CONNECT_A), ACCEPTED, true),
+    (0, 2, Act::Bytes(PUBLISH_RETAIN), PUBREC, true),
+    (0, 1, Act::Look, PUBLISH, true),
+    (0, 1, Act::Bytes(PUBREC), PUBREL, true),
+    (0, 1, Act::Bytes(PUBCOMP), NOTHING, true),
+    (
+        0,
+        1,
+        Act::Bytes(&[0x82, 0x08, 0x00, 0x02, 0x00, 0x03, 0x74, 0x2F, 0x23, 0x02]),
+        &[
+            0x90, 0x03, 0x00, 0x02, 0x02, 0x35, 0x08, 0x00, 0x03, 0x74, 0x2F, 0x31, 0x00, 0x01,
+            0x78,
+        ],
+        true,
+    ),
+    (0, 1, Act::End, NOTHING, false),
+    (0, 2, Act::Look, NOTHING, true),
+];
+
 #[test]
 fn retained_at_subscribe(rt: HostRuntime) {
-    let rows: [Row<'static>; 12] = [
-        (0, 1, Act::Open, NOTHING, true),
-        (0, 1, Act::Bytes(CONNECT_B), ACCEPTED, true),
-        (0, 1, Act::Bytes(SUBSCRIBE), SUBACK, true),
-        (0, 2, Act::Open, NOTHING, true),
-        (0, 2, Act::Bytes(CONNECT_A), ACCEPTED, true),
-        (0, 2, Act::Bytes(PUBLISH_RETAIN), PUBREC, true),
-        (0, 1, Act::Look, PUBLISH, true),
-        (0, 1, Act::Bytes(PUBREC), PUBREL, true),
-        (0, 1, Act::Bytes(PUBCOMP), NOTHING, true),
-        (
-            0,
-            1,
-            Act::Bytes(&[0x82, 0x08, 0x00, 0x02, 0x00, 0x03, 0x74, 0x2F, 0x23, 0x02]),
-            &[
-                0x90, 0x03, 0x00, 0x02, 0x02, 0x35, 0x08, 0x00, 0x03, 0x74, 0x2F, 0x31, 0x00, 0x01,
-                0x78,
-            ],
-            true,
-        ),
-        (0, 1, Act::End, NOTHING, false),
-        (0, 2, Act::Look, NOTHING, true),
-    ];
-    assert_eq!(rt; first_fault(rt.alloc(), &rows), None);
+    assert_eq!(rt; first_fault(rt.alloc(), RETAINED), None);
 }
 
 // Two filters that match one publication.
+const TWO_FILTERS: &[Row<'static>] = &[
+    (0, 1, Act::Open, NOTHING, true),
+    (0, 1, Act::Bytes(CONNECT_B), ACCEPTED, true),
+    (0, 1, Act::Bytes(SUBSCRIBE), SUBACK, true),
+    (0, 2, Act::Open, NOTHING, true),
+    (0, 2, Act::Bytes(CONNECT_A), ACCEPTED, true),
+    (
+        0,
+        1,
+        Act::Bytes(&[
+            0x82, 0x0E, 0x00, 0x01, 0x00, 0x03, 0x74, 0x2F, 0x23, 0x00, 0x00, 0x03, 0x74, 0x2F,
+            0x31, 0x02,
+        ]),
+        &[0x90, 0x04, 0x00, 0x01, 0x00, 0x02],
+        true,
+    ),
+    (0, 2, Act::Bytes(PUBLISH), PUBREC, true),
+    (0, 1, Act::Look, PUBLISH, true),
+];
+
 #[test]
 fn two_filters_one_publication(rt: HostRuntime) {
-    let rows: [Row<'static>; 8] = [
-        (0, 1, Act::Open, NOTHING, true),
-        (0, 1, Act::Bytes(CONNECT_B), ACCEPTED, true),
-        (0, 1, Act::Bytes(SUBSCRIBE), SUBACK, true),
-        (0, 2, Act::Open, NOTHING, true),
-        (0, 2, Act::Bytes(CONNECT_A), ACCEPTED, true),
-        (
-            0,
-            1,
-            Act::Bytes(&[
-                0x82, 0x0E, 0x00, 0x01, 0x00, 0x03, 0x74, 0x2F, 0x23, 0x00, 0x00, 0x03, 0x74, 0x2F,
-                0x31, 0x02,
-            ]),
-            &[0x90, 0x04, 0x00, 0x01, 0x00, 0x02],
-            true,
-        ),
-        (0, 2, Act::Bytes(PUBLISH), PUBREC, true),
-        (0, 1, Act::Look, PUBLISH, true),
-    ];
-    assert_eq!(rt; first_fault(rt.alloc(), &rows), None);
+    assert_eq!(rt; first_fault(rt.alloc(), TWO_FILTERS), None);
 }
 
 // UNSUBSCRIBE from `t/#` with identifier 3, and its UNSUBACK.
@@ -153,35 +158,48 @@ const UNSUBSCRIBE: &[u8] = &[0xA2, 0x07, 0x00, 0x03, 0x00, 0x03, 0x74, 0x2F, 0x2
 const UNSUBACK: &[u8] = &[0xB0, 0x02, 0x00, 0x03];
 
 // An UNSUBSCRIBE is answered where nothing was subscribed, too (MQTT 3.10.4).
+const NOT_SUBSCRIBED: &[Row<'static>] = &[
+    (0, 1, Act::Open, NOTHING, true),
+    (0, 1, Act::Bytes(CONNECT_B), ACCEPTED, true),
+    (0, 1, Act::Bytes(UNSUBSCRIBE), UNSUBACK, true),
+];
+
 #[test]
 fn unsubscribe_without_a_subscription(rt: HostRuntime) {
-    let rows: [Row<'static>; 3] = [
-        (0, 1, Act::Open, NOTHING, true),
-        (0, 1, Act::Bytes(CONNECT_B), ACCEPTED, true),
-        (0, 1, Act::Bytes(UNSUBSCRIBE), UNSUBACK, true),
-    ];
-    assert_eq!(rt; first_fault(rt.alloc(), &rows), None);
+    assert_eq!(rt; first_fault(rt.alloc(), NOT_SUBSCRIBED), None);
 }
+
+const VIOLATED: &[Row<'static>] = &[
+    (0, 1, Act::Open, NOTHING, true),
+    (0, 1, Act::Bytes(CONNECT_B), ACCEPTED, true),
+    (0, 1, Act::Bytes(SUBSCRIBE), SUBACK, true),
+    (0, 2, Act::Open, NOTHING, true),
+    (0, 2, Act::Bytes(CONNECT_A), ACCEPTED, true),
+    (0, 1, Act::Bytes(&[0xC0, 0x00]), &[0xD0, 0x00], true),
+    (0, 1, Act::Bytes(UNSUBSCRIBE), UNSUBACK, true),
+    (
+        0,
+        2,
+        Act::Bytes(&[0x30, 0x05, 0x00, 0x03, 0x74, 0x2F, 0x23]),
+        NOTHING,
+        false,
+    ),
+    (0, 1, Act::Bytes(CONNECT_B), NOTHING, false),
+    (0, 1, Act::Look, NOTHING, false),
+];
 
 #[test]
 fn ping_unsubscribe_and_violations(rt: HostRuntime) {
-    let rows: [Row<'static>; 10] = [
-        (0, 1, Act::Open, NOTHING, true),
-        (0, 1, Act::Bytes(CONNECT_B), ACCEPTED, true),
-        (0, 1, Act::Bytes(SUBSCRIBE), SUBACK, true),
-        (0, 2, Act::Open, NOTHING, true),
-        (0, 2, Act::Bytes(CONNECT_A), ACCEPTED, true),
-        (0, 1, Act::Bytes(&[0xC0, 0x00]), &[0xD0, 0x00], true),
-        (0, 1, Act::Bytes(UNSUBSCRIBE), UNSUBACK, true),
-        (
-            0,
-            2,
-            Act::Bytes(&[0x30, 0x05, 0x00, 0x03, 0x74, 0x2F, 0x23]),
-            NOTHING,
-            false,
-        ),
-        (0, 1, Act::Bytes(CONNECT_B), NOTHING, false),
-        (0, 1, Act::Look, NOTHING, false),
-    ];
-    assert_eq!(rt; first_fault(rt.alloc(), &rows), None);
+    assert_eq!(rt; first_fault(rt.alloc(), VIOLATED), None);
 }
+
+/// These tables.
+pub const TABLES: &[&[Row<'static>]] = &[
+    TAKEN_OVER,
+    REFUSED,
+    REPEATED,
+    RETAINED,
+    TWO_FILTERS,
+    NOT_SUBSCRIBED,
+    VIOLATED,
+];

@@ -1,0 +1,66 @@
+// Memory that is refused, in the conversations of `clients`. Run with each allocation failing in turn: all comes out as
+// ever, or one step that ran out of memory is counted.
+
+use super::clients::TABLES;
+use super::row::{Act, Row, bring, primary, take};
+use std::alloc::Global;
+use world_base::{Handed, Item, NodeCore, Port};
+
+// Lets a row's act come. A piece that found no memory comes again: one allocation fails.
+fn comes_at_last(alloc: Global, node: &mut NodeCore, row: &Row<'_>) {
+    let (time, port, act, _, _) = *row;
+    let item = match act {
+        Act::Bytes(bytes) => {
+            if bring(alloc, node, port, bytes, time).is_none() {
+                let _ = bring(alloc, node, port, bytes, time);
+            }
+            return;
+        }
+        Act::Look => return,
+        Act::Open => Item::Opened(Port(port), time),
+        Act::End => Item::Ended(Port(port)),
+        Act::Tick => Item::Tick(time),
+    };
+    take(alloc, node, item);
+}
+
+// Whether a row's bytes are handed over, and its port is open or not. What found no memory is asked again.
+fn hands_over_at_last(alloc: Global, node: &mut NodeCore, row: &Row<'_>) -> bool {
+    let (_, port, _, bytes, open) = *row;
+    let answer = if open { Handed::Open } else { Handed::Closed };
+    for _ in 0..2 {
+        let mut out = Vec::new(alloc);
+        if let Ok(handed) = node.outgoing(Port(port), &mut out) {
+            return handed == answer && out.as_slice() == bytes;
+        }
+    }
+    false
+}
+
+// Whether each row comes out as it says where nothing was lost; at most one step is counted.
+fn is_whole_or_counted(alloc: Global, node: &mut NodeCore, rows: &[Row<'_>]) -> bool {
+    let mut is_whole = true;
+    for row in rows {
+        comes_at_last(alloc, node, row);
+        is_whole = hands_over_at_last(alloc, node, row) && is_whole;
+    }
+    match node.losses() {
+        0 => is_whole,
+        losses => losses == 1,
+    }
+}
+
+// Without memory for a node nothing is asked of it.
+fn is_well(alloc: Global, rows: &[Row<'_>]) -> bool {
+    match primary(alloc, &[1]) {
+        Some(mut node) => is_whole_or_counted(alloc, &mut node, rows),
+        None => true,
+    }
+}
+
+#[test]
+fn rows_are_whole_or_one_step_is_counted(rt: HostRuntime) {
+    for rows in TABLES {
+        assert!(rt; is_well(rt.alloc(), rows));
+    }
+}
