@@ -12,6 +12,7 @@ mod serving;
 mod taking;
 
 pub use ballot::{Body, Config, Effect, Members, Memory, Message, OpeningError, Status};
+pub use broker::BrokerMachine;
 pub use broker_model::{Command, ConnectionId, Output};
 pub use item::Item;
 pub use laws::{a_gap_is_closed, proposals_are_steps};

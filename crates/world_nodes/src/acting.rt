@@ -16,9 +16,8 @@ ghost use Rattle.world_nodes.specs.Inside.{IsPassedOver, RunsAt, WasSent};
 use crate::keeping::counted;
 use crate::nodes::Nodes;
 use crate::turning::{cut_back, pass_over, take_in};
-use broker::BrokerMachine;
 use master::{Idle, answer_of, config_of, record, tell};
-use world_base::{Body, Command, Config, Item, Members, Memory, Message};
+use world_base::{Body, BrokerMachine, Command, Config, Item, Members, Memory, Message};
 
 impl Nodes {
     // A node that runs takes an item in.

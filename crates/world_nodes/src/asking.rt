@@ -9,10 +9,9 @@ ghost use Rattle.world_nodes.specs.Goes.{node_of};
 
 use crate::nodes::Nodes;
 use ballot::Machine;
-use broker::BrokerMachine;
 use packet::{ClientId, Connack, Packet};
 use std::alloc::Global;
-use world_base::{Command, Config, ConnectionId, Memory, Output};
+use world_base::{BrokerMachine, Command, Config, ConnectionId, Memory, Output};
 
 impl Nodes {
     /// Returns whether the master gives the next ballot to a configuration when [`Nodes::assign`] asks for it.

@@ -13,12 +13,13 @@ ghost use Rattle.world_nodes.specs.Steps.{ActsOrRests, ComesIn, ComesOrRests, Cu
 
 use crate::counters::Counters;
 use crate::opening::can_open;
-use broker::BrokerMachine;
 use master::{Idle, Master, asks_for, copy_of};
 use packet::ClientId;
 use std::alloc::Global;
 use std::marker::Model;
-use world_base::{Command, Config, Handed, Item, Message, NodeCore, OpeningError, Piece, Port};
+use world_base::{
+    BrokerMachine, Command, Config, Handed, Item, Message, NodeCore, OpeningError, Piece, Port,
+};
 
 /// Nodes with the connections of their clients, their master, and all messages that they ever sent:
 /// any may come late, again or never. Nodes are numbered from 1, messages from 0 in the order of
