@@ -120,18 +120,31 @@ fn comes_back(alloc: Global, one: &mut NodeCore, two: &mut NodeCore) -> bool {
 }
 
 // Whether a session goes over by a snapshot, and both nodes lose nothing.
-fn session_goes_over(alloc: Global) -> Option<bool> {
-    let mut one = node_of(alloc, 1, &[1])?;
-    let mut two = node_of(alloc, 2, &[1])?;
-    let served = serves_and_cuts(alloc, &mut one);
-    let taken_over = takes_over(alloc, &mut one, &mut two)?;
-    let back = comes_back(alloc, &mut one, &mut two);
-    Some(served && taken_over && back && one.losses() == 0 && two.losses() == 0)
+fn session_goes_over(alloc: Global, one: &mut NodeCore, two: &mut NodeCore) -> bool {
+    let served = serves_and_cuts(alloc, one);
+    let taken_over = takes_over(alloc, one, two) == Some(true);
+    let back = comes_back(alloc, one, two);
+    served && taken_over && back && one.losses() == 0 && two.losses() == 0
+}
+
+// The same with fresh nodes. Each node has an owner of its own, which has one way on which it drops it.
+fn goes_over_to_fresh(alloc: Global, one: &mut NodeCore) -> bool {
+    match node_of(alloc, 2, &[1]) {
+        Some(mut two) => session_goes_over(alloc, one, &mut two),
+        None => false,
+    }
+}
+
+fn fresh_session_goes_over(alloc: Global) -> bool {
+    match node_of(alloc, 1, &[1]) {
+        Some(mut one) => goes_over_to_fresh(alloc, &mut one),
+        None => false,
+    }
 }
 
 #[test]
 fn a_session_goes_over_by_a_snapshot(rt: HostRuntime) {
-    assert_eq!(rt; session_goes_over(rt.alloc()), Some(true));
+    assert!(rt; fresh_session_goes_over(rt.alloc()));
 }
 
 // Node 1 sends node 2 a log of one place with this snapshot in ballot 2: what node 2 hands out.
@@ -150,15 +163,21 @@ fn goes_on(alloc: Global, two: &mut NodeCore) -> Option<bool> {
 }
 
 // Whether a snapshot of form 1 is read, and frozen to form 2.
-fn form_1_is_read(alloc: Global) -> Option<bool> {
-    let mut two = node_of(alloc, 2, &[1])?;
-    tell(alloc, &mut two, 0, ballot_2(alloc, &[2])?);
-    Some(goes_on(alloc, &mut two)? && two.losses() == 0)
+fn form_1_is_read(alloc: Global, two: &mut NodeCore) -> Option<bool> {
+    tell(alloc, two, 0, ballot_2(alloc, &[2])?);
+    Some(goes_on(alloc, two)? && two.losses() == 0)
+}
+
+fn fresh_reads_form_1(alloc: Global) -> Option<bool> {
+    match node_of(alloc, 2, &[1]) {
+        Some(mut two) => form_1_is_read(alloc, &mut two),
+        None => None,
+    }
 }
 
 #[test]
 fn a_snapshot_of_form_1_is_frozen_to_form_2(rt: HostRuntime) {
-    assert_eq!(rt; form_1_is_read(rt.alloc()), Some(true));
+    assert_eq!(rt; fresh_reads_form_1(rt.alloc()), Some(true));
 }
 
 // Whether bytes that stand for no broker count as one lost message more, and nothing else comes of them.
@@ -174,19 +193,28 @@ fn is_lost(alloc: Global, two: &mut NodeCore, bytes: &[u8]) -> bool {
     effects.is_empty() && same && same_places && kept && two.losses() == losses.saturating_add(1)
 }
 
+// Whether each is lost.
+fn are_lost(alloc: Global, two: &mut NodeCore) -> bool {
+    UNREADABLE.iter().all(|bytes| is_lost(alloc, two, bytes))
+}
+
 // Whether each is lost, and the node goes on from bytes that it can read.
-fn unreadable_are_lost(alloc: Global) -> Option<bool> {
-    let mut two = node_of(alloc, 2, &[1])?;
-    tell(alloc, &mut two, 0, ballot_2(alloc, &[2])?);
-    let lost = UNREADABLE
-        .iter()
-        .all(|bytes| is_lost(alloc, &mut two, bytes));
-    Some(goes_on(alloc, &mut two)? && lost && two.losses() == 4)
+fn unreadable_are_lost(alloc: Global, two: &mut NodeCore) -> Option<bool> {
+    tell(alloc, two, 0, ballot_2(alloc, &[2])?);
+    let lost = are_lost(alloc, two);
+    Some(goes_on(alloc, two)? && lost && two.losses() == 4)
+}
+
+fn fresh_loses_unreadable(alloc: Global) -> Option<bool> {
+    match node_of(alloc, 2, &[1]) {
+        Some(mut two) => unreadable_are_lost(alloc, &mut two),
+        None => None,
+    }
 }
 
 #[test]
 fn bytes_that_are_no_snapshot_count_as_lost(rt: HostRuntime) {
-    assert_eq!(rt; unreadable_are_lost(rt.alloc()), Some(true));
+    assert_eq!(rt; fresh_loses_unreadable(rt.alloc()), Some(true));
 }
 
 // Ballot 2 of nodes 1 and 2 goes on until nothing is said any more. What found no memory is said again when time passes.
@@ -253,11 +281,18 @@ fn goes_over_or_counts(alloc: Global, one: &mut NodeCore, two: &mut NodeCore) ->
     finds_session(alloc, one, two)
 }
 
-// Without memory for the nodes nothing is asked of them.
+// Without memory for a node nothing is asked of the other.
+fn is_well_with(alloc: Global, one: &mut NodeCore) -> bool {
+    match node_of(alloc, 2, &[1]) {
+        Some(mut two) => goes_over_or_counts(alloc, one, &mut two),
+        None => true,
+    }
+}
+
 fn is_well(alloc: Global) -> bool {
-    match (node_of(alloc, 1, &[1]), node_of(alloc, 2, &[1])) {
-        (Some(mut one), Some(mut two)) => goes_over_or_counts(alloc, &mut one, &mut two),
-        _ => true,
+    match node_of(alloc, 1, &[1]) {
+        Some(mut one) => is_well_with(alloc, &mut one),
+        None => true,
     }
 }
 
