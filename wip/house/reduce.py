@@ -54,6 +54,29 @@ def paths_of(lines):
     return sum(map(of, lines))
 
 
+# What the proofs of the machine's laws lead to, which a contract of `broker` cites: they may come through no crate that hands them up. (Both names of crates that are renamed.)
+LAWS = {
+    "session_form": "packet packet_base",
+    "session_base": "packet packet_base",
+    "broker_form": "packet packet_base session_base broker_base broker_model broker_spec lists",
+    "broker_base": "session_base",
+    "broker_rows": "broker_model broker_spec",
+}
+
+
+def needed():
+    """What each crate has to list itself, since it may not come through a crate that hands it up."""
+    found = {crate: set(it.split()) for crate, it in LAWS.items()}
+    for crate in LISTED:
+        for f in files(crate):
+            for words in re.findall(r"\b(?:using|unfolding)\(([^)]*)\)", read(f)) if f.endswith(".rt") else ():
+                found.setdefault(crate, set()).update(it for it in re.findall(r"(\w+)::(?:proofs|specs)::", words) if it in LISTED and it != crate)
+    return {crate: it for crate, it in found.items() if crate in LISTED}
+
+
+NEEDED = needed()
+
+
 def cited_by(crate):
     """How much a crate cites each other: a file of code counts four, of specs one, of proofs a third."""
     weights = {}
@@ -68,6 +91,8 @@ def cited_by(crate):
 def reduced():
     """The lines with what stands right below, and what is cited most for the paths that it costs."""
     lines = {name: [it for it in below if not any(it in reached(other) for other in below if other != it)] for name, below in OWN.items()}
+    for name, needed in NEEDED.items():
+        lines[name].extend(it for it in OWN[name] if it in needed and it not in lines[name])
     weights = {name: cited_by(name) for name in OWN}
     left = [(name, it) for name, below in OWN.items() for it in below if it not in lines[name] and weights[name].get(it)]
     while left:
@@ -86,7 +111,20 @@ def reduced():
     return {name: [it for it in OWN[name] if it in below] for name, below in lines.items()}
 
 
-REDUCED = reduced()
+def given(file):
+    """The lines of another crates.txt, with what is needed."""
+    found = {}
+    for line in open(file, encoding="utf-8"):
+        name, colon, below = line.split("#")[0].partition(":")
+        if colon:
+            found[name.split()[0]] = [it for it in below.split() if it in LISTED]
+    for name, needed in NEEDED.items():
+        found[name] += [it for it in OWN[name] if it in needed and it not in found[name]]
+    return {name: [it for it in OWN[name] if it in found[name]] for name in OWN}
+
+
+FILE = next((it[8:] for it in sys.argv[1:] if it.startswith("--lines=")), "")
+REDUCED = given(FILE) if FILE else reduced()
 
 
 @functools.lru_cache(None)

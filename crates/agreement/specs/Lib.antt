@@ -11,3 +11,5 @@ pub mod Replays
 pub mod Steps
 pub mod World
 pub use Rattle.whole.specs as whole
+pub use Rattle.whole.specs.ballot_base as ballot_base
+pub use Rattle.lists.specs as lists

@@ -23,3 +23,5 @@ pub use Rattle.ballot_base.specs.declared.status.Progress
 pub use Rattle.ballot_base.specs.declared.status.Role
 pub use Rattle.ballot_base.specs.declared.status.Status
 pub use Rattle.machine.specs.Machine
+pub use Rattle.ballot_base.specs.lists as lists
+pub use Rattle.machine.specs as machine

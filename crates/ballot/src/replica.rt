@@ -3,7 +3,7 @@
 ghost use Rattle.std.specs.Prelude.{◌≡◌, ◌≤◌, ◌<◌, ◌↔◌, ◌⊎◌, true, false, IfOk, OnOk, OnErr, IsErrOf, MatchResult, if◌then◌else◌};
 ghost use Rattle.ballot_base.specs.Sends.{Sends};
 ghost use Rattle.ballot.specs.Inside.{Lacks};
-ghost use Rattle.lists.specs.Lists.{IsPrefixOf};
+ghost use Rattle.ballot_base.specs.lists.Lists.{IsPrefixOf};
 ghost use Rattle.ballot_base.specs.LawfulConfig.{is_lawful};
 ghost use Rattle.ballot_base.specs.Logs.{places};
 ghost use Rattle.ballot_base.specs.Losses.{Stepped, Done, halted, one_more};

@@ -11,3 +11,5 @@ pub mod Sends
 pub mod Serving
 pub mod Taking
 pub mod Unread
+pub use Rattle.lists.specs as lists
+pub use Rattle.machine.specs as machine

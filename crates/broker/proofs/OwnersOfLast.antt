@@ -1,9 +1,9 @@
 -- OwnersOfLast.antt: a row behind the others, whose connection is none of theirs, becomes its connection's owner.
 use Rattle.std.proofs.Common.{◌≡◌, Bool, true, false, not, ◌&&◌, Option, Some, None, [], ◌∷◌, ◌++◌, refl, sym, ap, ◌∙◌, if◌then◌else◌}
 use Rattle.std.specs.Prelude.{option_map, is_some}
-use Rattle.broker_model.specs.Connection.{ConnectionName, same_connection}
-use Rattle.broker_model.specs.Place.{Client}
-use Rattle.broker_model.specs.Past.{any_connection}
+use Rattle.broker_base.specs.broker_model.Connection.{ConnectionName, same_connection}
+use Rattle.broker_base.specs.broker_model.Place.{Client}
+use Rattle.broker_base.specs.broker_model.Past.{any_connection}
 use Rattle.broker_base.specs.ClientSession.{ClientSession}
 use Rattle.broker_base.specs.State.{Sessions, owner_in}
 use Rattle.broker_base.proofs.ConnectionsOfSessions.{same_turned}

@@ -1,10 +1,10 @@
 -- StandsForLists.antt: command by command a state stands for the list of those that were done.
 use Rattle.std.proofs.Common.{◌≡◌, ◌∙◌, ap, sym, refl, Bool, true, false, if◌then◌else◌, List, [], ◌∷◌, ◌++◌}
 use Rattle.std.specs.Prelude.{ℕ}
-use Rattle.broker_model.specs.Place.{Past, Limits}
-use Rattle.broker_model.specs.Answers.{answers_of}
-use Rattle.broker_model.specs.Commands.{is_start, past_from, past_of, place_of, limits_with, limits_from, window_from}
-use Rattle.broker_model.specs.declared.command.Command.{Command}
+use Rattle.broker_base.specs.broker_model.Place.{Past, Limits}
+use Rattle.broker_base.specs.broker_model.Answers.{answers_of}
+use Rattle.broker_base.specs.broker_model.Commands.{is_start, past_from, past_of, place_of, limits_with, limits_from, window_from}
+use Rattle.broker_base.specs.broker_model.declared.command.Command.{Command}
 use Rattle.broker_base.specs.State.{state_of}
 use Rattle.broker_base.specs.Step.{step, IsWindow}
 use Rattle.broker_base.proofs.StepByStep.{step_stands, growing_lists_stand}

@@ -1,9 +1,9 @@
 -- Writing.antt: what stands in the state of a broker can be written.
 use Rattle.std.proofs.Common.{◌∷◌, []}
 use Rattle.std.specs.List.{AllByRecursion}
-use Rattle.retained.specs.Retained.{RetainedTopics}
+use Rattle.broker_base.specs.retained.Retained.{RetainedTopics}
 use Rattle.session_form.proofs.Writable.{has_length}
-use Rattle.broker_model.specs.Commands.{usual_limits}
+use Rattle.broker_base.specs.broker_model.Commands.{usual_limits}
 use Rattle.broker_base.specs.State.{Sessions, State}
 use Rattle.broker_base.specs.StateLaws.{AllSound}
 use Rattle.broker_form.specs.InRange.{IsBrokerState, IsRetained, IsSession, as_publication}

@@ -3,11 +3,11 @@ use Rattle.std.specs.Prelude.{◌≡◌, ℕ, ◌<◌, length, List, [], ◌∷�
 use Rattle.std.specs.Map.{update_all}
 use Rattle.std.specs.List.{AllByRecursion}
 use Rattle.packet.specs.declared.qos.QoS.{QoS}
-use Rattle.retained.specs.Retained.{RetainedTopics}
-use Rattle.session_base.specs.Subscriptions.{HeldFilter}
-use Rattle.subs_base.specs.Content.{Content, with_filters}
+use Rattle.broker_base.specs.retained.Retained.{RetainedTopics}
+use Rattle.session_form.specs.session_base.Subscriptions.{HeldFilter}
+use Rattle.broker_tables.specs.subs_base.Content.{Content, with_filters}
 use Rattle.session_form.specs.FormLaws.{HasForm}
-use Rattle.broker_model.specs.Connection.{ConnectionName}
+use Rattle.broker_base.specs.broker_model.Connection.{ConnectionName}
 use Rattle.broker_base.specs.State.{Sessions, State}
 use Rattle.broker_form.specs.broker_rows.Owners.{owners_in}
 use Rattle.broker_tables.specs.Tables.{owners_at}

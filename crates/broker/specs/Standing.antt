@@ -1,11 +1,11 @@
 -- What a broker does at a command, and which list of commands its state stands for.
 use Rattle.std.specs.Prelude.{◌≡◌, ℕ, List, [], ◌∷◌, ◌++◌, Some}
-use Rattle.machine.specs.Machine.{Rules}
-use Rattle.broker_model.specs.Answers.{answers_of}
-use Rattle.broker_model.specs.Commands.{past_of, limits_from, usual_limits}
-use Rattle.broker_model.specs.declared.command.Command.{Command}
-use Rattle.broker_model.specs.declared.command.Command.TheVariants.{Start}
-use Rattle.broker_model.specs.declared.command.Output.{Output}
+use Rattle.broker_tables.specs.machine.Machine.{Rules}
+use Rattle.broker_base.specs.broker_model.Answers.{answers_of}
+use Rattle.broker_base.specs.broker_model.Commands.{past_of, limits_from, usual_limits}
+use Rattle.broker_base.specs.broker_model.declared.command.Command.{Command}
+use Rattle.broker_base.specs.broker_model.declared.command.Command.TheVariants.{Start}
+use Rattle.broker_base.specs.broker_model.declared.command.Output.{Output}
 use Rattle.broker_base.specs.State.{State, state_of, empty_state}
 use Rattle.broker_base.specs.Step.{step}
 use Rattle.broker_form.specs.Form.{frozen, frozen_before, thawed}

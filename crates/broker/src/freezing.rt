@@ -3,16 +3,16 @@
 ghost use Rattle.std.specs.Prelude.{◌≡◌, ◌<◌, ◌++◌, length, OnErr, OnOk};
 ghost use Rattle.std.specs.List.{flat_map, AllByRecursion};
 ghost use Rattle.session_form.specs.FormLaws.{HasForm};
-ghost use Rattle.broker_model.specs.Commands.{usual_limits};
+ghost use Rattle.broker_base.specs.broker_model.Commands.{usual_limits};
 ghost use Rattle.broker_form.specs.InRange.{IsBrokerState};
 ghost use Rattle.broker_form.specs.Form.{connection_bytes, frozen, retained_bytes, row_bytes, wide_number};
 ghost use Rattle.broker_tables.specs.Tables.{state_in};
 ghost use Rattle.broker.specs.Inside.{AreRows, ArePayloads};
 
-use broker_model::ConnectionId;
+use broker_base::broker_model::ConnectionId;
+use broker_base::retained::{RetainedPublication, RetainedStore};
 use broker_tables::{ClientRow, Tables};
 use packet::ClientId;
-use retained::{RetainedPublication, RetainedStore};
 use session_form::{write_number, write_payload, write_text};
 use std::alloc::AllocError;
 use std::collections::BTreeMap;

@@ -7,13 +7,13 @@ ghost use Rattle.packet_base.specs.Outcome.{Gives, Reads};
 ghost use Rattle.session_form.specs.Counted.{keep};
 ghost use Rattle.broker_form.specs.Form.{client_at, connection_at, head_at, name_at, retainable, retained_at, row_at, size_at, wide_number_at};
 
-use broker_model::{ConnectionId, Window};
+use broker_base::broker_model::{ConnectionId, Window};
+use broker_base::retained::RetainedPublication;
 use broker_tables::ClientRow;
+use broker_tables::session::Session;
 use packet::{ClientId, Payload};
 use packet_base::{Reader, Stop};
-use retained::RetainedPublication;
-use session::Session;
-use session_base::Publication;
+use session_form::session_base::Publication;
 use session_form::{body_length, keep, read_flag, read_long_number, read_qos};
 use std::alloc::Global;
 use topics::{MalformedKind, TopicName};

@@ -4,14 +4,14 @@ ghost use Rattle.std.specs.Prelude.{◌≡◌, false, true, [], ◌∷◌, ◌++
 ghost use Rattle.packet_base.specs.Outcome.{Reads};
 ghost use Rattle.packet_base.specs.Reading.{number_at};
 ghost use Rattle.session_form.specs.Counted.{counted_at, items_behind, last_of, Adds};
-ghost use Rattle.broker_model.specs.Connection.{ConnectionName};
+ghost use Rattle.broker_base.specs.broker_model.Connection.{ConnectionName};
 ghost use Rattle.broker_form.specs.broker_rows.Owners.{owned_by};
 ghost use Rattle.broker_form.specs.Form.{is_behind, is_taken, row_at, row_follows};
 ghost use Rattle.broker_tables.specs.Tables.{owners_at};
 ghost use Rattle.broker.specs.Inside.{AreOwned};
 
 use crate::reading::{OUT_OF_MEMORY, read_row};
-use broker_model::{ConnectionId, Window};
+use broker_base::broker_model::{ConnectionId, Window};
 use broker_tables::{ClientRow, MAX_SESSIONS};
 use packet::ClientId;
 use packet_base::{Reader, Stop};

@@ -7,26 +7,26 @@ ghost use Rattle.std.specs.Ordering.{nat_cmp};
 ghost use Rattle.packet_base.specs.Outcome.{Gives, Reads};
 ghost use Rattle.packet_base.specs.Reading.{number_at};
 ghost use Rattle.session_form.specs.Counted.{counted_at, items_behind, last_of, Adds};
-ghost use Rattle.subs_base.specs.Content.{no_subscriptions};
-ghost use Rattle.subs_base.specs.ListIndex.{content_of};
+ghost use Rattle.broker_tables.specs.subs_base.Content.{no_subscriptions};
+ghost use Rattle.broker_tables.specs.subs_base.ListIndex.{content_of};
 ghost use Rattle.broker_form.specs.Form.{broker_at, is_behind, retained_at, topic_follows};
 ghost use Rattle.broker_tables.specs.Tables.{IsTied, state_in};
-ghost use Rattle.retained.specs.Retained.{IsRising};
+ghost use Rattle.broker_base.specs.retained.Retained.{IsRising};
 ghost use Rattle.broker.specs.Inside.{AreOwned, state_read, all_held, last_held};
 
 use crate::reading::{OUT_OF_MEMORY, read_head, read_topic};
 use crate::rows::Rows;
+use broker_base::broker_model::Window;
+use broker_base::retained::{RetainedPublication, RetainedStore};
 use broker_form::thawed_is_in_range;
-use broker_model::Window;
+use broker_tables::session::Session;
+use broker_tables::subs::{ListIndex, SubIndex, TreeIndex};
 use broker_tables::{ClientRow, Tables};
 use packet::{ClientId, QoS};
 use packet_base::{Reader, Stop};
-use retained::{RetainedPublication, RetainedStore};
-use session::Session;
 use session_form::keep;
 use std::alloc::{AllocError, Global};
 use std::collections::BTreeMap;
-use subs::{ListIndex, SubIndex, TreeIndex};
 use topics::{Filter, TopicName};
 
 /// The most topics of which a publication is retained.

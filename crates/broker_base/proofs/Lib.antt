@@ -52,3 +52,5 @@ pub use Rattle.broker_model.proofs.SentToLive
 pub use Rattle.broker_model.proofs.CopiesAreUnasked
 pub use Rattle.broker_model.proofs.EntersWhereTaken
 pub use Rattle.broker_model.proofs.EntersAsPublished
+pub use Rattle.broker_model.proofs as of_broker_model
+pub use Rattle.broker_model.proofs.of_retained as of_retained

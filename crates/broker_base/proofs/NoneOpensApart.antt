@@ -1,6 +1,6 @@
 -- Where none of the sessions opens a connection, a connection stays that of one session at most.
 use Rattle.std.proofs.Common.{◌≡◌, ℕ, Some, None, [], ◌∷◌, ◌∙◌, sym}
-use Rattle.retained.specs.Retained.{RetainedTopics}
+use Rattle.broker_model.specs.retained.Retained.{RetainedTopics}
 use Rattle.broker_model.specs.Connection.{ConnectionName}
 use Rattle.broker_model.specs.Place.{Place}
 use Rattle.broker_model.specs.Past.{accepts}

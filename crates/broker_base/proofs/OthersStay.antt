@@ -1,7 +1,7 @@
 -- A session that a place does not touch stays as it is.
 use Rattle.std.proofs.Common.{◌≡◌, ℕ, Bool, true, false, if◌then◌else◌, Option, Some, None, ◌∷◌, length, refl, ap, sym}
 use Rattle.std.proofs.lemmas.Bool.{or_parts}
-use Rattle.retained.specs.Retained.{RetainedTopics}
+use Rattle.broker_model.specs.retained.Retained.{RetainedTopics}
 use Rattle.broker_model.specs.Place.{Client, Place, Past, Limits}
 use Rattle.broker_model.specs.Past.{accepts, ends_any, current_connection, session_of}
 use Rattle.broker_model.specs.Subscriptions.{subscriptions_of}

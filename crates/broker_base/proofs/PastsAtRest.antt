@@ -2,7 +2,7 @@
 -- connected client's queue is quiet, and its identifiers are distinct.
 use Rattle.std.proofs.Common.{◌≡◌, ℕ, ◌≤◌, Bool, true, false, not, ◌==◌, Option, Some, None, List, ◌∷◌, length, refl, ap, ◌∙◌, sym, subst}
 use Rattle.std.proofs.lemmas.Bool.{or_parts}
-use Rattle.lists.specs.Lists.{IsDistinct}
+use Rattle.session_base.specs.lists.Lists.{IsDistinct}
 use Rattle.session_base.specs.Laws.{IsQuietQueue}
 use Rattle.session_base.specs.Queue.{ids_of}
 use Rattle.session_base.proofs.IdentifiersStayApart.{distinct, pubrec_length}

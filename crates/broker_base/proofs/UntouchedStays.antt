@@ -2,14 +2,14 @@
 use Rattle.std.proofs.Common.{◌≡◌, ℕ, Bool, true, false, not, ◌&&◌, ◌||◌, if◌then◌else◌, Option, Some, None, List, [], ◌∷◌, refl, ap, ap₂, ◌∙◌}
 use Rattle.std.proofs.lemmas.Bool.{or_parts}
 use Rattle.session_base.specs.Subscriptions.{HeldFilter, granted_qos}
-use Rattle.packet.specs.declared.packet.Packet.TheVariants as packets
-use Rattle.retained.specs.Retained.{RetainedTopics}
+use Rattle.session_base.specs.packet.declared.packet.Packet.TheVariants as packets
+use Rattle.broker_model.specs.retained.Retained.{RetainedTopics}
 use Rattle.session_base.specs.Queue.{Queue}
 use Rattle.broker_model.specs.Connection.{ConnectionName}
 use Rattle.broker_model.specs.Place.{Client, same_client, Mark, Place, Past, Limits, only_if}
 use Rattle.broker_model.specs.Past.{accepts, any_connection, ends, expels, ends_any}
 use Rattle.session_base.specs.Publication.{publication_of, lower_qos}
-use Rattle.packet.specs.declared.qos.QoS.{QoS}
+use Rattle.session_base.specs.packet.declared.qos.QoS.{QoS}
 use Rattle.std.specs.Prelude.{option_map, is_some}
 use Rattle.broker_model.specs.Subscriptions.{subscribed}
 use Rattle.broker_model.specs.Received.{received_by}

@@ -1,14 +1,14 @@
 -- What becomes of a command, as the state decides (MQTT 3.1.4, 3.8.4, 4.3.3, 4.8).
 use Rattle.std.specs.Prelude.{Bool, false, not, ◌&&◌, ◌||◌, ◌==◌, nat_lt, nat_le, if◌then◌else◌, length, Option, Some, None, is_some, is_none, option_map}
 use Rattle.std.specs.List.{list_any}
-use Rattle.packet.specs.declared.delivery.Delivery.{Delivery}
-use Rattle.packet.specs.declared.delivery.Delivery.TheVariants as deliveries
-use Rattle.packet.specs.declared.packet.Packet.{Packet}
-use Rattle.packet.specs.declared.packet.Packet.TheVariants as packets
-use Rattle.retained.specs.Retained.{RetainedTopics, is_empty, publication_on}
+use Rattle.session_base.specs.packet.declared.delivery.Delivery.{Delivery}
+use Rattle.session_base.specs.packet.declared.delivery.Delivery.TheVariants as deliveries
+use Rattle.session_base.specs.packet.declared.packet.Packet.{Packet}
+use Rattle.session_base.specs.packet.declared.packet.Packet.TheVariants as packets
+use Rattle.broker_model.specs.retained.Retained.{RetainedTopics, is_empty, publication_on}
 use Rattle.session_base.specs.declared.publication.Publication.{Publication}
 use Rattle.session_base.specs.Publication.{publication_of, lower_qos}
-use Rattle.lists.specs.Lists.{has_id}
+use Rattle.session_base.specs.lists.Lists.{has_id}
 use Rattle.session_base.specs.Queue.{room}
 use Rattle.broker_model.specs.Place.{Client, Mark, Place, Limits}
 use Rattle.session_base.specs.Subscriptions.{granted_qos}

@@ -42,3 +42,5 @@ pub use Rattle.broker_model.specs.declared.command.Command
 pub use Rattle.broker_model.specs.declared.command.Output
 pub use Rattle.broker_model.specs.declared.connection_id.ConnectionId
 pub use Rattle.broker_model.specs.declared.sized_packet.SizedPacket
+pub use Rattle.broker_model.specs as broker_model
+pub use Rattle.broker_model.specs.retained as retained

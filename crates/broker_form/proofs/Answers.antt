@@ -19,7 +19,7 @@ use Rattle.packet.specs.declared.packet.Packet.TheVariants as packets
 use Rattle.packet.specs.declared.subscribe.Subscription.{Subscription}
 use Rattle.packet.specs.declared.subscribe.Subscribe.{Subscribe}
 use Rattle.packet.specs.declared.suback.SubackCode.{SubackCode}
-use Rattle.retained.specs.Retained.{RetainedTopics}
+use Rattle.broker_model.specs.retained.Retained.{RetainedTopics}
 use Rattle.session_base.specs.Queue.{room, on_puback, on_pubrec, on_pubcomp}
 use Rattle.session_base.specs.Subscriptions.{HeldFilter, with_subscription}
 use Rattle.broker_model.specs.Connection.{ConnectionName}

@@ -4,8 +4,8 @@ use Rattle.std.specs.Prelude.{is_some, is_none}
 use Rattle.std.specs.List.{AllByRecursion, list_any}
 use Rattle.packet.specs.declared.packet.Packet.TheVariants as packets
 use Rattle.packet.specs.declared.publish.Publish.{Publish}
-use Rattle.retained.specs.declared.retained_publication.RetainedPublication.{RetainedPublication}
-use Rattle.retained.specs.Retained.{RetainedTopics, IsRising, is_empty, publication_on, after_put}
+use Rattle.broker_model.specs.retained.declared.retained_publication.RetainedPublication.{RetainedPublication}
+use Rattle.broker_model.specs.retained.Retained.{RetainedTopics, IsRising, is_empty, publication_on, after_put}
 use Rattle.session_base.specs.declared.publication.Publication.{Publication}
 use Rattle.session_base.specs.Publication.{publication_of}
 use Rattle.broker_model.specs.Connection.{ConnectionName}

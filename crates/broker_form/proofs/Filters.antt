@@ -7,7 +7,7 @@ use Rattle.std.specs.declared.cmp.Ordering.TheVariants.{Less, Equal, Greater}
 use Rattle.std.specs.Ordering.{match_ordering, nat_cmp}
 use Rattle.std.specs.List.{AllByRecursion}
 use Rattle.std.proofs.lemmas.List.Elements.{recursion_from_All}
-use Rattle.topics.specs.Matching.{is_match}
+use Rattle.packet_base.specs.topics.Matching.{is_match}
 use Rattle.packet_base.specs.Spelling.{IsId}
 use Rattle.packet.specs.Subscribe.{FitsSubscription}
 use Rattle.packet.specs.declared.subscribe.Subscription.{Subscription}
@@ -17,8 +17,8 @@ use Rattle.packet.specs.declared.delivery.Delivery.TheVariants as deliveries
 use Rattle.packet.specs.Delivery.{FitsDelivery, delivery_qos}
 use Rattle.packet.specs.declared.packet.Packet.TheVariants as packets
 use Rattle.packet.specs.declared.qos.QoS.{QoS}
-use Rattle.retained.specs.declared.retained_publication.RetainedPublication.{RetainedPublication}
-use Rattle.retained.specs.Retained.{RetainedTopics, matching_entries}
+use Rattle.broker_model.specs.retained.declared.retained_publication.RetainedPublication.{RetainedPublication}
+use Rattle.broker_model.specs.retained.Retained.{RetainedTopics, matching_entries}
 use Rattle.session_base.specs.Publication.{publication_of, lower_qos}
 use Rattle.session_base.specs.Identifiers.{with_id}
 use Rattle.session_base.specs.Subscriptions.{HeldFilter, with_subscription, with_subscriptions, without_filter, without_filters, granted_qos}

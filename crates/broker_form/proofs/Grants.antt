@@ -4,7 +4,7 @@ use Rattle.std.specs.Prelude.{bytes_eq}
 use Rattle.std.proofs.lemmas.List.{length-append}
 use Rattle.std.proofs.lemmas.List.Elements.{filter-append}
 use Rattle.packet.specs.declared.subscribe.Subscription.{Subscription}
-use Rattle.retained.specs.Retained.{RetainedTopics}
+use Rattle.broker_model.specs.retained.Retained.{RetainedTopics}
 use Rattle.session_base.specs.declared.publication.Publication.{Publication}
 use Rattle.session_base.specs.Publication.{is_answered}
 use Rattle.session_base.specs.Subscriptions.{HeldFilter, is_held, with_subscription, with_subscriptions, without_filter, without_filters}

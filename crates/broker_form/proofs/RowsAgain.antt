@@ -8,7 +8,7 @@ use Rattle.packet_base.proofs.FieldsAgain.{front_again, text_again, topic_again}
 use Rattle.packet.specs.ClientId.{is_client}
 use Rattle.packet.specs.QoS.{qos_number}
 use Rattle.packet.proofs.Clients.{client_parts, client_short}
-use Rattle.retained.specs.declared.retained_publication.RetainedPublication.{RetainedPublication}
+use Rattle.broker_model.specs.retained.declared.retained_publication.RetainedPublication.{RetainedPublication}
 use Rattle.session_form.specs.Form.{long_number, flag_at, state_bytes}
 use Rattle.session_form.specs.FormLaws.{HasForm}
 use Rattle.session_form.proofs.Counted.{IsReadAgain}

@@ -6,11 +6,11 @@ use Rattle.std.proofs.lemmas.Nat.{be_bytes_8}
 use Rattle.packet_base.specs.declared.stop.Stop.{Stop}
 use Rattle.packet_base.specs.Spelling.{number, text, bit}
 use Rattle.packet_base.specs.Reading.{byte_at, front_at, number_at, text_at, topic_at, ended, is_text}
-use Rattle.topics.specs.Text.{is_topic}
+use Rattle.packet_base.specs.topics.Text.{is_topic}
 use Rattle.packet_base.proofs.Steps.{then_if, seq_if, check_if}
 use Rattle.packet_base.proofs.FieldsFound.{IsBytes, Splits, Splits-then, Splits-all, byte_found, front_found, text_found, topic_found, ended_found}
 use Rattle.packet.specs.ClientId.{is_client}
-use Rattle.retained.specs.declared.retained_publication.RetainedPublication.{RetainedPublication}
+use Rattle.broker_model.specs.retained.declared.retained_publication.RetainedPublication.{RetainedPublication}
 use Rattle.session_form.specs.Counted.{counted, counted_at}
 use Rattle.session_form.specs.Form.{long_number, long_number_at, flag_at, qos_at, state_bytes, state_at}
 use Rattle.session_form.proofs.Found.{weaker}

@@ -9,11 +9,11 @@ use Rattle.packet_base.specs.Reading.{byte_at, front_at, number_at, text_at, top
 use Rattle.packet_base.proofs.Steps.{then_if, check_if, seq_if}
 use Rattle.packet_base.proofs.FieldsAgain.{number_again}
 use Rattle.packet_base.proofs.FieldsFound.{IsBytes, Splits, text_found, topic_found, ended_found}
-use Rattle.topics.specs.Text.{is_topic}
+use Rattle.packet_base.specs.topics.Text.{is_topic}
 use Rattle.packet.specs.ClientId.{is_client}
 use Rattle.packet.specs.Spelling.{longest_body}
-use Rattle.retained.specs.declared.retained_publication.RetainedPublication.{RetainedPublication}
-use Rattle.retained.specs.Retained.{RetainedTopics}
+use Rattle.broker_model.specs.retained.declared.retained_publication.RetainedPublication.{RetainedPublication}
+use Rattle.broker_model.specs.retained.Retained.{RetainedTopics}
 use Rattle.session_form.specs.Counted.{counted, counted_at}
 use Rattle.session_form.specs.Form.{flag_at, qos_at, long_number_at, body_length, state_at}
 use Rattle.session_form.specs.FormLaws.{HasForm, FitsIn}

@@ -9,7 +9,7 @@ use Rattle.packet_base.specs.Reading.{◌>>=◌, ◌>>◌, byte_at, front_at, nu
 use Rattle.packet.specs.ClientId.{is_client}
 use Rattle.packet.specs.QoS.{qos_number}
 use Rattle.packet.specs.Spelling.{longest_body}
-use Rattle.retained.specs.declared.retained_publication.RetainedPublication.{RetainedPublication}
+use Rattle.broker_model.specs.retained.declared.retained_publication.RetainedPublication.{RetainedPublication}
 use Rattle.session_form.specs.Counted.{keep, last_of, counted, counted_at}
 use Rattle.session_form.specs.Form.{long_number, long_number_at, flag_at, qos_at, body_length, state_bytes, state_at}
 use Rattle.broker_model.specs.Connection.{ConnectionName, is_connection_name}

@@ -4,8 +4,8 @@ use Rattle.std.specs.Prelude.{ℕ, ◌≤◌, IsTrue, true, List, length, Option
 use Rattle.std.specs.List.{AllByRecursion}
 use Rattle.packet_base.specs.Spelling.{IsId}
 use Rattle.packet.specs.ClientId.{is_client}
-use Rattle.retained.specs.declared.retained_publication.RetainedPublication.{RetainedPublication}
-use Rattle.retained.specs.Retained.{IsRising}
+use Rattle.broker_model.specs.retained.declared.retained_publication.RetainedPublication.{RetainedPublication}
+use Rattle.broker_model.specs.retained.Retained.{IsRising}
 use Rattle.session_form.specs.InRange.{CanBeSent, IsHeld, IsQueue}
 use Rattle.session_base.specs.declared.publication.Publication.{Publication}
 use Rattle.broker_model.specs.Connection.{ConnectionName, IsConnectionName}

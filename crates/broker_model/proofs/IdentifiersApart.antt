@@ -5,7 +5,7 @@ use Rattle.broker_model.specs.Connection.{ConnectionName}
 use Rattle.broker_model.specs.Place.{Client, Past, Limits}
 use Rattle.broker_model.specs.Past.{current_connection, session_of, begins, in_session}
 use Rattle.session_base.specs.declared.publication.Publication.{Publication}
-use Rattle.lists.specs.Lists.{has_id, IsDistinct}
+use Rattle.retained.specs.lists.Lists.{has_id, IsDistinct}
 use Rattle.broker_model.specs.Entries.{Entry, copies_at, queued}
 use Rattle.broker_model.specs.Readings.{busy_ids}
 use Rattle.session_base.specs.Identifiers.{least_free}

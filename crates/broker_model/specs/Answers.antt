@@ -1,19 +1,19 @@
 -- What the broker answers to a command, in order (MQTT 3.1.4, 3.2, 3.3.4, 3.8.4, 3.10.4, 3.12.4, 4.3).
 use Rattle.std.specs.Prelude.{suc, Bool, not, if◌then◌else◌, List, [], ◌∷◌, ◌++◌, length, flat_map, Option, Some, None}
-use Rattle.packet.specs.RefusalCode.TheVariants as refusals
-use Rattle.packet.specs.declared.connack.Connack.TheVariants as connacks
-use Rattle.packet.specs.declared.delivery.Delivery.{Delivery}
-use Rattle.packet.specs.declared.delivery.Delivery.TheVariants as deliveries
-use Rattle.packet.specs.declared.subscribe.Subscription.{Subscription}
-use Rattle.packet.specs.declared.suback.SubackCode.{SubackCode}
-use Rattle.packet.specs.declared.suback.SubackCode.TheVariants as codes
-use Rattle.packet.specs.declared.packet.Packet.{Packet}
-use Rattle.packet.specs.declared.packet.Packet.TheVariants as packets
+use Rattle.retained.specs.packet.RefusalCode.TheVariants as refusals
+use Rattle.retained.specs.packet.declared.connack.Connack.TheVariants as connacks
+use Rattle.retained.specs.packet.declared.delivery.Delivery.{Delivery}
+use Rattle.retained.specs.packet.declared.delivery.Delivery.TheVariants as deliveries
+use Rattle.retained.specs.packet.declared.subscribe.Subscription.{Subscription}
+use Rattle.retained.specs.packet.declared.suback.SubackCode.{SubackCode}
+use Rattle.retained.specs.packet.declared.suback.SubackCode.TheVariants as codes
+use Rattle.retained.specs.packet.declared.packet.Packet.{Packet}
+use Rattle.retained.specs.packet.declared.packet.Packet.TheVariants as packets
 use Rattle.broker_model.specs.Connection.{ConnectionName}
 use Rattle.broker_model.specs.Place.{Client, Mark, Place, Past, Limits}
 use Rattle.broker_model.specs.Past.{current_connection, begins}
 use Rattle.broker_model.specs.Owner.{clients}
-use Rattle.lists.specs.Lists.{has_id}
+use Rattle.retained.specs.lists.Lists.{has_id}
 use Rattle.broker_model.specs.Readings.{released_below}
 use Rattle.broker_model.specs.Times.{entries_of}
 use Rattle.broker_model.specs.Sends.{all_started, resent, deliveries_to}

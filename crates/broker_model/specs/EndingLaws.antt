@@ -1,7 +1,7 @@
 -- What readers may want to know of a session that has ended: its connections get nothing more (MQTT 3.1.2.4, 4.1).
 use Rattle.std.specs.Prelude.{◌≡◌, ◌≤◌, ◌+◌, ℕ, Bool, false, if◌then◌else◌, List, [], ◌∷◌, ◌++◌, Some}
-use Rattle.packet.specs.declared.packet.Packet.{Packet}
-use Rattle.lists.specs.Lists.{In}
+use Rattle.retained.specs.packet.declared.packet.Packet.{Packet}
+use Rattle.retained.specs.lists.Lists.{In}
 use Rattle.broker_model.specs.Connection.{ConnectionName, same_connection}
 use Rattle.broker_model.specs.Place.{Client, Place, Past, Limits}
 use Rattle.broker_model.specs.Past.{accepts, session_start}

@@ -1,9 +1,9 @@
 -- What a session's queue is given: copies of publications (MQTT 3.3.1.3, 3.3.5, 3.8.4), and where each stands on
 -- its way to the client (MQTT 4.3).
 use Rattle.std.specs.Prelude.{ℕ, Bool, true, false, if◌then◌else◌, List, [], ◌∷◌, ◌++◌, map, filter, Option, Some, None}
-use Rattle.packet.specs.declared.qos.QoS.{QoS}
-use Rattle.packet.specs.declared.subscribe.Subscription.{Subscription}
-use Rattle.packet.specs.declared.packet.Packet.TheVariants as packets
+use Rattle.retained.specs.packet.declared.qos.QoS.{QoS}
+use Rattle.retained.specs.packet.declared.subscribe.Subscription.{Subscription}
+use Rattle.retained.specs.packet.declared.packet.Packet.TheVariants as packets
 use Rattle.retained.specs.declared.retained_publication.RetainedPublication.{RetainedPublication}
 use Rattle.retained.specs.Retained.{RetainedTopics, matching_entries}
 use Rattle.broker_model.specs.Place.{Client, same_client, Mark, Place, Past}

@@ -1,8 +1,8 @@
 -- Worked rows: a client is expelled, and what was kept for it is gone (MQTT 3.1.2.4, 4.1).
 use Rattle.std.specs.Prelude.{◌≡◌, true, false, List, [], ◌∷◌, ◌++◌, codes, Some, None}
-use Rattle.packet.specs.declared.qos.QoS.TheVariants as levels
-use Rattle.packet.specs.declared.delivery.Delivery.TheVariants as deliveries
-use Rattle.packet.specs.declared.packet.Packet.TheVariants as packets
+use Rattle.retained.specs.packet.declared.qos.QoS.TheVariants as levels
+use Rattle.retained.specs.packet.declared.delivery.Delivery.TheVariants as deliveries
+use Rattle.retained.specs.packet.declared.packet.Packet.TheVariants as packets
 use Rattle.broker_model.specs.Past.{current_connection, session_of, session_start}
 use Rattle.broker_model.specs.Times.{entries_of}
 use Rattle.broker_model.specs.Received.{received_of}

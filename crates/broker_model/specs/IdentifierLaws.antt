@@ -6,7 +6,7 @@ use Rattle.broker_model.specs.Entries.{Entry}
 use Rattle.broker_model.specs.Readings.{busy_ids}
 use Rattle.broker_model.specs.Times.{entries_of, window_at}
 use Rattle.broker_model.specs.Commands.{usual_limits}
-use Rattle.lists.specs.Lists.{IsDistinct}
+use Rattle.retained.specs.lists.Lists.{IsDistinct}
 
 -- no two entries of a session that are under way have one identifier (MQTT 2.3.1)
 abbrev pub IdentifiersAreDistinct : Type 0

@@ -1,16 +1,16 @@
 -- What readers may want to know of the definitions: connections, received identifiers and subscriptions.
 use Rattle.std.specs.Prelude.{◌≡◌, ◌↔◌, ℕ, Bool, true, false, ◌&&◌, ◌==◌, if◌then◌else◌, List, [], ◌∷◌, ◌++◌, bytes_eq, Option, Some, None, option_map}
 use Rattle.std.specs.List.{AllByRecursion, list_any}
-use Rattle.packet.specs.declared.qos.QoS.{QoS}
-use Rattle.packet.specs.declared.delivery.Delivery.{Delivery}
-use Rattle.packet.specs.declared.delivery.Delivery.TheVariants as deliveries
-use Rattle.packet.specs.declared.subscribe.Subscription.{Subscription}
-use Rattle.packet.specs.declared.packet.Packet.TheVariants as packets
+use Rattle.retained.specs.packet.declared.qos.QoS.{QoS}
+use Rattle.retained.specs.packet.declared.delivery.Delivery.{Delivery}
+use Rattle.retained.specs.packet.declared.delivery.Delivery.TheVariants as deliveries
+use Rattle.retained.specs.packet.declared.subscribe.Subscription.{Subscription}
+use Rattle.retained.specs.packet.declared.packet.Packet.TheVariants as packets
 use Rattle.broker_model.specs.Connection.{ConnectionName}
 use Rattle.broker_model.specs.Place.{Client, same_client, Mark, Place, Past}
 use Rattle.broker_model.specs.Past.{accepts, ends_any, current_connection, session_of, begins, in_session}
 use Rattle.broker_model.specs.Subscriptions.{granted_of, subscriptions_of}
-use Rattle.lists.specs.Lists.{has_id}
+use Rattle.retained.specs.lists.Lists.{has_id}
 use Rattle.session_base.specs.Subscriptions.{HeldFilter}
 use Rattle.broker_model.specs.Received.{received_of}
 use Rattle.broker_model.specs.declared.command.Command.{Command}

@@ -1,11 +1,11 @@
 -- Worked rows: the limits of a broker, and what is answered where one is met (MQTT 3.1.4, 3.2.2.3, 3.9.3, 4.8).
 use Rattle.std.specs.Prelude.{◌≡◌, ℕ, true, false, List, [], ◌∷◌, ◌++◌, codes}
-use Rattle.packet.specs.RefusalCode.TheVariants as refusals
-use Rattle.packet.specs.declared.connack.Connack.TheVariants as connacks
-use Rattle.packet.specs.declared.qos.QoS.TheVariants as levels
-use Rattle.packet.specs.declared.delivery.Delivery.TheVariants as deliveries
-use Rattle.packet.specs.declared.suback.SubackCode.TheVariants as answers
-use Rattle.packet.specs.declared.packet.Packet.TheVariants as packets
+use Rattle.retained.specs.packet.RefusalCode.TheVariants as refusals
+use Rattle.retained.specs.packet.declared.connack.Connack.TheVariants as connacks
+use Rattle.retained.specs.packet.declared.qos.QoS.TheVariants as levels
+use Rattle.retained.specs.packet.declared.delivery.Delivery.TheVariants as deliveries
+use Rattle.retained.specs.packet.declared.suback.SubackCode.TheVariants as answers
+use Rattle.retained.specs.packet.declared.packet.Packet.TheVariants as packets
 use Rattle.broker_model.specs.Place.{Past}
 use Rattle.broker_model.specs.Commands.{limits_with, usual_limits}
 use Rattle.broker_model.specs.Connection.{is_connection_name}

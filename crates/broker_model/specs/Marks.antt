@@ -1,10 +1,10 @@
 -- What becomes of a command, as the places below it decide (MQTT 3.1.4, 3.8.4, 4.3.3, 4.8).
 use Rattle.std.specs.Prelude.{ℕ, ◌-◌, Bool, true, false, not, ◌&&◌, ◌||◌, ◌==◌, nat_lt, nat_le, if◌then◌else◌, List, [], ◌∷◌, length, Option, Some, None, is_some}
 use Rattle.std.specs.List.{list_any}
-use Rattle.packet.specs.declared.qos.QoS.{QoS}
-use Rattle.packet.specs.declared.subscribe.Subscription.{Subscription}
-use Rattle.packet.specs.declared.packet.Packet.{Packet}
-use Rattle.packet.specs.declared.packet.Packet.TheVariants as packets
+use Rattle.retained.specs.packet.declared.qos.QoS.{QoS}
+use Rattle.retained.specs.packet.declared.subscribe.Subscription.{Subscription}
+use Rattle.retained.specs.packet.declared.packet.Packet.{Packet}
+use Rattle.retained.specs.packet.declared.packet.Packet.TheVariants as packets
 use Rattle.retained.specs.Retained.{RetainedTopics}
 use Rattle.broker_model.specs.Place.{Client, Mark, Past, Limits}
 use Rattle.broker_model.specs.Past.{session_of}

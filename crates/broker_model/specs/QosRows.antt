@@ -1,11 +1,11 @@
 -- Worked rows: at which QoS a publication is delivered and retained, with which identifier, and with which DUP flag
 -- (MQTT 3.3.1, 3.3.5, 3.8.4, 4.3, 4.4).
 use Rattle.std.specs.Prelude.{ℕ, Bool, true, false, List, [], ◌∷◌, ◌++◌, codes}
-use Rattle.packet.specs.declared.qos.QoS.{QoS}
-use Rattle.packet.specs.declared.qos.QoS.TheVariants as levels
-use Rattle.packet.specs.declared.delivery.Delivery.{Delivery}
-use Rattle.packet.specs.declared.delivery.Delivery.TheVariants as deliveries
-use Rattle.packet.specs.declared.packet.Packet.TheVariants as packets
+use Rattle.retained.specs.packet.declared.qos.QoS.{QoS}
+use Rattle.retained.specs.packet.declared.qos.QoS.TheVariants as levels
+use Rattle.retained.specs.packet.declared.delivery.Delivery.{Delivery}
+use Rattle.retained.specs.packet.declared.delivery.Delivery.TheVariants as deliveries
+use Rattle.retained.specs.packet.declared.packet.Packet.TheVariants as packets
 use Rattle.broker_model.specs.Commands.{usual_limits}
 use Rattle.broker_model.specs.RowWords.{Gives, a, b, nth, connect, gets, sends, connack, publish, subscribe, suback, subscribed_at}
 use Rattle.broker_model.specs.declared.command.Command.{Command}

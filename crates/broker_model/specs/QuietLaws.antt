@@ -1,6 +1,6 @@
 -- A packet of a connection that is nobody's current one: nothing changes, and nothing is given.
 use Rattle.std.specs.Prelude.{◌≡◌, ℕ, false, [], ◌∷◌, None}
-use Rattle.packet.specs.declared.packet.Packet.{Packet}
+use Rattle.retained.specs.packet.declared.packet.Packet.{Packet}
 use Rattle.broker_model.specs.Connection.{ConnectionName}
 use Rattle.broker_model.specs.Place.{Client, Place, Past, Limits}
 use Rattle.broker_model.specs.Past.{current_connection, session_of}

@@ -1,9 +1,9 @@
 -- Worked rows: lists of commands, and the answers that the standard and this broker's profile give.
 use Rattle.std.specs.Prelude.{true, false, List, [], ◌∷◌, ◌++◌, codes}
-use Rattle.packet.specs.declared.qos.QoS.TheVariants as levels
-use Rattle.packet.specs.declared.delivery.Delivery.TheVariants as deliveries
-use Rattle.packet.specs.declared.suback.SubackCode.TheVariants as answers
-use Rattle.packet.specs.declared.packet.Packet.TheVariants as packets
+use Rattle.retained.specs.packet.declared.qos.QoS.TheVariants as levels
+use Rattle.retained.specs.packet.declared.delivery.Delivery.TheVariants as deliveries
+use Rattle.retained.specs.packet.declared.suback.SubackCode.TheVariants as answers
+use Rattle.retained.specs.packet.declared.packet.Packet.TheVariants as packets
 use Rattle.broker_model.specs.Commands.{usual_limits}
 use Rattle.broker_model.specs.RowWords.{Gives, a, b, nth, connect, gets, sends, connack, publish, subscribe, suback, subscribed_at}
 use Rattle.broker_model.specs.declared.command.Command.{Command}

@@ -1,9 +1,9 @@
 -- Worked rows: where a session begins and ends, and the places at which an entry is made, starts, is released and
 -- finishes (MQTT 3.1.2.4, 4.1, 4.3).
 use Rattle.std.specs.Prelude.{◌≡◌, ℕ, Bool, true, false, List, [], ◌∷◌, ◌++◌, map, codes, Option, Some, None}
-use Rattle.packet.specs.declared.qos.QoS.TheVariants as levels
-use Rattle.packet.specs.declared.delivery.Delivery.TheVariants as deliveries
-use Rattle.packet.specs.declared.packet.Packet.TheVariants as packets
+use Rattle.retained.specs.packet.declared.qos.QoS.TheVariants as levels
+use Rattle.retained.specs.packet.declared.delivery.Delivery.TheVariants as deliveries
+use Rattle.retained.specs.packet.declared.packet.Packet.TheVariants as packets
 use Rattle.broker_model.specs.Place.{Client}
 use Rattle.broker_model.specs.Past.{ends_session, session_start, StandsIn}
 use Rattle.broker_model.specs.Owner.{owner_of, IsLive}

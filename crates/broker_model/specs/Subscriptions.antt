@@ -1,8 +1,8 @@
 -- The subscriptions of a session, and at which QoS it gets a publication (MQTT 3.3.5, 3.8.4, 3.10.4).
 use Rattle.std.specs.Prelude.{Bool, if◌then◌else◌, List, [], ◌∷◌, map, Option, option_map}
-use Rattle.packet.specs.declared.qos.QoS.{QoS}
-use Rattle.packet.specs.declared.subscribe.Subscription.{Subscription}
-use Rattle.packet.specs.declared.packet.Packet.TheVariants as packets
+use Rattle.retained.specs.packet.declared.qos.QoS.{QoS}
+use Rattle.retained.specs.packet.declared.subscribe.Subscription.{Subscription}
+use Rattle.retained.specs.packet.declared.packet.Packet.TheVariants as packets
 use Rattle.broker_model.specs.Place.{Client, same_client, Mark, Past}
 use Rattle.broker_model.specs.Past.{session_of, begins, in_session}
 use Rattle.session_base.specs.declared.publication.Publication.{Publication}

@@ -1,15 +1,15 @@
 -- What readers may want to know of the places that take a publication (MQTT 3.3.5, 4.3.3).
 use Rattle.std.specs.Prelude.{◌≡◌, Bool, true, false, List, [], ◌∷◌, length, filter, map, Option, Some}
-use Rattle.packet.specs.declared.qos.QoS.{QoS}
-use Rattle.packet.specs.declared.qos.QoS.TheVariants as levels
-use Rattle.packet.specs.declared.publish.Publish.{Publish}
+use Rattle.retained.specs.packet.declared.qos.QoS.{QoS}
+use Rattle.retained.specs.packet.declared.qos.QoS.TheVariants as levels
+use Rattle.retained.specs.packet.declared.publish.Publish.{Publish}
 use Rattle.session_base.specs.declared.publication.Publication.{Publication}
 use Rattle.session_base.specs.Publication.{publication_of}
 use Rattle.broker_model.specs.Connection.{ConnectionName}
 use Rattle.broker_model.specs.Subscriptions.{effective_qos}
 use Rattle.broker_model.specs.Readings.{publication_in}
 use Rattle.broker_model.specs.EntryLaws.{taken}
-use Rattle.packet.specs.declared.packet.Packet.TheVariants as packets
+use Rattle.retained.specs.packet.declared.packet.Packet.TheVariants as packets
 use Rattle.broker_model.specs.Place.{Client, Mark, Place, Past, Limits}
 use Rattle.broker_model.specs.Times.{entries_of}
 use Rattle.broker_model.specs.OriginLaws.{is_from_publish}

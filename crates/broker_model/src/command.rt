@@ -5,7 +5,7 @@ ghost use Rattle.broker_model.specs.Logged.{IsBrokerCommand};
 
 use crate::connection_id::ConnectionId;
 use crate::sized_packet::SizedPacket;
-use packet::{ClientId, Packet};
+use retained::packet::{ClientId, Packet};
 use std::alloc::AllocError;
 
 /// A command of the broker's log.

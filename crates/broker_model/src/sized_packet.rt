@@ -1,10 +1,10 @@
 // A packet that the log may hold.
 
 ghost use Rattle.std.specs.Prelude.{◌≡◌, ◌↔◌, IfOk, IsOk, IsErrOf};
-ghost use Rattle.packet.specs.Spelling.{Fits, IsListed, IsTooLarge};
+ghost use Rattle.retained.specs.packet.Spelling.{Fits, IsListed, IsTooLarge};
 ghost use Rattle.broker_model.specs.Sized.{IsSized, unspellable_number};
 
-use packet::Packet;
+use retained::packet::Packet;
 use std::alloc::AllocError;
 use std::error::Error;
 use std::fmt;
@@ -18,7 +18,7 @@ pub struct SizedPacket {
 }
 
 impl Model for SizedPacket {
-    ghost use Rattle.packet.specs.declared.packet.Packet.{Packet};
+    ghost use Rattle.retained.specs.packet.declared.packet.Packet.{Packet};
     ghost use Rattle.broker_model.specs.Sized.{IsSized};
 
     ghost Value = { Packet };

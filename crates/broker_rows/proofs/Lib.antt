@@ -20,3 +20,4 @@ pub mod publications
 pub use Rattle.broker_rows.proofs.publications.GrantedBySessions
 pub use Rattle.broker_rows.proofs.publications.OneChanged
 pub use Rattle.broker_rows.proofs.publications.PublishSteps
+pub use Rattle.subs.proofs.of_subs_tree as of_subs_tree

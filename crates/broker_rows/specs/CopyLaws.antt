@@ -1,14 +1,14 @@
 -- Copies that come to a connected client's session in parts, as a loop brings them, and a SUBSCRIBE
 -- filter by filter (MQTT 3.8.4, 4.6).
 use Rattle.std.specs.Prelude.{◌≡◌, ℕ, ◌-◌, Bool, true, false, not, ◌||◌, nat_lt, if◌then◌else◌, List, [], ◌∷◌, ◌++◌, length}
-use Rattle.packet.specs.declared.packet.Packet.{Packet}
-use Rattle.packet.specs.declared.subscribe.Subscription.{Subscription}
-use Rattle.retained.specs.Retained.{RetainedTopics}
-use Rattle.session_base.specs.declared.publication.Publication.{Publication}
-use Rattle.session_base.specs.Publication.{is_answered}
-use Rattle.session_base.specs.Session.{SessionState}
-use Rattle.session_base.specs.Queue.{Queue, room, copies_left}
-use Rattle.session_base.specs.Sending.{copies_sent}
+use Rattle.subs.specs.packet.declared.packet.Packet.{Packet}
+use Rattle.subs.specs.packet.declared.subscribe.Subscription.{Subscription}
+use Rattle.broker_model.specs.retained.Retained.{RetainedTopics}
+use Rattle.broker_model.specs.session_base.declared.publication.Publication.{Publication}
+use Rattle.broker_model.specs.session_base.Publication.{is_answered}
+use Rattle.broker_model.specs.session_base.Session.{SessionState}
+use Rattle.broker_model.specs.session_base.Queue.{Queue, room, copies_left}
+use Rattle.broker_model.specs.session_base.Sending.{copies_sent}
 use Rattle.broker_base.specs.Place.{Limits}
 use Rattle.broker_base.specs.Subscriptions.{granted_of}
 use Rattle.broker_base.specs.Entries.{copies_for, copies_for_all, queued}

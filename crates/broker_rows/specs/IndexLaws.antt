@@ -2,9 +2,9 @@
 -- them before (MQTT 3.1.2.4, 3.8.4, 3.10.4).
 use Rattle.std.specs.Prelude.{◌≡◌, ℕ, Bool, if◌then◌else◌, List, Some}
 use Rattle.std.specs.BTreeMap.{insert_entry}
-use Rattle.packet.specs.declared.delivery.Delivery.{Delivery}
-use Rattle.session_base.specs.declared.publication.Publication.{Publication}
-use Rattle.session_base.specs.Subscriptions.{HeldFilter, with_subscriptions, without_filters}
+use Rattle.subs.specs.packet.declared.delivery.Delivery.{Delivery}
+use Rattle.broker_model.specs.session_base.declared.publication.Publication.{Publication}
+use Rattle.broker_model.specs.session_base.Subscriptions.{HeldFilter, with_subscriptions, without_filters}
 use Rattle.subs.specs.Content.{no_subscriptions, without_client}
 use Rattle.subs.specs.Granted.{Row}
 use Rattle.broker_base.specs.Connection.{ConnectionName}

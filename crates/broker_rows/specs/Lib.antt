@@ -14,3 +14,5 @@ pub mod Rows
 pub mod OwnerLaws
 pub mod IndexLaws
 pub mod PublicationLaws
+pub use Rattle.broker_base.specs as broker_base
+pub use Rattle.subs.specs.subs_base as subs_base

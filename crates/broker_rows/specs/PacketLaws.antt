@@ -1,17 +1,17 @@
 -- What a packet of a served client does where its connection goes on: one session is written, and
 -- its client alone is answered (MQTT 3.8.4, 3.10.4, 3.12.4, 4.3, 4.6).
 use Rattle.std.specs.Prelude.{◌≡◌, ℕ, Bool, true, List, [], ◌∷◌, map, Some, None}
-use Rattle.packet.specs.declared.subscribe.Subscription.{Subscription}
-use Rattle.packet.specs.declared.subscribe.Subscribe.{Subscribe}
-use Rattle.packet.specs.declared.publish.Publish.{Publish}
-use Rattle.packet.specs.declared.packet.Packet.{Packet}
-use Rattle.packet.specs.declared.packet.Packet.TheVariants as packets
-use Rattle.retained.specs.Retained.{RetainedTopics}
-use Rattle.session_base.specs.Identifiers.{without_id}
-use Rattle.session_base.specs.Session.{SessionState, with_filters, with_received, with_queue, with_flights}
-use Rattle.session_base.specs.Subscriptions.{with_subscriptions, without_filters}
-use Rattle.session_base.specs.Queue.{room, on_puback, on_pubrec, on_pubcomp, filled, copies_left}
-use Rattle.session_base.specs.Sending.{copies_sent}
+use Rattle.subs.specs.packet.declared.subscribe.Subscription.{Subscription}
+use Rattle.subs.specs.packet.declared.subscribe.Subscribe.{Subscribe}
+use Rattle.subs.specs.packet.declared.publish.Publish.{Publish}
+use Rattle.subs.specs.packet.declared.packet.Packet.{Packet}
+use Rattle.subs.specs.packet.declared.packet.Packet.TheVariants as packets
+use Rattle.broker_model.specs.retained.Retained.{RetainedTopics}
+use Rattle.broker_model.specs.session_base.Identifiers.{without_id}
+use Rattle.broker_model.specs.session_base.Session.{SessionState, with_filters, with_received, with_queue, with_flights}
+use Rattle.broker_model.specs.session_base.Subscriptions.{with_subscriptions, without_filters}
+use Rattle.broker_model.specs.session_base.Queue.{room, on_puback, on_pubrec, on_pubcomp, filled, copies_left}
+use Rattle.broker_model.specs.session_base.Sending.{copies_sent}
 use Rattle.broker_base.specs.Connection.{ConnectionName}
 use Rattle.broker_base.specs.Place.{Client, Mark, Limits}
 use Rattle.broker_base.specs.Subscriptions.{as_held, granted_of}

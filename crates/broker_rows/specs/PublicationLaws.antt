@@ -1,10 +1,10 @@
 -- A taken publication asks the rows that an index grants, and no others (MQTT 3.3.5).
 use Rattle.std.specs.Prelude.{◌≡◌, ℕ, List, flat_map}
 use Rattle.std.specs.List.{list_any}
-use Rattle.packet.specs.declared.publish.Publish.{Publish}
-use Rattle.retained.specs.Retained.{RetainedTopics}
-use Rattle.session_base.specs.declared.publication.Publication.{Publication}
-use Rattle.session_base.specs.Publication.{publication_of}
+use Rattle.subs.specs.packet.declared.publish.Publish.{Publish}
+use Rattle.broker_model.specs.retained.Retained.{RetainedTopics}
+use Rattle.broker_model.specs.session_base.declared.publication.Publication.{Publication}
+use Rattle.broker_model.specs.session_base.Publication.{publication_of}
 use Rattle.subs.specs.Content.{Content}
 use Rattle.subs.specs.Granted.{Row, IsGranted}
 use Rattle.broker_base.specs.Connection.{ConnectionName}

@@ -2,11 +2,11 @@
 -- and the granted rows alone are touched, each of them once (MQTT 3.3.1.3, 3.3.4, 3.3.5, 4.3).
 use Rattle.std.specs.Prelude.{◌≡◌, ℕ, Bool, false, true, ◌||◌, List, [], ◌∷◌, ◌++◌, Some, None}
 use Rattle.std.specs.List.{list_any}
-use Rattle.packet.specs.declared.publish.Publish.{Publish}
-use Rattle.packet.specs.declared.delivery.Delivery.{Delivery}
-use Rattle.packet.specs.declared.packet.Packet.TheVariants as packets
-use Rattle.session_base.specs.declared.publication.Publication.{Publication}
-use Rattle.session_base.specs.Publication.{publication_of}
+use Rattle.subs.specs.packet.declared.publish.Publish.{Publish}
+use Rattle.subs.specs.packet.declared.delivery.Delivery.{Delivery}
+use Rattle.subs.specs.packet.declared.packet.Packet.TheVariants as packets
+use Rattle.broker_model.specs.session_base.declared.publication.Publication.{Publication}
+use Rattle.broker_model.specs.session_base.Publication.{publication_of}
 use Rattle.broker_base.specs.Connection.{ConnectionName}
 use Rattle.broker_base.specs.Place.{Client, Limits}
 use Rattle.broker_base.specs.Answers.{acknowledged}

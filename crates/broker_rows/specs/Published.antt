@@ -2,15 +2,15 @@
 -- needs, and what each of them is sent.
 use Rattle.std.specs.Prelude.{ℕ, Bool, false, ◌&&◌, ◌==◌, List, [], ◌∷◌, ◌++◌, Option, Some, None, option_map}
 use Rattle.std.specs.List.{fold}
-use Rattle.packet.specs.declared.qos.QoS.{QoS}
-use Rattle.packet.specs.declared.delivery.Delivery.{Delivery}
-use Rattle.session_base.specs.declared.publication.Publication.{Publication}
-use Rattle.session_base.specs.Publication.{is_answered, lower_qos}
-use Rattle.session_base.specs.Queue.{room}
-use Rattle.session_base.specs.Session.{with_received, with_queue}
-use Rattle.session_base.specs.Sending.{copies_sent}
+use Rattle.subs.specs.packet.declared.qos.QoS.{QoS}
+use Rattle.subs.specs.packet.declared.delivery.Delivery.{Delivery}
+use Rattle.broker_model.specs.session_base.declared.publication.Publication.{Publication}
+use Rattle.broker_model.specs.session_base.Publication.{is_answered, lower_qos}
+use Rattle.broker_model.specs.session_base.Queue.{room}
+use Rattle.broker_model.specs.session_base.Session.{with_received, with_queue}
+use Rattle.broker_model.specs.session_base.Sending.{copies_sent}
 use Rattle.broker_base.specs.Place.{Client, Limits}
-use Rattle.session_base.specs.Subscriptions.{granted_qos}
+use Rattle.broker_model.specs.session_base.Subscriptions.{granted_qos}
 use Rattle.broker_base.specs.Entries.{copy_of}
 use Rattle.broker_base.specs.Received.{receives}
 use Rattle.broker_base.specs.SessionStep.{copied_queue}

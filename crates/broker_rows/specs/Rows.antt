@@ -2,14 +2,14 @@
 -- served on connection 1, b is away and holds t/# at QoS 1, and c is clean, served on connection 2
 -- and holds t/1 at QoS 2.
 use Rattle.std.specs.Prelude.{◌≡◌, ℕ, Bool, true, false, List, [], ◌∷◌, Option, Some, None, codes}
-use Rattle.packet.specs.declared.qos.QoS.{QoS}
-use Rattle.packet.specs.declared.qos.QoS.TheVariants as levels
-use Rattle.packet.specs.declared.delivery.Delivery.{Delivery}
-use Rattle.packet.specs.declared.delivery.Delivery.TheVariants as deliveries
-use Rattle.session_base.specs.declared.publication.Publication.{Publication}
-use Rattle.session_base.specs.declared.awaits.Awaits.TheVariants as waits_for
-use Rattle.session_base.specs.Subscriptions.{HeldFilter}
-use Rattle.session_base.specs.Queue.{Queue, empty_queue}
+use Rattle.subs.specs.packet.declared.qos.QoS.{QoS}
+use Rattle.subs.specs.packet.declared.qos.QoS.TheVariants as levels
+use Rattle.subs.specs.packet.declared.delivery.Delivery.{Delivery}
+use Rattle.subs.specs.packet.declared.delivery.Delivery.TheVariants as deliveries
+use Rattle.broker_model.specs.session_base.declared.publication.Publication.{Publication}
+use Rattle.broker_model.specs.session_base.declared.awaits.Awaits.TheVariants as waits_for
+use Rattle.broker_model.specs.session_base.Subscriptions.{HeldFilter}
+use Rattle.broker_model.specs.session_base.Queue.{Queue, empty_queue}
 use Rattle.broker_base.specs.Connection.{ConnectionName}
 use Rattle.broker_base.specs.Place.{Client}
 use Rattle.broker_base.specs.ClientSession.{ClientSession}

@@ -31,3 +31,4 @@ pub use publish_laws::{
     taken_publication_steps,
 };
 pub use rows::{maps_of_three_clients, one_publication_for_three_clients};
+pub use subs;

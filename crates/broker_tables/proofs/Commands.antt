@@ -5,7 +5,7 @@ use Rattle.broker_model.specs.Connection.{ConnectionName}
 use Rattle.broker_model.specs.Commands.{usual_limits}
 use Rattle.broker_model.specs.declared.command.Command.{Command}
 use Rattle.broker_model.specs.declared.command.Command.TheVariants as commands
-use Rattle.broker_base.specs.Step.{step}
+use Rattle.broker_rows.specs.broker_base.Step.{step}
 use Rattle.broker_tables.specs.declared.tables.Tables.{Tables}
 use Rattle.broker_tables.specs.Tables.{state_in, stepped}
 

@@ -2,18 +2,18 @@
 use Rattle.std.proofs.Common.{◌≡◌, ◌∙◌, ◌++◌, ap, sym, refl, true, false, Bool, [], ◌∷◌, Option, Some, None, true≢false}
 use Rattle.std.specs.Prelude.{map, not, ◌&&◌, option_map, is_some}
 use Rattle.std.specs.BTreeMap.{insert_entry}
-use Rattle.subs_base.specs.Content.{without_client}
-use Rattle.subs_base.specs.ListIndex.{content_of}
+use Rattle.broker_rows.specs.subs_base.Content.{without_client}
+use Rattle.broker_rows.specs.subs_base.ListIndex.{content_of}
 use Rattle.broker_model.specs.Connection.{ConnectionName}
 use Rattle.broker_model.specs.Place.{Client, by_bytes}
 use Rattle.broker_model.specs.Answers.{closed, welcome, turned_away}
 use Rattle.broker_model.specs.Commands.{usual_limits}
 use Rattle.broker_model.specs.declared.command.Command.TheVariants as commands
 use Rattle.broker_model.specs.declared.command.Output.TheVariants as outputs
-use Rattle.broker_base.specs.ClientSession.{ClientSession}
-use Rattle.broker_base.specs.SessionStep.{kept_anew, kept_resumed}
-use Rattle.broker_base.specs.State.{session_in, owner_in}
-use Rattle.broker_base.specs.StepAnswers.{connection_of}
+use Rattle.broker_rows.specs.broker_base.ClientSession.{ClientSession}
+use Rattle.broker_rows.specs.broker_base.SessionStep.{kept_anew, kept_resumed}
+use Rattle.broker_rows.specs.broker_base.State.{session_in, owner_in}
+use Rattle.broker_rows.specs.broker_base.StepAnswers.{connection_of}
 use Rattle.broker_rows.specs.Served.{IsServed}
 use Rattle.broker_rows.specs.Published.{changed}
 use Rattle.broker_rows.specs.ConnectLaws.{is_admitted, begins_in}

@@ -5,10 +5,10 @@ use Rattle.broker_model.specs.Place.{Client}
 use Rattle.broker_model.specs.Commands.{usual_limits}
 use Rattle.broker_model.specs.Answers.{closed}
 use Rattle.broker_model.specs.declared.command.Command.TheVariants as commands
-use Rattle.broker_base.specs.ClientSession.{ClientSession}
-use Rattle.broker_base.specs.State.{session_in}
-use Rattle.subs_base.specs.Content.{Content, without_client}
-use Rattle.subs_base.specs.ListIndex.{content_of}
+use Rattle.broker_rows.specs.broker_base.ClientSession.{ClientSession}
+use Rattle.broker_rows.specs.broker_base.State.{session_in}
+use Rattle.broker_rows.specs.subs_base.Content.{Content, without_client}
+use Rattle.broker_rows.specs.subs_base.ListIndex.{content_of}
 use Rattle.broker_rows.specs.Touched.{written}
 use Rattle.broker_rows.specs.Served.{with_session}
 use Rattle.broker_rows.specs.Owners.{Owners, owners_in, without_owner}

@@ -3,8 +3,8 @@ use Rattle.std.proofs.Common.{◌≡◌, Option, Some, None, refl, ap, ◌∙◌
 use Rattle.std.specs.Prelude.{option_map, IsSome}
 use Rattle.broker_model.specs.Connection.{ConnectionName}
 use Rattle.broker_model.specs.Place.{Client}
-use Rattle.broker_base.specs.ClientSession.{ClientSession}
-use Rattle.broker_base.specs.State.{owner_in, session_in}
+use Rattle.broker_rows.specs.broker_base.ClientSession.{ClientSession}
+use Rattle.broker_rows.specs.broker_base.State.{owner_in, session_in}
 use Rattle.broker_rows.specs.Served.{IsServed}
 use Rattle.broker_rows.specs.Owners.{owners_in, row_in}
 use Rattle.broker_rows.proofs.OwnerByMap.{owner_by_map}

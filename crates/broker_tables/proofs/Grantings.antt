@@ -5,8 +5,8 @@ use Rattle.std.specs.BTreeMap.{is_at}
 use Rattle.std.specs.Map.{lookup, set_value}
 use Rattle.packet.specs.declared.subscribe.Subscribe.{Subscribe}
 use Rattle.packet.specs.declared.packet.Packet.TheVariants as packets
-use Rattle.session_base.specs.Session.{SessionState}
-use Rattle.subs_base.specs.ListIndex.{content_of}
+use Rattle.broker_model.specs.session_base.Session.{SessionState}
+use Rattle.broker_rows.specs.subs_base.ListIndex.{content_of}
 use Rattle.broker_model.specs.Connection.{ConnectionName}
 use Rattle.broker_model.specs.Place.{Client, by_bytes}
 use Rattle.broker_model.specs.Answers.{codes_of}
@@ -14,8 +14,8 @@ use Rattle.broker_model.specs.Commands.{usual_limits}
 use Rattle.broker_model.specs.Subscriptions.{as_held, granted_of}
 use Rattle.broker_model.specs.declared.command.Command.TheVariants as commands
 use Rattle.broker_model.specs.declared.command.Output.TheVariants as outputs
-use Rattle.broker_base.specs.ClientSession.{ClientSession}
-use Rattle.broker_base.specs.State.{session_in}
+use Rattle.broker_rows.specs.broker_base.ClientSession.{ClientSession}
+use Rattle.broker_rows.specs.broker_base.State.{session_in}
 use Rattle.broker_rows.specs.Served.{IsServed, with_session, holding}
 use Rattle.broker_rows.specs.CopyLaws.{granted_in_turn, subscribed_in_turn, sent_in_turn}
 use Rattle.broker_rows.specs.Indexed.{all_set}

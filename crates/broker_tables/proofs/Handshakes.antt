@@ -3,15 +3,15 @@ use Rattle.std.proofs.Common.{◌≡◌, ℕ, true, Some, refl, ap, ◌∙◌}
 use Rattle.std.specs.Prelude.{map}
 use Rattle.packet.specs.declared.packet.Packet.{Packet}
 use Rattle.packet.specs.declared.packet.Packet.TheVariants as packets
-use Rattle.session_base.specs.Session.{SessionState}
+use Rattle.broker_model.specs.session_base.Session.{SessionState}
 use Rattle.broker_model.specs.Connection.{ConnectionName}
 use Rattle.broker_model.specs.Place.{Client, Mark}
 use Rattle.broker_model.specs.Commands.{usual_limits}
 use Rattle.broker_model.specs.declared.command.Command.TheVariants as commands
 use Rattle.broker_model.specs.declared.command.Output.TheVariants as outputs
-use Rattle.broker_base.specs.ClientSession.{ClientSession}
-use Rattle.broker_base.specs.Decisions.{owned_mark}
-use Rattle.broker_base.specs.StepAnswers.{handled_in, while_connected}
+use Rattle.broker_rows.specs.broker_base.ClientSession.{ClientSession}
+use Rattle.broker_rows.specs.broker_base.Decisions.{owned_mark}
+use Rattle.broker_rows.specs.broker_base.StepAnswers.{handled_in, while_connected}
 use Rattle.broker_rows.specs.Served.{IsServed, with_session, holding}
 use Rattle.broker_rows.specs.PacketLaws.{handled_state}
 use Rattle.broker_rows.proofs.PacketSteps.{handled_step}

@@ -13,3 +13,4 @@ pub mod Grantings
 pub mod Packets
 pub mod InPairs
 pub mod Commands
+pub use Rattle.broker_rows.proofs.of_subs_tree as of_subs_tree

@@ -6,9 +6,9 @@ use Rattle.broker_model.specs.Connection.{ConnectionName}
 use Rattle.broker_model.specs.Place.{Client}
 use Rattle.broker_model.specs.Commands.{usual_limits}
 use Rattle.broker_model.specs.declared.command.Command.TheVariants as commands
-use Rattle.broker_base.specs.ClientSession.{ClientSession}
-use Rattle.subs_base.specs.Content.{Content, without_client}
-use Rattle.subs_base.specs.ListIndex.{content_of}
+use Rattle.broker_rows.specs.broker_base.ClientSession.{ClientSession}
+use Rattle.broker_rows.specs.subs_base.Content.{Content, without_client}
+use Rattle.broker_rows.specs.subs_base.ListIndex.{content_of}
 use Rattle.broker_rows.specs.Touched.{written}
 use Rattle.broker_rows.specs.Served.{IsServed, with_session, left_off}
 use Rattle.broker_rows.specs.Owners.{owners_in}

@@ -12,9 +12,9 @@ use Rattle.broker_model.specs.Past.{is_leaving}
 use Rattle.broker_model.specs.Commands.{usual_limits}
 use Rattle.broker_model.specs.declared.command.Command.TheVariants as commands
 use Rattle.broker_model.specs.declared.command.Output.TheVariants as outputs
-use Rattle.broker_base.specs.ClientSession.{ClientSession}
-use Rattle.broker_base.specs.Decisions.{owned_mark}
-use Rattle.broker_base.specs.State.{owner_in}
+use Rattle.broker_rows.specs.broker_base.ClientSession.{ClientSession}
+use Rattle.broker_rows.specs.broker_base.Decisions.{owned_mark}
+use Rattle.broker_rows.specs.broker_base.State.{owner_in}
 use Rattle.broker_rows.specs.Served.{IsServed}
 use Rattle.broker_rows.specs.Owners.{owners_in}
 use Rattle.broker_rows.proofs.PacketSteps.{pingreq_step}

@@ -6,9 +6,9 @@ use Rattle.std.specs.Map.{lookup}
 use Rattle.std.proofs.lemmas.Bool.{or_parts}
 use Rattle.packet.specs.declared.publish.Publish.{Publish}
 use Rattle.packet.specs.declared.packet.Packet.TheVariants as packets
-use Rattle.session_base.specs.Publication.{publication_of}
-use Rattle.subs_base.specs.ListIndex.{content_of}
-use Rattle.subs_base.specs.Granted.{Row}
+use Rattle.broker_model.specs.session_base.Publication.{publication_of}
+use Rattle.broker_rows.specs.subs_base.ListIndex.{content_of}
+use Rattle.broker_rows.specs.subs_base.Granted.{Row}
 use Rattle.broker_model.specs.Connection.{ConnectionName}
 use Rattle.broker_model.specs.Place.{Client}
 use Rattle.broker_model.specs.Retained.{retains}
@@ -16,9 +16,9 @@ use Rattle.broker_model.specs.Answers.{acknowledged}
 use Rattle.broker_model.specs.Commands.{usual_limits}
 use Rattle.broker_model.specs.declared.command.Command.TheVariants as commands
 use Rattle.broker_model.specs.declared.command.Output.TheVariants as outputs
-use Rattle.broker_base.specs.ClientSession.{ClientSession}
-use Rattle.broker_base.specs.State.{Sessions, session_in}
-use Rattle.broker_base.specs.Decisions.{is_again, is_one_topic_over}
+use Rattle.broker_rows.specs.broker_base.ClientSession.{ClientSession}
+use Rattle.broker_rows.specs.broker_base.State.{Sessions, session_in}
+use Rattle.broker_rows.specs.broker_base.Decisions.{is_again, is_one_topic_over}
 use Rattle.broker_rows.specs.Served.{IsServed}
 use Rattle.broker_rows.specs.Published.{granted_rows, changed, received_on, all_delivered, answered_in_turn, is_full_at}
 use Rattle.broker_rows.specs.PublishLaws.{is_refused_in, HaveRoomInTurn}

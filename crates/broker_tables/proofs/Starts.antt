@@ -3,12 +3,12 @@ use Rattle.std.proofs.Common.{◌≡◌, ◌∙◌, ap, ap₂, sym, subst, refl,
 use Rattle.std.specs.BTreeMap.{is_at}
 use Rattle.std.specs.Map.{lookup}
 use Rattle.std.specs.Map.Calls.{RetainsPairs}
-use Rattle.subs_base.specs.ListIndex.{content_of}
+use Rattle.broker_rows.specs.subs_base.ListIndex.{content_of}
 use Rattle.broker_model.specs.Place.{Client}
 use Rattle.broker_model.specs.Commands.{usual_limits}
 use Rattle.broker_model.specs.declared.command.Command.TheVariants as commands
-use Rattle.broker_base.specs.ClientSession.{ClientSession}
-use Rattle.broker_base.specs.State.{Sessions, keyed}
+use Rattle.broker_rows.specs.broker_base.ClientSession.{ClientSession}
+use Rattle.broker_rows.specs.broker_base.State.{Sessions, keyed}
 use Rattle.broker_rows.specs.Served.{left_off}
 use Rattle.broker_rows.specs.ConnectLaws.{all_left_off}
 use Rattle.broker_rows.specs.Indexed.{all_dropped, clean_clients}

@@ -1,15 +1,15 @@
 -- Which Connect goes on with a session, and what its client is sent (MQTT 3.1.2.4, 4.4).
 use Rattle.std.specs.Prelude.{ℕ, Bool, false, not, ◌&&◌, List, [], ◌++◌, Option, Some, None, ◌≡◌}
 use Rattle.packet.specs.declared.packet.Packet.{Packet}
-use Rattle.session_base.specs.Sending.{fill_sends, resend}
+use Rattle.broker_model.specs.session_base.Sending.{fill_sends, resend}
 use Rattle.broker_model.specs.Connection.{ConnectionName}
 use Rattle.broker_model.specs.Place.{Client}
-use Rattle.broker_base.specs.StepAnswers.{connection_of}
+use Rattle.broker_rows.specs.broker_base.StepAnswers.{connection_of}
 use Rattle.broker_rows.specs.Owners.{with_owner, without_owner}
 use Rattle.broker_tables.specs.declared.tables.Tables.{Tables}
 use Rattle.broker_tables.specs.Tables.{owners_at}
-use Rattle.broker_base.specs.ClientSession.{ClientSession}
-use Rattle.broker_base.specs.State.{State, session_in}
+use Rattle.broker_rows.specs.broker_base.ClientSession.{ClientSession}
+use Rattle.broker_rows.specs.broker_base.State.{State, session_in}
 
 -- neither the session that there is nor the Connect is clean
 abbrev pub goes_on : Bool → Option ClientSession → Bool

@@ -3,13 +3,13 @@ use Rattle.std.specs.Prelude.{◌≡◌, ℕ, Bool, true, false, List, [], ◌�
 use Rattle.packet.specs.declared.qos.QoS.{QoS}
 use Rattle.packet.specs.declared.packet.Packet.{Packet}
 use Rattle.packet.specs.declared.packet.Packet.TheVariants as packets
-use Rattle.session_base.specs.declared.publication.Publication.{Publication}
-use Rattle.session_base.specs.Publication.{lower_qos}
-use Rattle.session_base.specs.Session.{SessionState}
-use Rattle.subs_base.specs.ListIndex.{content_of}
+use Rattle.broker_model.specs.session_base.declared.publication.Publication.{Publication}
+use Rattle.broker_model.specs.session_base.Publication.{lower_qos}
+use Rattle.broker_model.specs.session_base.Session.{SessionState}
+use Rattle.broker_rows.specs.subs_base.ListIndex.{content_of}
 use Rattle.broker_tables.specs.declared.tables.Tables.{Tables}
-use Rattle.session_base.specs.Queue.{on_puback, on_pubrec, on_pubcomp}
-use Rattle.session_base.specs.Sending.{fill_sends, pubrec_sends}
+use Rattle.broker_model.specs.session_base.Queue.{on_puback, on_pubrec, on_pubcomp}
+use Rattle.broker_model.specs.session_base.Sending.{fill_sends, pubrec_sends}
 
 -- whether a packet is a step of a handshake
 abbrev pub is_handshake : Packet → Bool

@@ -4,15 +4,15 @@ use Rattle.std.specs.declared.cmp.Ordering.{Ordering}
 use Rattle.std.specs.Ordering.{nat_cmp, ordering_then}
 use Rattle.std.specs.BTreeMap.{is_at}
 use Rattle.std.specs.Map.{lookup}
-use Rattle.subs_base.specs.ListIndex.{content_of}
+use Rattle.broker_rows.specs.subs_base.ListIndex.{content_of}
 use Rattle.broker_model.specs.Connection.{ConnectionName}
 use Rattle.broker_model.specs.Place.{Client}
 use Rattle.broker_model.specs.Commands.{usual_limits}
 use Rattle.broker_model.specs.declared.command.Command.{Command}
 use Rattle.broker_model.specs.declared.command.Output.{Output}
-use Rattle.broker_base.specs.State.{State}
-use Rattle.broker_base.specs.StateLaws.{IsSound}
-use Rattle.broker_base.specs.Step.{step}
+use Rattle.broker_rows.specs.broker_base.State.{State}
+use Rattle.broker_rows.specs.broker_base.StateLaws.{IsSound}
+use Rattle.broker_rows.specs.broker_base.Step.{step}
 use Rattle.broker_rows.specs.Owners.{Owners, owners_in}
 use Rattle.broker_rows.specs.Indexed.{content_in}
 use Rattle.broker_tables.specs.declared.tables.Tables.{Tables}

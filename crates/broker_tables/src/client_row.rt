@@ -1,7 +1,7 @@
 // What is kept of one client.
 
 ghost use Rattle.std.specs.Prelude.{◌≡◌};
-ghost use Rattle.broker_base.specs.SessionStep.{kept_anew};
+ghost use Rattle.broker_rows.specs.broker_base.SessionStep.{kept_anew};
 
 use broker_model::ConnectionId;
 use session::Session;
@@ -21,7 +21,7 @@ pub struct ClientRow {
 }
 
 impl Model for ClientRow {
-    ghost use Rattle.broker_base.specs.ClientSession.{ClientSession};
+    ghost use Rattle.broker_rows.specs.broker_base.ClientSession.{ClientSession};
 
     ghost Value = { ClientSession };
 

@@ -6,9 +6,9 @@ ghost use Rattle.broker_model.specs.Connection.{ConnectionName};
 ghost use Rattle.broker_model.specs.Commands.{usual_limits};
 ghost use Rattle.broker_model.specs.declared.command.Command.TheVariants as commands;
 ghost use Rattle.broker_model.specs.declared.command.Output.TheVariants as outputs;
-ghost use Rattle.broker_base.specs.SessionStep.{kept_resumed};
-ghost use Rattle.broker_base.specs.State.{session_in};
-ghost use Rattle.broker_base.specs.StepAnswers.{connection_of};
+ghost use Rattle.broker_rows.specs.broker_base.SessionStep.{kept_resumed};
+ghost use Rattle.broker_rows.specs.broker_base.State.{session_in};
+ghost use Rattle.broker_rows.specs.broker_base.StepAnswers.{connection_of};
 ghost use Rattle.broker_rows.specs.Owners.{owners_in, with_owner, without_owner};
 ghost use Rattle.broker_rows.specs.ConnectLaws.{is_admitted, begins_in};
 ghost use Rattle.broker_tables.specs.Tables.{IsInStep, IsTied, owners_at, state_in, stepped};
@@ -22,10 +22,10 @@ use crate::limits::MAX_SESSIONS;
 use crate::sending::send_all;
 use crate::tables::Tables;
 use broker_model::{ConnectionId, Output, Window};
+use broker_rows::subs::SubIndex;
 use machine::Halted;
 use packet::{ClientId, Connack, Packet, RefusalCode};
 use std::collections::BTreeMap;
-use subs::SubIndex;
 
 // What becomes of a Connect on a connection of nobody.
 #[derive(Clone, Copy, Debug, PartialEq, Eq)]

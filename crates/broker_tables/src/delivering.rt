@@ -2,24 +2,24 @@
 
 ghost use Rattle.std.specs.Prelude.{◌≡◌, ◌≤◌, ◌++◌, [], ◌∷◌, true, false, Some, OnOk, IfOk};
 ghost use Rattle.packet.specs.declared.packet.Packet.TheVariants as packets;
-ghost use Rattle.session_base.specs.Publication.{publish_of, lower_qos, publication_of, is_answered};
+ghost use Rattle.broker_model.specs.session_base.Publication.{publish_of, lower_qos, publication_of, is_answered};
 ghost use Rattle.packet.specs.declared.qos.QoS.TheVariants as levels;
-ghost use Rattle.session_base.specs.Queue.{copies_left, room};
-ghost use Rattle.session_base.specs.Sending.{copies_sent};
-ghost use Rattle.session_base.specs.Session.{with_queue};
-ghost use Rattle.broker_base.specs.SessionStep.{copied_queue};
-ghost use Rattle.broker_base.specs.StepAnswers.{sent_on};
+ghost use Rattle.broker_model.specs.session_base.Queue.{copies_left, room};
+ghost use Rattle.broker_model.specs.session_base.Sending.{copies_sent};
+ghost use Rattle.broker_model.specs.session_base.Session.{with_queue};
+ghost use Rattle.broker_rows.specs.broker_base.SessionStep.{copied_queue};
+ghost use Rattle.broker_rows.specs.broker_base.StepAnswers.{sent_on};
 ghost use Rattle.broker_model.specs.Commands.{usual_limits};
 ghost use Rattle.broker_rows.specs.Published.{delivered_on, is_full_at};
 ghost use Rattle.broker_tables.specs.Inside.{lowered};
 
 use crate::client_row::ClientRow;
 use crate::sending::send_all;
+use broker_model::session_base::Publication;
 use broker_model::{Output, Window};
 use machine::Halted;
 use packet::{Delivery, Packet, Publish, QoS};
 use session::Session;
-use session_base::Publication;
 use std::alloc::AllocError;
 
 /// What a PUBLISH carries.

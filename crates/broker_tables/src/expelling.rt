@@ -8,9 +8,9 @@ ghost use Rattle.broker_tables.specs.Tables.{IsInStep, IsTied, state_in, stepped
 use crate::connecting::release;
 use crate::tables::Tables;
 use broker_model::{ConnectionId, Output};
+use broker_rows::subs::SubIndex;
 use machine::Halted;
 use packet::ClientId;
-use subs::SubIndex;
 
 impl Tables {
     /// Ends a client's session, with its subscriptions, its received identifiers and its entries,

@@ -7,8 +7,8 @@ ghost use Rattle.broker_tables.specs.Tables.{IsInStep, IsTied, state_in, stepped
 
 use crate::tables::Tables;
 use broker_model::{ConnectionId, Output};
+use broker_rows::subs::SubIndex;
 use machine::Halted;
-use subs::SubIndex;
 
 impl Tables {
     /// A connection is over: its client is served nowhere, and a clean session is over with it, its

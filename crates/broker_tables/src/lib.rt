@@ -18,6 +18,9 @@ mod subscribing;
 mod tables;
 mod unsubscribing;
 
+pub use broker_rows::subs;
 pub use client_row::ClientRow;
 pub use limits::{MAX_SESSIONS, MAX_SUBSCRIPTIONS};
+pub use machine;
+pub use session;
 pub use tables::Tables;

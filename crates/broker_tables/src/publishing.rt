@@ -11,21 +11,21 @@ ghost use Rattle.broker_tables.specs.Inside.{HasOthersOf};
 ghost use Rattle.broker_model.specs.Answers.{acknowledged};
 ghost use Rattle.broker_model.specs.Commands.{usual_limits};
 ghost use Rattle.broker_model.specs.Retained.{retains};
-ghost use Rattle.broker_base.specs.Decisions.{is_again, is_one_topic_over};
-ghost use Rattle.broker_base.specs.State.{session_in};
+ghost use Rattle.broker_rows.specs.broker_base.Decisions.{is_again, is_one_topic_over};
+ghost use Rattle.broker_rows.specs.broker_base.State.{session_in};
 ghost use Rattle.broker_rows.specs.Published.{is_full_at, all_delivered, answered_in_turn, changed, copy_answered, delivered_on, granted_rows, received_on};
 
 use crate::client_row::ClientRow;
 use crate::delivering::{deliver, lower, publication_of};
 use crate::tables::Tables;
+use broker_model::retained::{RetainedPublication, RetainedStore};
+use broker_model::session_base::Publication;
 use broker_model::{ConnectionId, Output, Window};
+use broker_rows::subs::SubIndex;
 use machine::Halted;
 use packet::{ClientId, Delivery, Packet, Publish, QoS};
-use retained::{RetainedPublication, RetainedStore};
-use session_base::Publication;
 use std::alloc::AllocError;
 use std::collections::BTreeMap;
-use subs::SubIndex;
 use topics::TopicName;
 
 impl Tables {

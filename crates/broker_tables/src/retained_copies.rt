@@ -1,18 +1,18 @@
 // What a subscriber is sent of the retained publications (MQTT 3.3.1.3, 3.8.4).
 
 ghost use Rattle.std.specs.Prelude.{◌≡◌, ◌≤◌, ◌++◌, length, OnOk, IfOk};
-ghost use Rattle.session_base.specs.Queue.{copies_left, room};
-ghost use Rattle.session_base.specs.Sending.{copies_sent};
-ghost use Rattle.session_base.specs.Session.{with_queue};
+ghost use Rattle.broker_model.specs.session_base.Queue.{copies_left, room};
+ghost use Rattle.broker_model.specs.session_base.Sending.{copies_sent};
+ghost use Rattle.broker_model.specs.session_base.Session.{with_queue};
 ghost use Rattle.broker_model.specs.Entries.{copies_for, queued, retained_copy};
 
 use crate::delivering::{lower, take_copy};
 use broker_model::Window;
+use broker_model::retained::{RetainedPublication, RetainedStore};
+use broker_model::session_base::Publication;
 use machine::Halted;
 use packet::{Packet, QoS, Subscription};
-use retained::{RetainedPublication, RetainedStore};
 use session::Session;
-use session_base::Publication;
 use std::alloc::{AllocError, Global};
 use topics::TopicName;
 

@@ -1,7 +1,7 @@
 // Start: a new ballot begins, and the connections of earlier ones are gone.
 
 ghost use Rattle.std.specs.Prelude.{◌≡◌, Some, None, if◌then◌else◌};
-ghost use Rattle.subs_base.specs.ListIndex.{content_of};
+ghost use Rattle.broker_rows.specs.subs_base.ListIndex.{content_of};
 ghost use Rattle.broker_model.specs.declared.command.Command.TheVariants as commands;
 ghost use Rattle.broker_rows.specs.Indexed.{all_dropped, clean_clients};
 ghost use Rattle.broker_rows.specs.ConnectLaws.{all_left_off};
@@ -11,9 +11,9 @@ ghost use Rattle.broker_tables.specs.Tables.{IsInStep, IsTied, state_in, stepped
 use crate::client_row::ClientRow;
 use crate::tables::Tables;
 use broker_model::Window;
+use broker_rows::subs::{SubIndex, TreeIndex};
 use packet::ClientId;
 use std::collections::BTreeMap;
-use subs::{SubIndex, TreeIndex};
 
 impl Tables {
     /// Does a Start: nobody is served any more, the clean sessions are over, and the window is the wide one.

@@ -2,7 +2,7 @@
 
 ghost use Rattle.std.specs.Prelude.{◌≡◌, ◌++◌, Some, OnOk, IfOk, map};
 ghost use Rattle.packet.specs.declared.packet.Packet.TheVariants as packets;
-ghost use Rattle.subs_base.specs.ListIndex.{content_of};
+ghost use Rattle.broker_rows.specs.subs_base.ListIndex.{content_of};
 ghost use Rattle.broker_model.specs.Answers.{codes_of};
 ghost use Rattle.broker_model.specs.Commands.{usual_limits};
 ghost use Rattle.broker_model.specs.Marks.{is_one_too_many};
@@ -17,13 +17,13 @@ use crate::limits::MAX_SUBSCRIPTIONS;
 use crate::retained_copies::{copies_for, queued, take_copies};
 use crate::sending::send_all;
 use crate::tables::Tables;
+use broker_model::retained::RetainedStore;
 use broker_model::{ConnectionId, Output, Window};
+use broker_rows::subs::{SubIndex, TreeIndex};
 use machine::Halted;
 use packet::{ClientId, Packet, PacketList, Suback, SubackCode, Subscribe, Subscription};
-use retained::RetainedStore;
 use session::Session;
 use std::alloc::{AllocError, Global};
-use subs::{SubIndex, TreeIndex};
 
 impl Tables {
     /// Does a SUBSCRIBE of the client that is served on this connection: each filter is granted or

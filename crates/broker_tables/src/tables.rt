@@ -1,16 +1,16 @@
 // What a broker keeps of all its clients.
 
 ghost use Rattle.std.specs.Prelude.{◌≡◌};
-ghost use Rattle.broker_base.specs.State.{empty_state};
+ghost use Rattle.broker_rows.specs.broker_base.State.{empty_state};
 ghost use Rattle.broker_tables.specs.Tables.{IsTied, state_in};
 
 use crate::client_row::ClientRow;
+use broker_model::retained::RetainedStore;
 use broker_model::{ConnectionId, Window};
+use broker_rows::subs::{SubIndex, TreeIndex};
 use packet::ClientId;
-use retained::RetainedStore;
 use std::alloc::Global;
 use std::collections::BTreeMap;
-use subs::{SubIndex, TreeIndex};
 
 /// The sessions by client, and the retained publications. The map of connections and the index of
 /// subscriptions say of them nothing new: they find a row without a walk over all.

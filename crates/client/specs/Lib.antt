@@ -17,3 +17,5 @@ pub use Rattle.client_base.specs.Written
 pub use Rattle.client_base.specs.Handled
 pub use Rattle.client_base.specs.Called
 pub use Rattle.client_base.specs.History
+pub use Rattle.cutter.specs as cutter
+pub use Rattle.packet.specs as packet

@@ -1,7 +1,7 @@
 // What a packet of a handshake makes of a client (MQTT 4.3).
 
 ghost use Rattle.std.specs.Prelude.{◌≡◌, false};
-ghost use Rattle.lists.specs.Lists.{has_id};
+ghost use Rattle.session_base.specs.lists.Lists.{has_id};
 ghost use Rattle.packet.specs.declared.delivery.Delivery.TheVariants as deliveries;
 ghost use Rattle.client_base.specs.Answered.{on_publish, on_puback, on_pubrec, on_pubcomp, on_pubrel, answered, accepted_of, is_subscribe, is_unsubscribe};
 ghost use Rattle.client.specs.Inside.Turns.{Tries, changed};

@@ -2,7 +2,7 @@
 
 ghost use Rattle.std.specs.Prelude.{◌≡◌, ◌==◌, filter, not, IfSome, IsSome, IsTrue, ◌↔◌};
 ghost use Rattle.std.specs.List.{list_any};
-ghost use Rattle.lists.specs.Lists.{has_id};
+ghost use Rattle.session_base.specs.lists.Lists.{has_id};
 ghost use Rattle.client_base.specs.State.{id_of_request, used_ids};
 ghost use Rattle.client_base.specs.Answered.{awaits_puback, awaits_pubrec, is_subscribe, is_unsubscribe};
 ghost use Rattle.session_base.specs.Identifiers.{without_id};

@@ -1,9 +1,9 @@
 -- IdentifiersOfRuns.antt: in no run of calls is an identifier under way twice, and none is a publication's and a request's.
 use Rattle.std.proofs.Common.{◌≡◌, ℕ, ◌+◌, Bool, true, false, if◌then◌else◌, List, [], ◌∷◌, ◌++◌, filter, refl, arith}
-use Rattle.lists.proofs.Identifiers.{distinct_apart}
-use Rattle.packet.specs.declared.connack.Connack.TheVariants as connacks
-use Rattle.packet.specs.declared.packet.Packet.{Packet}
-use Rattle.packet.specs.declared.packet.Packet.TheVariants as packets
+use Rattle.session_base.proofs.of_lists.Identifiers.{distinct_apart}
+use Rattle.session_base.specs.packet.declared.connack.Connack.TheVariants as connacks
+use Rattle.session_base.specs.packet.declared.packet.Packet.{Packet}
+use Rattle.session_base.specs.packet.declared.packet.Packet.TheVariants as packets
 use Rattle.session_base.specs.Laws.{IsLeastFree}
 use Rattle.client_base.specs.declared.kept_publication.KeptPublication.{KeptPublication}
 use Rattle.client_base.specs.declared.stage.Stage.{Stage}

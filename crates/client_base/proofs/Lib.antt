@@ -14,3 +14,4 @@ pub mod NumbersStay
 pub mod IdentifiersApart
 pub mod IdentifiersStay
 pub mod IdentifiersOfRuns
+pub use Rattle.session_base.proofs as of_session_base

@@ -1,6 +1,6 @@
 -- SentAll.antt: behind a CONNACK 0 all is sent, in the order in which it was published; and one more is published.
 use Rattle.std.proofs.Common.{◌≡◌, true, false, List, [], ◌∷◌, ◌++◌, map, refl, ap, sym, ◌∙◌}
-use Rattle.packet.specs.declared.packet.Packet.{Packet}
+use Rattle.session_base.specs.packet.declared.packet.Packet.{Packet}
 use Rattle.client_base.specs.declared.kept_publication.KeptPublication.{KeptPublication}
 use Rattle.client_base.specs.State.{publish_kept}
 use Rattle.client_base.specs.Keeper.{Own, Written}

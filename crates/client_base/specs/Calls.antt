@@ -1,9 +1,9 @@
 -- What each call, and each packet of the server, makes of a client (MQTT 3, 4.3, 4.4).
 use Rattle.std.specs.Prelude.{ℕ, ◌+◌, ◌-◌, ◌^◌, Bool, false, not, ◌&&◌, ◌==◌, min, nat_lt, if◌then◌else◌, [], ◌∷◌, ◌++◌, length, Option, Some, None}
-use Rattle.packet.specs.declared.connack.Connack.TheVariants as connacks
-use Rattle.packet.specs.declared.packet.Packet.{Packet}
-use Rattle.packet.specs.declared.packet.Packet.TheVariants as packets
-use Rattle.packet.specs.Spelling.{body, longest_body}
+use Rattle.session_base.specs.packet.declared.connack.Connack.TheVariants as connacks
+use Rattle.session_base.specs.packet.declared.packet.Packet.{Packet}
+use Rattle.session_base.specs.packet.declared.packet.Packet.TheVariants as packets
+use Rattle.session_base.specs.packet.Spelling.{body, longest_body}
 use Rattle.session_base.specs.declared.publication.Publication.{Publication}
 use Rattle.session_base.specs.Publication.{publish_of, is_answered}
 use Rattle.session_base.specs.Identifiers.{least_free}

@@ -1,13 +1,13 @@
 -- What a packet of the server makes of a client with its history (MQTT 3.2, 4.3, 4.4).
 use Rattle.std.specs.Prelude.{ℕ, suc, Bool, true, false, not, ◌&&◌, ◌||◌, ◌==◌, if◌then◌else◌, List, [], ◌∷◌, ◌++◌, map, filter}
-use Rattle.packet.specs.declared.connack.Connack.TheVariants as connacks
-use Rattle.packet.specs.declared.delivery.Delivery.{Delivery}
-use Rattle.packet.specs.declared.delivery.Delivery.TheVariants as deliveries
-use Rattle.packet.specs.declared.packet.Packet.{Packet}
-use Rattle.packet.specs.declared.packet.Packet.TheVariants as packets
+use Rattle.session_base.specs.packet.declared.connack.Connack.TheVariants as connacks
+use Rattle.session_base.specs.packet.declared.delivery.Delivery.{Delivery}
+use Rattle.session_base.specs.packet.declared.delivery.Delivery.TheVariants as deliveries
+use Rattle.session_base.specs.packet.declared.packet.Packet.{Packet}
+use Rattle.session_base.specs.packet.declared.packet.Packet.TheVariants as packets
 use Rattle.session_base.specs.declared.publication.Publication.{Publication}
 use Rattle.session_base.specs.Publication.{publication_of, is_acknowledged}
-use Rattle.lists.specs.Lists.{has_id}
+use Rattle.session_base.specs.lists.Lists.{has_id}
 use Rattle.client_base.specs.declared.request.Request.{Request}
 use Rattle.client_base.specs.Answered.{is_subscribe, is_unsubscribe}
 use Rattle.session_base.specs.Identifiers.{without_id}

@@ -1,7 +1,7 @@
 -- The client that keeps no history stands for the one with it.
 use Rattle.std.specs.Prelude.{◌≡◌, ℕ, true, nat_lt, List, [], ◌∷◌, ◌++◌, map}
-use Rattle.packet.specs.declared.packet.Packet.{Packet}
-use Rattle.lists.specs.Lists.{has_id}
+use Rattle.session_base.specs.packet.declared.packet.Packet.{Packet}
+use Rattle.session_base.specs.lists.Lists.{has_id}
 use Rattle.client_base.specs.declared.kept_publication.KeptPublication.{KeptPublication}
 use Rattle.client_base.specs.State.{ClientState, is_open, is_online}
 use Rattle.client_base.specs.Keeper.{Own, Written, Connection, Keeper}

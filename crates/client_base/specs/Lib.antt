@@ -12,3 +12,4 @@ pub mod History
 pub mod HistoryLaws
 pub mod IdentifierLaws
 pub mod OrderLaws
+pub use Rattle.session_base.specs as session_base

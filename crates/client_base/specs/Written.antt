@@ -1,7 +1,7 @@
 -- What a client with its history writes, and of which publication each packet is (MQTT 3.3, 4.4).
 use Rattle.std.specs.Prelude.{ℕ, Bool, true, false, List, [], ◌∷◌, ◌++◌, map, Some, None}
-use Rattle.packet.specs.declared.packet.Packet.{Packet}
-use Rattle.packet.specs.declared.packet.Packet.TheVariants as packets
+use Rattle.session_base.specs.packet.declared.packet.Packet.{Packet}
+use Rattle.session_base.specs.packet.declared.packet.Packet.TheVariants as packets
 use Rattle.session_base.specs.declared.publication.Publication.{Publication}
 use Rattle.session_base.specs.Publication.{publish_of}
 use Rattle.client_base.specs.Keeper.{Own, Written, Connection, Keeper, Side}

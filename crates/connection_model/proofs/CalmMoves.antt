@@ -1,9 +1,9 @@
 -- A move in which a replica hears nothing leaves it in its role, also one in which something is lost.
 use Rattle.std.proofs.Common.{◌≡◌, false, refl, ap, ◌∙◌}
-use Rattle.ballot.specs.Replica.{ReplicaState}
-use Rattle.broker_base.specs.State.{State}
-use Rattle.broker_base.specs.Command.{Command}
-use Rattle.broker_base.specs.Command.TheVariants as commands
+use Rattle.group_model.specs.ballot.Replica.{ReplicaState}
+use Rattle.model.specs.broker_base.State.{State}
+use Rattle.model.specs.broker_base.Command.{Command}
+use Rattle.model.specs.broker_base.Command.TheVariants as commands
 use Rattle.group_model.specs.world_base.Connections.{asked, closed, failing, left_with}
 use Rattle.group_model.specs.world_base.Core.{CoreState, Turn, rules}
 use Rattle.group_model.specs.world_base.Lossy.{Account, Takes}

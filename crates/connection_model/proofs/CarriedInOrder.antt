@@ -2,22 +2,22 @@
 use Rattle.std.proofs.Common.{◌≡◌, ◌+◌, inl, inr, ℕ, zero, suc, true, List, [], ◌∷◌, ◌++◌, length, Option, Some, None, slice_get, refl, sym, ap, ◌∙◌, subst, append_assoc}
 use Rattle.std.specs.List.{find}
 use Rattle.std.proofs.lemmas.List.{append-nil}
-use Rattle.packet.specs.declared.packet.Packet.{Packet}
-use Rattle.ballot.specs.Config.{Config}
-use Rattle.ballot.specs.Effect.{Effect}
-use Rattle.broker_base.specs.Command.{Command}
-use Rattle.broker_base.specs.Connection.{ConnectionName}
-use Rattle.broker_base.specs.Output.{Output}
-use Rattle.broker_base.specs.State.{State}
+use Rattle.model.specs.packet.declared.packet.Packet.{Packet}
+use Rattle.group_model.specs.ballot.Config.{Config}
+use Rattle.group_model.specs.ballot.Effect.{Effect}
+use Rattle.model.specs.broker_base.Command.{Command}
+use Rattle.model.specs.broker_base.Connection.{ConnectionName}
+use Rattle.model.specs.broker_base.Output.{Output}
+use Rattle.model.specs.broker_base.State.{State}
 use Rattle.lists.specs.Lists.{Each, In, IsPrefixOf}
 use Rattle.lists.specs.Lists.In.{here}
 use Rattle.lists.proofs.Beginnings.{prefix_then}
 use Rattle.lists.proofs.OfEach.{each_append}
-use Rattle.pipes.specs.Pipe.{Joins}
-use Rattle.agreement.specs.MasterState.{AssignRefusal, master_behind, refusal}
+use Rattle.group_model.specs.pipes.Pipe.{Joins}
+use Rattle.model.specs.agreement.MasterState.{AssignRefusal, master_behind, refusal}
 use Rattle.group_model.specs.snapshots.Past.{IsAgreed, Moment, Past}
-use Rattle.agreement.specs.Proposals.{commands_of as commands_in}
-use Rattle.agreement.specs.World.{can_open}
+use Rattle.model.specs.agreement.Proposals.{commands_of as commands_in}
+use Rattle.model.specs.agreement.World.{can_open}
 use Rattle.group_model.proofs.of_snapshots.PastsAgree.{has_agreed}
 use Rattle.group_model.specs.world_base.Core.{CoreState, opening_core, rules}
 use Rattle.group_model.specs.node_model.Ends.{bytes_on, commands_of}

@@ -1,15 +1,15 @@
 -- What a move of a node is for a name under which it has no open connection; and that a name that was given stays so.
 use Rattle.std.proofs.Common.{◌≡◌, ℕ, Bool, true, false, if◌then◌else◌, List, [], ◌∷◌, ◌++◌, Option, Some, None, Err, refl, sym, ap, ◌∙◌, subst}
-use Rattle.packet.specs.RefusalCode.{RefusalCode}
-use Rattle.packet.specs.Stop.TheVariants as stops
-use Rattle.packet.specs.Verdict.{verdict}
-use Rattle.packet.specs.declared.packet.Packet.{Packet}
-use Rattle.packet.proofs.MoreBytes.{faults_stay_so}
-use Rattle.packet.proofs.PacketReads.{verdict_again}
-use Rattle.broker_base.specs.Command.{Command}
-use Rattle.broker_base.specs.Command.TheVariants as commands
-use Rattle.broker_base.specs.Connection.{ConnectionName, same_connection}
-use Rattle.pipes.specs.Pipe.{Joins}
+use Rattle.model.specs.packet.RefusalCode.{RefusalCode}
+use Rattle.model.specs.packet.Stop.TheVariants as stops
+use Rattle.model.specs.packet.Verdict.{verdict}
+use Rattle.model.specs.packet.declared.packet.Packet.{Packet}
+use Rattle.model.proofs.of_packet.MoreBytes.{faults_stay_so}
+use Rattle.model.proofs.of_packet.PacketReads.{verdict_again}
+use Rattle.model.specs.broker_base.Command.{Command}
+use Rattle.model.specs.broker_base.Command.TheVariants as commands
+use Rattle.model.specs.broker_base.Connection.{ConnectionName, same_connection}
+use Rattle.group_model.specs.pipes.Pipe.{Joins}
 use Rattle.group_model.specs.story.Story.{is_packet_of}
 use Rattle.group_model.specs.world_base.declared.Port.{Port}
 use Rattle.group_model.specs.world_base.declared.Connection.{Connection}
@@ -27,7 +27,7 @@ use Rattle.group_model.proofs.of_node_model.Kept.{named}
 use Rattle.group_model.proofs.of_node_model.NamesInOrder.{not_both}
 use Rattle.group_model.proofs.of_node_model.ReadsInOrder.{found_given, found_open}
 use Rattle.group_model.proofs.of_node_model.Views.{some_none}
-use Rattle.broker_model.proofs.ConnectionNames.{same_name}
+use Rattle.model.proofs.of_broker_model.ConnectionNames.{same_name}
 use Rattle.group_model.specs.Goes.{commands_put as exactly_put}
 use Rattle.group_model.specs.Losing.{commands_put}
 use Rattle.group_model.specs.Order.{packets_of}

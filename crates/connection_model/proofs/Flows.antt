@@ -3,7 +3,7 @@ use Rattle.std.proofs.Common.{◌≡◌, ◌⊎◌, inl, inr, ℕ, Bool, true, f
 use Rattle.std.specs.List.{find, list_any}
 use Rattle.std.proofs.lemmas.Bool.{both_ways}
 use Rattle.std.proofs.lemmas.List.{append-nil}
-use Rattle.broker_base.specs.Connection.{ConnectionName, is_connection_name}
+use Rattle.model.specs.broker_base.Connection.{ConnectionName, is_connection_name}
 use Rattle.lists.specs.Lists.{IsPrefixOf}
 use Rattle.lists.proofs.Beginnings.{prefix_same}
 use Rattle.group_model.specs.world_base.declared.Port.{Port}

@@ -1,9 +1,9 @@
 -- A name that a node gave stays given, whatever it does.
 use Rattle.std.proofs.Common.{◌≡◌, Bool, true, false, not, ◌&&◌, if◌then◌else◌, [], ◌∷◌, ◌++◌, refl, sym, ◌∙◌, subst}
 use Rattle.std.specs.List.{list_any}
-use Rattle.broker_base.specs.Command.{Command}
-use Rattle.broker_base.specs.Command.TheVariants as commands
-use Rattle.broker_base.specs.Connection.{ConnectionName, is_connection_name}
+use Rattle.model.specs.broker_base.Command.{Command}
+use Rattle.model.specs.broker_base.Command.TheVariants as commands
+use Rattle.model.specs.broker_base.Connection.{ConnectionName, is_connection_name}
 use Rattle.group_model.specs.world_base.declared.Port.{Port}
 use Rattle.group_model.specs.world_base.declared.Connection.{Connection}
 use Rattle.group_model.specs.world_base.Connections.{asked, closed, failing, fresh, is_at, left_with}

@@ -1,6 +1,6 @@
 -- What is handed over in a run of moves in which something may be lost.
 use Rattle.std.proofs.Common.{◌≡◌, ℕ, false, List, [], ◌++◌, refl, ap, ◌∙◌}
-use Rattle.broker_base.specs.Connection.{ConnectionName}
+use Rattle.model.specs.broker_base.Connection.{ConnectionName}
 use Rattle.group_model.specs.world_base.Core.{CoreState, Turn}
 use Rattle.group_model.specs.node_model.LossyMoves.{LossyMoves, is_handing}
 use Rattle.group_model.specs.node_model.LossyRuns.{HandsNothing, LossyRuns}

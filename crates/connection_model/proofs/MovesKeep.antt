@@ -1,23 +1,23 @@
 -- A move of a node keeps where the group is with a connection.
 use Rattle.std.proofs.Common.{◌≡◌, ◌⊎◌, inl, inr, ℕ, zero, suc, true, List, [], ◌∷◌, ◌++◌, length, take, Option, Some, None, slice_get, slice_set, refl, sym, ap, ◌∙◌, subst, ◌+◌, arith}
 use Rattle.std.proofs.lemmas.List.{append-nil}
-use Rattle.packet.specs.declared.packet.Packet.{Packet}
-use Rattle.ballot.specs.Config.{Config}
-use Rattle.ballot.specs.Effect.{Effect}
-use Rattle.ballot.specs.Replica.{is_active}
-use Rattle.broker_base.specs.Command.{Command}
-use Rattle.broker_base.specs.Commands.{usual_limits}
-use Rattle.broker_base.specs.Connection.{ConnectionName}
-use Rattle.broker_base.specs.Output.{Output}
-use Rattle.broker_base.specs.State.{State}
+use Rattle.model.specs.packet.declared.packet.Packet.{Packet}
+use Rattle.group_model.specs.ballot.Config.{Config}
+use Rattle.group_model.specs.ballot.Effect.{Effect}
+use Rattle.group_model.specs.ballot.Replica.{is_active}
+use Rattle.model.specs.broker_base.Command.{Command}
+use Rattle.model.specs.broker_base.Commands.{usual_limits}
+use Rattle.model.specs.broker_base.Connection.{ConnectionName}
+use Rattle.model.specs.broker_base.Output.{Output}
+use Rattle.model.specs.broker_base.State.{State}
 use Rattle.lists.specs.Lists.{IsPrefixOf}
 use Rattle.lists.proofs.Beginnings.{prefix_take}
 use Rattle.group_model.specs.snapshots.Past.{Moment, Past, IsAgreed}
-use Rattle.agreement.specs.Proposals.{commands_of as commands_in}
+use Rattle.model.specs.agreement.Proposals.{commands_of as commands_in}
 use Rattle.group_model.specs.snapshots.World.{outputs}
 use Rattle.group_model.proofs.of_snapshots.PastsAgree.{one_primary_a_ballot}
 use Rattle.group_model.specs.snapshots.Agreeing.{IsPrimary}
-use Rattle.pipes.specs.Pipe.{IsPiped}
+use Rattle.group_model.specs.pipes.Pipe.{IsPiped}
 use Rattle.group_model.specs.story.Sends.{sends_to}
 use Rattle.model.proofs.Answers.{counted_in, nothing_put}
 use Rattle.model.proofs.Lists.{same_or_other}

@@ -1,18 +1,18 @@
 -- What a node does in a run of moves keeps where the group is with each connection.
 use Rattle.std.proofs.Common.{◌≡◌, ℕ, false, List, [], ◌∷◌, ◌++◌, Some, slice_get, refl, sym, ap, ◌∙◌, subst, append_assoc}
 use Rattle.std.proofs.lemmas.List.{append-nil}
-use Rattle.packet.specs.declared.packet.Packet.{Packet}
-use Rattle.ballot.specs.Config.{Config}
-use Rattle.ballot.specs.Losses.{Thinned}
-use Rattle.ballot.specs.Replica.{is_active}
-use Rattle.broker_base.specs.Command.{Command}
-use Rattle.broker_base.specs.Connection.{ConnectionName}
-use Rattle.broker_base.specs.Output.{Output}
-use Rattle.broker_base.specs.State.{State}
+use Rattle.model.specs.packet.declared.packet.Packet.{Packet}
+use Rattle.group_model.specs.ballot.Config.{Config}
+use Rattle.group_model.specs.ballot.Losses.{Thinned}
+use Rattle.group_model.specs.ballot.Replica.{is_active}
+use Rattle.model.specs.broker_base.Command.{Command}
+use Rattle.model.specs.broker_base.Connection.{ConnectionName}
+use Rattle.model.specs.broker_base.Output.{Output}
+use Rattle.model.specs.broker_base.State.{State}
 use Rattle.lists.specs.Lists.{Each, IsPrefixOf}
 use Rattle.lists.proofs.OfEach.{each_left}
 use Rattle.group_model.specs.snapshots.Past.{Moment, Past, IsAgreed}
-use Rattle.agreement.specs.Proposals.{commands_of as commands_in}
+use Rattle.model.specs.agreement.Proposals.{commands_of as commands_in}
 use Rattle.group_model.specs.snapshots.Proposals.{proposals_of, taken_of}
 use Rattle.group_model.proofs.of_snapshots.PastsAgree.{has_agreed}
 use Rattle.group_model.specs.world_base.Connections.{is_over}

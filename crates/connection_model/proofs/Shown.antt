@@ -1,24 +1,24 @@
 -- The answers to a connection at one place of the list after the other, and what a node gives of them.
 use Rattle.std.proofs.Common.{◌≡◌, ◌≤◌, ◌+◌, ℕ, zero, suc, true, false, List, [], ◌∷◌, ◌++◌, length, take, slice_get, Some, refl, ap, sym, ◌∙◌, append_assoc, arith}
 use Rattle.std.proofs.lemmas.List.{append-nil}
-use Rattle.packet.specs.declared.packet.Packet.{Packet}
-use Rattle.packet.specs.Spelling.{spelling}
-use Rattle.ballot.specs.Effect.{Effect}
-use Rattle.ballot.specs.Effect.TheVariants.{To, Out}
-use Rattle.ballot.specs.Replica.{ReplicaState, is_active}
-use Rattle.broker_base.specs.Answers.{answers_of}
-use Rattle.broker_base.specs.Command.{Command}
-use Rattle.broker_base.specs.Commands.{past_of, usual_limits}
-use Rattle.broker_base.specs.Connection.{ConnectionName}
-use Rattle.broker_base.specs.Output.{Output}
-use Rattle.broker_base.specs.State.{State}
+use Rattle.model.specs.packet.declared.packet.Packet.{Packet}
+use Rattle.model.specs.packet.Spelling.{spelling}
+use Rattle.group_model.specs.ballot.Effect.{Effect}
+use Rattle.group_model.specs.ballot.Effect.TheVariants.{To, Out}
+use Rattle.group_model.specs.ballot.Replica.{ReplicaState, is_active}
+use Rattle.model.specs.broker_base.Answers.{answers_of}
+use Rattle.model.specs.broker_base.Command.{Command}
+use Rattle.model.specs.broker_base.Commands.{past_of, usual_limits}
+use Rattle.model.specs.broker_base.Connection.{ConnectionName}
+use Rattle.model.specs.broker_base.Output.{Output}
+use Rattle.model.specs.broker_base.State.{State}
 use Rattle.lists.specs.Lists.{IsPrefixOf}
 use Rattle.group_model.specs.story.Sends.{put_to, sends_to}
 use Rattle.group_model.proofs.of_story.Deliveries.{sends_append}
-use Rattle.agreement.specs.Giving.{GivesNext, gives_from}
+use Rattle.model.specs.agreement.Giving.{GivesNext, gives_from}
 use Rattle.group_model.specs.snapshots.World.{outputs}
-use Rattle.agreement.proofs.Given.Places.{none_between}
-use Rattle.agreement.proofs.Given.StepGives.{from_active}
+use Rattle.model.proofs.of_agreement.Given.Places.{none_between}
+use Rattle.model.proofs.of_agreement.Given.StepGives.{from_active}
 use Rattle.group_model.specs.snapshots.Whole.{whole}
 use Rattle.model.specs.PutOut.{answered, broker_rules}
 use Rattle.model.proofs.Answers.{put_front, put_push}

@@ -2,22 +2,22 @@
 use Rattle.std.proofs.Common.{◌≡◌, ◌⊎◌, inl, inr, ℕ, zero, suc, Bool, true, false, List, [], ◌∷◌, ◌++◌, map, Some, None, slice_get, slice_set, ◌&&◌, if◌then◌else◌, refl, sym, ap, ◌∙◌, subst}
 use Rattle.std.specs.List.{find}
 use Rattle.std.proofs.lemmas.List.Elements.{filter-append}
-use Rattle.packet.specs.declared.packet.Packet.{Packet}
-use Rattle.ballot.specs.Replica.{is_active}
-use Rattle.broker_base.specs.Command.{Command}
-use Rattle.broker_base.specs.Connection.{ConnectionName}
-use Rattle.broker_base.specs.Output.{Output}
-use Rattle.broker_base.specs.State.{State}
-use Rattle.broker_model.proofs.ConnectionNames.{same_name}
+use Rattle.model.specs.packet.declared.packet.Packet.{Packet}
+use Rattle.group_model.specs.ballot.Replica.{is_active}
+use Rattle.model.specs.broker_base.Command.{Command}
+use Rattle.model.specs.broker_base.Connection.{ConnectionName}
+use Rattle.model.specs.broker_base.Output.{Output}
+use Rattle.model.specs.broker_base.State.{State}
+use Rattle.model.proofs.of_broker_model.ConnectionNames.{same_name}
 use Rattle.lists.specs.Lists.{In}
 use Rattle.lists.specs.Lists.In.{here}
-use Rattle.pipes.specs.Pipe.{IsPiped}
+use Rattle.group_model.specs.pipes.Pipe.{IsPiped}
 use Rattle.group_model.specs.story.Story.{is_packet_of}
 use Rattle.group_model.specs.snapshots.Past.{Moment}
 use Rattle.group_model.specs.snapshots.Agreeing.{IsPrimary}
 use Rattle.group_model.specs.snapshots.Whole.{whole}
 use Rattle.group_model.proofs.of_snapshots.Views.{get_whole}
-use Rattle.agreement.specs.Proposals.{commands_of as commands_in}
+use Rattle.model.specs.agreement.Proposals.{commands_of as commands_in}
 use Rattle.group_model.specs.world_base.declared.Connection.{Connection}
 use Rattle.group_model.specs.world_base.Core.{CoreState, Turn}
 use Rattle.group_model.specs.world_base.Step.{next_name}

@@ -1,12 +1,12 @@
 -- What the nodes of a group make of a connection's bytes, by the list of commands on which they agree.
 use Rattle.std.specs.Prelude.{ℕ, List, ◌∷◌, ◌++◌}
-use Rattle.packet.specs.declared.packet.Packet.{Packet}
-use Rattle.ballot.specs.Config.{Config}
-use Rattle.broker_base.specs.Command.{Command}
-use Rattle.broker_base.specs.Commands.{past_of, usual_limits}
-use Rattle.broker_base.specs.Connection.{ConnectionName}
+use Rattle.model.specs.packet.declared.packet.Packet.{Packet}
+use Rattle.group_model.specs.ballot.Config.{Config}
+use Rattle.model.specs.broker_base.Command.{Command}
+use Rattle.model.specs.broker_base.Commands.{past_of, usual_limits}
+use Rattle.model.specs.broker_base.Connection.{ConnectionName}
 use Rattle.lists.specs.Lists.{IsPrefixOf}
-use Rattle.pipes.specs.Pipe.{Joins}
+use Rattle.group_model.specs.pipes.Pipe.{Joins}
 use Rattle.group_model.specs.story.Sends.{put_to}
 use Rattle.group_model.specs.snapshots.Past.{IsAgreed}
 use Rattle.group_model.specs.node_model.Ends.{commands_of}

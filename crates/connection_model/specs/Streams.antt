@@ -1,7 +1,7 @@
 -- The bytes of a connection in a group of nodes: what came up on it, and what was handed over to go down.
 use Rattle.std.specs.Prelude.{ℕ, if◌then◌else◌, List, [], ◌++◌, Option, Some, None}
-use Rattle.ballot.specs.Config.{Config}
-use Rattle.broker_base.specs.Connection.{ConnectionName, same_connection}
+use Rattle.group_model.specs.ballot.Config.{Config}
+use Rattle.model.specs.broker_base.Connection.{ConnectionName, same_connection}
 use Rattle.group_model.specs.world_base.declared.Connection.{Connection}
 use Rattle.group_model.specs.world_base.Core.{CoreState, Turn}
 use Rattle.group_model.specs.world_base.Handing.{listed_at}

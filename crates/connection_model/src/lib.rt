@@ -4,4 +4,5 @@
 
 mod laws;
 
+pub use group_model::world_base;
 pub use laws::groups_carry_in_order;

@@ -6,43 +6,43 @@ use Rattle.std.proofs.lemmas.List.{length-map, map-append}
 use Rattle.lists.specs.Lists.{In}
 use Rattle.lists.proofs.Places.{get_set, get_set_other}
 use Rattle.machine.specs.Machine.{Rules, replay}
-use Rattle.agreement.specs.Past.{Moment as WholeMoment, Past as WholePast}
-use Rattle.agreement.specs.Past.Past.{went_on as whole_went_on}
-use Rattle.agreement.specs.Steps.MayHappen.{node_takes}
-use Rattle.agreement.specs.World.{messages as whole_messages, outputs as whole_outputs}
-use Rattle.agreement.specs.whole.Messages.{Effect as WholeEffect, Message as WholeMessage}
-use Rattle.agreement.specs.whole.Messages.{Body as bodies}
-use Rattle.agreement.specs.whole.Messages.{Effect as effects}
-use Rattle.agreement.specs.whole.Protocol.{received as whole_received, replica_step as whole_step}
-use Rattle.agreement.specs.whole.Protocol.Input.{Proposes as whole_proposes}
-use Rattle.agreement.specs.whole.Replica.{ReplicaState as WholeState}
-use Rattle.agreement.specs.whole.Sending.{Outcome as WholeOutcome}
-use Rattle.ballot_base.specs.declared.config.Config.{Config}
-use Rattle.ballot_base.specs.declared.message.Body.{Body}
-use Rattle.ballot_base.specs.declared.message.Body.TheVariants.{NewBallot, Join, State, Install, Installed, Activate, Activated, Superseded, Append, Held, Commit}
-use Rattle.ballot_base.specs.declared.message.Effect.{Effect}
-use Rattle.ballot_base.specs.declared.message.Effect.TheVariants.{To, Out}
-use Rattle.ballot_base.specs.declared.message.Message.{Message}
-use Rattle.ballot_base.specs.Protocol.{received, replica_step}
-use Rattle.ballot_base.specs.Protocol.Input.{Proposes}
-use Rattle.ballot_base.specs.Replica.{ReplicaState}
-use Rattle.ballot_base.specs.Sending.{Outcome}
-use Rattle.ballot_base.specs.Serving.{most_places}
-use Rattle.snapshots.specs.Past.{Moment, Past, whole_moment}
-use Rattle.snapshots.specs.Past.Past.{went_on}
-use Rattle.snapshots.specs.Steps.{MayHappen}
-use Rattle.snapshots.specs.Steps.MayHappen.{node_goes}
-use Rattle.snapshots.specs.Whole.{whole, whole_body, whole_effects, whole_message}
-use Rattle.snapshots.specs.World.{messages, whole_letter}
-use Rattle.snapshots.specs.World.NodeGoes.{takes}
-use Rattle.snapshots.proofs.PastsAgree.{agreed_grows}
-use Rattle.snapshots.proofs.PastsKept.{StandsFor, past_stands}
-use Rattle.snapshots.proofs.Views.{get_whole, outputs_whole}
-use Rattle.ways_out.specs.Deliveries.{AreApart, Delivered as WholeDelivered, NodeIs, numbers_from}
-use Rattle.ways_out.specs.Deliveries.{after_outcome as whole_after_outcome}
-use Rattle.ways_out.specs.Following.{Follows, Serves}
-use Rattle.ways_out.specs.Laws.{AnswersCommand as WholeAnswers, IsHeldByAll as WholeHeldByAll}
-use Rattle.ways_out.proofs.Answering.{commands_are_answered}
+use Rattle.cut_ways.specs.agreement.Past.{Moment as WholeMoment, Past as WholePast}
+use Rattle.cut_ways.specs.agreement.Past.Past.{went_on as whole_went_on}
+use Rattle.cut_ways.specs.agreement.Steps.MayHappen.{node_takes}
+use Rattle.cut_ways.specs.agreement.World.{messages as whole_messages, outputs as whole_outputs}
+use Rattle.cut_ways.specs.agreement.whole.Messages.{Effect as WholeEffect, Message as WholeMessage}
+use Rattle.cut_ways.specs.agreement.whole.Messages.{Body as bodies}
+use Rattle.cut_ways.specs.agreement.whole.Messages.{Effect as effects}
+use Rattle.cut_ways.specs.agreement.whole.Protocol.{received as whole_received, replica_step as whole_step}
+use Rattle.cut_ways.specs.agreement.whole.Protocol.Input.{Proposes as whole_proposes}
+use Rattle.cut_ways.specs.agreement.whole.Replica.{ReplicaState as WholeState}
+use Rattle.cut_ways.specs.agreement.whole.Sending.{Outcome as WholeOutcome}
+use Rattle.cut_ways.specs.ballot_base.declared.config.Config.{Config}
+use Rattle.cut_ways.specs.ballot_base.declared.message.Body.{Body}
+use Rattle.cut_ways.specs.ballot_base.declared.message.Body.TheVariants.{NewBallot, Join, State, Install, Installed, Activate, Activated, Superseded, Append, Held, Commit}
+use Rattle.cut_ways.specs.ballot_base.declared.message.Effect.{Effect}
+use Rattle.cut_ways.specs.ballot_base.declared.message.Effect.TheVariants.{To, Out}
+use Rattle.cut_ways.specs.ballot_base.declared.message.Message.{Message}
+use Rattle.cut_ways.specs.ballot_base.Protocol.{received, replica_step}
+use Rattle.cut_ways.specs.ballot_base.Protocol.Input.{Proposes}
+use Rattle.cut_ways.specs.ballot_base.Replica.{ReplicaState}
+use Rattle.cut_ways.specs.ballot_base.Sending.{Outcome}
+use Rattle.cut_ways.specs.ballot_base.Serving.{most_places}
+use Rattle.cut_ways.specs.snapshots.Past.{Moment, Past, whole_moment}
+use Rattle.cut_ways.specs.snapshots.Past.Past.{went_on}
+use Rattle.cut_ways.specs.snapshots.Steps.{MayHappen}
+use Rattle.cut_ways.specs.snapshots.Steps.MayHappen.{node_goes}
+use Rattle.cut_ways.specs.snapshots.Whole.{whole, whole_body, whole_effects, whole_message}
+use Rattle.cut_ways.specs.snapshots.World.{messages, whole_letter}
+use Rattle.cut_ways.specs.snapshots.World.NodeGoes.{takes}
+use Rattle.cut_ways.proofs.of_snapshots.PastsAgree.{agreed_grows}
+use Rattle.cut_ways.proofs.of_snapshots.PastsKept.{StandsFor, past_stands}
+use Rattle.cut_ways.proofs.of_snapshots.Views.{get_whole, outputs_whole}
+use Rattle.cut_ways.specs.ways_out.Deliveries.{AreApart, Delivered as WholeDelivered, NodeIs, numbers_from}
+use Rattle.cut_ways.specs.ways_out.Deliveries.{after_outcome as whole_after_outcome}
+use Rattle.cut_ways.specs.ways_out.Following.{Follows, Serves}
+use Rattle.cut_ways.specs.ways_out.Laws.{AnswersCommand as WholeAnswers, IsHeldByAll as WholeHeldByAll}
+use Rattle.cut_ways.proofs.of_ways_out.Answering.{commands_are_answered}
 use Rattle.cut_answers.specs.Answering.{AnswersCommand, AnswersLast, CutGroupsAnswer, IsHeldByAll}
 use Rattle.cut_ways.specs.Deliveries.{after_outcome}
 use Rattle.cut_ways.proofs.Ahead.{AreLike}

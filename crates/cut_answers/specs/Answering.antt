@@ -2,20 +2,20 @@
 use Rattle.std.specs.Prelude.{ℕ, ◌+◌, ◌*◌, ◌<◌, ◌≡◌, false, List, [], ◌∷◌, ◌++◌, length, map, slice_get, Some}
 use Rattle.machine.specs.Machine.{Rules, replay}
 use Rattle.lists.specs.Lists.{In}
-use Rattle.ballot_base.specs.declared.config.Config.{Config}
-use Rattle.ballot_base.specs.declared.message.Body.TheVariants.{Held}
-use Rattle.ballot_base.specs.declared.message.Effect.{Effect}
-use Rattle.ballot_base.specs.declared.message.Effect.TheVariants.{Out}
-use Rattle.ballot_base.specs.Protocol.{received, replica_step}
-use Rattle.ballot_base.specs.Protocol.Input.{Proposes}
-use Rattle.ballot_base.specs.Replica.{ReplicaState}
-use Rattle.ballot_base.specs.Sending.{Outcome}
-use Rattle.ballot_base.specs.Serving.{most_places}
-use Rattle.snapshots.specs.Past.{Moment, Past, whole_moment}
-use Rattle.snapshots.specs.Whole.{whole}
-use Rattle.snapshots.specs.World.{outputs}
-use Rattle.ways_out.specs.Deliveries.{AreApart, NodeIs, numbers_from}
-use Rattle.ways_out.specs.Following.{Follows, Serves}
+use Rattle.cut_ways.specs.ballot_base.declared.config.Config.{Config}
+use Rattle.cut_ways.specs.ballot_base.declared.message.Body.TheVariants.{Held}
+use Rattle.cut_ways.specs.ballot_base.declared.message.Effect.{Effect}
+use Rattle.cut_ways.specs.ballot_base.declared.message.Effect.TheVariants.{Out}
+use Rattle.cut_ways.specs.ballot_base.Protocol.{received, replica_step}
+use Rattle.cut_ways.specs.ballot_base.Protocol.Input.{Proposes}
+use Rattle.cut_ways.specs.ballot_base.Replica.{ReplicaState}
+use Rattle.cut_ways.specs.ballot_base.Sending.{Outcome}
+use Rattle.cut_ways.specs.ballot_base.Serving.{most_places}
+use Rattle.cut_ways.specs.snapshots.Past.{Moment, Past, whole_moment}
+use Rattle.cut_ways.specs.snapshots.Whole.{whole}
+use Rattle.cut_ways.specs.snapshots.World.{outputs}
+use Rattle.cut_ways.specs.ways_out.Deliveries.{AreApart, NodeIs, numbers_from}
+use Rattle.cut_ways.specs.ways_out.Following.{Follows, Serves}
 use Rattle.cut_ways.specs.Deliveries.{Delivered, after_outcome}
 
 -- a step of the primary that answers a command after a log: it gives what the machine answers there, before any message, and

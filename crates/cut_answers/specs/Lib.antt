@@ -1,1 +1,2 @@
 pub mod Answering
+pub use Rattle.cut_ways.specs as cut_ways

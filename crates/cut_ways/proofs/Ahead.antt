@@ -8,16 +8,16 @@ use Rattle.lists.specs.Lists.{IsPrefixOf}
 use Rattle.std.proofs.lemmas.List.{append-nil}
 use Rattle.lists.proofs.Beginnings.{prefix_length, take_prefix}
 use Rattle.machine.specs.Machine.{Rules, replay, replay_from}
-use Rattle.agreement.specs.whole.Messages.{Body}
-use Rattle.agreement.specs.whole.Messages.Body.{NewBallot, Join, State, Install, Installed, Activate, Activated, Superseded, Append, Held, Commit}
-use Rattle.agreement.specs.whole.Role.TheVariants.{Active, Backup}
-use Rattle.agreement.specs.whole.Changing.{activates, on_new_ballot, on_join, on_state, on_install, on_installed, on_activated, on_superseded}
-use Rattle.agreement.specs.whole.Protocol.{received}
-use Rattle.agreement.specs.whole.Replica.{ReplicaState, is_active, is_fetching, is_installing, others, progress_at}
-use Rattle.agreement.specs.whole.Sending.{Outcome, message_to, nothing_done}
-use Rattle.agreement.specs.whole.Serving.{added, extended, follows, leads, most_places, on_append, on_commit, on_held}
-use Rattle.agreement.proofs.of_whole.AppliesInOrder.{replay_goes_on}
-use Rattle.agreement.proofs.of_whole.ChangeRows.{on_install-answers, on_install-stays, on_state-stays}
+use Rattle.snapshots.specs.agreement.whole.Messages.{Body}
+use Rattle.snapshots.specs.agreement.whole.Messages.Body.{NewBallot, Join, State, Install, Installed, Activate, Activated, Superseded, Append, Held, Commit}
+use Rattle.snapshots.specs.agreement.whole.Role.TheVariants.{Active, Backup}
+use Rattle.snapshots.specs.agreement.whole.Changing.{activates, on_new_ballot, on_join, on_state, on_install, on_installed, on_activated, on_superseded}
+use Rattle.snapshots.specs.agreement.whole.Protocol.{received}
+use Rattle.snapshots.specs.agreement.whole.Replica.{ReplicaState, is_active, is_fetching, is_installing, others, progress_at}
+use Rattle.snapshots.specs.agreement.whole.Sending.{Outcome, message_to, nothing_done}
+use Rattle.snapshots.specs.agreement.whole.Serving.{added, extended, follows, leads, most_places, on_append, on_commit, on_held}
+use Rattle.snapshots.proofs.of_agreement.of_whole.AppliesInOrder.{replay_goes_on}
+use Rattle.snapshots.proofs.of_agreement.of_whole.ChangeRows.{on_install-answers, on_install-stays, on_state-stays}
 
 -- a replica that holds the log of this ballot, and leads nothing yet, with more of the log applied
 pub record IsAhead {S C O : Type 0} (rules : Rules S C O) (ballot : ℕ) (p s : ReplicaState S C) : Type 0 where

@@ -4,16 +4,16 @@ use Rattle.std.proofs.lemmas.Bool.{both_ways}
 use Rattle.std.proofs.lemmas.List.{length-map, map-append}
 use Rattle.lists.specs.Lists.{In}
 use Rattle.machine.specs.Machine.{Rules}
-use Rattle.agreement.specs.MasterState.{AssignRefusal, MasterState, master_behind, refusal}
-use Rattle.agreement.specs.Past.{Moment as WholeMoment, Past as WholePast}
-use Rattle.agreement.specs.Past.Past.{went_on as whole_went_on}
-use Rattle.agreement.specs.Steps.{MayHappen as WholeMayHappen, world_behind as whole_behind}
-use Rattle.agreement.specs.Steps.MayHappen.{master_assigns as whole_assigns}
-use Rattle.agreement.specs.whole.Messages.Body.{Held}
-use Rattle.agreement.specs.whole.Messages.{Message as WholeMessage}
-use Rattle.agreement.specs.whole.Replica.{ReplicaState as WholeState, is_active}
-use Rattle.agreement.proofs.Changing.OtherMembers.{others_in}
-use Rattle.agreement.proofs.Masters.Assigns.{lawful_is, not_refused}
+use Rattle.snapshots.specs.agreement.MasterState.{AssignRefusal, MasterState, master_behind, refusal}
+use Rattle.snapshots.specs.agreement.Past.{Moment as WholeMoment, Past as WholePast}
+use Rattle.snapshots.specs.agreement.Past.Past.{went_on as whole_went_on}
+use Rattle.snapshots.specs.agreement.Steps.{MayHappen as WholeMayHappen, world_behind as whole_behind}
+use Rattle.snapshots.specs.agreement.Steps.MayHappen.{master_assigns as whole_assigns}
+use Rattle.snapshots.specs.agreement.whole.Messages.Body.{Held}
+use Rattle.snapshots.specs.agreement.whole.Messages.{Message as WholeMessage}
+use Rattle.snapshots.specs.agreement.whole.Replica.{ReplicaState as WholeState, is_active}
+use Rattle.snapshots.proofs.of_agreement.Changing.OtherMembers.{others_in}
+use Rattle.snapshots.proofs.of_agreement.Masters.Assigns.{lawful_is, not_refused}
 use Rattle.ballot_base.specs.declared.config.Config.{Config}
 use Rattle.ballot_base.specs.Replica.{others}
 use Rattle.snapshots.specs.Past.{IsAgreed, Moment, Past, whole_moment}

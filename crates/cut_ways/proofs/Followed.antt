@@ -9,21 +9,21 @@ use Rattle.lists.proofs.Beginnings.{prefix_then}
 use Rattle.lists.proofs.Members.{in_at}
 use Rattle.lists.proofs.Places.{get_set, get_set_other}
 use Rattle.machine.specs.Machine.{Rules}
-use Rattle.agreement.proofs.Agreed.PastAgrees.{machines_replay}
-use Rattle.agreement.proofs.Agreed.PastKnown.{past_known}
-use Rattle.agreement.specs.MasterState.{MasterState, activating, is_granted}
-use Rattle.agreement.specs.Past.{Moment as WholeMoment, Past as WholePast}
-use Rattle.agreement.specs.Past.Past.{went_on as whole_went_on}
-use Rattle.agreement.specs.Steps.MayHappen.{node_takes, master_hears as whole_hears}
-use Rattle.agreement.specs.World.{messages as whole_messages, outputs as whole_outputs}
-use Rattle.agreement.specs.whole.Messages.{Body as WholeBody, Effect as WholeEffect, Message as WholeMessage}
-use Rattle.agreement.specs.whole.Messages.{Body as bodies}
-use Rattle.agreement.specs.whole.Losses.Thinned.{none as whole_none, keeps as whole_keeps}
-use Rattle.agreement.specs.whole.Losses.{Thinned as WholeThinned}
-use Rattle.agreement.specs.whole.Protocol.{received as whole_received}
-use Rattle.agreement.specs.whole.Protocol.Input.{Receives as whole_receives}
-use Rattle.agreement.specs.whole.Replica.{ReplicaState as WholeState}
-use Rattle.agreement.specs.whole.Sending.{Outcome as WholeOutcome}
+use Rattle.snapshots.proofs.of_agreement.Agreed.PastAgrees.{machines_replay}
+use Rattle.snapshots.proofs.of_agreement.Agreed.PastKnown.{past_known}
+use Rattle.snapshots.specs.agreement.MasterState.{MasterState, activating, is_granted}
+use Rattle.snapshots.specs.agreement.Past.{Moment as WholeMoment, Past as WholePast}
+use Rattle.snapshots.specs.agreement.Past.Past.{went_on as whole_went_on}
+use Rattle.snapshots.specs.agreement.Steps.MayHappen.{node_takes, master_hears as whole_hears}
+use Rattle.snapshots.specs.agreement.World.{messages as whole_messages, outputs as whole_outputs}
+use Rattle.snapshots.specs.agreement.whole.Messages.{Body as WholeBody, Effect as WholeEffect, Message as WholeMessage}
+use Rattle.snapshots.specs.agreement.whole.Messages.{Body as bodies}
+use Rattle.snapshots.specs.agreement.whole.Losses.Thinned.{none as whole_none, keeps as whole_keeps}
+use Rattle.snapshots.specs.agreement.whole.Losses.{Thinned as WholeThinned}
+use Rattle.snapshots.specs.agreement.whole.Protocol.{received as whole_received}
+use Rattle.snapshots.specs.agreement.whole.Protocol.Input.{Receives as whole_receives}
+use Rattle.snapshots.specs.agreement.whole.Replica.{ReplicaState as WholeState}
+use Rattle.snapshots.specs.agreement.whole.Sending.{Outcome as WholeOutcome}
 use Rattle.ballot_base.specs.declared.config.Config.{Config}
 use Rattle.ballot_base.specs.declared.message.Body.{Body}
 use Rattle.ballot_base.specs.declared.message.Body.TheVariants.{NewBallot, Join, State, Install, Installed, Activate, Activated, Superseded, Append, Held, Commit}

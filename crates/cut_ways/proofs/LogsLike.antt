@@ -5,19 +5,19 @@ use Rattle.std.proofs.lemmas.Bool.{and_parts, cases_Bool, cases_lt, eqb-true, lt
 use Rattle.std.proofs.lemmas.List.{take-take}
 use Rattle.lists.specs.Lists.{In}
 use Rattle.machine.specs.Machine.{Rules, replay}
-use Rattle.agreement.proofs.Agreed.PastAgrees.{machines_replay}
-use Rattle.agreement.proofs.of_whole.AppliesInOrder.{replay_goes_on}
-use Rattle.agreement.proofs.of_whole.ChangeRows.{on_install-answers, on_install-stays, on_install-takes, on_state-stays, on_state-takes}
-use Rattle.agreement.specs.Past.{Moment as WholeMoment}
-use Rattle.agreement.specs.whole.Applying.{applied_to as whole_applied_to}
-use Rattle.agreement.specs.whole.Changing.{installs as whole_installs, on_install as whole_on_install, on_state as whole_on_state}
-use Rattle.agreement.specs.whole.Messages.{Body as bodies}
-use Rattle.agreement.specs.whole.Messages.{Effect as WholeEffect}
-use Rattle.agreement.specs.whole.Messages.{Effect as effects}
-use Rattle.agreement.specs.whole.Protocol.{received as whole_received}
-use Rattle.agreement.specs.whole.Protocol.Input.{Receives as whole_receives}
-use Rattle.agreement.specs.whole.Replica.{ReplicaState as WholeState}
-use Rattle.agreement.specs.whole.Sending.{Outcome as WholeOutcome, nothing_done as whole_nothing}
+use Rattle.snapshots.proofs.of_agreement.Agreed.PastAgrees.{machines_replay}
+use Rattle.snapshots.proofs.of_agreement.of_whole.AppliesInOrder.{replay_goes_on}
+use Rattle.snapshots.proofs.of_agreement.of_whole.ChangeRows.{on_install-answers, on_install-stays, on_install-takes, on_state-stays, on_state-takes}
+use Rattle.snapshots.specs.agreement.Past.{Moment as WholeMoment}
+use Rattle.snapshots.specs.agreement.whole.Applying.{applied_to as whole_applied_to}
+use Rattle.snapshots.specs.agreement.whole.Changing.{installs as whole_installs, on_install as whole_on_install, on_state as whole_on_state}
+use Rattle.snapshots.specs.agreement.whole.Messages.{Body as bodies}
+use Rattle.snapshots.specs.agreement.whole.Messages.{Effect as WholeEffect}
+use Rattle.snapshots.specs.agreement.whole.Messages.{Effect as effects}
+use Rattle.snapshots.specs.agreement.whole.Protocol.{received as whole_received}
+use Rattle.snapshots.specs.agreement.whole.Protocol.Input.{Receives as whole_receives}
+use Rattle.snapshots.specs.agreement.whole.Replica.{ReplicaState as WholeState}
+use Rattle.snapshots.specs.agreement.whole.Sending.{Outcome as WholeOutcome, nothing_done as whole_nothing}
 use Rattle.ballot_base.specs.declared.config.Config.{Config}
 use Rattle.ballot_base.specs.declared.message.Body.{Body}
 use Rattle.ballot_base.specs.declared.message.Body.TheVariants.{NewBallot, Join, State, Install, Installed, Activate, Activated, Superseded, Append, Held, Commit}
@@ -29,7 +29,7 @@ use Rattle.ballot_base.specs.Protocol.Input.{Receives}
 use Rattle.ballot_base.specs.Replica.{ReplicaState, is_active, is_fetching, others}
 use Rattle.ballot_base.specs.Sending.{Outcome}
 use Rattle.ballot_base.specs.Taking.{read_into, taken, with_places, with_snapshot}
-use Rattle.agreement.specs.MasterState.{MasterState}
+use Rattle.snapshots.specs.agreement.MasterState.{MasterState}
 use Rattle.snapshots.specs.Matches.{IsBased}
 use Rattle.snapshots.specs.Whole.{whole, whole_body, whole_effects, whole_log, whole_message}
 use Rattle.snapshots.specs.World.{World}

@@ -4,15 +4,15 @@ use Rattle.std.specs.Prelude.{nat_lt, nat_le, ◌&&◌, ◌==◌}
 use Rattle.std.specs.List.{list_any}
 use Rattle.std.proofs.lemmas.List.{map-append}
 use Rattle.machine.specs.Machine.{Rules, replay_from}
-use Rattle.agreement.specs.whole.Messages.{Body as bodies}
-use Rattle.agreement.specs.whole.Messages.{Effect as WholeEffect}
-use Rattle.agreement.specs.whole.Messages.{Effect as effects}
-use Rattle.agreement.specs.whole.Applying.{outputs_from as whole_outputs_from}
-use Rattle.agreement.specs.whole.Changing.{on_new_ballot as whole_on_new_ballot, on_join as whole_on_join, activates as whole_activates, on_installed as whole_on_installed, on_activated as whole_on_activated, on_superseded as whole_on_superseded}
-use Rattle.agreement.specs.whole.Protocol.{received as whole_received}
-use Rattle.agreement.specs.whole.Replica.{ReplicaState as WholeState}
-use Rattle.agreement.specs.whole.Sending.{Outcome as WholeOutcome, message_to_followed as whole_followed, nothing_done as whole_nothing}
-use Rattle.agreement.specs.whole.Serving.{commit as whole_commit, commit_at as whole_commit_at, added as whole_added, on_append as whole_on_append, on_held as whole_on_held, on_commit as whole_on_commit, extended as whole_extended, proposed as whole_proposed}
+use Rattle.snapshots.specs.agreement.whole.Messages.{Body as bodies}
+use Rattle.snapshots.specs.agreement.whole.Messages.{Effect as WholeEffect}
+use Rattle.snapshots.specs.agreement.whole.Messages.{Effect as effects}
+use Rattle.snapshots.specs.agreement.whole.Applying.{outputs_from as whole_outputs_from}
+use Rattle.snapshots.specs.agreement.whole.Changing.{on_new_ballot as whole_on_new_ballot, on_join as whole_on_join, activates as whole_activates, on_installed as whole_on_installed, on_activated as whole_on_activated, on_superseded as whole_on_superseded}
+use Rattle.snapshots.specs.agreement.whole.Protocol.{received as whole_received}
+use Rattle.snapshots.specs.agreement.whole.Replica.{ReplicaState as WholeState}
+use Rattle.snapshots.specs.agreement.whole.Sending.{Outcome as WholeOutcome, message_to_followed as whole_followed, nothing_done as whole_nothing}
+use Rattle.snapshots.specs.agreement.whole.Serving.{commit as whole_commit, commit_at as whole_commit_at, added as whole_added, on_append as whole_on_append, on_held as whole_on_held, on_commit as whole_on_commit, extended as whole_extended, proposed as whole_proposed}
 use Rattle.ballot_base.specs.declared.message.Body.{Body}
 use Rattle.ballot_base.specs.declared.message.Body.TheVariants.{NewBallot, Join, State, Install, Installed, Activate, Activated, Superseded, Append, Held, Commit}
 use Rattle.ballot_base.specs.declared.status.Role.TheVariants.{Backup, Active}

@@ -2,7 +2,7 @@
 -- their logs. The numbers are those of `ways_out`.
 use Rattle.std.specs.Prelude.{ℕ, ◌+◌, ◌≡◌, false, List, [], ◌∷◌, slice_get, Some}
 use Rattle.machine.specs.Machine.{Rules}
-use Rattle.agreement.specs.MasterState.{assigning}
+use Rattle.snapshots.specs.agreement.MasterState.{assigning}
 use Rattle.ballot_base.specs.declared.config.Config.{Config}
 use Rattle.ballot_base.specs.declared.message.Body.TheVariants.{Activate}
 use Rattle.ballot_base.specs.declared.message.Message.{Message}

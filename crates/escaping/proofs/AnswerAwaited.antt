@@ -4,7 +4,7 @@ use Rattle.std.specs.Prelude.{◌&&◌, ◌||◌, ◌==◌}
 use Rattle.std.specs.List.{find, list_any}
 use Rattle.std.proofs.lemmas.Bool.{and_parts, and_right, eq-eqb, or_parts}
 use Rattle.ballot.specs.Replica.{is_active}
-use Rattle.broker_base.specs.Connection.{ConnectionName, same_connection}
+use Rattle.model.specs.broker_base.Connection.{ConnectionName, same_connection}
 use Rattle.group_model.specs.world_base.declared.Connection.{Connection}
 use Rattle.group_model.specs.world_base.declared.item.Item.TheVariants.{Peer}
 use Rattle.group_model.specs.world_base.declared.Port.{Port}

@@ -4,23 +4,23 @@ use Rattle.std.specs.Prelude.{◌==◌, flat_map, is_some, nat_lt}
 use Rattle.lists.specs.Lists.{Each}
 use Rattle.lists.proofs.OfEach.{each_append}
 use Rattle.packet.specs.declared.packet.Packet.TheVariants as packets
-use Rattle.broker_base.specs.Answers.{answers_of, closed, connect_answers, welcome}
+use Rattle.model.specs.broker_base.Answers.{answers_of, closed, connect_answers, welcome}
 use Rattle.ballot.specs.Machine.{replay}
-use Rattle.broker_base.specs.Command.{Command}
-use Rattle.broker_base.specs.Command.TheVariants as commands
-use Rattle.broker_base.specs.Commands.{past_of, place_of, usual_limits}
-use Rattle.broker_base.specs.Connection.{ConnectionName, same_connection}
-use Rattle.broker_base.specs.Entries.{Entry}
-use Rattle.broker_base.specs.Marks.{connect_mark, mark_of}
-use Rattle.broker_base.specs.Output.{Output}
-use Rattle.broker_base.specs.Output.TheVariants.{Send}
-use Rattle.broker_base.specs.Owner.{clients, first_client, owner_of}
-use Rattle.broker_base.specs.Past.{any_connection, begins_session, current_connection, ends, ends_any, is_beginning, newest_connection, newest_session, session_of}
-use Rattle.broker_base.specs.Place.{Client, Limits, Mark, Past, Place, only_if, same_client}
-use Rattle.broker_base.specs.Readings.{released_below}
-use Rattle.broker_base.specs.Sends.{all_started, publish, resent, sent_again, sent_first}
-use Rattle.broker_base.specs.Times.{entries_of}
-use Rattle.broker_base.proofs.ClientsInOrder.{same_self}
+use Rattle.model.specs.broker_base.Command.{Command}
+use Rattle.model.specs.broker_base.Command.TheVariants as commands
+use Rattle.model.specs.broker_base.Commands.{past_of, place_of, usual_limits}
+use Rattle.model.specs.broker_base.Connection.{ConnectionName, same_connection}
+use Rattle.model.specs.broker_base.Entries.{Entry}
+use Rattle.model.specs.broker_base.Marks.{connect_mark, mark_of}
+use Rattle.model.specs.broker_base.Output.{Output}
+use Rattle.model.specs.broker_base.Output.TheVariants.{Send}
+use Rattle.model.specs.broker_base.Owner.{clients, first_client, owner_of}
+use Rattle.model.specs.broker_base.Past.{any_connection, begins_session, current_connection, ends, ends_any, is_beginning, newest_connection, newest_session, session_of}
+use Rattle.model.specs.broker_base.Place.{Client, Limits, Mark, Past, Place, only_if, same_client}
+use Rattle.model.specs.broker_base.Readings.{released_below}
+use Rattle.model.specs.broker_base.Sends.{all_started, publish, resent, sent_again, sent_first}
+use Rattle.model.specs.broker_base.Times.{entries_of}
+use Rattle.model.proofs.of_broker_base.ClientsInOrder.{same_self}
 use Rattle.group_model.specs.world_base.Core.{rules}
 use Rattle.model.proofs.Answers.{past_push}
 use Rattle.model.proofs.BrokerRules.{gives_answers}

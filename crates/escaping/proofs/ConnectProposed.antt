@@ -17,10 +17,10 @@ use Rattle.ballot.specs.Body.TheVariants.{Append}
 use Rattle.ballot.specs.Serving.{added, least, most_places, proposed}
 use Rattle.ballot.proofs.StepRows.{added-is, commit_at-goes, commit_at-stays}
 use Rattle.group_model.specs.snapshots.World.{outputs}
-use Rattle.broker_base.specs.Command.{Command}
-use Rattle.broker_base.specs.Command.TheVariants as commands
-use Rattle.broker_base.specs.Output.{Output}
-use Rattle.broker_base.specs.State.{State}
+use Rattle.model.specs.broker_base.Command.{Command}
+use Rattle.model.specs.broker_base.Command.TheVariants as commands
+use Rattle.model.specs.broker_base.Output.{Output}
+use Rattle.model.specs.broker_base.State.{State}
 use Rattle.group_model.specs.world_base.declared.Connection.{Connection}
 use Rattle.group_model.specs.world_base.declared.item.Item.TheVariants.{Bytes}
 use Rattle.group_model.specs.world_base.declared.Port.{Port}

@@ -6,10 +6,10 @@ use Rattle.packet.specs.Verdict.{verdict}
 use Rattle.ballot.specs.Sending.{Outcome}
 use Rattle.ballot.specs.Serving.{proposed}
 use Rattle.group_model.specs.snapshots.World.{outputs}
-use Rattle.broker_base.specs.Command.{Command}
-use Rattle.broker_base.specs.Command.TheVariants as commands
-use Rattle.broker_base.specs.Output.{Output}
-use Rattle.broker_base.specs.State.{State}
+use Rattle.model.specs.broker_base.Command.{Command}
+use Rattle.model.specs.broker_base.Command.TheVariants as commands
+use Rattle.model.specs.broker_base.Output.{Output}
+use Rattle.model.specs.broker_base.State.{State}
 use Rattle.group_model.specs.world_base.declared.Connection.{Connection}
 use Rattle.group_model.specs.world_base.declared.Stage.TheVariants.{Proposed}
 use Rattle.group_model.specs.world_base.declared.item.Item.TheVariants.{Bytes}

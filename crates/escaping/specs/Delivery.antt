@@ -6,9 +6,9 @@ use Rattle.ballot.specs.Protocol.{received}
 use Rattle.ballot.specs.Replica.{is_active}
 use Rattle.ballot.specs.Sending.{Outcome}
 use Rattle.group_model.specs.snapshots.World.{outputs}
-use Rattle.broker_base.specs.Command.{Command}
-use Rattle.broker_base.specs.Output.{Output}
-use Rattle.broker_base.specs.State.{State}
+use Rattle.model.specs.broker_base.Command.{Command}
+use Rattle.model.specs.broker_base.Output.{Output}
+use Rattle.model.specs.broker_base.State.{State}
 use Rattle.group_model.specs.world_base.declared.Connection.{Connection}
 use Rattle.group_model.specs.world_base.declared.item.Item.TheVariants.{Peer}
 use Rattle.group_model.specs.world_base.Connections.{has_failed}

@@ -1,7 +1,7 @@
 -- The first connection that a new primary opens in its ballot.
 use Rattle.std.specs.Prelude.{◌≡◌, ◌<◌, ◌≤◌, ◌^◌, ℕ, true, false, [], ◌∷◌, ◌++◌, filter}
 use Rattle.std.specs.List.{list_any}
-use Rattle.broker_base.specs.Connection.{ConnectionName}
+use Rattle.model.specs.broker_base.Connection.{ConnectionName}
 use Rattle.group_model.specs.world_base.declared.item.Item.TheVariants.{Opened}
 use Rattle.group_model.specs.world_base.declared.Port.{Port}
 use Rattle.group_model.specs.world_base.Connections.{fresh, is_at, is_listed}

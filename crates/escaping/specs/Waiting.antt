@@ -4,8 +4,8 @@ use Rattle.std.specs.List.{find, list_any}
 use Rattle.packet.specs.declared.connect.Connect.{Connect}
 use Rattle.ballot.specs.Message.{Message}
 use Rattle.ballot.specs.Replica.{is_active}
-use Rattle.broker_base.specs.Command.{Command}
-use Rattle.broker_base.specs.Connection.{ConnectionName}
+use Rattle.model.specs.broker_base.Command.{Command}
+use Rattle.model.specs.broker_base.Connection.{ConnectionName}
 use Rattle.group_model.specs.snapshots.World.{outputs}
 use Rattle.group_model.specs.world_base.declared.Connection.{Connection}
 use Rattle.group_model.specs.world_base.declared.item.Item.TheVariants.{Peer}

@@ -2,15 +2,15 @@
 use Rattle.std.specs.Prelude.{◌≡◌, ℕ, true, false, List, [], ◌∷◌, ◌++◌, Some}
 use Rattle.lists.specs.Lists.{Each}
 use Rattle.ballot.specs.Machine.{replay}
-use Rattle.broker_base.specs.Answers.{welcome}
-use Rattle.broker_base.specs.Command.{Command}
-use Rattle.broker_base.specs.Command.TheVariants as commands
-use Rattle.broker_base.specs.Commands.{past_of, usual_limits}
-use Rattle.broker_base.specs.Connection.{ConnectionName}
-use Rattle.broker_base.specs.Output.{Output}
-use Rattle.broker_base.specs.Output.TheVariants.{Send, Close}
-use Rattle.broker_base.specs.Past.{session_of}
-use Rattle.broker_base.specs.Place.{Client}
+use Rattle.model.specs.broker_base.Answers.{welcome}
+use Rattle.model.specs.broker_base.Command.{Command}
+use Rattle.model.specs.broker_base.Command.TheVariants as commands
+use Rattle.model.specs.broker_base.Commands.{past_of, usual_limits}
+use Rattle.model.specs.broker_base.Connection.{ConnectionName}
+use Rattle.model.specs.broker_base.Output.{Output}
+use Rattle.model.specs.broker_base.Output.TheVariants.{Send, Close}
+use Rattle.model.specs.broker_base.Past.{session_of}
+use Rattle.model.specs.broker_base.Place.{Client}
 use Rattle.group_model.specs.world_base.Core.{rules}
 
 -- an output that is a packet for this connection

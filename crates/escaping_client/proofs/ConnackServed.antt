@@ -10,15 +10,15 @@ use Rattle.client.specs.ClientError.{ClientError}
 use Rattle.client.specs.ClientError.TheVariants as errors
 use Rattle.client.specs.Stage.{Stage}
 use Rattle.client.specs.Stage.TheVariants as stages
-use Rattle.cutter.specs.Stream.{IsFault, Stream}
-use Rattle.packet.specs.Stop.{Stop}
-use Rattle.packet.specs.Stop.TheVariants as stops
-use Rattle.packet.specs.Verdict.{verdict}
-use Rattle.packet.specs.declared.connack.Connack.TheVariants as connacks
-use Rattle.packet.specs.declared.error.DecodeFault.{DecodeFault}
-use Rattle.packet.specs.declared.error.DecodeFault.TheVariants as faults
-use Rattle.packet.specs.declared.packet.Packet.{Packet}
-use Rattle.packet.specs.declared.packet.Packet.TheVariants as packets
+use Rattle.client.specs.cutter.Stream.{IsFault, Stream}
+use Rattle.client.specs.packet.Stop.{Stop}
+use Rattle.client.specs.packet.Stop.TheVariants as stops
+use Rattle.client.specs.packet.Verdict.{verdict}
+use Rattle.client.specs.packet.declared.connack.Connack.TheVariants as connacks
+use Rattle.client.specs.packet.declared.error.DecodeFault.{DecodeFault}
+use Rattle.client.specs.packet.declared.error.DecodeFault.TheVariants as faults
+use Rattle.client.specs.packet.declared.packet.Packet.{Packet}
+use Rattle.client.specs.packet.declared.packet.Packet.TheVariants as packets
 use Rattle.escaping_client.specs.Online.{ConnackServes, IsServed}
 
 abbrev connack : Packet

@@ -1,1 +1,2 @@
 pub mod Online
+pub use Rattle.client.specs as client

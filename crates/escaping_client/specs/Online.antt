@@ -6,9 +6,9 @@ use Rattle.client.specs.State.{is_online}
 use Rattle.client.specs.ClientError.{ClientError}
 use Rattle.client.specs.ClientError.TheVariants as errors
 use Rattle.client.specs.Stage.TheVariants as stages
-use Rattle.packet.specs.Verdict.{verdict}
-use Rattle.packet.specs.declared.connack.Connack.TheVariants as connacks
-use Rattle.packet.specs.declared.packet.Packet.TheVariants as packets
+use Rattle.client.specs.packet.Verdict.{verdict}
+use Rattle.client.specs.packet.declared.connack.Connack.TheVariants as connacks
+use Rattle.client.specs.packet.declared.packet.Packet.TheVariants as packets
 
 -- its last CONNACK was a 0 with session present, and it is online
 pub record IsServed (core : Core) : Type 0 where

@@ -13,15 +13,15 @@ use Rattle.ballot.specs.Protocol.Input.{Proposes}
 use Rattle.ballot.specs.Replica.{CountedReplica, ReplicaState, is_active}
 use Rattle.ballot.specs.Sending.{Outcome}
 use Rattle.ballot.specs.Serving.{most_places}
-use Rattle.packet.specs.declared.connect.Connect.{Connect}
-use Rattle.packet.specs.Spelling.{spelling}
-use Rattle.broker_base.specs.Command.{Command}
-use Rattle.broker_base.specs.Command.TheVariants as commands
-use Rattle.broker_base.specs.Connection.{ConnectionName}
-use Rattle.broker_base.specs.Output.{Output}
-use Rattle.broker_base.specs.Output.TheVariants.{Send}
+use Rattle.escaping.specs.packet.declared.connect.Connect.{Connect}
+use Rattle.escaping.specs.packet.Spelling.{spelling}
+use Rattle.escaping.specs.broker_base.Command.{Command}
+use Rattle.escaping.specs.broker_base.Command.TheVariants as commands
+use Rattle.escaping.specs.broker_base.Connection.{ConnectionName}
+use Rattle.escaping.specs.broker_base.Output.{Output}
+use Rattle.escaping.specs.broker_base.Output.TheVariants.{Send}
 use Rattle.ballot.specs.Effect.TheVariants.{Out}
-use Rattle.broker_base.specs.State.{State}
+use Rattle.escaping.specs.broker_base.State.{State}
 use Rattle.ballot.specs.Config.{Config}
 use Rattle.escaping.specs.Answering.{PutsOutFirst}
 use Rattle.escaping.specs.Asking.{proposal_at, with_asked}
@@ -50,9 +50,9 @@ use Rattle.escaping.proofs.ComesBack.{kept_sessions_are_welcomed}
 use Rattle.escaping.proofs.ConnectProposed.{connect_is_proposed}
 use Rattle.world_nodes.specs.Goes.{behind_deed}
 use Rattle.world_nodes.specs.Nodes.{NodesState, cores_of}
-use Rattle.cut_ways.specs.Deliveries.{Delivered, after_outcome}
-use Rattle.cut_ways.specs.ways_out.Deliveries.{AreApart, NodeIs, numbers_from}
-use Rattle.cut_ways.specs.ways_out.Following.{Follows}
+use Rattle.cut_answers.specs.cut_ways.Deliveries.{Delivered, after_outcome}
+use Rattle.cut_answers.specs.cut_ways.ways_out.Deliveries.{AreApart, NodeIs, numbers_from}
+use Rattle.cut_answers.specs.cut_ways.ways_out.Following.{Follows}
 use Rattle.lists.specs.Lists.{In}
 use Rattle.cut_answers.specs.Answering.{AnswersCommand, IsHeldByAll}
 use Rattle.cut_answers.proofs.CutGroupsAnswer.{cut_groups_answer}

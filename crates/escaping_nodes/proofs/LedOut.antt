@@ -3,9 +3,9 @@ use Rattle.std.proofs.Common.{◌≡◌, inr, ◌<◌, ℕ, ◌+◌, ◌-◌, Li
 use Rattle.std.specs.Prelude.{slice_get}
 use Rattle.ballot.specs.Config.{Config}
 use Rattle.ballot.specs.Message.{Message}
-use Rattle.broker_base.specs.Command.{Command}
-use Rattle.broker_base.specs.Output.{Output}
-use Rattle.broker_base.specs.State.{State}
+use Rattle.escaping.specs.broker_base.Command.{Command}
+use Rattle.escaping.specs.broker_base.Output.{Output}
+use Rattle.escaping.specs.broker_base.State.{State}
 use Rattle.escaping.specs.group_model.Group.{replica_of}
 use Rattle.escaping.specs.group_model.snapshots.agreement.MasterState.{MasterState, assigning}
 use Rattle.escaping.specs.group_model.snapshots.Masters.{assigned}
@@ -16,12 +16,12 @@ use Rattle.escaping.proofs.of_group_model.of_snapshots.PastsKept.{StandsFor, pas
 use Rattle.escaping.proofs.of_group_model.of_snapshots.Views.{get_whole}
 use Rattle.world_nodes.specs.Goes.{behind_giving}
 use Rattle.world_nodes.specs.Nodes.{NodesState}
-use Rattle.cut_ways.specs.ways_out.Deliveries.{way_out}
-use Rattle.cut_ways.specs.ways_out.Laws.{CanBeLed, StartsGiveNothing}
-use Rattle.cut_ways.proofs.of_ways_out.Premises.{joined_below}
-use Rattle.cut_ways.specs.Deliveries.{assigned_moment}
-use Rattle.cut_ways.specs.Laws.{LeadsOut}
-use Rattle.cut_ways.proofs.CutGroupsLed.{cut_groups_have_ways_out}
+use Rattle.cut_answers.specs.cut_ways.ways_out.Deliveries.{way_out}
+use Rattle.cut_answers.specs.cut_ways.ways_out.Laws.{CanBeLed, StartsGiveNothing}
+use Rattle.cut_answers.proofs.of_cut_ways.of_ways_out.Premises.{joined_below}
+use Rattle.cut_answers.specs.cut_ways.Deliveries.{assigned_moment}
+use Rattle.cut_answers.specs.cut_ways.Laws.{LeadsOut}
+use Rattle.cut_answers.proofs.of_cut_ways.CutGroupsLed.{cut_groups_have_ways_out}
 use Rattle.escaping_nodes.specs.Coming.{AreCalm, Come, IsSeen}
 use Rattle.escaping_nodes.specs.Led.{AreLedOut, NodesAreLedOut}
 use Rattle.escaping_nodes.proofs.NodesFollow.{deliveries_are_followed, replica_at}

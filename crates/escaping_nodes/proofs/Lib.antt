@@ -5,4 +5,5 @@ pub mod ClientAnswered
 pub mod OpensFirst
 pub mod WelcomedKept
 pub use Rattle.escaping.proofs as of_escaping
-pub use Rattle.cut_ways.proofs as of_cut_ways
+pub use Rattle.cut_answers.proofs.of_cut_ways as of_cut_ways
+pub use Rattle.world_nodes.proofs as of_world_nodes

@@ -12,9 +12,9 @@ use Rattle.ballot.specs.Protocol.{received}
 use Rattle.ballot.specs.Protocol.Input.{Receives}
 use Rattle.ballot.specs.Replica.{CountedReplica, ReplicaState, is_active}
 use Rattle.ballot.specs.Sending.{Outcome}
-use Rattle.broker_base.specs.Command.{Command}
-use Rattle.broker_base.specs.Output.{Output}
-use Rattle.broker_base.specs.State.{State}
+use Rattle.escaping.specs.broker_base.Command.{Command}
+use Rattle.escaping.specs.broker_base.Output.{Output}
+use Rattle.escaping.specs.broker_base.State.{State}
 use Rattle.escaping.specs.group_model.Group.{replica_of}
 use Rattle.escaping.specs.group_model.node_model.Moves.{Deed, done}
 use Rattle.escaping.specs.group_model.node_model.Moves.Deed.{takes, gives}
@@ -34,8 +34,8 @@ use Rattle.escaping.proofs.of_group_model.of_node_model.ReplicaLeads.{StaysOr, s
 use Rattle.escaping.proofs.of_group_model.of_node_model.Views.{each_filtered, each_kept}
 use Rattle.world_nodes.specs.Goes.{behind_answer, behind_deed}
 use Rattle.world_nodes.specs.Nodes.{NodesState, cores_of}
-use Rattle.cut_ways.specs.Deliveries.{Delivered, after_activate, after_outcome}
-use Rattle.cut_ways.specs.Deliveries.Delivered.{all_came, to_master, to_node}
+use Rattle.cut_answers.specs.cut_ways.Deliveries.{Delivered, after_activate, after_outcome}
+use Rattle.cut_answers.specs.cut_ways.Deliveries.Delivered.{all_came, to_master, to_node}
 use Rattle.escaping_nodes.specs.Coming.Come.{all_came as none_comes, to_node as comes_to_node, to_master as comes_to_master, hands}
 use Rattle.escaping_nodes.specs.Coming.{AreCalm, AreFollowed, Come, DeliveriesAreFollowed, IsSeen, KeepNames}
 use Rattle.escaping.specs.Delivery.{IsCalm, IsDelivery, heard_by}

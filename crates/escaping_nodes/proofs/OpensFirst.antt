@@ -6,10 +6,10 @@ use Rattle.std.proofs.lemmas.Bool.{cases_eq}
 use Rattle.std.proofs.lemmas.List.{append-nil}
 use Rattle.lists.proofs.Places.{get_set, get_set_other}
 use Rattle.ballot.specs.Replica.{CountedReplica, is_active}
-use Rattle.broker_base.specs.Command.{Command}
-use Rattle.broker_base.specs.Connection.{ConnectionName}
-use Rattle.broker_base.specs.Output.{Output}
-use Rattle.broker_base.specs.State.{State}
+use Rattle.escaping.specs.broker_base.Command.{Command}
+use Rattle.escaping.specs.broker_base.Connection.{ConnectionName}
+use Rattle.escaping.specs.broker_base.Output.{Output}
+use Rattle.escaping.specs.broker_base.State.{State}
 use Rattle.escaping.specs.Delivery.{IsCalm}
 use Rattle.escaping.specs.Opening.{first_name, with_first}
 use Rattle.escaping.specs.Waiting.{AwaitsConnect}
@@ -30,7 +30,7 @@ use Rattle.escaping.proofs.AnswerAwaited.{first_awaits_connect, handing_keeps_th
 use Rattle.escaping.proofs.FirstOpened.{first_is_opened}
 use Rattle.world_nodes.specs.Goes.{behind_deed}
 use Rattle.world_nodes.specs.Nodes.{NodesState, cores_of}
-use Rattle.cut_ways.specs.ways_out.Following.{Serves}
+use Rattle.cut_answers.specs.cut_ways.ways_out.Following.{Serves}
 use Rattle.escaping_nodes.specs.Coming.{AreCalm, Come, IsSeen}
 use Rattle.escaping_nodes.specs.Coming.Come.{all_came as none_comes, hands}
 use Rattle.escaping_nodes.specs.Opened.{CanOpen, ConnectionsOpenFirst, IsOpened, first_of}

@@ -1,18 +1,18 @@
 -- Who is welcomed back after the start of a ballot has a session that was kept.
 use Rattle.std.proofs.Common.{◌≡◌, ℕ, Bool, true, false, ◌||◌, if◌then◌else◌, not, List, ◌∷◌, ◌++◌, length, Option, Some, None, refl, sym, ap, ◌∙◌}
 use Rattle.std.specs.Prelude.{is_some, nat_lt}
-use Rattle.broker_base.specs.Answers.{answers_of, closed, connect_answers, welcome}
-use Rattle.broker_base.specs.Command.TheVariants as commands
-use Rattle.broker_base.specs.Commands.{past_of, place_of, usual_limits}
-use Rattle.broker_base.specs.Connection.{ConnectionName}
-use Rattle.broker_base.specs.Marks.{connect_mark}
-use Rattle.broker_base.specs.Output.{Output}
-use Rattle.broker_base.specs.Owner.{clients}
-use Rattle.broker_base.specs.Past.{begins_session, current_connection, ends_any, is_beginning, newest_session, session_of}
-use Rattle.broker_base.specs.Place.{Client, Limits, Mark, Past, only_if, same_client}
-use Rattle.broker_base.specs.Sends.{resent}
-use Rattle.broker_base.specs.Times.{entries_of}
-use Rattle.broker_base.proofs.ClientsInOrder.{same_self}
+use Rattle.escaping.specs.broker_base.Answers.{answers_of, closed, connect_answers, welcome}
+use Rattle.escaping.specs.broker_base.Command.TheVariants as commands
+use Rattle.escaping.specs.broker_base.Commands.{past_of, place_of, usual_limits}
+use Rattle.escaping.specs.broker_base.Connection.{ConnectionName}
+use Rattle.escaping.specs.broker_base.Marks.{connect_mark}
+use Rattle.escaping.specs.broker_base.Output.{Output}
+use Rattle.escaping.specs.broker_base.Owner.{clients}
+use Rattle.escaping.specs.broker_base.Past.{begins_session, current_connection, ends_any, is_beginning, newest_session, session_of}
+use Rattle.escaping.specs.broker_base.Place.{Client, Limits, Mark, Past, only_if, same_client}
+use Rattle.escaping.specs.broker_base.Sends.{resent}
+use Rattle.escaping.specs.broker_base.Times.{entries_of}
+use Rattle.escaping.proofs.of_broker_base.ClientsInOrder.{same_self}
 use Rattle.escaping.proofs.ComesBack.{at_connect, gives_behind, nobody_owns, none_current}
 use Rattle.world_nodes.specs.Asking.{first_connection, is_welcome, welcomes_back}
 use Rattle.escaping_nodes.specs.Opened.{WelcomedAreKept}

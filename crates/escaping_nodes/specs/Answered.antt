@@ -5,19 +5,19 @@ use Rattle.ballot.specs.Body.TheVariants.{Held}
 use Rattle.ballot.specs.Config.{Config}
 use Rattle.ballot.specs.Message.{Message}
 use Rattle.ballot.specs.Serving.{most_places}
-use Rattle.packet.specs.declared.connack.Connack.TheVariants as connacks
-use Rattle.packet.specs.declared.connect.Connect.{Connect}
-use Rattle.packet.specs.declared.packet.Packet.{Packet}
-use Rattle.packet.specs.declared.packet.Packet.TheVariants as packets
-use Rattle.packet.specs.Spelling.{spelling}
-use Rattle.packet.specs.Verdict.{verdict}
-use Rattle.broker_base.specs.Command.{Command}
-use Rattle.broker_base.specs.Command.TheVariants as commands
-use Rattle.broker_base.specs.Commands.{past_of, usual_limits}
-use Rattle.broker_base.specs.Connection.{ConnectionName}
-use Rattle.broker_base.specs.Output.{Output}
-use Rattle.broker_base.specs.Past.{session_of}
-use Rattle.broker_base.specs.State.{State}
+use Rattle.escaping.specs.packet.declared.connack.Connack.TheVariants as connacks
+use Rattle.escaping.specs.packet.declared.connect.Connect.{Connect}
+use Rattle.escaping.specs.packet.declared.packet.Packet.{Packet}
+use Rattle.escaping.specs.packet.declared.packet.Packet.TheVariants as packets
+use Rattle.escaping.specs.packet.Spelling.{spelling}
+use Rattle.escaping.specs.packet.Verdict.{verdict}
+use Rattle.escaping.specs.broker_base.Command.{Command}
+use Rattle.escaping.specs.broker_base.Command.TheVariants as commands
+use Rattle.escaping.specs.broker_base.Commands.{past_of, usual_limits}
+use Rattle.escaping.specs.broker_base.Connection.{ConnectionName}
+use Rattle.escaping.specs.broker_base.Output.{Output}
+use Rattle.escaping.specs.broker_base.Past.{session_of}
+use Rattle.escaping.specs.broker_base.State.{State}
 use Rattle.escaping.specs.Answering.{PutsOutFirst}
 use Rattle.escaping.specs.Waiting.{AwaitsConnect}
 use Rattle.escaping.specs.group_model.Group.{replica_of}
@@ -30,8 +30,8 @@ use Rattle.escaping.specs.group_model.world_base.Core.{CountedCore, rules}
 use Rattle.escaping.specs.group_model.world_base.Step.{node_step}
 use Rattle.world_nodes.specs.Goes.{behind_deed}
 use Rattle.world_nodes.specs.Nodes.{NodesState}
-use Rattle.cut_ways.specs.ways_out.Deliveries.{AreApart, NodeIs, numbers_from}
-use Rattle.cut_ways.specs.ways_out.Following.{Follows, Serves}
+use Rattle.cut_answers.specs.cut_ways.ways_out.Deliveries.{AreApart, NodeIs, numbers_from}
+use Rattle.cut_answers.specs.cut_ways.ways_out.Following.{Follows, Serves}
 use Rattle.escaping_nodes.specs.Coming.{AreCalm, Come, IsSeen}
 
 -- CONNACK 0 with session present (MQTT 3.2.2.2)

@@ -2,9 +2,9 @@
 use Rattle.std.specs.Prelude.{◌≡◌, ◌⊎◌, ◌<◌, ℕ, ◌+◌, false, List, [], ◌∷◌, map, Some, slice_get}
 use Rattle.ballot.specs.Body.TheVariants.{Activate}
 use Rattle.ballot.specs.Message.{Message}
-use Rattle.broker_base.specs.Command.{Command}
-use Rattle.broker_base.specs.Output.{Output}
-use Rattle.broker_base.specs.State.{State}
+use Rattle.escaping.specs.broker_base.Command.{Command}
+use Rattle.escaping.specs.broker_base.Output.{Output}
+use Rattle.escaping.specs.broker_base.State.{State}
 use Rattle.escaping.specs.group_model.Group.{replica_of}
 use Rattle.escaping.specs.group_model.node_model.Moves.Deed.{takes, gives}
 use Rattle.escaping.specs.group_model.snapshots.Past.{Moment}
@@ -13,7 +13,7 @@ use Rattle.escaping.specs.group_model.world_base.declared.Port.{Port}
 use Rattle.escaping.specs.group_model.world_base.Core.{CountedCore, rules}
 use Rattle.world_nodes.specs.Goes.{behind_answer, behind_deed}
 use Rattle.world_nodes.specs.Nodes.{NodesState, cores_of}
-use Rattle.cut_ways.specs.Deliveries.{Delivered}
+use Rattle.cut_answers.specs.cut_ways.Deliveries.{Delivered}
 use Rattle.escaping.specs.Delivery.{IsCalm}
 
 -- the messages of these numbers come, one after the other, to nodes that run or to the master; in between nodes hand over bytes

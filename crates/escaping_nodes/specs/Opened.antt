@@ -1,13 +1,13 @@
 -- A client that comes back: its connection opens at the new primary, and awaits its CONNECT there.
 use Rattle.std.specs.Prelude.{◌≡◌, ◌<◌, ◌≤◌, ◌^◌, ℕ, ◌+◌, true, false, List, [], None, Some, slice_get}
 use Rattle.std.specs.List.{find, list_any}
-use Rattle.broker_base.specs.Command.{Command}
-use Rattle.broker_base.specs.Commands.{past_of, usual_limits}
-use Rattle.broker_base.specs.Connection.{ConnectionName}
-use Rattle.broker_base.specs.Output.{Output}
-use Rattle.broker_base.specs.Past.{session_of}
-use Rattle.broker_base.specs.Place.{Client}
-use Rattle.broker_base.specs.State.{State}
+use Rattle.escaping.specs.broker_base.Command.{Command}
+use Rattle.escaping.specs.broker_base.Commands.{past_of, usual_limits}
+use Rattle.escaping.specs.broker_base.Connection.{ConnectionName}
+use Rattle.escaping.specs.broker_base.Output.{Output}
+use Rattle.escaping.specs.broker_base.Past.{session_of}
+use Rattle.escaping.specs.broker_base.Place.{Client}
+use Rattle.escaping.specs.broker_base.State.{State}
 use Rattle.escaping.specs.Waiting.{AwaitsConnect}
 use Rattle.escaping.specs.group_model.Group.{replica_of}
 use Rattle.escaping.specs.group_model.node_model.Moves.Deed.{takes}
@@ -20,7 +20,7 @@ use Rattle.escaping.specs.group_model.world_base.Core.{CountedCore}
 use Rattle.world_nodes.specs.Asking.{welcomes_back}
 use Rattle.world_nodes.specs.Goes.{behind_deed}
 use Rattle.world_nodes.specs.Nodes.{NodesState}
-use Rattle.cut_ways.specs.ways_out.Following.{Serves}
+use Rattle.cut_answers.specs.cut_ways.ways_out.Following.{Serves}
 use Rattle.escaping_nodes.specs.Coming.{AreCalm, Come, IsSeen}
 
 -- the first name that is given in a ballot

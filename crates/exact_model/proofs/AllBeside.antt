@@ -3,7 +3,7 @@ use Rattle.std.proofs.Common.{◌≡◌, ℕ, List, [], ◌++◌, true, map, ref
 use Rattle.ballot.specs.Config.{Config}
 use Rattle.broker_base.specs.Place.{Client}
 use Rattle.lists.specs.Lists.{Each}
-use Rattle.agreement.specs.World.{can_open}
+use Rattle.world_model.specs.agreement.World.{can_open}
 use Rattle.world_model.specs.model.World.{AreApart, ClientEnds, opening as opening_beside, story_of as story_beside}
 use Rattle.world_model.specs.model.World as model
 use Rattle.world_model.specs.model.Goes.Reached.{begins as begins_beside}

@@ -15,10 +15,10 @@ use Rattle.client_base.specs.Keeper.{Keeper, Own, Written, ids_in_use, next_numb
 use Rattle.client_base.specs.Written.{plain, publishes, resent, sent_again, sent_first, writes_first, writing}
 use Rattle.lists.specs.Lists.{Each, has_id}
 use Rattle.lists.proofs.OfEach.{each_append}
-use Rattle.story.specs.Sides.{Connection, Side}
-use Rattle.story.specs.Story.{Happens, Story, counted_at}
-use Rattle.story.specs.Story.Happens.{takes, others_take, receives, opens_anew, loses, disconnects, publishes_one, subscribes, unsubscribes}
-use Rattle.story.proofs.publishing.Answered.{counted_side}
+use Rattle.world_model.specs.story.Sides.{Connection, Side}
+use Rattle.world_model.specs.story.Story.{Happens, Story, counted_at}
+use Rattle.world_model.specs.story.Story.Happens.{takes, others_take, receives, opens_anew, loses, disconnects, publishes_one, subscribes, unsubscribes}
+use Rattle.world_model.proofs.of_story.publishing.Answered.{counted_side}
 
 -- a PUBLISH of which it is not known which publication it is of
 abbrev pub is_unnumbered : Packet → Option ℕ → Bool

@@ -1,15 +1,15 @@
 -- A world comes to have read all that was written, and to have put out all that is agreed.
 use Rattle.std.proofs.Common.{◌≡◌, ◌≤◌, ◌+◌, ℕ, zero, suc, true, List, [], ◌∷◌, length, map, set, Some, refl, sym, ap, ◌∙◌, subst, arith}
 use Rattle.std.specs.Prelude.{slice_get}
-use Rattle.agreement.specs.whole.Applying.{outputs_between}
-use Rattle.agreement.specs.World.{outputs}
+use Rattle.world_model.specs.agreement.whole.Applying.{outputs_between}
+use Rattle.world_model.specs.agreement.World.{outputs}
 use Rattle.broker_base.specs.Command.{Command}
 use Rattle.broker_base.specs.Commands.{past_of, usual_limits}
 use Rattle.broker_base.specs.Place.{Client}
 use Rattle.lists.specs.Lists.{Each}
 use Rattle.lists.proofs.Places.{get_set}
-use Rattle.story.specs.Sends.{put_to}
-use Rattle.story.specs.Sides.{Connection}
+use Rattle.world_model.specs.story.Sends.{put_to}
+use Rattle.world_model.specs.story.Sides.{Connection}
 use Rattle.world_model.specs.model.World.{AreApart, ClientEnds, End, World, with_client}
 use Rattle.world_model.specs.model.Goes.{HasPipe, Reached}
 use Rattle.world_model.specs.model.Goes.Goes.{reads}

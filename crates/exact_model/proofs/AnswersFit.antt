@@ -16,11 +16,11 @@ use Rattle.broker_base.specs.State.{State, empty_state, session_in}
 use Rattle.broker_base.specs.Step.{step, steps_from}
 use Rattle.broker_base.specs.StepAnswers.{connection_of}
 use Rattle.broker_base.proofs.StepByStep.{usual_lists_stand}
-use Rattle.broker_form.specs.InRange.{IsBrokerState}
-use Rattle.broker_form.specs.RangeLaws.{CanBeSpelled}
-use Rattle.broker_form.proofs.EveryAnswer.{answers_are_spelled, lists_are_in_range}
-use Rattle.broker_form.proofs.States.{stays_in_range}
-use Rattle.story.specs.Sends.{put_to, sends_to}
+use Rattle.world_model.specs.broker_form.InRange.{IsBrokerState}
+use Rattle.world_model.specs.broker_form.RangeLaws.{CanBeSpelled}
+use Rattle.world_model.proofs.of_broker_form.EveryAnswer.{answers_are_spelled, lists_are_in_range}
+use Rattle.world_model.proofs.of_broker_form.States.{stays_in_range}
+use Rattle.world_model.specs.story.Sends.{put_to, sends_to}
 use Rattle.world_model.proofs.of_model.Answers.{put_place}
 use Rattle.exact_model.proofs.Fitting.{IsFitting}
 use Rattle.exact_model.proofs.LostNowhere.{loss_in_range}

@@ -7,8 +7,8 @@ use Rattle.broker_base.specs.Place.{Client}
 use Rattle.client_base.specs.Keeper.{Keeper, Written}
 use Rattle.lists.specs.Lists.{Each, In, IsPrefixOf}
 use Rattle.lists.proofs.Beginnings.{prefix_length}
-use Rattle.story.specs.Sides.{Connection}
-use Rattle.story.specs.Story.{is_packet_of}
+use Rattle.world_model.specs.story.Sides.{Connection}
+use Rattle.world_model.specs.story.Story.{is_packet_of}
 use Rattle.world_model.specs.model.World.{AreApart, ClientEnds, End, World}
 use Rattle.world_model.specs.model.Exact.{commands_from}
 use Rattle.world_model.specs.model.Goes.{HasPipe, Reached, is_of_connection}

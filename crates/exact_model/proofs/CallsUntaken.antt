@@ -7,9 +7,9 @@ use Rattle.client_base.specs.Handled.{lost}
 use Rattle.client_base.specs.Keeper.{Keeper, Written}
 use Rattle.client_base.specs.Written.{plain, writes_first}
 use Rattle.client_base.specs.declared.request.Request.TheVariants as requests
-use Rattle.story.specs.Sides.{Connection}
-use Rattle.story.specs.Story.{Happens, Story}
-use Rattle.story.specs.Story.Happens.{takes, others_take, receives, opens_anew, loses, disconnects, publishes_one, subscribes, unsubscribes}
+use Rattle.world_model.specs.story.Sides.{Connection}
+use Rattle.world_model.specs.story.Story.{Happens, Story}
+use Rattle.world_model.specs.story.Story.Happens.{takes, others_take, receives, opens_anew, loses, disconnects, publishes_one, subscribes, unsubscribes}
 use Rattle.world_model.specs.model.Goes.{is_call}
 use Rattle.exact_model.proofs.Untaken.{AreSameUntaken, untaken_connection}
 

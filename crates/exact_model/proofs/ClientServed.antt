@@ -8,8 +8,8 @@ use Rattle.packet.specs.Spelling.{IsPacket, spelling}
 use Rattle.client_base.specs.Called.{new_connection}
 use Rattle.client_base.specs.Handled.{lost}
 use Rattle.client_base.specs.Keeper.{Keeper, new_keeper}
-use Rattle.story.specs.Rows.{first_name, writer}
-use Rattle.story.specs.Sides.{Connection}
+use Rattle.world_model.specs.story.Rows.{first_name, writer}
+use Rattle.world_model.specs.story.Sides.{Connection}
 use Rattle.world_model.specs.world_base.declared.item.Item.TheVariants.{Opened}
 use Rattle.world_model.specs.world_base.Connections.{fresh}
 use Rattle.world_model.specs.group_model.Group.{opening_group}

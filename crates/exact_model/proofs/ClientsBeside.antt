@@ -13,10 +13,10 @@ use Rattle.client_base.specs.Written.{writes, writes_first}
 use Rattle.world_model.proofs.of_group_model.Placed.{get_of_set, set_mapped, set_twice}
 use Rattle.lists.specs.Lists.{Each}
 use Rattle.lists.proofs.OfEach.{each_then}
-use Rattle.story.specs.Sends.{put_to}
-use Rattle.story.specs.Sides.{Connection, Side}
-use Rattle.story.specs.Story.{Happens, Story, any_named}
-use Rattle.story.proofs.publishing.Grown.{handled_grows}
+use Rattle.world_model.specs.story.Sends.{put_to}
+use Rattle.world_model.specs.story.Sides.{Connection, Side}
+use Rattle.world_model.specs.story.Story.{Happens, Story, any_named}
+use Rattle.world_model.proofs.of_story.publishing.Grown.{handled_grows}
 use Rattle.world_model.specs.model.World.{AreApart, ClientEnds, End, IsFresh, World, new_end, story_of, with_client}
 use Rattle.world_model.specs.model.Goes.{Reached, after_opening, is_call}
 use Rattle.world_model.specs.model.Goes.Goes.{calls, handles, opens}

@@ -4,23 +4,23 @@ use Rattle.std.specs.Prelude.{slice_get}
 use Rattle.std.proofs.lemmas.Bool.{both_ways, cases_Bool}
 use Rattle.packet.specs.Spelling.{IsPacket}
 use Rattle.packet.specs.declared.packet.Packet.{Packet}
-use Rattle.cutter.specs.Stream.{Stream, Takes}
+use Rattle.world_model.specs.cutter.Stream.{Stream, Takes}
 use Rattle.ballot.specs.Config.{Config}
 use Rattle.broker_base.specs.Command.{Command}
 use Rattle.broker_base.specs.Commands.{past_of, usual_limits}
 use Rattle.broker_base.specs.Connection.{ConnectionName, same_connection}
 use Rattle.broker_base.specs.Place.{Client}
-use Rattle.broker_model.proofs.ConnectionNames.{same_name}
+use Rattle.broker_base.proofs.of_broker_model.ConnectionNames.{same_name}
 use Rattle.client_base.specs.Called.{new_connection}
 use Rattle.client_base.specs.Handled.{handled}
 use Rattle.client_base.specs.Keeper.{Written}
 use Rattle.client_base.specs.Written.{writes_first}
 use Rattle.lists.specs.Lists.{Each, In, IsPrefixOf}
 use Rattle.lists.proofs.Places.{get_set, get_set_other}
-use Rattle.pipes.specs.Pipe.{Joins}
-use Rattle.story.specs.Sends.{put_to}
-use Rattle.story.specs.Sides.{Connection, Side}
-use Rattle.story.specs.Story.{Happens, Story, any_named, is_packet_of}
+use Rattle.world_model.specs.pipes.Pipe.{Joins}
+use Rattle.world_model.specs.story.Sends.{put_to}
+use Rattle.world_model.specs.story.Sides.{Connection, Side}
+use Rattle.world_model.specs.story.Story.{Happens, Story, any_named, is_packet_of}
 use Rattle.world_model.specs.model.World.{AreApart}
 use Rattle.world_model.specs.model.Goes.{is_call, is_of_connection}
 use Rattle.world_model.proofs.of_model.Lists.{each_by, each_get, each_set, same_or_other, stands_within, there_is}

@@ -9,7 +9,7 @@ use Rattle.packet.specs.Spelling.{IsPacket}
 use Rattle.broker_base.specs.Command.{Command}
 use Rattle.broker_base.specs.Command.TheVariants as commands
 use Rattle.broker_base.specs.Connection.{ConnectionName, IsConnectionName}
-use Rattle.story.specs.Story.{command_of, is_packet_of}
+use Rattle.world_model.specs.story.Story.{command_of, is_packet_of}
 use Rattle.world_model.specs.model.Goes.{is_of_connection}
 use Rattle.world_model.specs.node_model.Ends.{commands_of}
 use Rattle.world_model.specs.group_model.Order.{packets_of}

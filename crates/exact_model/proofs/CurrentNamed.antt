@@ -9,13 +9,13 @@ use Rattle.broker_base.specs.Connection.{ConnectionName, same_connection}
 use Rattle.broker_base.specs.Past.{accepts, current_connection}
 use Rattle.broker_base.specs.Place.{Client, Limits, Mark, Past, Place}
 use Rattle.broker_base.proofs.ClientsInOrder.{same_self}
-use Rattle.story.specs.Sides.{Connection}
-use Rattle.story.specs.Story.{any_named, counted_at}
-use Rattle.story.proofs.places.After.{current_opens}
-use Rattle.story.proofs.publishing.Last.{is_named}
-use Rattle.story.proofs.publishing.kept.KeepsNames.{counted_named}
-use Rattle.story.proofs.sessions.EachPlaced.{IsOwnCommand}
-use Rattle.story.proofs.subscribing.Newest.{stays_or_none}
+use Rattle.world_model.specs.story.Sides.{Connection}
+use Rattle.world_model.specs.story.Story.{any_named, counted_at}
+use Rattle.world_model.proofs.of_story.places.After.{current_opens}
+use Rattle.world_model.proofs.of_story.publishing.Last.{is_named}
+use Rattle.world_model.proofs.of_story.publishing.kept.KeepsNames.{counted_named}
+use Rattle.world_model.proofs.of_story.sessions.EachPlaced.{IsOwnCommand}
+use Rattle.world_model.proofs.of_story.subscribing.Newest.{stays_or_none}
 
 -- it is one that it opened
 abbrev pub IsCurrentNamed : Client → List Connection → Past → Type 0

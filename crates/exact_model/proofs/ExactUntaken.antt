@@ -11,13 +11,13 @@ use Rattle.broker_base.specs.Place.{Client, Limits, Past, Place}
 use Rattle.broker_base.specs.Received.{is_new}
 use Rattle.broker_base.specs.Times.{entries_of}
 use Rattle.client_base.specs.Keeper.{Keeper, all_own}
-use Rattle.story.specs.Carried.{carries, connection_named, more_by, new_numbers, number_at, published}
-use Rattle.story.specs.Headline.{IsTakenAt, accepted_on, is_this, made_by}
-use Rattle.story.specs.InStep.{AreWelcome, IsFirstSession, IsInStep, WasWelcome, accepted_in, is_at, opened_in, starts_of}
-use Rattle.story.specs.Lives.{AcceptedInSession, ExactlyOnceOverSessions, HasOneSession, IsRising, PublishedOverSessions}
-use Rattle.story.specs.Sides.{Connection}
-use Rattle.story.specs.Story.{Story, count_of}
-use Rattle.story.proofs.sessions.InTurn.{flat_map_same}
+use Rattle.world_model.specs.story.Carried.{carries, connection_named, more_by, new_numbers, number_at, published}
+use Rattle.world_model.specs.story.Headline.{IsTakenAt, accepted_on, is_this, made_by}
+use Rattle.world_model.specs.story.InStep.{AreWelcome, IsFirstSession, IsInStep, WasWelcome, accepted_in, is_at, opened_in, starts_of}
+use Rattle.world_model.specs.story.Lives.{AcceptedInSession, ExactlyOnceOverSessions, HasOneSession, IsRising, PublishedOverSessions}
+use Rattle.world_model.specs.story.Sides.{Connection}
+use Rattle.world_model.specs.story.Story.{Story, count_of}
+use Rattle.world_model.proofs.of_story.sessions.InTurn.{flat_map_same}
 use Rattle.exact_model.proofs.Untaken.{AreSameUntaken, untaken_connection}
 
 -- ---- what is read of connections

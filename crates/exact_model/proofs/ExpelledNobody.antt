@@ -12,9 +12,9 @@ use Rattle.broker_base.specs.SessionStep.{kept_after}
 use Rattle.broker_base.specs.State.{Sessions, State, keyed}
 use Rattle.broker_base.specs.Step.{sessions_left, step}
 use Rattle.broker_base.proofs.ClientsInOrder.{same_is}
-use Rattle.broker_model.specs.Past.{any_connection, ends}
-use Rattle.broker_form.specs.InRange.{IsBrokerState, IsSession}
-use Rattle.broker_form.proofs.States.{stays_in_range}
+use Rattle.broker_base.specs.broker_model.Past.{any_connection, ends}
+use Rattle.world_model.specs.broker_form.InRange.{IsBrokerState, IsSession}
+use Rattle.world_model.proofs.of_broker_form.States.{stays_in_range}
 
 abbrev expel_place : Client → Place
 expel_place d = record { command = commands.Expel d; mark = Mark.NoPart }

@@ -8,18 +8,18 @@ use Rattle.broker_base.proofs.PacketOfNobody.{window_is_steady}
 use Rattle.client_base.specs.History as history
 use Rattle.client_base.specs.Keeper.{Own, all_own}
 use Rattle.client_base.specs.State.{ClientState}
-use Rattle.handshake.specs.Items.{Item, value_of}
-use Rattle.handshake.specs.Sides.{IsGood}
-use Rattle.story.specs.Carried.{new_numbers, publications_of}
-use Rattle.story.specs.Inside.Projections.{as_publisher}
-use Rattle.story.specs.Inside.Shape.{AreNumbered, IsSoundStory}
-use Rattle.story.specs.InStep.{IsFirstSession, IsInStep}
-use Rattle.story.specs.Lives.{Lived}
-use Rattle.story.specs.Story.{Story}
-use Rattle.story.proofs.Ends.{split_map}
-use Rattle.story.proofs.keeping.Told.{told_stories_are_sound}
-use Rattle.story.proofs.sessions.Beside.{beside}
-use Rattle.story.proofs.sessions.LivesExact.{HasOneStory, first_has_story}
+use Rattle.world_model.specs.handshake.Items.{Item, value_of}
+use Rattle.world_model.specs.handshake.Sides.{IsGood}
+use Rattle.world_model.specs.story.Carried.{new_numbers, publications_of}
+use Rattle.world_model.specs.story.Inside.Projections.{as_publisher}
+use Rattle.world_model.specs.story.Inside.Shape.{AreNumbered, IsSoundStory}
+use Rattle.world_model.specs.story.InStep.{IsFirstSession, IsInStep}
+use Rattle.world_model.specs.story.Lives.{Lived}
+use Rattle.world_model.specs.story.Story.{Story}
+use Rattle.world_model.proofs.of_story.Ends.{split_map}
+use Rattle.world_model.proofs.of_story.keeping.Told.{told_stories_are_sound}
+use Rattle.world_model.proofs.of_story.sessions.Beside.{beside}
+use Rattle.world_model.proofs.of_story.sessions.LivesExact.{HasOneStory, first_has_story}
 use Rattle.exact_model.specs.Shown.{AreStillKept, at_two, kept_of}
 use Rattle.exact_model.proofs.NewNumbered.{same_some}
 use Rattle.exact_model.proofs.StillKept.{kept_both, kept_values, new_kept, some_of, two_kept, two_published}

@@ -1,7 +1,7 @@
 -- Commands whose answers can all be spelled.
 use Rattle.broker_base.specs.Command.{Command}
 use Rattle.broker_base.specs.Command.TheVariants as commands
-use Rattle.broker_model.specs.Logged.{IsBrokerCommand}
+use Rattle.broker_base.specs.broker_model.Logged.{IsBrokerCommand}
 
 -- a command that a log may hold; one that says which connection is lost, or which client is expelled, may name any
 abbrev pub IsFitting : Command → Type 0

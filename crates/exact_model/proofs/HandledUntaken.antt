@@ -11,7 +11,7 @@ use Rattle.lists.specs.Lists.{has_id}
 use Rattle.client_base.specs.Handled.{at_pubrec, confirmed, discarded, handled, handled_first, handled_online, is_sent_with, releasing, takes_in}
 use Rattle.client_base.specs.Keeper.{Keeper}
 use Rattle.client_base.specs.Written.{plain, resent, sent_all, writing}
-use Rattle.story.specs.Sides.{Connection, Side}
+use Rattle.world_model.specs.story.Sides.{Connection, Side}
 use Rattle.exact_model.proofs.Untaken.{untaken_connection}
 
 abbrev pub untaken_side : Side → Side

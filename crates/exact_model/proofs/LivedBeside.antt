@@ -5,8 +5,8 @@ use Rattle.ballot.specs.Config.{Config}
 use Rattle.broker_base.specs.Command.{Command}
 use Rattle.broker_base.specs.Commands.{past_of, usual_limits}
 use Rattle.broker_base.specs.Place.{Client}
-use Rattle.story.specs.Lives.{Lived}
-use Rattle.story.specs.Story.{Story}
+use Rattle.world_model.specs.story.Lives.{Lived}
+use Rattle.world_model.specs.story.Story.{Story}
 use Rattle.world_model.specs.model.World.{AreApart, ClientEnds, story_of}
 use Rattle.world_model.proofs.of_model.Holds.{IsTold}
 use Rattle.world_model.proofs.of_model.Lists.{each_get}

@@ -11,9 +11,9 @@ use Rattle.broker_base.specs.SessionStep.{kept_after}
 use Rattle.broker_base.specs.State.{Sessions, State, keyed}
 use Rattle.broker_base.specs.Step.{sessions_left, step}
 use Rattle.broker_base.proofs.ConnectionNames.{same_name}
-use Rattle.broker_model.specs.Past.{any_connection}
-use Rattle.broker_form.specs.InRange.{IsBrokerState, IsNamed, IsSession}
-use Rattle.broker_form.proofs.States.{stays_in_range}
+use Rattle.broker_base.specs.broker_model.Past.{any_connection}
+use Rattle.world_model.specs.broker_form.InRange.{IsBrokerState, IsNamed, IsSession}
+use Rattle.world_model.proofs.of_broker_form.States.{stays_in_range}
 
 abbrev lost_place : ConnectionName → Place
 lost_place x = record { command = commands.Lost x; mark = Mark.NoPart }

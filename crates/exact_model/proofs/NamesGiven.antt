@@ -6,11 +6,11 @@ use Rattle.ballot.specs.Effect.{Effect}
 use Rattle.broker_base.specs.Command.{Command}
 use Rattle.broker_base.specs.Output.{Output}
 use Rattle.broker_base.specs.Connection.{ConnectionName, IsConnectionName, is_connection_name}
-use Rattle.broker_model.proofs.ConnectionNames.{same_name}
+use Rattle.broker_base.proofs.of_broker_model.ConnectionNames.{same_name}
 use Rattle.lists.specs.Lists.{Each, In}
 use Rattle.lists.specs.Lists.In.{here, there}
 use Rattle.lists.proofs.OfEach.{each_append, each_then}
-use Rattle.agreement.specs.MasterState.{refusal}
+use Rattle.world_model.specs.agreement.MasterState.{refusal}
 use Rattle.world_model.proofs.of_model.Lists.{each_set}
 use Rattle.world_model.specs.world_base.declared.Connection.{Connection}
 use Rattle.world_model.specs.world_base.declared.item.Item.{Item}

@@ -16,9 +16,9 @@ use Rattle.broker_base.specs.Place.{Client, Limits, Mark, Past, same_client}
 use Rattle.broker_base.specs.Received.{is_exactly_once, is_new, is_repeat}
 use Rattle.broker_base.proofs.ClientsInOrder.{same_is, same_self}
 use Rattle.broker_base.proofs.MarksOfPlaces.{AreMarked}
-use Rattle.story.specs.Carried.{carries, more_by, new_numbers}
-use Rattle.story.specs.Sides.{Connection}
-use Rattle.story.proofs.carrying.PlacesSay.{PlacesSay, Says}
+use Rattle.world_model.specs.story.Carried.{carries, more_by, new_numbers}
+use Rattle.world_model.specs.story.Sides.{Connection}
+use Rattle.world_model.proofs.of_story.carrying.PlacesSay.{PlacesSay, Says}
 use Rattle.exact_model.specs.Shown.{new_at, new_of}
 use Rattle.exact_model.proofs.OwnCarried.{CarriesOwn, OwnAreCarried}
 

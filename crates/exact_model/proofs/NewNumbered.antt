@@ -7,9 +7,9 @@ use Rattle.session_base.specs.declared.publication.Publication.{Publication}
 use Rattle.client_base.specs.Keeper.{Own, all_own}
 use Rattle.client_base.proofs.NumbersStay.{AreAllNumbered, joined_numbers}
 use Rattle.client_base.specs.OrderLaws.{AreNumbered}
-use Rattle.story.specs.Carried.{is_two, new_numbers, number_in, publication_in, publications_of, published}
-use Rattle.story.specs.Story.{Story}
-use Rattle.story.proofs.Ends.{Split, split_map}
+use Rattle.world_model.specs.story.Carried.{is_two, new_numbers, number_in, publication_in, publications_of, published}
+use Rattle.world_model.specs.story.Story.{Story}
+use Rattle.world_model.proofs.of_story.Ends.{Split, split_map}
 use Rattle.exact_model.specs.Shown.{at_two}
 use Rattle.exact_model.proofs.StillKept.{StandFrom, behind, first_is, some_of, whole_stands}
 

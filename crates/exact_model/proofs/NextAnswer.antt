@@ -6,7 +6,7 @@ use Rattle.lists.specs.Lists.{Each, IsPrefixOf}
 use Rattle.packet.specs.declared.packet.Packet.{Packet}
 use Rattle.packet.specs.Spelling.{IsPacket, Spells, spelling}
 use Rattle.packet.proofs.OneSpelling.{none_begins, spelling_is}
-use Rattle.cutter.specs.Stream.{GoesOnWith, Stream, Takes}
+use Rattle.world_model.specs.cutter.Stream.{GoesOnWith, Stream, Takes}
 use Rattle.world_model.specs.node_model.Puts.{spelled}
 
 no_bytes : (first : ℕ) (more : List ℕ) → first ∷ more ≡ [] → ⊥

@@ -9,12 +9,12 @@ use Rattle.broker_base.specs.Past.{session_of, session_start}
 use Rattle.broker_base.specs.Place.{Client, Past}
 use Rattle.broker_base.specs.Readings.{publication_in}
 use Rattle.client_base.specs.State.{ClientState}
-use Rattle.story.specs.Headline.{two_entries}
-use Rattle.story.specs.InStep.{IsFirstSession, starts_of}
-use Rattle.story.proofs.sessions.LastingAccepts.{entries_now}
-use Rattle.story.proofs.sessions.Openings.{session_began}
-use Rattle.story.proofs.sessions.Turns.{IsLastOf, started_last}
-use Rattle.story.proofs.subscribing.places.Quiet.{no_entries}
+use Rattle.world_model.specs.story.Headline.{two_entries}
+use Rattle.world_model.specs.story.InStep.{IsFirstSession, starts_of}
+use Rattle.world_model.proofs.of_story.sessions.LastingAccepts.{entries_now}
+use Rattle.world_model.proofs.of_story.sessions.Openings.{session_began}
+use Rattle.world_model.proofs.of_story.sessions.Turns.{IsLastOf, started_last}
+use Rattle.world_model.proofs.of_story.subscribing.places.Quiet.{no_entries}
 use Rattle.exact_model.specs.OneSession.{OneSessionIsPromised, PromiseOfOne}
 use Rattle.exact_model.specs.Promise.{PromiseInStep}
 

@@ -18,27 +18,27 @@ use Rattle.client_base.specs.Called.{written_for}
 use Rattle.client_base.specs.Keeper.{Written}
 use Rattle.client_base.specs.Written.{plain, writes_first}
 use Rattle.lists.specs.Lists.{Each}
-use Rattle.story.specs.Carried.{carries, connection_named, number_at}
-use Rattle.story.specs.Sides.{Connection}
-use Rattle.story.specs.Story.{Happens, Story, any_named, command_of, counted_at, count_of, is_packet_of, names_client}
-use Rattle.story.specs.Lives.{Lived}
-use Rattle.story.specs.Lives.Lived.{opens, goes_on, is_expelled}
-use Rattle.story.specs.Story.Happens.{takes, others_take, receives, opens_anew, loses, disconnects, publishes_one, subscribes, unsubscribes}
-use Rattle.story.proofs.carrying.KeepsNumbers.{numbers_keep}
-use Rattle.story.proofs.keeping.CurrentOnes.{none_opened}
-use Rattle.story.proofs.publishing.Grown.{handled_grows}
-use Rattle.story.proofs.places.Owned.{owner_is_other}
-use Rattle.story.proofs.publishing.Last.{each_there}
-use Rattle.story.proofs.publishing.events.Receives.{each_at}
-use Rattle.story.proofs.publishing.events.TakesTwo.{carries_it}
-use Rattle.story.proofs.publishing.kept.Numbers.{SameNumbers, same_carries}
-use Rattle.story.proofs.carrying.PlacesSay.{numbers_below}
-use Rattle.story.proofs.sessions.EachSession.{life_opens}
-use Rattle.story.proofs.sessions.Life.{IsCounted, IsLife}
-use Rattle.story.proofs.sessions.LifeExpelled.{life_expelled}
-use Rattle.story.proofs.sessions.LifeGoes.{life_goes}
-use Rattle.story.proofs.sessions.LifePlaces.{life_command}
-use Rattle.story.proofs.sessions.NumberedGoes.{counted_all_within}
+use Rattle.world_model.specs.story.Carried.{carries, connection_named, number_at}
+use Rattle.world_model.specs.story.Sides.{Connection}
+use Rattle.world_model.specs.story.Story.{Happens, Story, any_named, command_of, counted_at, count_of, is_packet_of, names_client}
+use Rattle.world_model.specs.story.Lives.{Lived}
+use Rattle.world_model.specs.story.Lives.Lived.{opens, goes_on, is_expelled}
+use Rattle.world_model.specs.story.Story.Happens.{takes, others_take, receives, opens_anew, loses, disconnects, publishes_one, subscribes, unsubscribes}
+use Rattle.world_model.proofs.of_story.carrying.KeepsNumbers.{numbers_keep}
+use Rattle.world_model.proofs.of_story.keeping.CurrentOnes.{none_opened}
+use Rattle.world_model.proofs.of_story.publishing.Grown.{handled_grows}
+use Rattle.world_model.proofs.of_story.places.Owned.{owner_is_other}
+use Rattle.world_model.proofs.of_story.publishing.Last.{each_there}
+use Rattle.world_model.proofs.of_story.publishing.events.Receives.{each_at}
+use Rattle.world_model.proofs.of_story.publishing.events.TakesTwo.{carries_it}
+use Rattle.world_model.proofs.of_story.publishing.kept.Numbers.{SameNumbers, same_carries}
+use Rattle.world_model.proofs.of_story.carrying.PlacesSay.{numbers_below}
+use Rattle.world_model.proofs.of_story.sessions.EachSession.{life_opens}
+use Rattle.world_model.proofs.of_story.sessions.Life.{IsCounted, IsLife}
+use Rattle.world_model.proofs.of_story.sessions.LifeExpelled.{life_expelled}
+use Rattle.world_model.proofs.of_story.sessions.LifeGoes.{life_goes}
+use Rattle.world_model.proofs.of_story.sessions.LifePlaces.{life_command}
+use Rattle.world_model.proofs.of_story.sessions.NumberedGoes.{counted_all_within}
 use Rattle.exact_model.proofs.CurrentNamed.{IsCurrentNamed, stays_named, taken_named}
 use Rattle.exact_model.proofs.AllNumbered.{AreNumbered, IsNumbered, happens_numbered, is_unnumbered}
 

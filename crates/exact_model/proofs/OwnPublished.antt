@@ -15,11 +15,11 @@ use Rattle.client_base.specs.Called.{adds_own}
 use Rattle.client_base.specs.Handled.{handled}
 use Rattle.client_base.specs.Keeper.{Keeper, Own, all_own, ids_in_use, next_number}
 use Rattle.client_base.specs.OrderLaws.{AreNumbered}
-use Rattle.story.specs.Carried.{publication_in, publications_of}
-use Rattle.story.specs.Sides.{Connection, Side}
-use Rattle.story.specs.Story.{Happens, Story}
-use Rattle.story.specs.Story.Happens.{takes, others_take, receives, opens_anew, loses, disconnects, publishes_one, subscribes, unsubscribes}
-use Rattle.story.proofs.carrying.Handles.{handles as handles_kept}
+use Rattle.world_model.specs.story.Carried.{publication_in, publications_of}
+use Rattle.world_model.specs.story.Sides.{Connection, Side}
+use Rattle.world_model.specs.story.Story.{Happens, Story}
+use Rattle.world_model.specs.story.Story.Happens.{takes, others_take, receives, opens_anew, loses, disconnects, publishes_one, subscribes, unsubscribes}
+use Rattle.world_model.proofs.of_story.carrying.Handles.{handles as handles_kept}
 use Rattle.world_model.specs.model.World.{AreApart}
 use Rattle.world_model.specs.model.Goes.{is_call}
 use Rattle.world_model.proofs.of_model.Lists.{each_by, each_get, set_get}
@@ -34,7 +34,7 @@ use Rattle.world_model.specs.Published.{from_client, published_by, published_in,
 use Rattle.world_model.specs.World.{ClientPipes, World, new_client}
 use Rattle.exact_model.proofs.GoesBeside.{GoesBeside}
 use Rattle.exact_model.proofs.LivedBeside.{lived_beside}
-use Rattle.story.proofs.sessions.LivedIsLife.{lived_is_life}
+use Rattle.world_model.proofs.of_story.sessions.LivedIsLife.{lived_is_life}
 use Rattle.exact_model.proofs.AllBeside.{goes_beside}
 use Rattle.exact_model.proofs.Places.{each_of_made}
 

@@ -29,20 +29,20 @@ use Rattle.broker_base.proofs.PacketOfNobody.{window_is_steady}
 use Rattle.client_base.specs.History as history
 use Rattle.client_base.specs.Keeper.{all_own}
 use Rattle.client_base.specs.State.{ClientState}
-use Rattle.story.specs.Carried.{carries, more_by, new_numbers, publications_of}
-use Rattle.story.specs.InStep.{IsInStep, accepted_in, starts_of}
-use Rattle.story.specs.Lives.{ExactlyOnceOverSessions, Lived}
-use Rattle.story.specs.Headline.{accepted_on}
-use Rattle.story.specs.Sides.{Connection}
-use Rattle.story.specs.Story.{Story}
-use Rattle.story.proofs.Entering.{entering_as}
-use Rattle.story.proofs.Packets.{at_packet}
-use Rattle.story.proofs.carrying.Acknowledging.{acknowledges, pubrec_two, says_at}
-use Rattle.story.proofs.carrying.Answered.{acknowledged_is_taken}
-use Rattle.story.proofs.carrying.KeepsPlaces.{IsCarried}
-use Rattle.story.proofs.carrying.PlacesSay.{PlacesSay, Says, is_again}
-use Rattle.story.proofs.sessions.InTurn.{flat_map_same}
-use Rattle.story.proofs.sessions.LivesExact.{all_well, lives_exact}
+use Rattle.world_model.specs.story.Carried.{carries, more_by, new_numbers, publications_of}
+use Rattle.world_model.specs.story.InStep.{IsInStep, accepted_in, starts_of}
+use Rattle.world_model.specs.story.Lives.{ExactlyOnceOverSessions, Lived}
+use Rattle.world_model.specs.story.Headline.{accepted_on}
+use Rattle.world_model.specs.story.Sides.{Connection}
+use Rattle.world_model.specs.story.Story.{Story}
+use Rattle.world_model.proofs.of_story.Entering.{entering_as}
+use Rattle.world_model.proofs.of_story.Packets.{at_packet}
+use Rattle.world_model.proofs.of_story.carrying.Acknowledging.{acknowledges, pubrec_two, says_at}
+use Rattle.world_model.proofs.of_story.carrying.Answered.{acknowledged_is_taken}
+use Rattle.world_model.proofs.of_story.carrying.KeepsPlaces.{IsCarried}
+use Rattle.world_model.proofs.of_story.carrying.PlacesSay.{PlacesSay, Says, is_again}
+use Rattle.world_model.proofs.of_story.sessions.InTurn.{flat_map_same}
+use Rattle.world_model.proofs.of_story.sessions.LivesExact.{all_well, lives_exact}
 use Rattle.exact_model.specs.Promise.{PromiseBy, PromiseInStep}
 use Rattle.exact_model.specs.Shown.{AcceptsInOrder, IsAnswered, new_of}
 use Rattle.world_model.specs.Accepted.{accepted_once}

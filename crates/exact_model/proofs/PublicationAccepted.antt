@@ -7,9 +7,9 @@ use Rattle.std.proofs.lemmas.List.{append-nil}
 use Rattle.packet.specs.declared.packet.Packet.TheVariants as packets
 use Rattle.packet.specs.Spelling.{IsPacket, spelling}
 use Rattle.packet.specs.Subscribe.{FitsSubscription}
-use Rattle.packet_base.specs.Spelling.{IsId}
-use Rattle.story.specs.Rows.{asks_for_news, news}
-use Rattle.story.specs.Story.Happens.{publishes_one, subscribes}
+use Rattle.packet.specs.packet_base.Spelling.{IsId}
+use Rattle.world_model.specs.story.Rows.{asks_for_news, news}
+use Rattle.world_model.specs.story.Story.Happens.{publishes_one, subscribes}
 use Rattle.exact_model.specs.Rows.{APublicationIsAccepted, list_done}
 use Rattle.exact_model.proofs.RowGoes.{row_arrives, row_calls, row_down, row_handles, row_up}
 use Rattle.exact_model.proofs.ServedNode.{both, it_completes, it_grants, it_hands, it_releases, it_takes, list_published, list_released, list_subscribed, publish, serving, suback, subscribe}

@@ -9,9 +9,9 @@ use Rattle.broker_base.specs.Commands.{usual_limits}
 use Rattle.broker_base.specs.Connection.{ConnectionName}
 use Rattle.client_base.specs.Handled.{handled}
 use Rattle.client_base.specs.Keeper.{Keeper}
-use Rattle.story.specs.Rows.{writer}
-use Rattle.story.specs.Sides.{Connection, Side}
-use Rattle.story.specs.Story.{Happens, Story}
+use Rattle.world_model.specs.story.Rows.{writer}
+use Rattle.world_model.specs.story.Sides.{Connection, Side}
+use Rattle.world_model.specs.story.Story.{Happens, Story}
 use Rattle.world_model.specs.model.Goes.{is_call}
 use Rattle.world_model.specs.world_base.declared.item.Item.TheVariants.{Bytes}
 use Rattle.world_model.specs.world_base.declared.Port.{Port}

@@ -14,11 +14,11 @@ use Rattle.packet.specs.Publish.{publish_of as publish_read}
 use Rattle.packet.specs.Spelling.{spelling}
 use Rattle.packet.specs.Subscribe.{subscribe_of, subscription_at}
 use Rattle.packet.specs.Verdict.{verdict}
-use Rattle.packet_base.specs.Lists.{items_of}
-use Rattle.packet_base.specs.Reading.{filter_at, id_at, length_at, number_at, text_at, topic_at}
+use Rattle.packet.specs.packet_base.Lists.{items_of}
+use Rattle.packet.specs.packet_base.Reading.{filter_at, id_at, length_at, number_at, text_at, topic_at}
 use Rattle.session_base.specs.Publication.{publish_of}
 use Rattle.ballot.specs.Serving.{added, commit, commit_at, proposed}
-use Rattle.machine.specs.Machine.{replay}
+use Rattle.ballot.specs.machine.Machine.{replay}
 use Rattle.broker_base.specs.Command.{Command}
 use Rattle.broker_base.specs.Command.TheVariants as commands
 use Rattle.world_model.specs.world_base.declared.Stage.TheVariants.{Proposed}
@@ -32,7 +32,7 @@ use Rattle.world_model.specs.world_base.Step.{opens, settled}
 use Rattle.world_model.specs.world_base.Turns.{changes_named, proposes, repeated}
 use Rattle.world_model.specs.node_model.Moves.{done}
 use Rattle.world_model.specs.node_model.Moves.Deed.{takes, gives}
-use Rattle.story.specs.Rows.{asks_for_news, first_name, news, writer}
+use Rattle.world_model.specs.story.Rows.{asks_for_news, first_name, news, writer}
 use Rattle.exact_model.specs.Rows.{list_done, one_node, said}
 use Rattle.exact_model.proofs.RowGoes.{the_port}
 

@@ -7,12 +7,12 @@ use Rattle.client_base.specs.History.{IsSentFirst, sent_of, unsent_of}
 use Rattle.client_base.specs.Keeper.{Keeper, Own}
 use Rattle.client_base.specs.State.{ClientState}
 use Rattle.client_base.specs.declared.kept_publication.KeptPublication.{KeptPublication}
-use Rattle.handshake.specs.Items.{Item, value_of}
-use Rattle.handshake.specs.Sides.{IsNew}
+use Rattle.world_model.specs.handshake.Items.{Item, value_of}
+use Rattle.world_model.specs.handshake.Sides.{IsNew}
 use Rattle.lists.specs.Lists.{Each}
-use Rattle.story.specs.Carried.{is_two, publication_in, publications_of}
-use Rattle.story.specs.Inside.Projections.{items_of_own}
-use Rattle.story.specs.Inside.Shape.{AreNumbered}
+use Rattle.world_model.specs.story.Carried.{is_two, publication_in, publications_of}
+use Rattle.world_model.specs.story.Inside.Projections.{items_of_own}
+use Rattle.world_model.specs.story.Inside.Shape.{AreNumbered}
 use Rattle.exact_model.specs.Shown.{at_two, kept_of}
 
 -- ---- of a handshake

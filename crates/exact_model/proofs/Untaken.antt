@@ -1,6 +1,6 @@
 -- Connections that are the same, but for how much of what was written on them stands in the list of commands.
 use Rattle.std.specs.Prelude.{◌≡◌, List, map}
-use Rattle.story.specs.Sides.{Connection}
+use Rattle.world_model.specs.story.Sides.{Connection}
 
 abbrev pub untaken_connection : Connection → Connection
 untaken_connection κ = record κ { taken = 0 }

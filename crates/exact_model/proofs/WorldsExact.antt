@@ -10,9 +10,9 @@ use Rattle.broker_base.specs.Place.{Client, Past}
 use Rattle.client_base.specs.History as history
 use Rattle.client_base.specs.Keeper.{Keeper, all_own}
 use Rattle.client_base.specs.State.{ClientState}
-use Rattle.story.specs.Carried.{publications_of}
-use Rattle.story.specs.Lives.{IsUnexpelled}
-use Rattle.story.proofs.sessions.FirstSession.{unexpelled_in_step}
+use Rattle.world_model.specs.story.Carried.{publications_of}
+use Rattle.world_model.specs.story.Lives.{IsUnexpelled}
+use Rattle.world_model.proofs.of_story.sessions.FirstSession.{unexpelled_in_step}
 use Rattle.world_model.proofs.of_group_model.of_snapshots.PastsAgree.{has_agreed}
 use Rattle.world_model.specs.model.Exact.{IsExactInStep as IsExactBeside}
 use Rattle.world_model.specs.model.World.{AreApart, ClientEnds, story_of as story_beside}
@@ -39,7 +39,7 @@ use Rattle.exact_model.proofs.PromisesKept.{promise_kept}
 use Rattle.exact_model.proofs.LivedBeside.{lived_beside}
 use Rattle.exact_model.proofs.Untaken.{AreSameUntaken}
 use Rattle.exact_model.proofs.WorldsWrite.{clients_alone, pipes_alone}
-use Rattle.story.specs.Sides.{Connection}
+use Rattle.world_model.specs.story.Sides.{Connection}
 
 exact_by : {nodes : ℕ} {config : Config} {cs : List Client} → AreApart cs → (w : World) (went : Went nodes config w.group) (s : GoesBeside nodes config cs w went) (agreed : List Command) → IsAgreedSo s.so agreed
     → IsExactBy agreed w

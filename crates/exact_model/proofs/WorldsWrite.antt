@@ -9,9 +9,9 @@ use Rattle.broker_base.specs.Connection.{ConnectionName}
 use Rattle.client_base.specs.Keeper.{Written}
 use Rattle.lists.specs.Lists.{Each, In, IsPrefixOf}
 use Rattle.lists.specs.Lists.In.{here, there}
-use Rattle.story.specs.Sides.{Connection}
-use Rattle.story.specs.Story.{command_of, is_packet_of}
-use Rattle.story.proofs.Takes.{same_name_self}
+use Rattle.world_model.specs.story.Sides.{Connection}
+use Rattle.world_model.specs.story.Story.{command_of, is_packet_of}
+use Rattle.world_model.proofs.of_story.Takes.{same_name_self}
 use Rattle.world_model.specs.model.Exact.{commands_from}
 use Rattle.world_model.specs.model.Goes.{is_of_connection}
 use Rattle.world_model.proofs.of_model.Answers.{of_name}

@@ -9,11 +9,11 @@ use Rattle.broker_base.specs.EndingLaws.{EndsWithTheSession, connects_of}
 use Rattle.broker_base.specs.Place.{Client}
 use Rattle.client_base.specs.History as history
 use Rattle.client_base.specs.State.{ClientState}
-use Rattle.story.specs.Headline.{accepted_on}
-use Rattle.story.specs.InStep.{IsInStep}
-use Rattle.story.specs.Lives.{ExactlyOnceOverSessions, HasOneSession, IsUnexpelled}
-use Rattle.story.specs.Sides.{Connection}
-use Rattle.story.specs.Story.{Story}
+use Rattle.world_model.specs.story.Headline.{accepted_on}
+use Rattle.world_model.specs.story.InStep.{IsInStep}
+use Rattle.world_model.specs.story.Lives.{ExactlyOnceOverSessions, HasOneSession, IsUnexpelled}
+use Rattle.world_model.specs.story.Sides.{Connection}
+use Rattle.world_model.specs.story.Story.{Story}
 use Rattle.world_model.specs.group_model.snapshots.Past.{IsAgreed}
 use Rattle.world_model.specs.model.World.{AreApart}
 use Rattle.world_model.specs.group_model.Group.{moment_of}

@@ -8,8 +8,8 @@ use Rattle.broker_base.specs.Place.{Client, Past}
 use Rattle.broker_base.specs.Readings.{publication_in}
 use Rattle.broker_base.specs.Times.{entries_of}
 use Rattle.client_base.specs.State.{ClientState}
-use Rattle.story.specs.Headline.{is_released, two_entries}
-use Rattle.story.specs.InStep.{IsFirstSession}
+use Rattle.world_model.specs.story.Headline.{is_released, two_entries}
+use Rattle.world_model.specs.story.InStep.{IsFirstSession}
 use Rattle.exact_model.specs.Promise.{PromiseInStep}
 use Rattle.exact_model.specs.Shown.{at_two, kept_of, new_of}
 use Rattle.world_model.specs.Accepted.{accepted_once}

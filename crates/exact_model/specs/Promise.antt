@@ -17,8 +17,8 @@ use Rattle.broker_base.specs.Subscriptions.{effective_qos}
 use Rattle.broker_base.specs.TakenLaws.{queued_at, takes_publication}
 use Rattle.broker_base.specs.Times.{entries_of}
 use Rattle.client_base.specs.State.{ClientState}
-use Rattle.story.specs.InStep.{AreWelcome, IsFirstSession, sessions_begun}
-use Rattle.story.specs.Sides.{Connection}
+use Rattle.world_model.specs.story.InStep.{AreWelcome, IsFirstSession, sessions_begun}
+use Rattle.world_model.specs.story.Sides.{Connection}
 use Rattle.exact_model.specs.Shown.{AcceptsInOrder, AreNewInOrder, AreStillKept, IsAnswered, at_two, kept_of, new_of}
 
 -- of client c, as long as it is in step, by the places of the list

@@ -8,8 +8,8 @@ use Rattle.broker_base.specs.Command.TheVariants as commands
 use Rattle.client_base.specs.Keeper.{Own}
 use Rattle.session_base.specs.declared.publication.Publication.{Publication}
 use Rattle.session_base.specs.Publication.{publish_of}
-use Rattle.story.specs.Headline.{accepted_on}
-use Rattle.story.specs.Rows.{asks_for_news, first_name, news, writer}
+use Rattle.world_model.specs.story.Headline.{accepted_on}
+use Rattle.world_model.specs.story.Rows.{asks_for_news, first_name, news, writer}
 use Rattle.world_model.specs.world_base.Core.{CoreState}
 use Rattle.world_model.specs.Goes.{Reached}
 use Rattle.world_model.specs.World.{ClientPipes, World}

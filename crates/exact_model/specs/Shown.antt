@@ -21,10 +21,10 @@ use Rattle.broker_base.specs.Readings.{publication_in}
 use Rattle.broker_base.specs.Received.{is_exactly_once}
 use Rattle.client_base.specs.State.{ClientState}
 use Rattle.client_base.specs.declared.kept_publication.KeptPublication.{KeptPublication}
-use Rattle.story.specs.Carried.{is_two}
-use Rattle.story.specs.Headline.{is_released, two_entries}
-use Rattle.story.specs.InStep.{entries_in, starts_of}
-use Rattle.story.specs.Lives.{IsRising}
+use Rattle.world_model.specs.story.Carried.{is_two}
+use Rattle.world_model.specs.story.Headline.{is_released, two_entries}
+use Rattle.world_model.specs.story.InStep.{entries_in, starts_of}
+use Rattle.world_model.specs.story.Lives.{IsRising}
 use Rattle.world_model.specs.Accepted.{accepted_once}
 
 -- ---- of its publications

@@ -2,11 +2,11 @@
 use Rattle.std.proofs.Common.{◌≡◌, ℕ, List, [], ◌∷◌, ◌++◌, Option, Some, None, refl, sym, ap, ◌∙◌, subst}
 use Rattle.lists.specs.Lists.{Each, In}
 use Rattle.lists.specs.Lists.In.{here}
-use Rattle.ballot.specs.Config.{Config}
-use Rattle.broker_base.specs.State.{State}
-use Rattle.broker_base.specs.Command.{Command}
-use Rattle.broker_base.specs.Output.{Output}
-use Rattle.agreement.specs.MasterState.{AssignRefusal, MasterState, master_behind, opening_master, refusal}
+use Rattle.node_model.specs.ballot.Config.{Config}
+use Rattle.node_model.specs.broker_base.State.{State}
+use Rattle.node_model.specs.broker_base.Command.{Command}
+use Rattle.node_model.specs.broker_base.Output.{Output}
+use Rattle.snapshots.specs.agreement.MasterState.{AssignRefusal, MasterState, master_behind, opening_master, refusal}
 use Rattle.snapshots.specs.Past.{Moment, Past, opening_moment}
 use Rattle.snapshots.specs.Past.Past.{began}
 use Rattle.snapshots.specs.Steps.{world_behind}

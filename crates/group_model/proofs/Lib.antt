@@ -14,3 +14,4 @@ pub mod Ordered
 pub use Rattle.node_model.proofs as of_node_model
 pub use Rattle.snapshots.proofs as of_snapshots
 pub use Rattle.node_model.proofs.of_story as of_story
+pub use Rattle.node_model.proofs.of_world_base as of_world_base

@@ -1,7 +1,7 @@
 -- A run of moves is one in which something may be lost, and nothing is.
 use Rattle.std.proofs.Common.{◌≡◌, ℕ, List, ◌++◌, refl, ap}
-use Rattle.broker_base.specs.Command.{Command}
-use Rattle.broker_base.specs.Connection.{ConnectionName}
+use Rattle.node_model.specs.broker_base.Command.{Command}
+use Rattle.node_model.specs.broker_base.Connection.{ConnectionName}
 use Rattle.node_model.specs.world_base.Core.{CoreState, Turn}
 use Rattle.node_model.specs.Ends.{bytes_on, came_on}
 use Rattle.node_model.specs.Hearing.{HearsAtFirst, IsCalm}

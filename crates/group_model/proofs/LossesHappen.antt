@@ -1,19 +1,19 @@
 -- Each move of a node in which something may be lost is one event among replicas, or none.
 use Rattle.std.proofs.Common.{inl, inr, ◌≡◌, ℕ, Bool, true, false, not, ◌&&◌, nat_lt, List, [], ◌∷◌, Some, slice_get, refl, sym, ap, ◌∙◌, subst}
 use Rattle.std.proofs.lemmas.Bool.{ltb-true}
-use Rattle.ballot.specs.Config.{Config}
-use Rattle.ballot.specs.Logs.{places}
-use Rattle.ballot.specs.Losses.{Loses, Thinned}
-use Rattle.ballot.specs.Protocol.{Input}
-use Rattle.ballot.specs.Protocol.Input.{Proposes}
-use Rattle.ballot.specs.Replica.{CountedReplica, ReplicaState, is_active}
-use Rattle.ballot.specs.Sending.{Outcome, nothing_done}
-use Rattle.ballot.specs.Serving.{added, most_places, proposed}
-use Rattle.ballot.proofs.StepRows.{proposed-adds}
-use Rattle.broker_base.specs.State.{State}
-use Rattle.broker_base.specs.Command.{Command}
-use Rattle.broker_base.specs.Command.TheVariants as commands
-use Rattle.broker_base.specs.Output.{Output}
+use Rattle.node_model.specs.ballot.Config.{Config}
+use Rattle.node_model.specs.ballot.Logs.{places}
+use Rattle.node_model.specs.ballot.Losses.{Loses, Thinned}
+use Rattle.node_model.specs.ballot.Protocol.{Input}
+use Rattle.node_model.specs.ballot.Protocol.Input.{Proposes}
+use Rattle.node_model.specs.ballot.Replica.{CountedReplica, ReplicaState, is_active}
+use Rattle.node_model.specs.ballot.Sending.{Outcome, nothing_done}
+use Rattle.node_model.specs.ballot.Serving.{added, most_places, proposed}
+use Rattle.node_model.proofs.of_ballot.StepRows.{proposed-adds}
+use Rattle.node_model.specs.broker_base.State.{State}
+use Rattle.node_model.specs.broker_base.Command.{Command}
+use Rattle.node_model.specs.broker_base.Command.TheVariants as commands
+use Rattle.node_model.specs.broker_base.Output.{Output}
 use Rattle.snapshots.specs.Past.{Moment, Past}
 use Rattle.snapshots.specs.World.{messages, outputs}
 use Rattle.node_model.specs.world_base.Connections.{asked, closed, failing, left_with}

@@ -4,32 +4,32 @@ use Rattle.std.proofs.lemmas.List.{append-nil, length-take-le}
 use Rattle.lists.specs.Lists.{In, IsPrefixOf}
 use Rattle.lists.proofs.Beginnings.{prefix_length}
 use Rattle.lists.proofs.Tests.{eq_same}
-use Rattle.agreement.specs.whole.Applying.{outputs_between}
+use Rattle.snapshots.specs.agreement.whole.Applying.{outputs_between}
 use Rattle.lists.specs.Lists.In.{there}
-use Rattle.ballot.specs.Config.{Config}
-use Rattle.ballot.specs.Logs.{places}
-use Rattle.ballot.specs.Losses.{Loses, Thinned, halted}
-use Rattle.ballot.specs.Message.{Message}
-use Rattle.ballot.specs.Protocol.{Input, replica_step}
-use Rattle.ballot.specs.Protocol.Input.{Receives, Proposes, Ticks}
-use Rattle.ballot.specs.Replica.{CountedReplica, ReplicaState}
-use Rattle.ballot.specs.Sending.{Outcome, nothing_done}
-use Rattle.ballot.specs.Serving.{most_places, proposed}
-use Rattle.broker_base.specs.State.{State}
-use Rattle.broker_base.specs.Command.{Command}
-use Rattle.broker_base.specs.Command.TheVariants as commands
-use Rattle.broker_base.specs.Output.{Output}
-use Rattle.broker_base.specs.Connection.{ConnectionName}
+use Rattle.node_model.specs.ballot.Config.{Config}
+use Rattle.node_model.specs.ballot.Logs.{places}
+use Rattle.node_model.specs.ballot.Losses.{Loses, Thinned, halted}
+use Rattle.node_model.specs.ballot.Message.{Message}
+use Rattle.node_model.specs.ballot.Protocol.{Input, replica_step}
+use Rattle.node_model.specs.ballot.Protocol.Input.{Receives, Proposes, Ticks}
+use Rattle.node_model.specs.ballot.Replica.{CountedReplica, ReplicaState}
+use Rattle.node_model.specs.ballot.Sending.{Outcome, nothing_done}
+use Rattle.node_model.specs.ballot.Serving.{most_places, proposed}
+use Rattle.node_model.specs.broker_base.State.{State}
+use Rattle.node_model.specs.broker_base.Command.{Command}
+use Rattle.node_model.specs.broker_base.Command.TheVariants as commands
+use Rattle.node_model.specs.broker_base.Output.{Output}
+use Rattle.node_model.specs.broker_base.Connection.{ConnectionName}
 use Rattle.node_model.specs.story.Story.{is_packet_of}
-use Rattle.agreement.specs.MasterState.{MasterState}
-use Rattle.agreement.specs.Giving.{GivesNext}
+use Rattle.snapshots.specs.agreement.MasterState.{MasterState}
+use Rattle.snapshots.specs.agreement.Giving.{GivesNext}
 use Rattle.snapshots.specs.Giving.{given_in as gives_in}
-use Rattle.agreement.specs.World.{outputs as whole_outputs}
+use Rattle.snapshots.specs.agreement.World.{outputs as whole_outputs}
 use Rattle.snapshots.specs.Past.{Moment, Past, IsAgreed, whole_moment}
 use Rattle.snapshots.specs.Whole.{whole, whole_log}
 use Rattle.snapshots.proofs.PastsKept.{past_stands}
 use Rattle.snapshots.proofs.Views.{get_whole}
-use Rattle.agreement.specs.Past.{IsChosen, WasActive}
+use Rattle.snapshots.specs.agreement.Past.{IsChosen, WasActive}
 use Rattle.snapshots.specs.Past.Past.{went_on}
 use Rattle.snapshots.specs.Proposals.{proposal_by, proposal_of, proposals_of, taken_in, taken_of}
 use Rattle.snapshots.specs.Steps.{MayHappen}
@@ -40,10 +40,10 @@ use Rattle.snapshots.specs.World.{World, messages, outputs}
 use Rattle.snapshots.specs.World.{moved as moved_world}
 use Rattle.snapshots.proofs.PastsAgree.{nodes_agree}
 use Rattle.snapshots.proofs.PastsAgree.{agreed_grows}
-use Rattle.agreement.proofs.Agreed.PastKnown.{past_known}
+use Rattle.snapshots.proofs.of_agreement.Agreed.PastKnown.{past_known}
 use Rattle.snapshots.proofs.NextPlaces.{answers_at_the_next_places}
-use Rattle.agreement.proofs.Given.Places.{none_between}
-use Rattle.agreement.proofs.Given.StepGives.{from_active}
+use Rattle.snapshots.proofs.of_agreement.Given.Places.{none_between}
+use Rattle.snapshots.proofs.of_agreement.Given.StepGives.{from_active}
 use Rattle.node_model.specs.world_base.declared.Connection.{Connection}
 use Rattle.node_model.specs.world_base.declared.Port.{Port}
 use Rattle.node_model.specs.world_base.Core.{CoreState, Turn, rules, serves}
@@ -57,7 +57,7 @@ use Rattle.node_model.specs.world_base.Step.{opens, settled, with_cut}
 use Rattle.node_model.specs.Moves.{Moves, is_proposal}
 use Rattle.node_model.specs.Moves.Moves.{hears, opens_one, holds, reads_first, reads_later, closes, refuses, loses_one, loses_next, expels_one, cuts_log, crashes, settles, hands}
 use Rattle.node_model.specs.Puts.{given_in}
-use Rattle.ballot.specs.Cutting.{can_cut, cut}
+use Rattle.node_model.specs.ballot.Cutting.{can_cut, cut}
 use Rattle.snapshots.specs.World.{recorded}
 use Rattle.std.specs.Prelude.{not}
 use Rattle.std.proofs.lemmas.Bool.{and_parts, ltb-true}

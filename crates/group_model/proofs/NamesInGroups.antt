@@ -4,9 +4,9 @@ use Rattle.std.proofs.lemmas.Bool.{both_ways}
 use Rattle.std.proofs.lemmas.Option.{same_Some, none-some}
 use Rattle.lists.specs.Lists.{Each}
 use Rattle.lists.proofs.OfEach.{each_append}
-use Rattle.ballot.specs.Config.{Config}
-use Rattle.agreement.specs.MasterState.{AssignRefusal, master_behind, refusal}
-use Rattle.broker_base.specs.Connection.{ConnectionName}
+use Rattle.node_model.specs.ballot.Config.{Config}
+use Rattle.snapshots.specs.agreement.MasterState.{AssignRefusal, master_behind, refusal}
+use Rattle.node_model.specs.broker_base.Connection.{ConnectionName}
 use Rattle.node_model.specs.world_base.declared.Connection.{Connection}
 use Rattle.node_model.specs.world_base.Connections.{closed, is_listed, is_over}
 use Rattle.node_model.specs.world_base.declared.item.Item.{Item}

@@ -3,21 +3,21 @@ use Rattle.std.proofs.Common.{◌≡◌, ℕ, Bool, true, false, if◌then◌els
 use Rattle.lists.specs.Lists.{Each, In, IsPrefixOf}
 use Rattle.lists.specs.Lists.In.{here, there}
 use Rattle.lists.proofs.Beginnings.{prefix_then}
-use Rattle.ballot.specs.Config.{Config}
-use Rattle.ballot.specs.Replica.{ReplicaState}
-use Rattle.broker_base.specs.State.{State}
-use Rattle.broker_base.specs.Command.{Command}
-use Rattle.broker_base.specs.Connection.{ConnectionName}
+use Rattle.node_model.specs.ballot.Config.{Config}
+use Rattle.node_model.specs.ballot.Replica.{ReplicaState}
+use Rattle.node_model.specs.broker_base.State.{State}
+use Rattle.node_model.specs.broker_base.Command.{Command}
+use Rattle.node_model.specs.broker_base.Connection.{ConnectionName}
 use Rattle.node_model.specs.story.Story.{is_packet_of}
 use Rattle.snapshots.specs.Past.{IsAgreed}
-use Rattle.agreement.specs.Proposals.{IsOfBallot, IsPartOf, commands_of}
+use Rattle.snapshots.specs.agreement.Proposals.{IsOfBallot, IsPartOf, commands_of}
 use Rattle.snapshots.specs.Proposals.{proposals_of, taken_of}
-use Rattle.agreement.specs.Proposals.IsPartOf.{nothing_left, with_one, without_one}
+use Rattle.snapshots.specs.agreement.Proposals.IsPartOf.{nothing_left, with_one, without_one}
 use Rattle.snapshots.proofs.PastsAgree.{nodes_agree}
-use Rattle.agreement.specs.whole.Replica.{ReplicaState as WholeState}
+use Rattle.snapshots.specs.agreement.whole.Replica.{ReplicaState as WholeState}
 use Rattle.snapshots.specs.Whole.{whole, whole_log}
 use Rattle.snapshots.proofs.Orders.{keeps_the_order, node_at}
-use Rattle.agreement.proofs.Orders.NamesInLists.{filter_prefix}
+use Rattle.snapshots.proofs.of_agreement.Orders.NamesInLists.{filter_prefix}
 use Rattle.node_model.specs.world_base.Core.{rules}
 use Rattle.group_model.specs.Ballots.{IsInItsBallot}
 use Rattle.group_model.specs.Group.{Group, moment_of, replica_of}

@@ -3,14 +3,14 @@ use Rattle.std.proofs.Common.{◌≡◌, ◌<◌, ◌+◌, ℕ, Bool, true, fals
 use Rattle.std.proofs.lemmas.Bool.{lt-ltb}
 use Rattle.std.proofs.lemmas.List.{length-append}
 use Rattle.std.proofs.lemmas.List.Elements.{filter-append}
-use Rattle.ballot.specs.Logs.{Log, places}
-use Rattle.ballot.specs.Protocol.{Input}
-use Rattle.ballot.specs.Protocol.Input.{Receives, Proposes, Ticks}
-use Rattle.ballot.specs.Replica.{ReplicaState, is_active}
-use Rattle.ballot.specs.Serving.{most_places, proposed}
-use Rattle.broker_base.specs.State.{State}
-use Rattle.broker_base.specs.Command.{Command}
-use Rattle.broker_base.specs.Connection.{ConnectionName}
+use Rattle.node_model.specs.ballot.Logs.{Log, places}
+use Rattle.node_model.specs.ballot.Protocol.{Input}
+use Rattle.node_model.specs.ballot.Protocol.Input.{Receives, Proposes, Ticks}
+use Rattle.node_model.specs.ballot.Replica.{ReplicaState, is_active}
+use Rattle.node_model.specs.ballot.Serving.{most_places, proposed}
+use Rattle.node_model.specs.broker_base.State.{State}
+use Rattle.node_model.specs.broker_base.Command.{Command}
+use Rattle.node_model.specs.broker_base.Connection.{ConnectionName}
 use Rattle.node_model.specs.story.Story.{is_packet_of}
 use Rattle.snapshots.specs.Proposals.{proposal_by, taken_by}
 use Rattle.node_model.specs.world_base.Core.{CoreState, rules, serves}

@@ -4,11 +4,11 @@ use Rattle.std.proofs.lemmas.Bool.{both_ways}
 use Rattle.lists.specs.Lists.{Each, In}
 use Rattle.lists.specs.Lists.In.{here}
 use Rattle.lists.proofs.OfEach.{each_append}
-use Rattle.ballot.specs.Logs.{places}
-use Rattle.ballot.specs.Serving.{most_places}
-use Rattle.broker_base.specs.Command.{Command}
-use Rattle.broker_base.specs.Command.TheVariants as commands
-use Rattle.broker_base.specs.Connection.{ConnectionName}
+use Rattle.node_model.specs.ballot.Logs.{places}
+use Rattle.node_model.specs.ballot.Serving.{most_places}
+use Rattle.node_model.specs.broker_base.Command.{Command}
+use Rattle.node_model.specs.broker_base.Command.TheVariants as commands
+use Rattle.node_model.specs.broker_base.Connection.{ConnectionName}
 use Rattle.node_model.specs.story.Story.{is_packet_of}
 use Rattle.node_model.specs.world_base.Connections.{asked, left_with}
 use Rattle.node_model.specs.world_base.Core.{CoreState, Turn, serves}

@@ -2,7 +2,7 @@
 -- had applied.
 use Rattle.std.proofs.Common.{◌≡◌, ℕ, Bool, true, false, not, nat_lt, if◌then◌else◌, List, [], ◌∷◌, ◌++◌, refl, sym, ap, ◌∙◌, arith}
 use Rattle.std.proofs.lemmas.Bool.{and_parts, ltb-true}
-use Rattle.broker_base.specs.Command.{Command}
+use Rattle.node_model.specs.broker_base.Command.{Command}
 use Rattle.snapshots.specs.World.{recorded}
 use Rattle.node_model.specs.world_base.Core.{CoreState, Turn}
 use Rattle.node_model.specs.Keeping.{moves_replica}

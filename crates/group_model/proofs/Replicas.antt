@@ -1,16 +1,16 @@
 -- What moves do to a node's replica: one step of it at most.
 use Rattle.std.proofs.Common.{◌≡◌, Bool, true, false, not, ◌&&◌, if◌then◌else◌, List, [], ◌∷◌, Option, Some, None, refl, ap, ◌∙◌}
 use Rattle.std.specs.List.{fold}
-use Rattle.packet.specs.Spelling.{spelling}
-use Rattle.ballot.specs.Effect.{Effect}
-use Rattle.ballot.specs.Effect.TheVariants.{To, Out}
-use Rattle.ballot.specs.Replica.{CountedReplica, is_active}
-use Rattle.ballot.specs.Sending.{Outcome}
-use Rattle.broker_base.specs.State.{State}
-use Rattle.broker_base.specs.Command.{Command}
-use Rattle.broker_base.specs.Output.{Output}
-use Rattle.broker_base.specs.Output.TheVariants as outputs
-use Rattle.broker_base.specs.Connection.{ConnectionName}
+use Rattle.node_model.specs.packet.Spelling.{spelling}
+use Rattle.node_model.specs.ballot.Effect.{Effect}
+use Rattle.node_model.specs.ballot.Effect.TheVariants.{To, Out}
+use Rattle.node_model.specs.ballot.Replica.{CountedReplica, is_active}
+use Rattle.node_model.specs.ballot.Sending.{Outcome}
+use Rattle.node_model.specs.broker_base.State.{State}
+use Rattle.node_model.specs.broker_base.Command.{Command}
+use Rattle.node_model.specs.broker_base.Output.{Output}
+use Rattle.node_model.specs.broker_base.Output.TheVariants as outputs
+use Rattle.node_model.specs.broker_base.Connection.{ConnectionName}
 use Rattle.node_model.specs.world_base.declared.Port.{Port}
 use Rattle.node_model.specs.world_base.declared.Connection.{Connection}
 use Rattle.node_model.specs.world_base.Connections.{closed, put_out}

@@ -1,14 +1,14 @@
 -- What a node does by a run of moves are events among replicas, one behind the other.
 use Rattle.std.proofs.Common.{◌≡◌, ℕ, List, [], ◌∷◌, ◌++◌, Some, slice_get, refl, sym, ap, ◌∙◌, subst, append_assoc}
-use Rattle.ballot.specs.Config.{Config}
-use Rattle.ballot.specs.Effect.{Effect}
-use Rattle.ballot.specs.Losses.{Thinned}
-use Rattle.ballot.specs.Message.{Message}
-use Rattle.ballot.specs.Protocol.{Input}
-use Rattle.ballot.specs.Protocol.Input.{Receives, Proposes, Ticks}
-use Rattle.broker_base.specs.State.{State}
-use Rattle.broker_base.specs.Command.{Command}
-use Rattle.broker_base.specs.Output.{Output}
+use Rattle.node_model.specs.ballot.Config.{Config}
+use Rattle.node_model.specs.ballot.Effect.{Effect}
+use Rattle.node_model.specs.ballot.Losses.{Thinned}
+use Rattle.node_model.specs.ballot.Message.{Message}
+use Rattle.node_model.specs.ballot.Protocol.{Input}
+use Rattle.node_model.specs.ballot.Protocol.Input.{Receives, Proposes, Ticks}
+use Rattle.node_model.specs.broker_base.State.{State}
+use Rattle.node_model.specs.broker_base.Command.{Command}
+use Rattle.node_model.specs.broker_base.Output.{Output}
 use Rattle.snapshots.specs.Past.{Moment, Past}
 use Rattle.snapshots.specs.Proposals.{proposals_of, taken_of}
 use Rattle.snapshots.specs.World.{messages, outputs}

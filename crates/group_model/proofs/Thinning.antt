@@ -1,15 +1,15 @@
 -- Messages that are lost: of what a replica gave some messages are missing, and no output.
 use Rattle.std.proofs.Common.{◌≡◌, inl, inr, ℕ, List, [], ◌∷◌, ◌++◌, filter, refl, ap, subst, sym}
-use Rattle.ballot.specs.Effect.{Effect}
-use Rattle.ballot.specs.Effect.TheVariants.{To, Out}
-use Rattle.ballot.specs.Losses.{Loses, Steps, Thinned}
-use Rattle.ballot.specs.Losses.Thinned.{none, keeps, loses}
-use Rattle.ballot.specs.Message.{Message}
-use Rattle.ballot.specs.Replica.{CountedReplica, ReplicaState}
-use Rattle.ballot.specs.Sending.{Outcome}
-use Rattle.broker_base.specs.State.{State}
-use Rattle.broker_base.specs.Command.{Command}
-use Rattle.broker_base.specs.Output.{Output}
+use Rattle.node_model.specs.ballot.Effect.{Effect}
+use Rattle.node_model.specs.ballot.Effect.TheVariants.{To, Out}
+use Rattle.node_model.specs.ballot.Losses.{Loses, Steps, Thinned}
+use Rattle.node_model.specs.ballot.Losses.Thinned.{none, keeps, loses}
+use Rattle.node_model.specs.ballot.Message.{Message}
+use Rattle.node_model.specs.ballot.Replica.{CountedReplica, ReplicaState}
+use Rattle.node_model.specs.ballot.Sending.{Outcome}
+use Rattle.node_model.specs.broker_base.State.{State}
+use Rattle.node_model.specs.broker_base.Command.{Command}
+use Rattle.node_model.specs.broker_base.Output.{Output}
 use Rattle.snapshots.specs.World.{messages, outputs}
 use Rattle.node_model.specs.world_base.Core.{CoreState, rules}
 use Rattle.node_model.specs.world_base.Lossy.{Delivers}

@@ -1,9 +1,9 @@
 -- In which ballot the packets of a connection are put to a replica.
 use Rattle.std.specs.Prelude.{◌≡◌, ℕ, true}
 use Rattle.lists.specs.Lists.{Each}
-use Rattle.ballot.specs.Config.{Config}
-use Rattle.broker_base.specs.Command.{Command}
-use Rattle.broker_base.specs.Connection.{ConnectionName}
+use Rattle.node_model.specs.ballot.Config.{Config}
+use Rattle.node_model.specs.broker_base.Command.{Command}
+use Rattle.node_model.specs.broker_base.Connection.{ConnectionName}
 use Rattle.node_model.specs.story.Story.{is_packet_of}
 use Rattle.group_model.specs.Group.{Group}
 use Rattle.group_model.specs.Goes.{Went, all_put}

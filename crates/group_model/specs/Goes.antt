@@ -1,15 +1,15 @@
 -- What may happen in a group: a node acts, perhaps with losses, or the master answers.
 use Rattle.std.specs.Prelude.{◌≡◌, ℕ, true, List, [], ◌∷◌, ◌++◌, slice_get, Option, Some, None}
 use Rattle.lists.specs.Lists.{In}
-use Rattle.ballot.specs.Body.TheVariants.{Activate}
-use Rattle.ballot.specs.Config.{Config}
-use Rattle.ballot.specs.Effect.{Effect}
-use Rattle.ballot.specs.Losses.{Thinned}
-use Rattle.broker_base.specs.Command.{Command}
-use Rattle.broker_base.specs.Output.{Output}
-use Rattle.agreement.specs.MasterState.{AssignRefusal, master_behind, refusal}
+use Rattle.node_model.specs.ballot.Body.TheVariants.{Activate}
+use Rattle.node_model.specs.ballot.Config.{Config}
+use Rattle.node_model.specs.ballot.Effect.{Effect}
+use Rattle.node_model.specs.ballot.Losses.{Thinned}
+use Rattle.node_model.specs.broker_base.Command.{Command}
+use Rattle.node_model.specs.broker_base.Output.{Output}
+use Rattle.snapshots.specs.agreement.MasterState.{AssignRefusal, master_behind, refusal}
 use Rattle.snapshots.specs.Masters.{activated, assigned}
-use Rattle.agreement.specs.World.{can_open}
+use Rattle.snapshots.specs.agreement.World.{can_open}
 use Rattle.node_model.specs.world_base.Core.{CoreState, Turn}
 use Rattle.node_model.specs.world_base.declared.item.Item.{Item}
 use Rattle.node_model.specs.world_base.LossyStep.{RunsOn}

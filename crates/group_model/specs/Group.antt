@@ -1,14 +1,14 @@
 -- A group: nodes with the connections of their clients, one master, and the messages between them.
 use Rattle.std.specs.Prelude.{ℕ, zero, suc, ◌+◌, List, [], ◌∷◌, ◌++◌, map, slice_set}
-use Rattle.ballot.specs.Config.{Config}
-use Rattle.ballot.specs.Message.{Message}
-use Rattle.ballot.specs.Effect.{Effect}
-use Rattle.ballot.specs.Replica.{ReplicaState}
-use Rattle.ballot.specs.Sending.{master}
-use Rattle.broker_base.specs.State.{State}
-use Rattle.broker_base.specs.Command.{Command}
-use Rattle.broker_base.specs.Output.{Output}
-use Rattle.agreement.specs.MasterState.{MasterState, opening_master}
+use Rattle.node_model.specs.ballot.Config.{Config}
+use Rattle.node_model.specs.ballot.Message.{Message}
+use Rattle.node_model.specs.ballot.Effect.{Effect}
+use Rattle.node_model.specs.ballot.Replica.{ReplicaState}
+use Rattle.node_model.specs.ballot.Sending.{master}
+use Rattle.node_model.specs.broker_base.State.{State}
+use Rattle.node_model.specs.broker_base.Command.{Command}
+use Rattle.node_model.specs.broker_base.Output.{Output}
+use Rattle.snapshots.specs.agreement.MasterState.{MasterState, opening_master}
 use Rattle.snapshots.specs.Masters.{MasterOutcome}
 use Rattle.snapshots.specs.Past.{Moment}
 use Rattle.snapshots.specs.World.{messages, outputs}

@@ -1,9 +1,9 @@
 -- The same in moves in which something may be lost: a command that the replica does not take is not put to it.
 use Rattle.std.specs.Prelude.{ℕ, List, [], ◌∷◌, ◌++◌, map}
-use Rattle.ballot.specs.Effect.{Effect}
-use Rattle.ballot.specs.Protocol.{Input}
-use Rattle.broker_base.specs.Command.{Command}
-use Rattle.broker_base.specs.Output.{Output}
+use Rattle.node_model.specs.ballot.Effect.{Effect}
+use Rattle.node_model.specs.ballot.Protocol.{Input}
+use Rattle.node_model.specs.broker_base.Command.{Command}
+use Rattle.node_model.specs.broker_base.Output.{Output}
 use Rattle.node_model.specs.world_base.Core.{CoreState, Turn}
 use Rattle.node_model.specs.LossyMoves.{LossyMoves, given_in, proposal_of}
 use Rattle.node_model.specs.LossyRuns.{LossyRuns}

@@ -1,13 +1,13 @@
 -- In which order the packets of a connection stand in the logs of a group and in the agreed list.
 use Rattle.std.specs.Prelude.{◌≡◌, ℕ, List, ◌∷◌, filter, slice_get, Some}
 use Rattle.lists.specs.Lists.{IsPrefixOf}
-use Rattle.ballot.specs.Config.{Config}
-use Rattle.broker_base.specs.Command.{Command}
-use Rattle.broker_base.specs.Connection.{ConnectionName}
+use Rattle.node_model.specs.ballot.Config.{Config}
+use Rattle.node_model.specs.broker_base.Command.{Command}
+use Rattle.node_model.specs.broker_base.Connection.{ConnectionName}
 use Rattle.node_model.specs.story.Story.{is_packet_of}
 use Rattle.snapshots.specs.Past.{IsAgreed}
 use Rattle.snapshots.specs.Whole.{whole_log}
-use Rattle.agreement.specs.Proposals.{commands_of}
+use Rattle.snapshots.specs.agreement.Proposals.{commands_of}
 use Rattle.node_model.specs.world_base.Core.{CoreState}
 use Rattle.group_model.specs.Group.{Group, moment_of, replica_of}
 use Rattle.group_model.specs.Goes.{Went, all_put, groups_of}

@@ -1,11 +1,11 @@
 -- That the replicas of a group went through a past as agreement is proved of.
 use Rattle.std.specs.Prelude.{◌≡◌, ℕ, List, ◌∷◌, filter}
 use Rattle.lists.specs.Lists.{Each, In}
-use Rattle.ballot.specs.Config.{Config}
-use Rattle.broker_base.specs.State.{State}
-use Rattle.broker_base.specs.Command.{Command}
-use Rattle.broker_base.specs.Output.{Output}
-use Rattle.broker_base.specs.Connection.{ConnectionName}
+use Rattle.node_model.specs.ballot.Config.{Config}
+use Rattle.node_model.specs.broker_base.State.{State}
+use Rattle.node_model.specs.broker_base.Command.{Command}
+use Rattle.node_model.specs.broker_base.Output.{Output}
+use Rattle.node_model.specs.broker_base.Connection.{ConnectionName}
 use Rattle.node_model.specs.story.Story.{is_packet_of}
 use Rattle.snapshots.specs.Past.{Moment, Past}
 use Rattle.snapshots.specs.Proposals.{proposals_of, taken_of}

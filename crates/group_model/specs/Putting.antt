@@ -1,12 +1,12 @@
 -- What a node puts to its replica in a run of moves, what the replica gives, and that what it hears was sent.
 use Rattle.std.specs.Prelude.{◌≡◌, Some, ℕ, ◌+◌, if◌then◌else◌, List, [], ◌∷◌, ◌++◌, map}
 use Rattle.lists.specs.Lists.{In}
-use Rattle.ballot.specs.Effect.{Effect}
-use Rattle.ballot.specs.Protocol.{Input}
-use Rattle.ballot.specs.Protocol.Input.{Receives, Proposes, Ticks}
-use Rattle.broker_base.specs.Command.{Command}
-use Rattle.broker_base.specs.Command.TheVariants as commands
-use Rattle.broker_base.specs.Output.{Output}
+use Rattle.node_model.specs.ballot.Effect.{Effect}
+use Rattle.node_model.specs.ballot.Protocol.{Input}
+use Rattle.node_model.specs.ballot.Protocol.Input.{Receives, Proposes, Ticks}
+use Rattle.node_model.specs.broker_base.Command.{Command}
+use Rattle.node_model.specs.broker_base.Command.TheVariants as commands
+use Rattle.node_model.specs.broker_base.Output.{Output}
 use Rattle.node_model.specs.world_base.Core.{CoreState, Turn, rules, serves}
 use Rattle.snapshots.specs.World.{recorded}
 use Rattle.node_model.specs.Moves.{Moves, Runs}

@@ -5,3 +5,4 @@
 mod laws;
 
 pub use laws::{groups_are_pasts, groups_keep_the_order, puts_in_the_ballot_of_the_name};
+pub use node_model::world_base;

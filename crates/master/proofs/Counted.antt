@@ -9,27 +9,27 @@ use Rattle.lists.specs.Lists.In.{here, there}
 use Rattle.lists.proofs.Beginnings.{prefix_length, prefix_then, take_prefix}
 use Rattle.ballot.specs.Config.{Config}
 use Rattle.ballot.specs.LawfulConfig.{are_rising}
-use Rattle.agreement.specs.whole.Messages.{Message}
-use Rattle.agreement.specs.whole.Messages.{Body}
-use Rattle.agreement.specs.whole.Messages.Body.{NewBallot, Join, State, Install, Installed, Activate, Activated, Superseded, Append, Held, Commit}
-use Rattle.agreement.specs.whole.Replica.{ReplicaState}
-use Rattle.agreement.specs.World.{World, log_of}
-use Rattle.agreement.specs.Past.{Moment, Past, IsAgreed}
-use Rattle.agreement.specs.Agreement.{Holds}
-use Rattle.agreement.specs.Inside.Ballots.{Given, History, IsChain, Line}
-use Rattle.agreement.specs.Inside.Ballots.Told.{told_as_primary}
-use Rattle.agreement.specs.Inside.Chosen.{ChosenList, IsAgreedIn}
-use Rattle.agreement.specs.Inside.Serves.{Serves}
-use Rattle.agreement.specs.Inside.Sound.{IsSound, Says}
-use Rattle.agreement.specs.Inside.ToldLengths.{chosen_length, least_of, most_told, told_by, told_in, told_length}
-use Rattle.agreement.proofs.Agreed.AgreedExists.{least_each, least_most, least_top, newest_agreed}
-use Rattle.agreement.proofs.Agreed.MostTold.{one_given, told_whole}
-use Rattle.agreement.proofs.Agreed.PastAgrees.{agreed_known, has_agreed, nodes_agree}
-use Rattle.agreement.proofs.Agreed.PastKnown.{past_known}
-use Rattle.agreement.proofs.Frame.Bases.{chosen_told, one_line}
-use Rattle.agreement.proofs.Frame.Framing.{within_of}
-use Rattle.agreement.proofs.Frame.SaysLater.{told_less}
-use Rattle.agreement.proofs.Masters.Assigned.{at_most_newest}
+use Rattle.snapshots.specs.agreement.whole.Messages.{Message}
+use Rattle.snapshots.specs.agreement.whole.Messages.{Body}
+use Rattle.snapshots.specs.agreement.whole.Messages.Body.{NewBallot, Join, State, Install, Installed, Activate, Activated, Superseded, Append, Held, Commit}
+use Rattle.snapshots.specs.agreement.whole.Replica.{ReplicaState}
+use Rattle.snapshots.specs.agreement.World.{World, log_of}
+use Rattle.snapshots.specs.agreement.Past.{Moment, Past, IsAgreed}
+use Rattle.snapshots.specs.agreement.Agreement.{Holds}
+use Rattle.snapshots.specs.agreement.Inside.Ballots.{Given, History, IsChain, Line}
+use Rattle.snapshots.specs.agreement.Inside.Ballots.Told.{told_as_primary}
+use Rattle.snapshots.specs.agreement.Inside.Chosen.{ChosenList, IsAgreedIn}
+use Rattle.snapshots.specs.agreement.Inside.Serves.{Serves}
+use Rattle.snapshots.specs.agreement.Inside.Sound.{IsSound, Says}
+use Rattle.snapshots.specs.agreement.Inside.ToldLengths.{chosen_length, least_of, most_told, told_by, told_in, told_length}
+use Rattle.snapshots.proofs.of_agreement.Agreed.AgreedExists.{least_each, least_most, least_top, newest_agreed}
+use Rattle.snapshots.proofs.of_agreement.Agreed.MostTold.{one_given, told_whole}
+use Rattle.snapshots.proofs.of_agreement.Agreed.PastAgrees.{agreed_known, has_agreed, nodes_agree}
+use Rattle.snapshots.proofs.of_agreement.Agreed.PastKnown.{past_known}
+use Rattle.snapshots.proofs.of_agreement.Frame.Bases.{chosen_told, one_line}
+use Rattle.snapshots.proofs.of_agreement.Frame.Framing.{within_of}
+use Rattle.snapshots.proofs.of_agreement.Frame.SaysLater.{told_less}
+use Rattle.snapshots.proofs.of_agreement.Masters.Assigned.{at_most_newest}
 use Rattle.master.specs.Inside.{ToldIn, least_but_one, next_least}
 use Rattle.master.proofs.Untold.{told_none}
 use Rattle.master.proofs.Lawful.{AreLawful, past_lawful, rising_above}

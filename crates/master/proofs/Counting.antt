@@ -22,7 +22,7 @@ use Rattle.lists.specs.Lists.{In}
 use Rattle.lists.proofs.Members.{in_at}
 use Rattle.snapshots.specs.Steps.{tells_from_master}
 use Rattle.snapshots.specs.Masters.{MasterOutcome, activated, assigned}
-use Rattle.agreement.specs.MasterState.{MasterState, refusal}
+use Rattle.snapshots.specs.agreement.MasterState.{MasterState, refusal}
 use Rattle.ballot.specs.Body.{Body}
 use Rattle.ballot.specs.Body.TheVariants.{NewBallot, Join, State, Install, Installed, Activate, Activated, Superseded, Append, Held, Commit}
 use Rattle.master.specs.Exact.Turn.{by_node, by_cut, by_master, unheeded}

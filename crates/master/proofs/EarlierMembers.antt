@@ -21,12 +21,12 @@ use Rattle.ballot.specs.Serving.{follows, on_append}
 use Rattle.ballot.specs.Taking.{taken}
 use Rattle.ballot.proofs.ChangeRows.{on_install-answers, on_install-stays, on_install-takes, on_install-unread, on_new_ballot-joins, on_new_ballot-stays, on_state-stays, on_state-takes, on_state-unread}
 use Rattle.ballot.proofs.MessageRows.{on_append-elsewhere, on_append-gap, on_append-takes}
-use Rattle.agreement.specs.Inside.Ballots.{Given, History}
-use Rattle.agreement.specs.Inside.Sound.{IsOf, Says}
-use Rattle.agreement.specs.Past.{Moment as WholeMoment, Past as WholePast}
-use Rattle.agreement.specs.World.{World as WholeWorld}
-use Rattle.agreement.specs.whole.Messages.Body.{NewBallot as whole_new_ballot}
-use Rattle.agreement.proofs.Agreed.PastKnown.{past_known}
+use Rattle.snapshots.specs.agreement.Inside.Ballots.{Given, History}
+use Rattle.snapshots.specs.agreement.Inside.Sound.{IsOf, Says}
+use Rattle.snapshots.specs.agreement.Past.{Moment as WholeMoment, Past as WholePast}
+use Rattle.snapshots.specs.agreement.World.{World as WholeWorld}
+use Rattle.snapshots.specs.agreement.whole.Messages.Body.{NewBallot as whole_new_ballot}
+use Rattle.snapshots.proofs.of_agreement.Agreed.PastKnown.{past_known}
 use Rattle.snapshots.specs.Past.{Moment, Past, whole_moment}
 use Rattle.snapshots.specs.World.{whole_letter}
 use Rattle.snapshots.proofs.PastsKept.{past_stands}

@@ -15,8 +15,8 @@ use Rattle.ballot.specs.Body.TheVariants.{NewBallot, Join, State, Install, Insta
 use Rattle.ballot.specs.Effect.{Effect}
 use Rattle.ballot.specs.Replica.{ReplicaState, CountedReplica}
 use Rattle.snapshots.specs.World.{World, messages, moved, outputs}
-use Rattle.agreement.specs.World.{can_open}
-use Rattle.agreement.specs.MasterState.{MasterState, assigning, activating, refusal}
+use Rattle.snapshots.specs.agreement.World.{can_open}
+use Rattle.snapshots.specs.agreement.MasterState.{MasterState, assigning, activating, refusal}
 use Rattle.snapshots.specs.Masters.{assigned, activated}
 use Rattle.snapshots.specs.Past.{Moment, Past, opening_moment}
 use Rattle.snapshots.specs.Past.Past.{began, went_on}

@@ -15,7 +15,7 @@ use Rattle.ballot.specs.Protocol.Input.{Receives, Proposes, Ticks}
 use Rattle.ballot.specs.Replica.{ReplicaState}
 use Rattle.ballot.specs.Sending.{Outcome}
 use Rattle.ballot.proofs.ThinnedEffects.{Thinned-same}
-use Rattle.agreement.specs.MasterState.{AssignRefusal, MasterState, refusal, master_behind}
+use Rattle.snapshots.specs.agreement.MasterState.{AssignRefusal, MasterState, refusal, master_behind}
 use Rattle.snapshots.specs.Masters.{MasterOutcome, activated, assigned}
 use Rattle.snapshots.specs.Past.{Moment}
 use Rattle.snapshots.specs.Steps.{MayHappen, tells_from_master, world_behind}

@@ -8,13 +8,13 @@ use Rattle.lists.specs.Lists.{In}
 use Rattle.lists.specs.Lists.In.{here, there}
 use Rattle.ballot.specs.Config.{Config}
 use Rattle.ballot.specs.LawfulConfig.{are_rising, is_lawful}
-use Rattle.agreement.specs.MasterState.{AssignRefusal, MasterState, activated, refusal, master_behind}
-use Rattle.agreement.specs.Past.{Moment, Past}
-use Rattle.agreement.specs.Past.Past.{began, went_on, learned}
-use Rattle.agreement.specs.Steps.{MayHappen}
-use Rattle.agreement.specs.Steps.MayHappen.{node_takes, node_stops, master_assigns, master_hears, assignment_lost, answer_lost}
-use Rattle.agreement.specs.World.{World}
-use Rattle.agreement.proofs.Masters.Assigns.{can_open_is, not_refused}
+use Rattle.snapshots.specs.agreement.MasterState.{AssignRefusal, MasterState, activated, refusal, master_behind}
+use Rattle.snapshots.specs.agreement.Past.{Moment, Past}
+use Rattle.snapshots.specs.agreement.Past.Past.{began, went_on, learned}
+use Rattle.snapshots.specs.agreement.Steps.{MayHappen}
+use Rattle.snapshots.specs.agreement.Steps.MayHappen.{node_takes, node_stops, master_assigns, master_hears, assignment_lost, answer_lost}
+use Rattle.snapshots.specs.agreement.World.{World}
+use Rattle.snapshots.proofs.of_agreement.Masters.Assigns.{can_open_is, not_refused}
 
 -- the members of the active ballot rise, and so do those of the ballot that waits
 pub record AreLawful (m : MasterState) : Type 0 where

@@ -15,7 +15,7 @@ use Rattle.ballot.specs.Replica.{ReplicaState, is_active}
 use Rattle.ballot.specs.Sending.{Outcome, nothing_done}
 use Rattle.ballot.specs.Serving.{most_places}
 use Rattle.ballot.proofs.TicksTaken.{ticked-state}
-use Rattle.agreement.specs.MasterState.{AssignRefusal, refusal}
+use Rattle.snapshots.specs.agreement.MasterState.{AssignRefusal, refusal}
 use Rattle.snapshots.specs.Masters.{MasterOutcome}
 use Rattle.snapshots.specs.Past.{Moment}
 use Rattle.snapshots.specs.World.{World, moved}

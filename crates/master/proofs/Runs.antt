@@ -7,8 +7,8 @@ use Rattle.ballot.specs.Losses.{one_more}
 use Rattle.lists.specs.Lists.{IsPrefixOf}
 use Rattle.lists.proofs.Beginnings.{prefix_then}
 use Rattle.snapshots.specs.Past.{Moment, Past, whole_moment}
-use Rattle.agreement.specs.Past.{IsAgreed, IsChosen, WasActive}
-use Rattle.agreement.specs.Past.{Moment as WholeMoment}
+use Rattle.snapshots.specs.agreement.Past.{IsAgreed, IsChosen, WasActive}
+use Rattle.snapshots.specs.agreement.Past.{Moment as WholeMoment}
 use Rattle.snapshots.specs.Past.Past.{went_on}
 use Rattle.snapshots.proofs.PastsAgree.{agreed_grows, has_agreed, nodes_agree}
 use Rattle.master.specs.declared.event.Event.{Event}

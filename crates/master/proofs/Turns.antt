@@ -12,7 +12,7 @@ use Rattle.ballot.specs.Losses.Thinned.{none, keeps, loses}
 use Rattle.ballot.specs.Sending.{Outcome}
 use Rattle.ballot.specs.Protocol.{Input, replica_step}
 use Rattle.ballot.specs.Config.{Config}
-use Rattle.agreement.specs.MasterState.{MasterState, opening_master}
+use Rattle.snapshots.specs.agreement.MasterState.{MasterState, opening_master}
 use Rattle.snapshots.specs.Past.{Moment, opening_moment}
 use Rattle.ballot.specs.Status.{Status}
 use Rattle.snapshots.specs.World.{World, messages, outputs, moved, recorded}

@@ -6,14 +6,14 @@ use Rattle.machine.specs.Machine.{Rules}
 use Rattle.lists.specs.Lists.{In}
 use Rattle.lists.specs.Lists.In.{here, there}
 use Rattle.ballot.specs.Config.{Config}
-use Rattle.agreement.specs.whole.Messages.{Body, Message}
-use Rattle.agreement.specs.whole.Messages.Body.{NewBallot, Join, State, Install, Installed, Activate, Activated, Superseded, Append, Held, Commit}
-use Rattle.agreement.specs.Inside.Ballots.{Given, History}
-use Rattle.agreement.specs.Inside.Sound.{Says}
-use Rattle.agreement.specs.Inside.ToldLengths.{most_told, told_by, told_in}
-use Rattle.agreement.specs.Past.{Moment, Past}
-use Rattle.agreement.specs.World.{World}
-use Rattle.agreement.proofs.Agreed.PastKnown.{past_known}
+use Rattle.snapshots.specs.agreement.whole.Messages.{Body, Message}
+use Rattle.snapshots.specs.agreement.whole.Messages.Body.{NewBallot, Join, State, Install, Installed, Activate, Activated, Superseded, Append, Held, Commit}
+use Rattle.snapshots.specs.agreement.Inside.Ballots.{Given, History}
+use Rattle.snapshots.specs.agreement.Inside.Sound.{Says}
+use Rattle.snapshots.specs.agreement.Inside.ToldLengths.{most_told, told_by, told_in}
+use Rattle.snapshots.specs.agreement.Past.{Moment, Past}
+use Rattle.snapshots.specs.agreement.World.{World}
+use Rattle.snapshots.proofs.of_agreement.Agreed.PastKnown.{past_known}
 
 -- messages that tell nothing
 pub told_none : {C : Type 0} (m b : ℕ) (sent : List (ℕ × Message C)) → ((x : ℕ × Message C) → In x sent → told_in m b x.1 ≡ 0) →

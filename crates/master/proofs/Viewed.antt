@@ -12,9 +12,9 @@ use Rattle.ballot.specs.Protocol.Input.{Receives, Proposes, Ticks}
 use Rattle.ballot.specs.Sending.{nothing_done}
 use Rattle.ballot.specs.Unread.{is_unread}
 use Rattle.ballot.specs.Replica.{ReplicaState}
-use Rattle.agreement.specs.whole.Replica.{ReplicaState as WholeState}
-use Rattle.agreement.specs.Past.{IsAgreed}
-use Rattle.agreement.specs.World.{log_of}
+use Rattle.snapshots.specs.agreement.whole.Replica.{ReplicaState as WholeState}
+use Rattle.snapshots.specs.agreement.Past.{IsAgreed}
+use Rattle.snapshots.specs.agreement.World.{log_of}
 use Rattle.snapshots.specs.Past.{Moment, Past, whole_moment}
 use Rattle.snapshots.specs.Whole.{whole, whole_log}
 use Rattle.snapshots.specs.World.{MayTake}

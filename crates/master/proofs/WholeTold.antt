@@ -4,7 +4,7 @@ use Rattle.std.specs.Prelude.{◌==◌}
 use Rattle.ballot.specs.Body.{Body}
 use Rattle.ballot.specs.Body.TheVariants.{NewBallot, Join, State, Install, Installed, Activate, Activated, Superseded, Append, Held, Commit}
 use Rattle.ballot.specs.Message.{Message}
-use Rattle.agreement.specs.Inside.ToldLengths.{most_told as whole_most, told_by as whole_by}
+use Rattle.snapshots.specs.agreement.Inside.ToldLengths.{most_told as whole_most, told_by as whole_by}
 use Rattle.snapshots.specs.Whole.{whole_body}
 use Rattle.snapshots.specs.World.{whole_letter}
 use Rattle.master.specs.Inside.{HasCounted, ToldIn}

@@ -13,7 +13,7 @@ use Rattle.ballot.specs.Protocol.Input.{Receives, Proposes, Ticks}
 use Rattle.ballot.specs.Replica.{ReplicaState, is_active}
 use Rattle.ballot.specs.Sending.{Outcome}
 use Rattle.ballot.specs.Serving.{most_places}
-use Rattle.agreement.specs.MasterState.{AssignRefusal, MasterState, refusal}
+use Rattle.snapshots.specs.agreement.MasterState.{AssignRefusal, MasterState, refusal}
 use Rattle.snapshots.specs.Masters.{MasterOutcome, activated, assigned}
 use Rattle.snapshots.specs.Past.{Moment}
 use Rattle.snapshots.specs.Steps.{tells_from_master}

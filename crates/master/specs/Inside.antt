@@ -15,7 +15,7 @@ use Rattle.ballot.specs.Protocol.Input.{Receives, Proposes, Ticks}
 use Rattle.ballot.specs.Replica.{ReplicaState, CountedReplica}
 use Rattle.ballot.specs.Unread.{is_unread}
 use Rattle.master.specs.ToldLengths.{most_told}
-use Rattle.agreement.specs.MasterState.{MasterState}
+use Rattle.snapshots.specs.agreement.MasterState.{MasterState}
 use Rattle.snapshots.specs.Masters.{MasterOutcome}
 use Rattle.snapshots.specs.Past.{Moment, Past}
 use Rattle.snapshots.specs.Steps.{tells_from_master}

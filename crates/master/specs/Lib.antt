@@ -6,4 +6,5 @@ pub mod Inside
 pub mod Refusals
 pub mod Steps
 pub mod ToldLengths
+pub use Rattle.snapshots.specs.agreement as agreement
 pub use Rattle.snapshots.specs as snapshots

@@ -1,8 +1,8 @@
 // Who gives ballots their configurations, and makes them active.
 
 ghost use Rattle.std.specs.Prelude.{◌≡◌, ◌+◌, ◌↔◌, true, false, None, Some, IfOk, IsErrOf, if◌then◌else◌};
-ghost use Rattle.agreement.specs.MasterState.{activating, assigning, is_granted, master_behind, opening_master, refusal};
-ghost use Rattle.agreement.specs.MasterState.AssignRefusal.{bad_members, ballots_spent};
+ghost use Rattle.snapshots.specs.agreement.MasterState.{activating, assigning, is_granted, master_behind, opening_master, refusal};
+ghost use Rattle.snapshots.specs.agreement.MasterState.AssignRefusal.{bad_members, ballots_spent};
 ghost use Rattle.ballot.specs.LawfulConfig.{is_lawful};
 
 use crate::activation::Activation;
@@ -25,7 +25,7 @@ pub struct Master {
 
 impl Model for Master {
     ghost use Rattle.std.specs.Prelude.{◌≤◌};
-    ghost use Rattle.agreement.specs.MasterState.{MasterState, last_ballot};
+    ghost use Rattle.snapshots.specs.agreement.MasterState.{MasterState, last_ballot};
 
     ghost Value = { MasterState };
 

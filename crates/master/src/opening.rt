@@ -2,7 +2,7 @@
 
 ghost use Rattle.std.specs.Prelude.{◌≡◌, nat_le};
 ghost use Rattle.std.specs.List.{list_all};
-ghost use Rattle.agreement.specs.World.{can_open};
+ghost use Rattle.snapshots.specs.agreement.World.{can_open};
 
 use ballot::Config;
 

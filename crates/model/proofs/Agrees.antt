@@ -2,17 +2,17 @@
 use Rattle.std.proofs.Common.{◌≡◌, ◌<◌, ℕ, zero, suc, Bool, true, false, ◌||◌, List, [], ◌∷◌, ◌++◌, set, Some, refl, ap, ap₂, sym, ◌∙◌, subst, inl, inr, ◌⊎◌}
 use Rattle.std.specs.Prelude.{slice_get}
 use Rattle.std.proofs.lemmas.Bool.{both_ways, cases_Bool}
-use Rattle.packet.specs.declared.packet.Packet.{Packet}
-use Rattle.packet.specs.declared.packet.Packet.TheVariants as packets
-use Rattle.broker_base.specs.Connection.{ConnectionName, same_connection}
-use Rattle.broker_base.specs.Place.{Client, Past, Limits}
-use Rattle.broker_base.specs.Commands.{place_of, past_of, usual_limits}
-use Rattle.broker_base.specs.Command.{Command}
-use Rattle.broker_base.specs.Command.TheVariants as commands
-use Rattle.broker_base.proofs.ConnectionNames.{same_name}
-use Rattle.broker_base.proofs.PacketOfNobody.{window_is_steady}
-use Rattle.client_base.specs.Keeper.{Written}
-use Rattle.client_base.specs.Called.{opens}
+use Rattle.story.specs.packet.declared.packet.Packet.{Packet}
+use Rattle.story.specs.packet.declared.packet.Packet.TheVariants as packets
+use Rattle.story.specs.broker_base.Connection.{ConnectionName, same_connection}
+use Rattle.story.specs.broker_base.Place.{Client, Past, Limits}
+use Rattle.story.specs.broker_base.Commands.{place_of, past_of, usual_limits}
+use Rattle.story.specs.broker_base.Command.{Command}
+use Rattle.story.specs.broker_base.Command.TheVariants as commands
+use Rattle.story.proofs.of_broker_base.ConnectionNames.{same_name}
+use Rattle.story.proofs.of_broker_base.PacketOfNobody.{window_is_steady}
+use Rattle.story.specs.client_base.Keeper.{Written}
+use Rattle.story.specs.client_base.Called.{opens}
 use Rattle.story.specs.Sides.{Connection}
 use Rattle.story.specs.Story.{Story, any_named, is_packet_of, counted_at, command_of, names_client}
 use Rattle.story.specs.Lives.{Lived}
@@ -21,8 +21,8 @@ use Rattle.story.specs.Story.Happens.{takes, others_take}
 use Rattle.story.proofs.sessions.Anew.{IsUntouched}
 use Rattle.story.proofs.sessions.Life.{IsCounted, IsLife}
 use Rattle.story.proofs.sessions.LivedIsLife.{lived_is_life}
-use Rattle.broker_base.specs.Place.{same_client}
-use Rattle.broker_base.proofs.ClientsInOrder.{same_is, same_self}
+use Rattle.story.specs.broker_base.Place.{same_client}
+use Rattle.story.proofs.of_broker_base.ClientsInOrder.{same_is, same_self}
 use Rattle.story.proofs.publishing.Last.{none_named, each_there, is_named}
 use Rattle.story.proofs.publishing.kept.KeepsNames.{counted_named}
 use Rattle.model.specs.World.{End, ClientEnds, World, story_of, IsFresh}

@@ -1,15 +1,15 @@
 -- The answers to a connection grow with the list, and there are none before a packet of it stands there.
 use Rattle.std.proofs.Common.{◌≡◌, ◌≤◌, ◌+◌, suc, Bool, true, false, if◌then◌else◌, List, [], ◌∷◌, ◌++◌, length, filter, refl, ap, ap₂, sym, ◌∙◌, subst, arith, inl, inr}
-use Rattle.packet.specs.declared.packet.Packet.{Packet}
-use Rattle.broker_base.specs.Connection.{ConnectionName, same_connection}
-use Rattle.broker_base.specs.Place.{Past, Limits}
-use Rattle.broker_base.specs.Commands.{place_of, past_from, past_of}
-use Rattle.broker_base.specs.Answers.{answers_of}
-use Rattle.broker_base.specs.Command.{Command}
-use Rattle.broker_base.specs.Output.{Output}
-use Rattle.broker_base.specs.Output.TheVariants.{Send, Close}
-use Rattle.broker_base.proofs.ConnectionNames.{same_name, same_itself}
-use Rattle.broker_base.proofs.SentToLive.{SentAt, sent_at}
+use Rattle.story.specs.packet.declared.packet.Packet.{Packet}
+use Rattle.story.specs.broker_base.Connection.{ConnectionName, same_connection}
+use Rattle.story.specs.broker_base.Place.{Past, Limits}
+use Rattle.story.specs.broker_base.Commands.{place_of, past_from, past_of}
+use Rattle.story.specs.broker_base.Answers.{answers_of}
+use Rattle.story.specs.broker_base.Command.{Command}
+use Rattle.story.specs.broker_base.Output.{Output}
+use Rattle.story.specs.broker_base.Output.TheVariants.{Send, Close}
+use Rattle.story.proofs.of_broker_base.ConnectionNames.{same_name, same_itself}
+use Rattle.story.proofs.of_broker_base.SentToLive.{SentAt, sent_at}
 use Rattle.lists.specs.Lists.{In, IsPrefixOf}
 use Rattle.lists.specs.Lists.In.{here, there}
 use Rattle.lists.proofs.Beginnings.{prefix_same, prefix_then}

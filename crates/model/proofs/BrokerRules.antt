@@ -1,13 +1,13 @@
 -- The broker's machine gives what the model answers, behind each list of commands.
 use Rattle.std.proofs.Common.{◌≡◌, ℕ, Bool, true, false, if◌then◌else◌, List, [], ◌∷◌, refl, ap, ◌∙◌}
 use Rattle.machine.specs.Machine.{replay, replay_from}
-use Rattle.broker_base.specs.Commands.{is_start, past_of, usual_limits}
-use Rattle.broker_base.specs.Answers.{answers_of}
-use Rattle.broker_base.specs.Command.{Command}
-use Rattle.broker_base.specs.Output.{Output}
-use Rattle.broker_base.specs.State.{State, empty_state}
-use Rattle.broker_base.specs.Step.{IsWindow, state_from, step}
-use Rattle.broker_base.proofs.StepByStep.{step_stands, usual_lists_stand}
+use Rattle.story.specs.broker_base.Commands.{is_start, past_of, usual_limits}
+use Rattle.story.specs.broker_base.Answers.{answers_of}
+use Rattle.story.specs.broker_base.Command.{Command}
+use Rattle.story.specs.broker_base.Output.{Output}
+use Rattle.story.specs.broker_base.State.{State, empty_state}
+use Rattle.story.specs.broker_base.Step.{IsWindow, state_from, step}
+use Rattle.story.proofs.of_broker_base.StepByStep.{step_stands, usual_lists_stand}
 use Rattle.model.specs.PutOut.{broker_rules}
 
 replayed : (state : State) (xs : List Command) → replay_from broker_rules state xs ≡ state_from usual_limits 64 state xs

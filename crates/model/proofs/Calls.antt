@@ -2,14 +2,14 @@
 use Rattle.std.proofs.Common.{◌≡◌, ℕ, Bool, true, false, if◌then◌else◌, List, [], ◌∷◌, Some, refl, sym, subst}
 use Rattle.std.specs.Prelude.{slice_get}
 use Rattle.std.proofs.lemmas.Bool.{both_ways}
-use Rattle.packet.specs.declared.packet.Packet.TheVariants as packets
-use Rattle.broker_base.specs.Connection.{ConnectionName}
-use Rattle.broker_base.specs.Place.{Client, Past, Limits}
-use Rattle.broker_base.specs.Commands.{past_of, usual_limits}
-use Rattle.broker_base.specs.Command.{Command}
-use Rattle.client_base.specs.Keeper.{Written}
-use Rattle.client_base.specs.Written.{plain, writes_first}
-use Rattle.client_base.specs.Called.{written_for}
+use Rattle.story.specs.packet.declared.packet.Packet.TheVariants as packets
+use Rattle.story.specs.broker_base.Connection.{ConnectionName}
+use Rattle.story.specs.broker_base.Place.{Client, Past, Limits}
+use Rattle.story.specs.broker_base.Commands.{past_of, usual_limits}
+use Rattle.story.specs.broker_base.Command.{Command}
+use Rattle.story.specs.client_base.Keeper.{Written}
+use Rattle.story.specs.client_base.Written.{plain, writes_first}
+use Rattle.story.specs.client_base.Called.{written_for}
 use Rattle.story.specs.Sides.{Connection}
 use Rattle.story.specs.Story.{Story, Happens, any_named}
 use Rattle.story.specs.Lives.{Lived}

@@ -2,15 +2,15 @@
 use Rattle.std.proofs.Common.{◌≡◌, ◌≤◌, ◌<◌, ℕ, zero, suc, false, List, [], ◌∷◌, ◌++◌, length, filter, set, take, Some, refl, ap, ap₂, sym, ◌∙◌, subst, arith}
 use Rattle.std.specs.Prelude.{slice_get}
 use Rattle.std.proofs.lemmas.List.{take-append-le, length-append}
-use Rattle.packet.specs.declared.packet.Packet.{Packet}
-use Rattle.broker_base.specs.Connection.{ConnectionName}
-use Rattle.broker_base.specs.Commands.{past_of, usual_limits}
-use Rattle.broker_base.specs.Answers.{answers_of}
-use Rattle.broker_base.specs.Command.{Command}
+use Rattle.story.specs.packet.declared.packet.Packet.{Packet}
+use Rattle.story.specs.broker_base.Connection.{ConnectionName}
+use Rattle.story.specs.broker_base.Commands.{past_of, usual_limits}
+use Rattle.story.specs.broker_base.Answers.{answers_of}
+use Rattle.story.specs.broker_base.Command.{Command}
 use Rattle.lists.specs.Lists.{IsPrefixOf}
 use Rattle.lists.proofs.Beginnings.{prefix_take}
-use Rattle.client_base.specs.Keeper.{Written}
-use Rattle.client_base.specs.Written.{writes_first}
+use Rattle.story.specs.client_base.Keeper.{Written}
+use Rattle.story.specs.client_base.Written.{writes_first}
 use Rattle.story.specs.Sends.{sends_to, put_to}
 use Rattle.story.specs.Sides.{Connection}
 use Rattle.story.specs.Story.{command_of}

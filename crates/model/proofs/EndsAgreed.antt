@@ -2,20 +2,20 @@
 use Rattle.std.proofs.Common.{◌≡◌, ◌≤◌, ◌<◌, ◌+◌, ℕ, zero, suc, true, false, if◌then◌else◌, List, [], ◌∷◌, ◌++◌, length, filter, take, Some, refl, ap, ap₂, sym, ◌∙◌, subst, arith}
 use Rattle.std.specs.Prelude.{slice_get}
 use Rattle.std.proofs.lemmas.List.{append-nil, take-append-le, length-append}
-use Rattle.packet.specs.declared.packet.Packet.{Packet}
-use Rattle.broker_base.specs.Connection.{ConnectionName, same_connection}
-use Rattle.broker_base.specs.Commands.{past_of, usual_limits}
-use Rattle.broker_base.specs.Command.{Command}
-use Rattle.broker_base.proofs.ConnectionNames.{same_itself}
+use Rattle.story.specs.packet.declared.packet.Packet.{Packet}
+use Rattle.story.specs.broker_base.Connection.{ConnectionName, same_connection}
+use Rattle.story.specs.broker_base.Commands.{past_of, usual_limits}
+use Rattle.story.specs.broker_base.Command.{Command}
+use Rattle.story.proofs.of_broker_base.ConnectionNames.{same_itself}
 use Rattle.lists.specs.Lists.{Each}
-use Rattle.client_base.specs.Keeper.{Written}
+use Rattle.story.specs.client_base.Keeper.{Written}
 use Rattle.story.specs.Sends.{put_to}
 use Rattle.story.specs.Sides.{Connection}
 use Rattle.story.specs.Story.{any_named, is_packet_of, counted_at, command_of}
 use Rattle.story.specs.Inside.Shape.{NamesApart}
 use Rattle.story.proofs.publishing.Last.{none_named, each_there}
 use Rattle.story.proofs.publishing.kept.KeepsCounts.{packet_of}
-use Rattle.broker_base.proofs.ConnectionsOfSessions.{same_turned}
+use Rattle.story.proofs.of_broker_base.ConnectionsOfSessions.{same_turned}
 use Rattle.model.specs.World.{End}
 use Rattle.model.specs.Exact.{commands_from}
 use Rattle.model.proofs.Lists.{filter_push, take_next}

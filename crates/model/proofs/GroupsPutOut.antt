@@ -4,7 +4,7 @@ use Rattle.snapshots.specs.agreement.whole.Applying.{outputs_between}
 use Rattle.snapshots.specs.Giving.{given_of}
 use Rattle.snapshots.specs.agreement.World.{outputs}
 use Rattle.snapshots.proofs.Orders.{answers_while_it_leads}
-use Rattle.broker_base.specs.Output.{Output}
+use Rattle.story.specs.broker_base.Output.{Output}
 use Rattle.model.specs.World.{with_client}
 use Rattle.model.specs.Goes.{Reached}
 use Rattle.model.specs.PutOut.{GroupsPutOut, broker_rules, end_given}

@@ -2,14 +2,14 @@
 use Rattle.std.proofs.Common.{◌≡◌, ◌≤◌, ℕ, suc, Bool, true, false, ◌||◌, List, [], ◌∷◌, ◌++◌, length, set, take, Some, refl, ap, sym, ◌∙◌, subst, arith}
 use Rattle.std.specs.Prelude.{slice_get}
 use Rattle.std.proofs.lemmas.Bool.{both_ways}
-use Rattle.packet.specs.declared.packet.Packet.{Packet}
-use Rattle.broker_base.specs.Connection.{ConnectionName, same_connection}
-use Rattle.broker_base.specs.Place.{Client}
-use Rattle.broker_base.specs.Commands.{past_of, usual_limits}
+use Rattle.story.specs.packet.declared.packet.Packet.{Packet}
+use Rattle.story.specs.broker_base.Connection.{ConnectionName, same_connection}
+use Rattle.story.specs.broker_base.Place.{Client}
+use Rattle.story.specs.broker_base.Commands.{past_of, usual_limits}
 use Rattle.lists.specs.Lists.{IsPrefixOf}
 use Rattle.lists.proofs.Beginnings.{prefix_get, prefix_take}
-use Rattle.client_base.specs.Called.{new_connection}
-use Rattle.client_base.specs.Handled.{handled}
+use Rattle.story.specs.client_base.Called.{new_connection}
+use Rattle.story.specs.client_base.Handled.{handled}
 use Rattle.story.specs.Sends.{put_to}
 use Rattle.story.specs.Sides.{Connection}
 use Rattle.story.specs.Story.{Happens, any_named, count_of}

@@ -1,11 +1,11 @@
 -- What every world keeps, where what is agreed stays as it is.
 use Rattle.std.proofs.Common.{◌≡◌, ◌≤◌, ℕ, false, List, [], ◌∷◌, filter, map, set, Some, refl, sym, ◌∙◌, subst, arith}
 use Rattle.std.specs.Prelude.{slice_get}
-use Rattle.broker_base.specs.Connection.{ConnectionName, same_connection}
-use Rattle.broker_base.specs.Place.{Client, Past}
-use Rattle.broker_base.specs.Commands.{past_from, past_of, usual_limits}
-use Rattle.broker_base.specs.EndingLaws.{connects_of}
-use Rattle.broker_base.specs.Command.{Command}
+use Rattle.story.specs.broker_base.Connection.{ConnectionName, same_connection}
+use Rattle.story.specs.broker_base.Place.{Client, Past}
+use Rattle.story.specs.broker_base.Commands.{past_from, past_of, usual_limits}
+use Rattle.story.specs.broker_base.EndingLaws.{connects_of}
+use Rattle.story.specs.broker_base.Command.{Command}
 use Rattle.lists.specs.Lists.{Each}
 use Rattle.story.specs.Story.{Story, count_of, no_story}
 use Rattle.story.specs.Lives.{Lived}

@@ -18,3 +18,9 @@ pub mod GroupServes
 pub mod BrokerRules
 pub mod PutOut
 pub mod GroupsPutOut
+pub use Rattle.snapshots.proofs.of_agreement as of_agreement
+pub use Rattle.story.proofs.of_broker_base as of_broker_base
+pub use Rattle.broker_form.proofs as of_broker_form
+pub use Rattle.story.proofs.of_broker_model as of_broker_model
+pub use Rattle.story.proofs.of_packet as of_packet
+pub use Rattle.story.proofs as of_story

@@ -1,9 +1,9 @@
 -- The next packet of a connection in a later list is the next that its client wrote.
 use Rattle.std.proofs.Common.{◌≡◌, ◌≤◌, ◌<◌, ◌+◌, ℕ, zero, suc, Bool, true, false, if◌then◌else◌, List, [], ◌∷◌, ◌++◌, length, filter, take, Some, refl, ap, ap₂, sym, ◌∙◌, arith, append_assoc}
 use Rattle.std.specs.Prelude.{slice_get}
-use Rattle.broker_base.specs.Connection.{ConnectionName}
-use Rattle.broker_base.specs.Command.{Command}
-use Rattle.client_base.specs.Keeper.{Written}
+use Rattle.story.specs.broker_base.Connection.{ConnectionName}
+use Rattle.story.specs.broker_base.Command.{Command}
+use Rattle.story.specs.client_base.Keeper.{Written}
 use Rattle.story.specs.Sides.{Connection}
 use Rattle.story.specs.Story.{is_packet_of, command_of}
 use Rattle.model.specs.World.{End, ClientEnds, World}

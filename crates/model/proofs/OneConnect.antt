@@ -1,15 +1,15 @@
 -- A name has one Connect at most, where one more command is agreed.
 use Rattle.std.proofs.Common.{◌≡◌, ◌≤◌, ◌+◌, ℕ, zero, suc, Bool, true, false, if◌then◌else◌, List, [], ◌∷◌, ◌++◌, filter, refl, ap, ap₂, sym, ◌∙◌, subst, arith}
 use Rattle.std.proofs.lemmas.Bool.{both_ways}
-use Rattle.packet.specs.declared.packet.Packet.{Packet}
-use Rattle.packet.specs.declared.packet.Packet.TheVariants as packets
-use Rattle.broker_base.specs.Connection.{ConnectionName, same_connection}
-use Rattle.broker_base.specs.Place.{Past}
-use Rattle.broker_base.specs.Commands.{place_of, past_of, usual_limits}
-use Rattle.broker_base.specs.EndingLaws.{is_connect_of, connects_of}
-use Rattle.broker_base.specs.Command.{Command}
-use Rattle.broker_base.specs.Command.TheVariants as commands
-use Rattle.broker_base.proofs.ConnectionNames.{same_name, same_itself}
+use Rattle.story.specs.packet.declared.packet.Packet.{Packet}
+use Rattle.story.specs.packet.declared.packet.Packet.TheVariants as packets
+use Rattle.story.specs.broker_base.Connection.{ConnectionName, same_connection}
+use Rattle.story.specs.broker_base.Place.{Past}
+use Rattle.story.specs.broker_base.Commands.{place_of, past_of, usual_limits}
+use Rattle.story.specs.broker_base.EndingLaws.{is_connect_of, connects_of}
+use Rattle.story.specs.broker_base.Command.{Command}
+use Rattle.story.specs.broker_base.Command.TheVariants as commands
+use Rattle.story.proofs.of_broker_base.ConnectionNames.{same_name, same_itself}
 use Rattle.story.specs.Story.{is_packet_of, count_of, command_of}
 use Rattle.model.proofs.Lists.{filter_push}
 use Rattle.model.proofs.Answers.{of_name, past_push}

@@ -2,9 +2,9 @@
 use Rattle.std.proofs.Common.{◌≡◌, ℕ, zero, suc, Bool, true, false, ◌||◌, List, [], ◌∷◌, map, set, Some, refl, ap, sym, ◌∙◌, subst, inl, inr, ◌⊎◌}
 use Rattle.std.specs.Prelude.{slice_get}
 use Rattle.std.proofs.lemmas.Bool.{both_ways, cases_Bool}
-use Rattle.broker_base.specs.Connection.{ConnectionName, same_connection}
-use Rattle.broker_base.specs.Place.{Client}
-use Rattle.broker_base.proofs.ConnectionNames.{same_name}
+use Rattle.story.specs.broker_base.Connection.{ConnectionName, same_connection}
+use Rattle.story.specs.broker_base.Place.{Client}
+use Rattle.story.proofs.of_broker_base.ConnectionNames.{same_name}
 use Rattle.lists.specs.Lists.{Each}
 use Rattle.lists.proofs.Tests.{none_or}
 use Rattle.story.specs.Story.{any_named}

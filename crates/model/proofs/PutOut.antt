@@ -8,12 +8,12 @@ use Rattle.snapshots.specs.agreement.whole.Messages.{Effect}
 use Rattle.snapshots.specs.agreement.whole.Messages.Effect.{Out}
 use Rattle.snapshots.specs.agreement.World.{outputs}
 use Rattle.snapshots.proofs.of_agreement.Given.Places.{between_joins, none_between}
-use Rattle.broker_base.specs.Connection.{ConnectionName}
-use Rattle.broker_base.specs.Commands.{past_of, usual_limits}
-use Rattle.broker_base.specs.Answers.{answers_of}
-use Rattle.broker_base.specs.Command.{Command}
-use Rattle.broker_base.specs.Output.{Output}
-use Rattle.broker_base.specs.Step.{step}
+use Rattle.story.specs.broker_base.Connection.{ConnectionName}
+use Rattle.story.specs.broker_base.Commands.{past_of, usual_limits}
+use Rattle.story.specs.broker_base.Answers.{answers_of}
+use Rattle.story.specs.broker_base.Command.{Command}
+use Rattle.story.specs.broker_base.Output.{Output}
+use Rattle.story.specs.broker_base.Step.{step}
 use Rattle.lists.proofs.Places.{get_set}
 use Rattle.story.specs.Sends.{sends_to}
 use Rattle.story.proofs.Deliveries.{sends_append}

@@ -3,14 +3,14 @@ use Rattle.std.proofs.Common.{◌≡◌, ◌+◌, ℕ, true, false, List, [], �
 use Rattle.std.specs.Prelude.{slice_get}
 use Rattle.std.proofs.lemmas.Bool.{cases_Bool}
 use Rattle.std.proofs.lemmas.List.{append-nil}
-use Rattle.broker_base.specs.Connection.{ConnectionName}
-use Rattle.broker_base.specs.Place.{Client}
-use Rattle.broker_base.specs.Command.{Command}
+use Rattle.story.specs.broker_base.Connection.{ConnectionName}
+use Rattle.story.specs.broker_base.Place.{Client}
+use Rattle.story.specs.broker_base.Command.{Command}
 use Rattle.lists.specs.Lists.{In, IsPrefixOf}
 use Rattle.lists.specs.Lists.In.{here}
 use Rattle.lists.proofs.Members.{in_right}
 use Rattle.lists.proofs.Places.{get_set, get_set_other}
-use Rattle.client_base.specs.Keeper.{Written}
+use Rattle.story.specs.client_base.Keeper.{Written}
 use Rattle.story.specs.Sides.{Connection}
 use Rattle.story.specs.Story.{is_packet_of, counted_at, command_of}
 use Rattle.model.specs.World.{End, ClientEnds, World, AreApart}

@@ -1,23 +1,23 @@
 -- The run of the row, event by event.
 use Rattle.std.specs.Prelude.{nat_lt, nat_le}
 use Rattle.std.proofs.Common.{◌≡◌, ◌<◌, ◌≤◌, ℕ, true, false, List, [], ◌∷◌, ◌++◌, refl, arith}
-use Rattle.packet.specs.declared.connack.Connack.TheVariants as connacks
-use Rattle.packet.specs.declared.suback.SubackCode.TheVariants as codes
-use Rattle.packet.specs.declared.packet.Packet.TheVariants as packets
-use Rattle.session_base.specs.Publication.{publish_of}
-use Rattle.packet.specs.declared.qos.QoS.TheVariants as levels
-use Rattle.broker_base.specs.Past.{current_connection, session_of}
-use Rattle.broker_base.specs.Owner.{named}
-use Rattle.broker_base.specs.Subscriptions.{subscriptions_of}
-use Rattle.broker_base.specs.Received.{received_of}
-use Rattle.broker_base.specs.Retained.{retained_publications}
-use Rattle.broker_base.specs.Times.{entries_of}
-use Rattle.broker_base.specs.Commands.{past_from}
-use Rattle.broker_base.specs.Command.{Command}
-use Rattle.broker_base.specs.Command.TheVariants as commands
-use Rattle.client_base.specs.Keeper.{Own, Keeper}
-use Rattle.client_base.specs.Written.{plain, publishes}
-use Rattle.client_base.specs.Called.{opens}
+use Rattle.story.specs.packet.declared.connack.Connack.TheVariants as connacks
+use Rattle.story.specs.packet.declared.suback.SubackCode.TheVariants as codes
+use Rattle.story.specs.packet.declared.packet.Packet.TheVariants as packets
+use Rattle.story.specs.session_base.Publication.{publish_of}
+use Rattle.story.specs.packet.declared.qos.QoS.TheVariants as levels
+use Rattle.story.specs.broker_base.Past.{current_connection, session_of}
+use Rattle.story.specs.broker_base.Owner.{named}
+use Rattle.story.specs.broker_base.Subscriptions.{subscriptions_of}
+use Rattle.story.specs.broker_base.Received.{received_of}
+use Rattle.story.specs.broker_base.Retained.{retained_publications}
+use Rattle.story.specs.broker_base.Times.{entries_of}
+use Rattle.story.specs.broker_base.Commands.{past_from}
+use Rattle.story.specs.broker_base.Command.{Command}
+use Rattle.story.specs.broker_base.Command.TheVariants as commands
+use Rattle.story.specs.client_base.Keeper.{Own, Keeper}
+use Rattle.story.specs.client_base.Written.{plain, publishes}
+use Rattle.story.specs.client_base.Called.{opens}
 use Rattle.story.specs.Sides.{Connection}
 use Rattle.story.specs.Story.Happens.{subscribes, publishes_one, loses}
 use Rattle.story.specs.Rows.{writer, first_name, second_name, news, asks_for_news}

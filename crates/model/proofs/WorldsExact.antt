@@ -1,9 +1,9 @@
 -- Every world that is reached is exact.
 use Rattle.std.proofs.Common.{ℕ, List, set, refl}
-use Rattle.broker_base.specs.Place.{Client}
-use Rattle.broker_base.specs.Commands.{usual_limits}
-use Rattle.broker_base.proofs.NothingAfterTheEnd.{nothing_after_the_end}
-use Rattle.broker_base.proofs.PacketOfNobody.{window_is_steady}
+use Rattle.story.specs.broker_base.Place.{Client}
+use Rattle.story.specs.broker_base.Commands.{usual_limits}
+use Rattle.story.proofs.of_broker_base.NothingAfterTheEnd.{nothing_after_the_end}
+use Rattle.story.proofs.of_broker_base.PacketOfNobody.{window_is_steady}
 use Rattle.lists.proofs.OfEach.{each_then}
 use Rattle.story.specs.Sides.{Connection}
 use Rattle.story.proofs.sessions.LivesExact.{lives_exact}

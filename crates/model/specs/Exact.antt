@@ -1,12 +1,12 @@
 -- What holds of every world of clients and nodes.
 use Rattle.std.specs.Prelude.{◌≤◌, ℕ, suc, List, [], ◌∷◌, length, filter}
-use Rattle.broker_base.specs.Connection.{ConnectionName}
-use Rattle.broker_base.specs.Place.{Client}
-use Rattle.broker_base.specs.Commands.{past_of, usual_limits}
-use Rattle.broker_base.specs.EndingLaws.{connects_of, EndsWithTheSession}
-use Rattle.broker_base.specs.Command.{Command}
+use Rattle.story.specs.broker_base.Connection.{ConnectionName}
+use Rattle.story.specs.broker_base.Place.{Client}
+use Rattle.story.specs.broker_base.Commands.{past_of, usual_limits}
+use Rattle.story.specs.broker_base.EndingLaws.{connects_of, EndsWithTheSession}
+use Rattle.story.specs.broker_base.Command.{Command}
 use Rattle.lists.specs.Lists.{Each, IsPrefixOf}
-use Rattle.client_base.specs.Keeper.{Written}
+use Rattle.story.specs.client_base.Keeper.{Written}
 use Rattle.story.specs.Sends.{put_to}
 use Rattle.story.specs.Sides.{Connection}
 use Rattle.story.specs.Story.{command_of, is_packet_of}

@@ -1,15 +1,15 @@
 -- What may happen in a world of clients and nodes.
 use Rattle.std.specs.Prelude.{◌≡◌, ◌≤◌, ◌<◌, ℕ, suc, Bool, true, false, List, [], ◌∷◌, ◌++◌, length, take, set, Some, slice_get}
-use Rattle.packet.specs.declared.packet.Packet.{Packet}
-use Rattle.broker_base.specs.Connection.{ConnectionName}
-use Rattle.broker_base.specs.Place.{Client, Limits}
-use Rattle.broker_base.specs.Commands.{past_of, usual_limits}
-use Rattle.broker_base.specs.Answers.{answers_of}
-use Rattle.broker_base.specs.Command.{Command}
-use Rattle.broker_base.specs.Command.TheVariants as commands
-use Rattle.client_base.specs.Keeper.{Written}
-use Rattle.client_base.specs.Called.{new_connection}
-use Rattle.client_base.specs.Handled.{handled, lost}
+use Rattle.story.specs.packet.declared.packet.Packet.{Packet}
+use Rattle.story.specs.broker_base.Connection.{ConnectionName}
+use Rattle.story.specs.broker_base.Place.{Client, Limits}
+use Rattle.story.specs.broker_base.Commands.{past_of, usual_limits}
+use Rattle.story.specs.broker_base.Answers.{answers_of}
+use Rattle.story.specs.broker_base.Command.{Command}
+use Rattle.story.specs.broker_base.Command.TheVariants as commands
+use Rattle.story.specs.client_base.Keeper.{Written}
+use Rattle.story.specs.client_base.Called.{new_connection}
+use Rattle.story.specs.client_base.Handled.{handled, lost}
 use Rattle.story.specs.Sends.{sends_to}
 use Rattle.story.specs.Sides.{Connection, Side}
 use Rattle.story.specs.Story.{Story, Happens, command_of, counted_at}

@@ -2,10 +2,10 @@
 use Rattle.std.specs.Prelude.{◌≡◌, ℕ, true, false, List, ◌∷◌, filter, take}
 use Rattle.machine.specs.Machine.{Rules}
 use Rattle.snapshots.specs.ballot_base.declared.config.Config.{Config}
-use Rattle.broker_base.specs.Connection.{ConnectionName}
-use Rattle.broker_base.specs.Command.{Command}
-use Rattle.broker_base.specs.Output.{Output}
-use Rattle.broker_base.specs.State.{State}
+use Rattle.story.specs.broker_base.Connection.{ConnectionName}
+use Rattle.story.specs.broker_base.Command.{Command}
+use Rattle.story.specs.broker_base.Output.{Output}
+use Rattle.story.specs.broker_base.State.{State}
 use Rattle.lists.specs.Lists.{In}
 use Rattle.snapshots.specs.Past.{Moment, Past, IsAgreed}
 use Rattle.snapshots.specs.Agreeing.{IsPrimary}

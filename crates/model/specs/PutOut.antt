@@ -7,14 +7,14 @@ use Rattle.snapshots.specs.ballot_base.Replica.{ReplicaState}
 use Rattle.snapshots.specs.Giving.{LeadsOn, given_of}
 use Rattle.snapshots.specs.Past.{Moment, Past, IsAgreed}
 use Rattle.snapshots.specs.agreement.World.{outputs}
-use Rattle.broker_base.specs.Connection.{ConnectionName}
-use Rattle.broker_base.specs.Place.{Client}
-use Rattle.broker_base.specs.Commands.{usual_limits}
-use Rattle.broker_base.specs.Command.{Command}
-use Rattle.broker_base.specs.Command.TheVariants as commands
-use Rattle.broker_base.specs.Output.{Output}
-use Rattle.broker_base.specs.State.{State, empty_state}
-use Rattle.broker_base.specs.Step.{step}
+use Rattle.story.specs.broker_base.Connection.{ConnectionName}
+use Rattle.story.specs.broker_base.Place.{Client}
+use Rattle.story.specs.broker_base.Commands.{usual_limits}
+use Rattle.story.specs.broker_base.Command.{Command}
+use Rattle.story.specs.broker_base.Command.TheVariants as commands
+use Rattle.story.specs.broker_base.Output.{Output}
+use Rattle.story.specs.broker_base.State.{State, empty_state}
+use Rattle.story.specs.broker_base.Step.{step}
 use Rattle.broker_form.specs.Form.{frozen, thawed}
 use Rattle.story.specs.Sends.{sends_to}
 use Rattle.story.specs.Sides.{Connection}

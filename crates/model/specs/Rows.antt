@@ -1,6 +1,6 @@
 -- A short run of a world, computed to its end: another node takes over while a publication is under way.
 use Rattle.std.specs.Prelude.{◌≡◌, List, [], ◌∷◌, map, reverse}
-use Rattle.session_base.specs.declared.publication.Publication.{Publication}
+use Rattle.story.specs.session_base.declared.publication.Publication.{Publication}
 use Rattle.story.specs.Headline.{accepted_on}
 use Rattle.story.specs.Rows.{writer, news, commands_there}
 use Rattle.model.specs.World.{ClientEnds, World}

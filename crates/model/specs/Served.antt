@@ -1,7 +1,7 @@
 -- How the agreed list of a world goes on where nodes agree: what is said of a later list, and that a world comes to it.
 use Rattle.std.specs.Prelude.{◌≡◌, ℕ, true, List, map, filter, take}
-use Rattle.broker_base.specs.Place.{Client}
-use Rattle.broker_base.specs.Command.{Command}
+use Rattle.story.specs.broker_base.Place.{Client}
+use Rattle.story.specs.broker_base.Command.{Command}
 use Rattle.lists.specs.Lists.{In, IsPrefixOf}
 use Rattle.story.specs.Sides.{Connection}
 use Rattle.story.specs.Story.{is_packet_of}

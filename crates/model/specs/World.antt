@@ -1,12 +1,12 @@
 -- Clients and nodes as the two ends of their connections, over the list of commands that the nodes agree on.
 use Rattle.std.specs.Prelude.{◌≡◌, ℕ, Bool, true, false, List, [], ◌∷◌, map, set}
-use Rattle.packet.specs.declared.packet.Packet.{Packet}
-use Rattle.broker_base.specs.Connection.{ConnectionName, same_connection}
-use Rattle.broker_base.specs.Place.{Client}
-use Rattle.broker_base.specs.Commands.{past_of, usual_limits}
-use Rattle.broker_base.specs.Command.{Command}
+use Rattle.story.specs.packet.declared.packet.Packet.{Packet}
+use Rattle.story.specs.broker_base.Connection.{ConnectionName, same_connection}
+use Rattle.story.specs.broker_base.Place.{Client}
+use Rattle.story.specs.broker_base.Commands.{past_of, usual_limits}
+use Rattle.story.specs.broker_base.Command.{Command}
 use Rattle.lists.specs.Lists.{Each}
-use Rattle.client_base.specs.Keeper.{Keeper, new_keeper}
+use Rattle.story.specs.client_base.Keeper.{Keeper, new_keeper}
 use Rattle.story.specs.Sides.{Connection}
 use Rattle.story.specs.Story.{Story, any_named}
 

@@ -1,9 +1,9 @@
 -- What reading the front of a connection's bytes does.
 use Rattle.std.specs.Prelude.{◌≡◌, ℕ, if◌then◌else◌, List, Result, Ok, Err}
-use Rattle.packet.specs.Stop.{Stop}
-use Rattle.packet.specs.Stop.TheVariants as stops
-use Rattle.packet.specs.declared.packet.Packet.{Packet}
-use Rattle.packet.specs.Verdict.{verdict}
+use Rattle.cutter.specs.packet.Stop.{Stop}
+use Rattle.cutter.specs.packet.Stop.TheVariants as stops
+use Rattle.cutter.specs.packet.declared.packet.Packet.{Packet}
+use Rattle.cutter.specs.packet.Verdict.{verdict}
 use Rattle.broker_model.specs.Sized.{IsSized}
 use Rattle.node_connections.specs.declared.connection.Connection.{Connection}
 use Rattle.node_connections.specs.declared.front.Front.{Front}

@@ -5,7 +5,7 @@ ghost use Rattle.node_connections.specs.Connections.{asked, closed, failing, fre
 ghost use Rattle.node_connections.specs.Pending.{answer_of, is_idle};
 ghost use Rattle.node_connections.specs.Inside.{TakesFront};
 ghost use Rattle.node_connections.specs.Stands.{standing_of};
-ghost use Rattle.packet.specs.Spelling.{spelling};
+ghost use Rattle.cutter.specs.packet.Spelling.{spelling};
 ghost use Rattle.node_connections.specs.Refusing.{refused};
 
 use crate::front::Front;
@@ -14,7 +14,7 @@ use crate::port::Port;
 use crate::standing::Standing;
 use crate::unread::Unread;
 use broker_model::ConnectionId;
-use packet::{Connack, Packet, RefusalCode};
+use cutter::packet::{Connack, Packet, RefusalCode};
 use piece::{Memory, Piece};
 use std::alloc::Global;
 

@@ -1,6 +1,6 @@
 // What stands at the front of a connection's bytes.
 
-use packet::{Packet, RefusalCode};
+use cutter::packet::{Packet, RefusalCode};
 
 /// What stands at the front of a connection's bytes.
 #[derive(Drop)]

@@ -10,6 +10,7 @@ mod port;
 mod standing;
 mod unread;
 
+pub use broker_model;
 pub use connection::{Connection, Stage};
 pub use front::Front;
 pub use handed::Handed;

@@ -1,12 +1,12 @@
 -- A move in which a replica hears nothing leaves its log at the base that it has, also one in which something is lost; a cut moves it
 -- to what was applied.
 use Rattle.std.proofs.Common.{◌≡◌, Bool, true, false, if◌then◌else◌, refl, ap, ◌∙◌, subst}
-use Rattle.ballot.specs.Cutting.{can_cut}
-use Rattle.ballot.specs.Protocol.Input.{Receives, Proposes, Ticks}
-use Rattle.ballot.specs.Replica.{CountedReplica}
-use Rattle.broker_base.specs.State.{State}
-use Rattle.broker_base.specs.Command.{Command}
-use Rattle.broker_base.specs.Command.TheVariants as commands
+use Rattle.world_base.specs.ballot.Cutting.{can_cut}
+use Rattle.world_base.specs.ballot.Protocol.Input.{Receives, Proposes, Ticks}
+use Rattle.world_base.specs.ballot.Replica.{CountedReplica}
+use Rattle.story.specs.broker_base.State.{State}
+use Rattle.story.specs.broker_base.Command.{Command}
+use Rattle.story.specs.broker_base.Command.TheVariants as commands
 use Rattle.world_base.specs.Connections.{asked, closed, failing, left_with}
 use Rattle.world_base.specs.Core.{CoreState, Turn}
 use Rattle.world_base.specs.Reading.{changes}

@@ -1,6 +1,6 @@
 -- A pipe whose bytes are read by the verdict on what is held: it gives the packets that were written, in order.
 use Rattle.std.proofs.Common.{◌≡◌, ℕ, List, [], ◌∷◌, ◌++◌, Result, Ok, refl, ap, sym, ◌∙◌, subst, append_assoc}
-use Rattle.packet_base.proofs.Growing.{StandsWithMore}
+use Rattle.packet.proofs.of_packet_base.Growing.{StandsWithMore}
 use Rattle.packet.specs.Stop.{Stop}
 use Rattle.packet.specs.declared.packet.Packet.{Packet}
 use Rattle.packet.specs.Verdict.{verdict}

@@ -2,19 +2,19 @@
 use Rattle.std.proofs.Common.{◌≡◌, ◌≤◌, ◌⊎◌, inl, inr, ℕ, Bool, true, false, ◌==◌, ◌&&◌, ◌||◌, nat_lt, nat_le, if◌then◌else◌, Option, Some, None, length, List, refl, arith}
 use Rattle.std.specs.List.{list_any}
 use Rattle.std.proofs.lemmas.Bool.{ltb-true, eqb-true, and_parts, or_cases}
-use Rattle.ballot.specs.Machine.{Rules}
-use Rattle.ballot.specs.Logs.{Log, places, pushed}
-use Rattle.ballot.specs.Taking.{read_into, taken, with_places}
-use Rattle.ballot.specs.Changing.{answers_installed, hands_on, lacks, waits_for, on_new_ballot, on_join, on_state, on_install, on_installed, on_activated, on_superseded}
-use Rattle.ballot.specs.Body.{Body}
-use Rattle.ballot.specs.Body.TheVariants.{NewBallot, Join, State, Install, Installed, Activate, Activated, Superseded, Append, Held, Commit}
-use Rattle.ballot.specs.Role.{Role}
-use Rattle.ballot.specs.Role.TheVariants.{Backup, Fetching, Installing, Active}
-use Rattle.ballot.specs.Protocol.{Input, received, ticked, replica_step}
-use Rattle.ballot.specs.Protocol.Input.{Receives, Proposes, Ticks}
-use Rattle.ballot.specs.Replica.{ReplicaState, is_active, is_installing}
-use Rattle.ballot.specs.Sending.{Outcome, nothing_done}
-use Rattle.ballot.specs.Serving.{most_places, least, follows, leads, commit_at, commit, added, proposed, on_append, on_held, on_commit, on_tick_active}
+use Rattle.world_base.specs.ballot.Machine.{Rules}
+use Rattle.world_base.specs.ballot.Logs.{Log, places, pushed}
+use Rattle.world_base.specs.ballot.Taking.{read_into, taken, with_places}
+use Rattle.world_base.specs.ballot.Changing.{answers_installed, hands_on, lacks, waits_for, on_new_ballot, on_join, on_state, on_install, on_installed, on_activated, on_superseded}
+use Rattle.world_base.specs.ballot.Body.{Body}
+use Rattle.world_base.specs.ballot.Body.TheVariants.{NewBallot, Join, State, Install, Installed, Activate, Activated, Superseded, Append, Held, Commit}
+use Rattle.world_base.specs.ballot.Role.{Role}
+use Rattle.world_base.specs.ballot.Role.TheVariants.{Backup, Fetching, Installing, Active}
+use Rattle.world_base.specs.ballot.Protocol.{Input, received, ticked, replica_step}
+use Rattle.world_base.specs.ballot.Protocol.Input.{Receives, Proposes, Ticks}
+use Rattle.world_base.specs.ballot.Replica.{ReplicaState, is_active, is_installing}
+use Rattle.world_base.specs.ballot.Sending.{Outcome, nothing_done}
+use Rattle.world_base.specs.ballot.Serving.{most_places, least, follows, leads, commit_at, commit, added, proposed, on_append, on_held, on_commit, on_tick_active}
 use Rattle.node_model.proofs.NamesInOrder.{same_le}
 
 abbrev pub Up : {S C O : Type 0} → ReplicaState S C → Outcome S C O → Type 0

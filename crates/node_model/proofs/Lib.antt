@@ -36,3 +36,5 @@ pub mod LossyRead
 pub mod LossyRuns
 pub mod LossesAreMoves
 pub use Rattle.story.proofs as of_story
+pub use Rattle.world_base.proofs.of_ballot as of_ballot
+pub use Rattle.world_base.proofs as of_world_base

@@ -1,10 +1,10 @@
 -- All that a node does with an item, where memory may be wanting, is a run of moves.
 use Rattle.std.proofs.Common.{◌≡◌, inl, inr, ℕ, Bool, true, false, List, [], ◌∷◌, length, refl, sym, ap, subst, append_assoc}
 use Rattle.std.proofs.lemmas.List.{append-nil}
-use Rattle.ballot.specs.Protocol.{Input}
-use Rattle.ballot.specs.Protocol.Input.{Receives, Ticks}
-use Rattle.broker_base.specs.Command.{Command}
-use Rattle.broker_base.specs.Connection.{ConnectionName}
+use Rattle.world_base.specs.ballot.Protocol.{Input}
+use Rattle.world_base.specs.ballot.Protocol.Input.{Receives, Ticks}
+use Rattle.story.specs.broker_base.Command.{Command}
+use Rattle.story.specs.broker_base.Connection.{ConnectionName}
 use Rattle.world_base.specs.declared.Port.{Port}
 use Rattle.world_base.specs.declared.item.Item.{Item}
 use Rattle.world_base.specs.declared.item.Item.TheVariants.{Peer, Tick, Opened, Bytes, Ended, Expel, Cut, Crash}

@@ -1,7 +1,7 @@
 -- No step leaves a loss of which the broker is still to hear: each of which it hears is one fewer.
 use Rattle.std.proofs.Common.{◌≡◌, ◌⊎◌, inl, inr, ◌≤◌, ◌<◌, ℕ, Bool, true, false, if◌then◌else◌, length, List, [], ◌∷◌, Option, Some, None, refl, arith}
 use Rattle.std.specs.List.{find}
-use Rattle.broker_base.specs.Command.TheVariants as commands
+use Rattle.story.specs.broker_base.Command.TheVariants as commands
 use Rattle.lists.specs.Lists.{Each}
 use Rattle.world_base.specs.declared.Connection.{Connection}
 use Rattle.world_base.specs.declared.Stage.{Stage}

@@ -1,7 +1,7 @@
 -- Where memory may be wanting nothing more is put out on a connection that is closed, and new ones have a name of the ballot.
 use Rattle.std.proofs.Common.{◌≡◌, true, Option, Some, None, refl, sym, ap, ◌∙◌}
 use Rattle.std.proofs.lemmas.Bool.{both_ways}
-use Rattle.broker_base.specs.Connection.{ConnectionName}
+use Rattle.story.specs.broker_base.Connection.{ConnectionName}
 use Rattle.world_base.specs.declared.Connection.{Connection}
 use Rattle.world_base.specs.Connections.{is_over}
 use Rattle.world_base.specs.Core.{CoreState, Turn}

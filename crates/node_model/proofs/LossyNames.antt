@@ -1,16 +1,16 @@
 -- Where memory may be wanting each open connection has a name of the ballot that its node leads.
 use Rattle.std.proofs.Common.{◌≡◌, inl, inr, ℕ, true, false, not, List, Some, refl, sym, ap, ◌∙◌, subst}
 use Rattle.std.proofs.lemmas.Bool.{both_ways}
-use Rattle.ballot.specs.Effect.{Effect}
-use Rattle.ballot.specs.Losses.{Steps}
-use Rattle.ballot.specs.Protocol.{Input}
-use Rattle.ballot.specs.Replica.{CountedReplica, ReplicaState, is_active}
-use Rattle.ballot.specs.Sending.{Outcome}
-use Rattle.broker_base.specs.State.{State}
-use Rattle.broker_base.specs.Command.{Command}
-use Rattle.broker_base.specs.Command.TheVariants as commands
-use Rattle.broker_base.specs.Connection.{ConnectionName}
-use Rattle.broker_base.specs.Output.{Output}
+use Rattle.world_base.specs.ballot.Effect.{Effect}
+use Rattle.world_base.specs.ballot.Losses.{Steps}
+use Rattle.world_base.specs.ballot.Protocol.{Input}
+use Rattle.world_base.specs.ballot.Replica.{CountedReplica, ReplicaState, is_active}
+use Rattle.world_base.specs.ballot.Sending.{Outcome}
+use Rattle.story.specs.broker_base.State.{State}
+use Rattle.story.specs.broker_base.Command.{Command}
+use Rattle.story.specs.broker_base.Command.TheVariants as commands
+use Rattle.story.specs.broker_base.Connection.{ConnectionName}
+use Rattle.story.specs.broker_base.Output.{Output}
 use Rattle.lists.specs.Lists.{In}
 use Rattle.story.specs.Story.{is_packet_of}
 use Rattle.world_base.specs.declared.Connection.{Connection}

@@ -4,13 +4,13 @@ use Rattle.std.specs.List.{find}
 use Rattle.std.proofs.lemmas.List.{append-nil}
 use Rattle.packet.specs.declared.packet.Packet.{Packet}
 use Rattle.packet.specs.Spelling.{spelling}
-use Rattle.ballot.specs.Effect.{Effect}
-use Rattle.ballot.specs.Effect.TheVariants.{Out}
-use Rattle.broker_base.specs.Command.{Command}
-use Rattle.broker_base.specs.Output.{Output}
-use Rattle.broker_base.specs.Output.TheVariants as outputs
-use Rattle.broker_base.specs.Connection.{ConnectionName, same_connection}
-use Rattle.broker_model.proofs.ConnectionNames.{same_itself, same_name}
+use Rattle.world_base.specs.ballot.Effect.{Effect}
+use Rattle.world_base.specs.ballot.Effect.TheVariants.{Out}
+use Rattle.story.specs.broker_base.Command.{Command}
+use Rattle.story.specs.broker_base.Output.{Output}
+use Rattle.story.specs.broker_base.Output.TheVariants as outputs
+use Rattle.story.specs.broker_base.Connection.{ConnectionName, same_connection}
+use Rattle.story.proofs.of_broker_model.ConnectionNames.{same_itself, same_name}
 use Rattle.world_base.specs.declared.Connection.{Connection}
 use Rattle.world_base.specs.Connections.{changed, closed, failing, is_open_named, put_out}
 use Rattle.world_base.specs.Core.{CoreState}

@@ -4,11 +4,11 @@ use Rattle.std.proofs.Common.{◌≡◌, ℕ, List, [], ◌++◌, length, refl, 
 use Rattle.std.proofs.lemmas.List.{append-nil, length-append}
 use Rattle.std.proofs.lemmas.List.Elements.{filter-append}
 use Rattle.packet.specs.declared.packet.Packet.{Packet}
-use Rattle.ballot.specs.Logs.{pushed}
-use Rattle.ballot.specs.Replica.{CountedReplica, ReplicaState}
-use Rattle.broker_base.specs.State.{State}
-use Rattle.broker_base.specs.Command.{Command}
-use Rattle.broker_base.specs.Connection.{ConnectionName}
+use Rattle.world_base.specs.ballot.Logs.{pushed}
+use Rattle.world_base.specs.ballot.Replica.{CountedReplica, ReplicaState}
+use Rattle.story.specs.broker_base.State.{State}
+use Rattle.story.specs.broker_base.Command.{Command}
+use Rattle.story.specs.broker_base.Connection.{ConnectionName}
 use Rattle.story.specs.Story.{is_packet_of}
 use Rattle.world_base.specs.Connections.{asked, left_with}
 use Rattle.world_base.specs.Core.{CoreState, Turn, rules}
@@ -25,7 +25,7 @@ use Rattle.node_model.proofs.LossyOutputs.{delivers_replica}
 use Rattle.node_model.proofs.LossyReads.{losses_read_in_order}
 use Rattle.node_model.proofs.ProposesInOrder.{commands_join, front_of, opening_orderly, still_to_come}
 use Rattle.node_model.proofs.ShutByChanges.{at_replica}
-use Rattle.ballot.proofs.StepRows.{added-log}
+use Rattle.world_base.proofs.of_ballot.StepRows.{added-log}
 use Rattle.node_model.proofs.Taken.{reads_are_taken}
 
 -- ---- all that is read

@@ -1,10 +1,10 @@
 -- What each move in which memory may be wanting makes of a connection that may be closed.
 use Rattle.std.proofs.lemmas.Bool.{both_ways}
 use Rattle.std.proofs.Common.{◌≡◌, ◌≤◌, ℕ, true, List, [], ◌++◌, Option, Some, None, refl, sym, ap, ◌∙◌, subst}
-use Rattle.ballot.specs.Protocol.{Input}
-use Rattle.broker_base.specs.Command.{Command}
-use Rattle.broker_base.specs.Command.TheVariants as commands
-use Rattle.broker_base.specs.Connection.{ConnectionName}
+use Rattle.world_base.specs.ballot.Protocol.{Input}
+use Rattle.story.specs.broker_base.Command.{Command}
+use Rattle.story.specs.broker_base.Command.TheVariants as commands
+use Rattle.story.specs.broker_base.Connection.{ConnectionName}
 use Rattle.story.specs.Sends.{sends_to}
 use Rattle.world_base.specs.declared.Connection.{Connection}
 use Rattle.world_base.specs.Connections.{asked, closed, failing, has_failed, is_open_named, left_with}

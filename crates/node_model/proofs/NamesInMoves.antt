@@ -1,7 +1,7 @@
 -- Names keep their ballot in each move in which the replica hears nothing and does not stop.
 use Rattle.std.proofs.Common.{◌≡◌, ℕ, Bool, true, false, not, ◌&&◌, if◌then◌else◌, List, [], ◌∷◌, ◌++◌, Option, Some, None, refl, sym, ap, ◌∙◌}
 use Rattle.std.specs.List.{list_any}
-use Rattle.broker_base.specs.Connection.{ConnectionName, is_connection_name}
+use Rattle.story.specs.broker_base.Connection.{ConnectionName, is_connection_name}
 use Rattle.world_base.specs.declared.Port.{Port}
 use Rattle.world_base.specs.declared.Connection.{Connection}
 use Rattle.world_base.specs.Connections.{fresh, is_at, is_over}

@@ -1,8 +1,8 @@
 -- The order in which a node gives names: by ballot, and in a ballot by number.
 use Rattle.std.proofs.Common.{◌≡◌, ◌⊎◌, inl, inr, ◌≤◌, ◌<◌, ◌+◌, ℕ, true, false, ◌==◌, refl, subst, arith}
 use Rattle.std.proofs.lemmas.Bool.{cases_lt, cases_Bool, eqb-true, eqb-false}
-use Rattle.broker_base.specs.Connection.{ConnectionName, same_connection}
-use Rattle.broker_model.proofs.ConnectionNames.{same_name}
+use Rattle.story.specs.broker_base.Connection.{ConnectionName, same_connection}
+use Rattle.story.proofs.of_broker_model.ConnectionNames.{same_name}
 use Rattle.world_base.specs.Core.{CoreState}
 use Rattle.world_base.specs.Step.{next_name}
 use Rattle.node_model.specs.Ends.{Precedes, IsGiven}

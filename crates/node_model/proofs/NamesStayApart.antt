@@ -4,18 +4,18 @@ use Rattle.std.specs.List.{find, list_any}
 use Rattle.packet.specs.Spelling.{spelling}
 use Rattle.packet.specs.declared.packet.Packet.{Packet}
 use Rattle.packet.specs.declared.packet.Packet.TheVariants as packets
-use Rattle.ballot.specs.Effect.{Effect}
-use Rattle.ballot.specs.Losses.{Steps}
-use Rattle.ballot.specs.Protocol.{Input}
-use Rattle.ballot.specs.Protocol.Input.{Receives, Ticks}
-use Rattle.ballot.specs.Replica.{CountedReplica, ReplicaState}
-use Rattle.ballot.specs.Sending.{Outcome}
-use Rattle.broker_base.specs.State.{State}
-use Rattle.broker_base.specs.Command.{Command}
-use Rattle.broker_base.specs.Command.TheVariants as commands
-use Rattle.broker_base.specs.Connection.{ConnectionName, is_connection_name}
-use Rattle.broker_base.specs.Output.{Output}
-use Rattle.broker_base.specs.Output.TheVariants as outputs
+use Rattle.world_base.specs.ballot.Effect.{Effect}
+use Rattle.world_base.specs.ballot.Losses.{Steps}
+use Rattle.world_base.specs.ballot.Protocol.{Input}
+use Rattle.world_base.specs.ballot.Protocol.Input.{Receives, Ticks}
+use Rattle.world_base.specs.ballot.Replica.{CountedReplica, ReplicaState}
+use Rattle.world_base.specs.ballot.Sending.{Outcome}
+use Rattle.story.specs.broker_base.State.{State}
+use Rattle.story.specs.broker_base.Command.{Command}
+use Rattle.story.specs.broker_base.Command.TheVariants as commands
+use Rattle.story.specs.broker_base.Connection.{ConnectionName, is_connection_name}
+use Rattle.story.specs.broker_base.Output.{Output}
+use Rattle.story.specs.broker_base.Output.TheVariants as outputs
 use Rattle.world_base.specs.declared.Port.{Port}
 use Rattle.world_base.specs.declared.item.Item.{Item}
 use Rattle.world_base.specs.declared.item.Item.TheVariants.{Peer, Tick, Opened, Bytes, Ended, Expel, Cut, Crash}

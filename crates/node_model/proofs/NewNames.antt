@@ -1,8 +1,8 @@
 -- A connection that is new behind a move was opened in it, and has the next name of the ballot that its node leads.
 use Rattle.std.proofs.Common.{◌≡◌, ◌⊎◌, inl, inr, ℕ, Bool, true, false, not, ◌&&◌, if◌then◌else◌, List, [], ◌∷◌, ◌++◌, Option, Some, None, refl, sym, ap, ◌∙◌, filter, map}
 use Rattle.std.specs.List.{find, list_any}
-use Rattle.broker_base.specs.Connection.{ConnectionName, is_connection_name}
-use Rattle.broker_model.proofs.ConnectionNames.{same_name}
+use Rattle.story.specs.broker_base.Connection.{ConnectionName, is_connection_name}
+use Rattle.story.proofs.of_broker_model.ConnectionNames.{same_name}
 use Rattle.world_base.specs.declared.Port.{Port}
 use Rattle.world_base.specs.declared.Connection.{Connection}
 use Rattle.world_base.specs.Connections.{closed, fresh, handed, is_at, is_listed, changed}

@@ -3,8 +3,8 @@ use Rattle.std.proofs.Common.{◌≡◌, ◌⊎◌, inl, inr, ◌≤◌, ℕ, Bo
 use Rattle.std.specs.List.{list_any}
 use Rattle.std.proofs.lemmas.Bool.{cases_Bool}
 use Rattle.packet.specs.declared.packet.Packet.{Packet}
-use Rattle.broker_base.specs.Connection.{ConnectionName, same_connection, is_connection_name}
-use Rattle.broker_model.proofs.ConnectionNames.{same_name, same_itself}
+use Rattle.story.specs.broker_base.Connection.{ConnectionName, same_connection, is_connection_name}
+use Rattle.story.proofs.of_broker_model.ConnectionNames.{same_name, same_itself}
 use Rattle.lists.specs.Lists.{Each}
 use Rattle.lists.proofs.OfEach.{each_then, each_append}
 use Rattle.pipes.specs.Pipe.{IsPiped}

@@ -1,10 +1,10 @@
 -- What a deed of a node has to do with others: a message that is heard, bytes that come in, bytes that are handed over. And
 -- whether its log is cut.
 use Rattle.std.proofs.Common.{◌≡◌, false, if◌then◌else◌, ℕ, List}
-use Rattle.ballot.specs.Cutting.{can_cut}
-use Rattle.ballot.specs.Message.{Message}
-use Rattle.ballot.specs.Protocol.Input.{Receives}
-use Rattle.broker_base.specs.Command.{Command}
+use Rattle.world_base.specs.ballot.Cutting.{can_cut}
+use Rattle.world_base.specs.ballot.Message.{Message}
+use Rattle.world_base.specs.ballot.Protocol.Input.{Receives}
+use Rattle.story.specs.broker_base.Command.{Command}
 use Rattle.world_base.specs.declared.Port.{Port}
 use Rattle.world_base.specs.declared.item.Item.TheVariants.{Peer, Bytes, Cut}
 use Rattle.world_base.specs.Core.{CoreState, Turn}

@@ -4,9 +4,9 @@ use Rattle.std.proofs.lemmas.Bool.{cases_lt}
 use Rattle.std.proofs.lemmas.List.{append-nil, length-append}
 use Rattle.std.proofs.lemmas.List.Elements.{filter-append}
 use Rattle.packet.specs.declared.packet.Packet.{Packet}
-use Rattle.broker_base.specs.Command.{Command}
-use Rattle.broker_base.specs.Connection.{ConnectionName}
-use Rattle.ballot.specs.Config.{Config}
+use Rattle.story.specs.broker_base.Command.{Command}
+use Rattle.story.specs.broker_base.Connection.{ConnectionName}
+use Rattle.world_base.specs.ballot.Config.{Config}
 use Rattle.lists.specs.Lists.{IsPrefixOf}
 use Rattle.story.specs.Story.{is_packet_of, command_of}
 use Rattle.world_base.specs.Core.{CoreState, Turn, opening_core}

@@ -5,21 +5,21 @@ use Rattle.std.proofs.lemmas.List.{append-nil}
 use Rattle.packet.specs.declared.packet.Packet.{Packet}
 use Rattle.packet.specs.RefusalCode.{RefusalCode}
 use Rattle.packet.specs.Spelling.{spelling}
-use Rattle.ballot.specs.Effect.{Effect}
-use Rattle.ballot.specs.Effect.TheVariants.{To, Out}
-use Rattle.ballot.specs.Sending.{Outcome}
-use Rattle.ballot.specs.Serving.{proposed}
-use Rattle.broker_base.specs.State.{State}
-use Rattle.broker_base.specs.Command.{Command}
-use Rattle.broker_base.specs.Output.{Output}
-use Rattle.broker_base.specs.Output.TheVariants as outputs
-use Rattle.broker_base.specs.Connection.{ConnectionName, same_connection}
-use Rattle.broker_model.proofs.ConnectionNames.{same_name, same_itself}
+use Rattle.world_base.specs.ballot.Effect.{Effect}
+use Rattle.world_base.specs.ballot.Effect.TheVariants.{To, Out}
+use Rattle.world_base.specs.ballot.Sending.{Outcome}
+use Rattle.world_base.specs.ballot.Serving.{proposed}
+use Rattle.story.specs.broker_base.State.{State}
+use Rattle.story.specs.broker_base.Command.{Command}
+use Rattle.story.specs.broker_base.Output.{Output}
+use Rattle.story.specs.broker_base.Output.TheVariants as outputs
+use Rattle.story.specs.broker_base.Connection.{ConnectionName, same_connection}
+use Rattle.story.proofs.of_broker_model.ConnectionNames.{same_name, same_itself}
 use Rattle.story.specs.Sends.{sends_to}
 use Rattle.world_base.specs.declared.Port.{Port}
 use Rattle.world_base.specs.declared.Connection.{Connection}
-use Rattle.ballot.specs.Protocol.{Input}
-use Rattle.ballot.specs.Replica.{CountedReplica, ReplicaState}
+use Rattle.world_base.specs.ballot.Protocol.{Input}
+use Rattle.world_base.specs.ballot.Replica.{CountedReplica, ReplicaState}
 use Rattle.world_base.specs.Step.{settled, opens}
 use Rattle.world_base.specs.Connections.{asked, holding, left_with, is_listed, is_at, is_open_at, is_open_named, most_pending, closed, failing, put_out, putting, changed}
 use Rattle.world_base.specs.Core.{CoreState, Turn, rules, serves}

@@ -6,10 +6,10 @@ use Rattle.packet.specs.declared.packet.Packet.TheVariants as packets
 use Rattle.packet.specs.declared.connect.Connect.{Connect}
 use Rattle.packet.specs.RefusalCode.{RefusalCode}
 use Rattle.packet.specs.Verdict.{verdict}
-use Rattle.broker_base.specs.Command.{Command}
-use Rattle.broker_base.specs.Command.TheVariants as commands
-use Rattle.broker_base.specs.Connection.{ConnectionName}
-use Rattle.broker_model.proofs.ConnectionNames.{same_name}
+use Rattle.story.specs.broker_base.Command.{Command}
+use Rattle.story.specs.broker_base.Command.TheVariants as commands
+use Rattle.story.specs.broker_base.Connection.{ConnectionName}
+use Rattle.story.proofs.of_broker_model.ConnectionNames.{same_name}
 use Rattle.pipes.specs.Pipe.{Joins, IsPiped}
 use Rattle.story.specs.Story.{is_packet_of}
 use Rattle.world_base.specs.declared.Port.{Port}

@@ -3,21 +3,21 @@ use Rattle.std.proofs.Common.{◌≡◌, ◌⊎◌, inl, inr, ℕ, Bool, true, f
 use Rattle.std.specs.Prelude.{nat_lt, nat_le, ◌&&◌, ◌==◌}
 use Rattle.std.specs.List.{list_any}
 use Rattle.std.proofs.lemmas.Bool.{cases_Bool}
-use Rattle.ballot.specs.Applying.{applied_to}
-use Rattle.ballot.specs.Body.{Body}
-use Rattle.ballot.specs.Body.TheVariants.{NewBallot, Join, State, Install, Installed, Activate, Activated, Superseded, Append, Held, Commit}
-use Rattle.ballot.specs.Logs.{Log, places}
-use Rattle.ballot.specs.Taking.{taken}
-use Rattle.ballot.specs.Changing.{answers_installed, hands_on, lacks, waits_for, on_new_ballot, on_join, on_install, on_superseded, on_state, on_installed, on_activated}
-use Rattle.ballot.specs.Machine.{Rules}
-use Rattle.ballot.specs.Protocol.{Input, received, ticked, replica_step}
-use Rattle.ballot.specs.Protocol.Input.{Receives, Proposes, Ticks}
-use Rattle.ballot.specs.Replica.{ReplicaState, is_active, is_installing, others, progress_at}
-use Rattle.ballot.specs.Role.{Role}
-use Rattle.ballot.specs.Role.TheVariants.{Backup, Fetching, Installing, Active}
-use Rattle.ballot.specs.Sending.{Outcome, message_to, nothing_done}
-use Rattle.ballot.specs.Serving.{commit, follows, leads, least, most_places, on_append, on_commit, on_held, on_tick_active, raised}
-use Rattle.ballot.proofs.ChangeRows.{on_activated-adds, on_activated-stays}
+use Rattle.world_base.specs.ballot.Applying.{applied_to}
+use Rattle.world_base.specs.ballot.Body.{Body}
+use Rattle.world_base.specs.ballot.Body.TheVariants.{NewBallot, Join, State, Install, Installed, Activate, Activated, Superseded, Append, Held, Commit}
+use Rattle.world_base.specs.ballot.Logs.{Log, places}
+use Rattle.world_base.specs.ballot.Taking.{taken}
+use Rattle.world_base.specs.ballot.Changing.{answers_installed, hands_on, lacks, waits_for, on_new_ballot, on_join, on_install, on_superseded, on_state, on_installed, on_activated}
+use Rattle.world_base.specs.ballot.Machine.{Rules}
+use Rattle.world_base.specs.ballot.Protocol.{Input, received, ticked, replica_step}
+use Rattle.world_base.specs.ballot.Protocol.Input.{Receives, Proposes, Ticks}
+use Rattle.world_base.specs.ballot.Replica.{ReplicaState, is_active, is_installing, others, progress_at}
+use Rattle.world_base.specs.ballot.Role.{Role}
+use Rattle.world_base.specs.ballot.Role.TheVariants.{Backup, Fetching, Installing, Active}
+use Rattle.world_base.specs.ballot.Sending.{Outcome, message_to, nothing_done}
+use Rattle.world_base.specs.ballot.Serving.{commit, follows, leads, least, most_places, on_append, on_commit, on_held, on_tick_active, raised}
+use Rattle.world_base.proofs.of_ballot.ChangeRows.{on_activated-adds, on_activated-stays}
 use Rattle.node_model.proofs.ReplicaStays.{added_same, commit_same, proposed_same}
 
 -- it stays in its ballot, or does not lead

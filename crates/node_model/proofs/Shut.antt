@@ -3,7 +3,7 @@ use Rattle.std.proofs.Common.{◌≡◌, ℕ, ◌+◌, nat_le, length, not, Bool
 use Rattle.std.specs.List.{find}
 use Rattle.std.proofs.lemmas.List.{append-nil}
 use Rattle.std.proofs.lemmas.Bool.{both_ways}
-use Rattle.broker_base.specs.Connection.{ConnectionName}
+use Rattle.story.specs.broker_base.Connection.{ConnectionName}
 use Rattle.lists.specs.Lists.{IsPrefixOf}
 use Rattle.lists.proofs.Beginnings.{prefix_then}
 use Rattle.world_base.specs.declared.Connection.{Connection}

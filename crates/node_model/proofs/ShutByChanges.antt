@@ -5,13 +5,13 @@ use Rattle.packet.specs.declared.packet.Packet.TheVariants as packets
 use Rattle.packet.specs.declared.connack.Connack.TheVariants as connacks
 use Rattle.packet.specs.RefusalCode.{RefusalCode}
 use Rattle.packet.specs.Spelling.{spelling}
-use Rattle.ballot.specs.Effect.{Effect}
-use Rattle.ballot.specs.Replica.{CountedReplica}
-use Rattle.ballot.specs.Serving.{proposed}
-use Rattle.broker_base.specs.Command.{Command}
-use Rattle.broker_base.specs.State.{State}
-use Rattle.broker_base.specs.Output.{Output}
-use Rattle.broker_base.specs.Connection.{ConnectionName, same_connection}
+use Rattle.world_base.specs.ballot.Effect.{Effect}
+use Rattle.world_base.specs.ballot.Replica.{CountedReplica}
+use Rattle.world_base.specs.ballot.Serving.{proposed}
+use Rattle.story.specs.broker_base.Command.{Command}
+use Rattle.story.specs.broker_base.State.{State}
+use Rattle.story.specs.broker_base.Output.{Output}
+use Rattle.story.specs.broker_base.Connection.{ConnectionName, same_connection}
 use Rattle.world_base.specs.declared.Port.{Port}
 use Rattle.world_base.specs.declared.Connection.{Connection}
 use Rattle.world_base.specs.Connections.{asked, holding, is_at, is_open_at, left_with}

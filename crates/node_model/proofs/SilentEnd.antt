@@ -2,8 +2,8 @@
 use Rattle.std.proofs.Common.{◌≡◌, ◌⊎◌, inl, inr, ◌≤◌, ◌<◌, ◌+◌, ◌*◌, ℕ, Bool, true, false, ◌&&◌, nat_lt, if◌then◌else◌, length, List, [], ◌∷◌, Option, Some, None, refl, ap, arith}
 use Rattle.std.specs.List.{find, fold}
 use Rattle.std.proofs.lemmas.Bool.{eq-eqb, and_from, not-true}
-use Rattle.ballot.specs.Protocol.Input.{Ticks}
-use Rattle.broker_base.specs.Command.TheVariants as commands
+use Rattle.world_base.specs.ballot.Protocol.Input.{Ticks}
+use Rattle.story.specs.broker_base.Command.TheVariants as commands
 use Rattle.lists.specs.Lists.{Each}
 use Rattle.world_base.specs.declared.Port.{Port}
 use Rattle.world_base.specs.declared.item.Item.TheVariants.{Tick}

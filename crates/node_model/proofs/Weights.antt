@@ -2,15 +2,15 @@
 use Rattle.std.proofs.Common.{◌≡◌, ◌⊎◌, inl, inr, ◌≤◌, ◌<◌, ◌+◌, ℕ, zero, suc, Bool, true, false, nat_le, if◌then◌else◌, length, List, [], ◌∷◌, Some, sym, subst, arith}
 use Rattle.std.specs.List.{find, fold}
 use Rattle.packet.specs.Spelling.{spelling}
-use Rattle.ballot.specs.Effect.{Effect}
-use Rattle.ballot.specs.Effect.TheVariants.{To, Out}
-use Rattle.ballot.specs.Sending.{Outcome}
-use Rattle.ballot.specs.Serving.{proposed}
-use Rattle.broker_base.specs.State.{State}
-use Rattle.broker_base.specs.Command.{Command}
-use Rattle.broker_base.specs.Output.{Output}
-use Rattle.broker_base.specs.Output.TheVariants as outputs
-use Rattle.broker_base.specs.Connection.{ConnectionName}
+use Rattle.world_base.specs.ballot.Effect.{Effect}
+use Rattle.world_base.specs.ballot.Effect.TheVariants.{To, Out}
+use Rattle.world_base.specs.ballot.Sending.{Outcome}
+use Rattle.world_base.specs.ballot.Serving.{proposed}
+use Rattle.story.specs.broker_base.State.{State}
+use Rattle.story.specs.broker_base.Command.{Command}
+use Rattle.story.specs.broker_base.Output.{Output}
+use Rattle.story.specs.broker_base.Output.TheVariants as outputs
+use Rattle.story.specs.broker_base.Connection.{ConnectionName}
 use Rattle.world_base.specs.declared.Connection.{Connection}
 use Rattle.world_base.specs.Connections.{is_open_named, most_pending, closed, failing, putting, put_out, changed}
 use Rattle.world_base.specs.Core.{CoreState, Turn, rules, serves}

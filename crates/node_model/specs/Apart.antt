@@ -1,10 +1,10 @@
 -- Names where memory may be wanting: no two connections of a node have one, and none comes twice.
 use Rattle.std.specs.Prelude.{◌≡◌, ℕ, List, None}
-use Rattle.ballot.specs.Config.{Config}
-use Rattle.ballot.specs.Effect.{Effect}
-use Rattle.broker_base.specs.Command.{Command}
-use Rattle.broker_base.specs.Connection.{ConnectionName}
-use Rattle.broker_base.specs.Output.{Output}
+use Rattle.world_base.specs.ballot.Config.{Config}
+use Rattle.world_base.specs.ballot.Effect.{Effect}
+use Rattle.story.specs.broker_base.Command.{Command}
+use Rattle.story.specs.broker_base.Connection.{ConnectionName}
+use Rattle.story.specs.broker_base.Output.{Output}
 use Rattle.world_base.specs.declared.item.Item.{Item}
 use Rattle.world_base.specs.declared.Port.{Port}
 use Rattle.world_base.specs.Core.{CoreState, opening_core}

@@ -4,7 +4,7 @@ use Rattle.std.specs.List.{find}
 use Rattle.packet.specs.declared.packet.Packet.{Packet}
 use Rattle.packet.specs.declared.packet.Packet.TheVariants as packets
 use Rattle.packet.specs.declared.connack.Connack.TheVariants as connacks
-use Rattle.broker_base.specs.Connection.{ConnectionName, same_connection}
+use Rattle.story.specs.broker_base.Connection.{ConnectionName, same_connection}
 use Rattle.lists.specs.Lists.{IsPrefixOf}
 use Rattle.story.specs.Sends.{sends_to}
 use Rattle.world_base.specs.declared.Connection.{Connection}

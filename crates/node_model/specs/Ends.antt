@@ -2,12 +2,12 @@
 use Rattle.std.specs.Prelude.{◌≡◌, ◌≤◌, ◌<◌, ◌⊎◌, ℕ, suc, Bool, true, false, if◌then◌else◌, List, [], ◌∷◌, ◌++◌, length, filter, Option, Some, None}
 use Rattle.std.specs.List.{find}
 use Rattle.packet.specs.declared.packet.Packet.{Packet}
-use Rattle.broker_base.specs.Connection.{ConnectionName, same_connection}
-use Rattle.broker_base.specs.Command.{Command}
-use Rattle.broker_base.specs.Command.TheVariants as commands
-use Rattle.ballot.specs.Config.{Config}
+use Rattle.story.specs.broker_base.Connection.{ConnectionName, same_connection}
+use Rattle.story.specs.broker_base.Command.{Command}
+use Rattle.story.specs.broker_base.Command.TheVariants as commands
+use Rattle.world_base.specs.ballot.Config.{Config}
 use Rattle.lists.specs.Lists.{Each, IsPrefixOf}
-use Rattle.cutter.specs.Stream.{Stream}
+use Rattle.pipes.specs.cutter.Stream.{Stream}
 use Rattle.pipes.specs.Pipe.{Joins, IsPiped}
 use Rattle.story.specs.Story.{command_of, is_packet_of}
 use Rattle.world_base.specs.declared.Connection.{Connection}

@@ -1,9 +1,9 @@
 -- Of which ballot the names of a node's open connections are.
 use Rattle.std.specs.Prelude.{◌≡◌, ℕ, Bool, true, false, Some}
-use Rattle.ballot.specs.Config.{Config}
-use Rattle.ballot.specs.Protocol.{Input}
-use Rattle.broker_base.specs.Command.{Command}
-use Rattle.broker_base.specs.Connection.{ConnectionName}
+use Rattle.world_base.specs.ballot.Config.{Config}
+use Rattle.world_base.specs.ballot.Protocol.{Input}
+use Rattle.story.specs.broker_base.Command.{Command}
+use Rattle.story.specs.broker_base.Connection.{ConnectionName}
 use Rattle.lists.specs.Lists.{In}
 use Rattle.story.specs.Story.{is_packet_of}
 use Rattle.world_base.specs.declared.Connection.{Connection}

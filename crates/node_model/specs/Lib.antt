@@ -10,5 +10,10 @@ pub mod Hearing
 pub mod LossyMoves
 pub mod LossyRuns
 pub mod LossyLaws
-pub use Rattle.world_base.specs as world_base
 pub use Rattle.story.specs as story
+pub use Rattle.world_base.specs.ballot as ballot
+pub use Rattle.story.specs.broker_base as broker_base
+pub use Rattle.pipes.specs.cutter as cutter
+pub use Rattle.packet.specs as packet
+pub use Rattle.pipes.specs as pipes
+pub use Rattle.world_base.specs as world_base

@@ -1,9 +1,9 @@
 -- What moves are for one connection of a node where memory may be wanting: as exact ones, but that it may come to be closed.
 use Rattle.std.specs.Prelude.{◌≡◌, ◌<◌, ℕ, true, false, List, ◌++◌, length, filter, Some, None}
 use Rattle.packet.specs.declared.packet.Packet.{Packet}
-use Rattle.ballot.specs.Config.{Config}
-use Rattle.broker_base.specs.Command.{Command}
-use Rattle.broker_base.specs.Connection.{ConnectionName}
+use Rattle.world_base.specs.ballot.Config.{Config}
+use Rattle.story.specs.broker_base.Command.{Command}
+use Rattle.story.specs.broker_base.Connection.{ConnectionName}
 use Rattle.lists.specs.Lists.{In, IsPrefixOf}
 use Rattle.pipes.specs.Pipe.{Joins}
 use Rattle.story.specs.Sends.{sends_to}

@@ -7,11 +7,11 @@ use Rattle.packet.specs.declared.packet.Packet.{Packet}
 use Rattle.packet.specs.declared.packet.Packet.TheVariants as packets
 use Rattle.packet.specs.declared.connect.Connect.{Connect}
 use Rattle.packet.specs.Verdict.{verdict}
-use Rattle.ballot.specs.Cutting.{can_cut}
-use Rattle.ballot.specs.Protocol.{Input}
-use Rattle.ballot.specs.Protocol.Input.{Receives, Proposes, Ticks}
-use Rattle.broker_base.specs.Command.{Command}
-use Rattle.broker_base.specs.Command.TheVariants as commands
+use Rattle.world_base.specs.ballot.Cutting.{can_cut}
+use Rattle.world_base.specs.ballot.Protocol.{Input}
+use Rattle.world_base.specs.ballot.Protocol.Input.{Receives, Proposes, Ticks}
+use Rattle.story.specs.broker_base.Command.{Command}
+use Rattle.story.specs.broker_base.Command.TheVariants as commands
 use Rattle.world_base.specs.declared.Port.{Port}
 use Rattle.world_base.specs.declared.item.Item.{Item}
 use Rattle.world_base.specs.declared.Connection.{Connection}

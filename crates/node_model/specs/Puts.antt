@@ -2,13 +2,13 @@
 use Rattle.std.specs.Prelude.{◌≡◌, ℕ, Bool, true, false, if◌then◌else◌, List, [], ◌∷◌, ◌++◌, Some}
 use Rattle.packet.specs.declared.packet.Packet.{Packet}
 use Rattle.packet.specs.Spelling.{spelling}
-use Rattle.ballot.specs.Effect.{Effect}
-use Rattle.ballot.specs.Effect.TheVariants.{To, Out}
-use Rattle.ballot.specs.Serving.{proposed}
-use Rattle.broker_base.specs.Command.{Command}
-use Rattle.broker_base.specs.Command.TheVariants as commands
-use Rattle.broker_base.specs.Output.{Output}
-use Rattle.broker_base.specs.Connection.{ConnectionName}
+use Rattle.world_base.specs.ballot.Effect.{Effect}
+use Rattle.world_base.specs.ballot.Effect.TheVariants.{To, Out}
+use Rattle.world_base.specs.ballot.Serving.{proposed}
+use Rattle.story.specs.broker_base.Command.{Command}
+use Rattle.story.specs.broker_base.Command.TheVariants as commands
+use Rattle.story.specs.broker_base.Output.{Output}
+use Rattle.story.specs.broker_base.Connection.{ConnectionName}
 use Rattle.story.specs.Sends.{sends_to}
 use Rattle.world_base.specs.declared.Connection.{Connection}
 use Rattle.world_base.specs.Core.{CoreState, Turn, rules, serves}

@@ -11,3 +11,4 @@ pub use laws::{
     names_keep_their_ballot, names_stay_apart, new_names_are_of_the_ballot, nodes_propose_in_order,
     nodes_read_in_order, none_is_silent, nothing_on_closed, puts_in_order, reads_are_taken,
 };
+pub use world_base;

@@ -10,3 +10,5 @@ pub mod PacketReads
 pub mod Behind
 pub mod OneSpelling
 pub mod MoreBytes
+pub use Rattle.packet_base.proofs as of_packet_base
+pub use Rattle.packet_base.proofs.of_topics as of_topics

@@ -16,3 +16,5 @@ pub mod FaultRows
 pub use Rattle.packet_base.specs.declared.stop.Stop
 pub use Rattle.packet_base.specs.declared.refusal_code.RefusalCode
 pub use Rattle.packet_base.specs.declared.packet_id.PacketId
+pub use Rattle.packet_base.specs as packet_base
+pub use Rattle.packet_base.specs.topics as topics

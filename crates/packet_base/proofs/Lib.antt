@@ -9,3 +9,4 @@ pub mod ListsRead
 pub mod ItemsInALoop
 pub mod ListsWritten
 pub mod Growing
+pub use Rattle.topics.proofs as of_topics

@@ -1,7 +1,7 @@
 -- A pipe into which packets are written, and the cutter at its other end.
 use Rattle.std.specs.Prelude.{◌≡◌, ℕ, false, List, [], ◌∷◌, ◌++◌, length, slice_get, Some, Ok, Err}
-use Rattle.packet.specs.declared.packet.Packet.{Packet}
-use Rattle.packet.specs.Spelling.{Spells, IsPacket}
+use Rattle.cutter.specs.packet.declared.packet.Packet.{Packet}
+use Rattle.cutter.specs.packet.Spelling.{Spells, IsPacket}
 use Rattle.cutter.specs.Stream.{Stream, Takes}
 use Rattle.cutter.specs.declared.error.CutError.{CutError}
 use Rattle.cutter.specs.declared.error.CutError.TheVariants as errors

@@ -2,7 +2,7 @@
 use Rattle.std.proofs.Common.{◌≡◌, ◌<◌, ◌+◌, ℕ, zero, suc, List, [], ◌∷◌, Option, Some, None, Result, Ok, Err, OnOk, ◌++◌, length, take, drop, get_or, map, ap, refl, sym, ◌∙◌, subst, arith}
 use Rattle.std.specs.List.{position}
 use Rattle.std.proofs.lemmas.List.{append-nil, append_assoc, take_more}
-use Rattle.client_base.specs.declared.accepted.Accepted.{Accepted}
+use Rattle.transcript.specs.client_base.declared.accepted.Accepted.{Accepted}
 use Rattle.session_base.specs.declared.publication.Publication.{Publication}
 use Rattle.script.specs.declared.order.Order.{Order}
 use Rattle.transcript.specs.Lines.{accepted_line}

@@ -1,7 +1,7 @@
 -- PlayedToTheEnd.antt: orders one after the other make a transcript, and at their end the nodes agree, and each client is exact.
 use Rattle.std.proofs.Common.{◌≡◌, ◌<◌, ◌≤◌, ◌+◌, ℕ, List, [], ◌∷◌, Result, Ok, Err, OnOk, ◌++◌, length, take, get_or, ap, subst, refl, sym, ◌∙◌, arith}
 use Rattle.std.proofs.lemmas.List.{append-nil, append_assoc, length-take-le, take_more}
-use Rattle.ballot.specs.Config.{Config}
+use Rattle.world.specs.ballot.Config.{Config}
 use Rattle.world.specs.model.World.{AreApart}
 use Rattle.script.specs.Scripts.{IsScript, lines_of}
 use Rattle.script.specs.declared.order.Order.{Order}

@@ -3,7 +3,7 @@ use Rattle.std.proofs.Common.{◌≡◌, Bool, true, false, not, ◌||◌, List,
 use Rattle.std.specs.Prelude.{bytes_eq}
 use Rattle.std.proofs.lemmas.Bool.{and_parts, false≢true}
 use Rattle.std.proofs.lemmas.Slice.Eq.{bytes_eq-Decides}
-use Rattle.agreement.specs.World.{can_open}
+use Rattle.world.specs.agreement.World.{can_open}
 use Rattle.ballot_base.specs.LawfulConfig.{is_lawful}
 use Rattle.script.specs.Fields.{Text, fields_of}
 use Rattle.lists.specs.Lists.{Each}

@@ -1,6 +1,6 @@
 -- How other errors become those of a script that is played.
-use Rattle.ballot.specs.declared.error.OpeningError.{OpeningError}
-use Rattle.ballot.specs.declared.error.OpeningError.TheVariants as openings
+use Rattle.world.specs.ballot.declared.error.OpeningError.{OpeningError}
+use Rattle.world.specs.ballot.declared.error.OpeningError.TheVariants as openings
 use Rattle.script.specs.declared.error.ScriptError.{ScriptError}
 use Rattle.script.specs.declared.error.ScriptError.TheVariants as scripts
 use Rattle.world.specs.declared.escape_error.EscapeError.{EscapeError}

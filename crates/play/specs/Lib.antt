@@ -3,3 +3,4 @@ pub mod Ways
 pub mod Events
 pub mod Faults
 pub mod Inside
+pub use Rattle.script.specs as script

@@ -1,7 +1,7 @@
 -- The transcript of a script: the worlds that its orders lead through, and what is written of each.
 use Rattle.std.specs.Prelude.{◌≡◌, ℕ, List, [], ◌∷◌, ◌++◌, Option, Some, None, Result, Ok, Err, IsErr, drop, length}
 use Rattle.world.specs.client.Core.{Core}
-use Rattle.client_base.specs.declared.accepted.Accepted.{Accepted}
+use Rattle.transcript.specs.client_base.declared.accepted.Accepted.{Accepted}
 use Rattle.session_base.specs.declared.publication.Publication.{Publication}
 use Rattle.world.specs.master.declared.event.Idle.{Idle}
 use Rattle.script.specs.Scripts.{IsScript, lines_of}

@@ -1,7 +1,7 @@
 // A world in which a script is played.
 
 ghost use Rattle.std.specs.Prelude.{◌≡◌, ◌<◌, ◌++◌, ℕ, false, [], map, IfOk, OnOk, OnErr, IsErrOf};
-ghost use Rattle.agreement.specs.World.{can_open};
+ghost use Rattle.world.specs.agreement.World.{can_open};
 ghost use Rattle.world.specs.model.World.{AreApart};
 ghost use Rattle.world.specs.Goes.{AreReached};
 ghost use Rattle.world.specs.Standing.{IsReached, asked_on};

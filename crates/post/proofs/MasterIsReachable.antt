@@ -1,9 +1,9 @@
 -- MasterIsReachable.antt: a master goes on by its answers, and what it tells is one of these.
 use Rattle.std.proofs.Common.{◌≡◌, ℕ, ◌+◌, Bool, true, false, if◌then◌else◌, List, Option, Some, None, Ok, Err, refl, ◌∙◌, ap, sym, subst, true≢false}
 use Rattle.std.specs.Result.{is_ok}
-use Rattle.agreement.specs.MasterState.{AssignRefusal, MasterState, activating, is_granted, master_behind, opening_master, refusal}
-use Rattle.snapshots.specs.Masters.{activated, assigned}
-use Rattle.agreement.specs.MasterState.AssignRefusal.{bad_members, ballots_spent}
+use Rattle.master.specs.agreement.MasterState.{AssignRefusal, MasterState, activating, is_granted, master_behind, opening_master, refusal}
+use Rattle.master.specs.snapshots.Masters.{activated, assigned}
+use Rattle.master.specs.agreement.MasterState.AssignRefusal.{bad_members, ballots_spent}
 use Rattle.master.specs.declared.activation.Activation.{Activation}
 use Rattle.master.specs.declared.activation.Activation.TheVariants as activation
 use Rattle.master.specs.declared.error.AssignError.{AssignError}

@@ -1,7 +1,7 @@
 -- What the master of a program answers, and which states it comes to.
 use Rattle.std.specs.Prelude.{◌≡◌, ℕ, Option, Some, None}
-use Rattle.agreement.specs.MasterState.{MasterState, opening_master, refusal}
-use Rattle.snapshots.specs.Masters.{MasterOutcome, activated, assigned}
+use Rattle.master.specs.agreement.MasterState.{MasterState, opening_master, refusal}
+use Rattle.master.specs.snapshots.Masters.{MasterOutcome, activated, assigned}
 use Rattle.master.specs.declared.activation.Activation.{Activation}
 use Rattle.master.specs.declared.activation.Activation.TheVariants as activation
 use Rattle.node.specs.Command.{Command}

@@ -1,11 +1,11 @@
 // The master, whose answers are messages.
 
 ghost use Rattle.std.specs.Prelude.{◌≡◌, ◌+◌, ◌↔◌, None, Some, false, IfOk, IsErrOf, OnErr, OnOk};
-ghost use Rattle.agreement.specs.MasterState.{opening_master, refusal};
-ghost use Rattle.agreement.specs.MasterState.AssignRefusal.{bad_members, ballots_spent};
+ghost use Rattle.master.specs.agreement.MasterState.{opening_master, refusal};
+ghost use Rattle.master.specs.agreement.MasterState.AssignRefusal.{bad_members, ballots_spent};
 ghost use Rattle.ballot_base.specs.LawfulConfig.{is_lawful};
 ghost use Rattle.lists.specs.Lists.{has_id};
-ghost use Rattle.snapshots.specs.Masters.{assigned};
+ghost use Rattle.master.specs.snapshots.Masters.{assigned};
 ghost use Rattle.node.specs.Command.{Command};
 ghost use Rattle.node.specs.Effect.TheVariants.{To};
 ghost use Rattle.post.specs.Letters.{WasAnswered, WasGiven};
@@ -90,7 +90,7 @@ pub(crate) struct MessagingMaster {
 }
 
 impl Model for MessagingMaster {
-    ghost use Rattle.agreement.specs.MasterState.{MasterState};
+    ghost use Rattle.master.specs.agreement.MasterState.{MasterState};
     ghost use Rattle.post.specs.Mastering.{IsReachable};
 
     ghost Value = { MasterState };

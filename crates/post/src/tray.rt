@@ -1,12 +1,12 @@
 // What waits for a node.
 
 ghost use Rattle.std.specs.Prelude.{◌≡◌, ◌↔◌, ◌+◌, ◌++◌, ◌∷◌, [], None, Some, true, false, IfOk, IsErrOf, OnErr, OnOk};
-ghost use Rattle.agreement.specs.MasterState.{refusal};
-ghost use Rattle.agreement.specs.MasterState.AssignRefusal.{bad_members, ballots_spent};
+ghost use Rattle.master.specs.agreement.MasterState.{refusal};
+ghost use Rattle.master.specs.agreement.MasterState.AssignRefusal.{bad_members, ballots_spent};
 ghost use Rattle.node.specs.Command.{Command};
 ghost use Rattle.node.specs.Lists.{Each};
 ghost use Rattle.node.specs.declared.Item.TheVariants.{Peer};
-ghost use Rattle.snapshots.specs.Masters.{assigned};
+ghost use Rattle.master.specs.snapshots.Masters.{assigned};
 ghost use Rattle.post.specs.Letters.{IsLeft, IsPosted};
 ghost use Rattle.post.specs.Mastering.{letter_of};
 ghost use Rattle.post.specs.Superseding.{newest, still_waiting, supersedes_one};

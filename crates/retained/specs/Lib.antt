@@ -2,3 +2,5 @@ pub mod Retained
 pub mod Errors
 pub mod Inside
 pub mod Laws
+pub use Rattle.lists.specs as lists
+pub use Rattle.packet.specs as packet

@@ -16,15 +16,15 @@ ghost use Rattle.std.specs.BTreeMap.Range.{IsLeBy, IsLtBy};
 ghost use Rattle.std.specs.Range.Bound.{IsForward};
 ghost use Rattle.std.specs.Cmp.Lexicographic.{slice_cmp};
 ghost use Rattle.std.specs.Ordering.{nat_cmp};
-ghost use Rattle.topics.specs.Text.{has_no_wildcard};
+ghost use Rattle.packet.specs.topics.Text.{has_no_wildcard};
 ghost use Rattle.retained.specs.Retained.{matching_entries};
 ghost use Rattle.retained.specs.Inside.{IsFront, StandsBefore, IsAround, HoldsMatches};
 
 use crate::retained_publication::RetainedPublication;
+use packet::topics::{Filter, TopicName, matches};
 use std::alloc::{AllocError, Global};
 use std::collections::BTreeMap;
 use std::ops::Bound;
-use topics::{Filter, TopicName, matches};
 
 /// Appends the matching topics: a filter without wildcards is looked up, and any other is held
 /// against the topics that begin as it does. Where memory is wanting, some of them may stand there.

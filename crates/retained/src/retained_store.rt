@@ -3,18 +3,18 @@
 ghost use Rattle.std.specs.Prelude.{◌≡◌, ◌++◌, ◌↔◌, [], length, take, Err, IsErr, IsOk, IsNone, true, false, IsTrue, OnOk, OnErr, option_copied};
 ghost use Rattle.std.specs.Cmp.Lexicographic.{slice_cmp};
 ghost use Rattle.std.specs.Ordering.{nat_cmp};
-ghost use Rattle.topics.specs.Text.{has_no_wildcard};
+ghost use Rattle.packet.specs.topics.Text.{has_no_wildcard};
 ghost use Rattle.retained.specs.Retained.{IsRising, publication_on, after_put, with_topic, without_topic, is_full_for, is_refused, matching_entries};
 
 use crate::error::RetainedError;
 use crate::finding::append_matching;
 use crate::retained_publication::RetainedPublication;
+use packet::topics::{Filter, TopicName, matches};
 use packet::{Payload, QoS};
 use std::alloc::{AllocError, Global};
 use std::collections::BTreeMap;
 use std::collections::btree_map::Iter;
 use std::marker::Model;
-use topics::{Filter, TopicName, matches};
 
 /// The most topics of which a publication is retained.
 const MAX_TOPICS: usize = 16_384;

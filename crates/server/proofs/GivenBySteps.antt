@@ -8,7 +8,7 @@ use Rattle.node.specs.declared.Config.{Config}
 use Rattle.node.specs.Lists.{Each, In}
 use Rattle.node.specs.Lists.In.{here, there}
 use Rattle.node.specs.State.{Replays, Seen, TakesOne}
-use Rattle.lists.proofs.OfEach.{each_append}
+use Rattle.node.proofs.of_lists.OfEach.{each_append}
 use Rattle.post.specs.Letters.{EachOpens, EachOpensAs, WasGiven}
 
 -- what holds of whatever stands in a list holds of each

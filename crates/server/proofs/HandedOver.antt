@@ -6,7 +6,7 @@ use Rattle.node.specs.declared.Memory.{Memory}
 use Rattle.node.specs.Core.{CountedCore}
 use Rattle.node.specs.Handing.{answer_of, bytes_of, listed_at}
 use Rattle.node.specs.State.{Replays, Seen}
-use Rattle.connection.specs.Writing.{HandsOver}
+use Rattle.streams.specs.connection.Writing.{HandsOver}
 use Rattle.server.specs.Serving.{PutsOut}
 
 pub handed_over :

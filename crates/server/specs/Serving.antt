@@ -7,8 +7,8 @@ use Rattle.node.specs.declared.Handed.{Handed}
 use Rattle.node.specs.Core.{CountedCore}
 use Rattle.node.specs.Handing.{answer_of, bytes_of, listed_at}
 use Rattle.node.specs.State.{Replays, Seen}
-use Rattle.connection.specs.declared.ending.Ending.{Ending}
-use Rattle.connection.specs.Hearing.{Hears}
+use Rattle.streams.specs.connection.declared.ending.Ending.{Ending}
+use Rattle.streams.specs.connection.Hearing.{Hears}
 use Rattle.post.specs.Letters.{IsLeft}
 
 -- A lane that had sent these items sent all that is told of one connection, and nothing else. Of a socket no bytes are

@@ -6,13 +6,13 @@ ghost use Rattle.server.specs.Serving.{SendsRow, SendsWhole, TellsOne, port_of};
 
 use crate::ear::Ear;
 use crate::shared::Shared;
-use connection::{Counted, listen};
 use mailbox::Lane;
 use node::{Gate, Item, NodeNaming, Port, Stated};
 use std::alloc::Global;
 use std::net::TcpStream;
 use std::sync::{Arc, Wait};
 use std::time::{Clock, Duration};
+use streams::connection::{Counted, listen};
 use streams::{Link, Patient};
 
 /// How long a write may wait before the rest is left to the late writer, in milliseconds.

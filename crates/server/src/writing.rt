@@ -1,10 +1,10 @@
 // What the node put out for a connection, onto its stream.
 
 use crate::shared::Shared;
-use connection::{Counted, Flow, Outlet, write_out};
 use node::{Gate, Handed, Memory, NodeNaming, Port, Stated};
 use std::alloc::Global;
 use std::sync::{Arc, Wait};
+use streams::connection::{Counted, Flow, Outlet, write_out};
 use streams::{Link, Pen};
 
 // What the node behind its lock puts out for a port.

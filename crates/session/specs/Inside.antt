@@ -4,10 +4,10 @@ use Rattle.std.specs.Map.{lookup, set_value}
 use Rattle.packet.specs.declared.qos.QoS.{QoS}
 use Rattle.packet.specs.declared.packet.Packet.{Packet}
 use Rattle.packet.specs.declared.packet.Packet.TheVariants as packets
-use Rattle.session_base.specs.declared.publication.Publication.{Publication}
-use Rattle.session_base.specs.declared.awaits.Awaits.TheVariants as waits_for
-use Rattle.session_base.specs.Publication.{publish_of, greater_qos}
-use Rattle.session_base.specs.Queue.{Flight, Queue, started_flight}
+use Rattle.session_form.specs.session_base.declared.publication.Publication.{Publication}
+use Rattle.session_form.specs.session_base.declared.awaits.Awaits.TheVariants as waits_for
+use Rattle.session_form.specs.session_base.Publication.{publish_of, greater_qos}
+use Rattle.session_form.specs.session_base.Queue.{Flight, Queue, started_flight}
 use Rattle.session_form.specs.Form.{IsWritable}
 
 -- the first that waits starts

@@ -11,3 +11,4 @@ pub mod ReceivedRise
 pub mod KeptIdentifiers
 pub mod FiltersInOrder
 pub mod AnswersByQoS
+pub use Rattle.lists.proofs as of_lists

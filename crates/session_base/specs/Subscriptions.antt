@@ -1,7 +1,7 @@
 -- The subscriptions of a session, and at which QoS it gets a publication (MQTT 3.3.5, 3.8.4, 3.10.4).
 use Rattle.std.specs.Prelude.{ℕ, Bool, not, if◌then◌else◌, List, [], ◌∷◌, filter, bytes_eq, Option, Some, None}
 use Rattle.std.specs.List.{list_any}
-use Rattle.topics.specs.Matching.{is_match}
+use Rattle.packet.specs.topics.Matching.{is_match}
 use Rattle.packet.specs.declared.qos.QoS.{QoS}
 use Rattle.session_base.specs.Publication.{greater_qos}
 

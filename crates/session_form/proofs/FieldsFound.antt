@@ -3,7 +3,7 @@ use Rattle.std.proofs.Common.{◌≡◌, ℕ, ◌+◌, ◌≤◌, suc, Bool, tru
 use Rattle.std.specs.Prelude.{IfOk}
 use Rattle.std.proofs.lemmas.Bool.{leb-true}
 use Rattle.std.proofs.lemmas.List.{length-append}
-use Rattle.topics.specs.Text.{is_topic, is_filter}
+use Rattle.packet_base.specs.topics.Text.{is_topic, is_filter}
 use Rattle.packet_base.specs.declared.stop.Stop.{Stop}
 use Rattle.packet_base.specs.Spelling.{IsId, number, text}
 use Rattle.packet_base.specs.Reading.{byte_at, front_at, number_at, id_at, topic_at, filter_at}

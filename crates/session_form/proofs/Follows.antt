@@ -6,7 +6,7 @@ use Rattle.std.specs.List.Sorted.{IsStrictlySortedBy}
 use Rattle.std.specs.declared.cmp.Ordering.TheVariants.{Less}
 use Rattle.std.specs.Ordering.{nat_cmp}
 use Rattle.std.proofs.lemmas.Bool.{or_parts, or_from}
-use Rattle.lists.specs.Lists.{has_id, IsDistinct}
+use Rattle.session_base.specs.lists.Lists.{has_id, IsDistinct}
 use Rattle.session_base.specs.declared.publication.Publication.{Publication}
 use Rattle.session_base.specs.Subscriptions.{HeldFilter, is_held}
 use Rattle.session_base.specs.KeepingLaws.{AreFiltersApart}

@@ -10,3 +10,4 @@ pub mod ReadingLoops
 pub mod FollowRead
 pub mod Writable
 pub mod Spelled
+pub use Rattle.session_base.proofs as of_session_base

@@ -3,7 +3,7 @@ use Rattle.std.proofs.Common.{◌≡◌, ℕ, zero, suc, ◌-◌, ◌<◌, Bool,
 use Rattle.std.specs.Prelude.{IfOk, flat_map}
 use Rattle.std.proofs.lemmas.Bool.{ltb-true}
 use Rattle.std.proofs.lemmas.Nat.{be_bytes_4}
-use Rattle.topics.specs.Text.{is_topic, is_filter}
+use Rattle.packet_base.specs.topics.Text.{is_topic, is_filter}
 use Rattle.packet_base.specs.Lists.{ItemAt}
 use Rattle.packet_base.specs.Spelling.{number, text, bit}
 use Rattle.packet_base.specs.Reading.{byte_at, front_at, number_at, id_at, topic_at, filter_at}

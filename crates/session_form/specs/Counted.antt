@@ -1,7 +1,7 @@
 -- Lists whose count stands before them: each item is read behind those before it, and has to go with them.
 use Rattle.std.specs.Prelude.{◌≡◌, ℕ, true, false, zero, suc, Bool, nat_le, List, [], ◌∷◌, ◌++◌, length, flat_map, Option, None, Result, Ok, Err}
 use Rattle.std.specs.List.{last_or}
-use Rattle.topics.specs.declared.malformed.MalformedKind.TheVariants as kinds
+use Rattle.packet_base.specs.topics.declared.malformed.MalformedKind.TheVariants as kinds
 use Rattle.packet_base.specs.declared.stop.Stop.{Stop}
 use Rattle.packet_base.specs.declared.stop.Stop.TheVariants as stops
 use Rattle.packet_base.specs.Reading.{◌>>=◌, ◌>>◌, check}

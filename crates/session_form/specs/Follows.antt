@@ -1,6 +1,6 @@
 -- Which part of a frozen session may stand behind which.
 use Rattle.std.specs.Prelude.{ℕ, Bool, true, not, ◌&&◌, ◌||◌, nat_lt, List, Option, Some, None}
-use Rattle.lists.specs.Lists.{has_id}
+use Rattle.session_base.specs.lists.Lists.{has_id}
 use Rattle.session_base.specs.declared.publication.Publication.{Publication}
 use Rattle.session_base.specs.Subscriptions.{HeldFilter, is_held}
 use Rattle.session_base.specs.Queue.{Flight, ids_of, is_released}

@@ -4,7 +4,7 @@ use Rattle.std.specs.List.{AllByRecursion}
 use Rattle.std.specs.List.Sorted.{IsStrictlySortedBy}
 use Rattle.std.specs.Ordering.{nat_cmp}
 use Rattle.packet_base.specs.Spelling.{IsId}
-use Rattle.lists.specs.Lists.{IsDistinct}
+use Rattle.session_base.specs.lists.Lists.{IsDistinct}
 use Rattle.session_base.specs.KeepingLaws.{AreFiltersApart}
 use Rattle.session_base.specs.OrderLaws.{IsReleasedFirst}
 use Rattle.session_base.specs.Queue.{ids_of}

@@ -2,7 +2,7 @@
 -- publication as the standard has it (MQTT 1.5.3, 2.3.1, 3.3, 4.7).
 use Rattle.std.specs.Prelude.{◌≡◌, ℕ, ◌+◌, ◌≤◌, IsTrue, false, length}
 use Rattle.std.specs.List.{AllByRecursion}
-use Rattle.topics.specs.Text.{is_filter}
+use Rattle.packet_base.specs.topics.Text.{is_filter}
 use Rattle.packet_base.specs.Spelling.{IsId}
 use Rattle.packet.specs.Spelling.{IsPacket}
 use Rattle.packet.specs.declared.packet.Packet.TheVariants as packets

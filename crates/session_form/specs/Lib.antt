@@ -5,3 +5,5 @@ pub mod Follows
 pub mod Form
 pub mod FormLaws
 pub mod FormRows
+pub use Rattle.session_base.specs.lists as lists
+pub use Rattle.session_base.specs as session_base

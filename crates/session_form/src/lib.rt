@@ -10,6 +10,7 @@ pub use reading::{
     body_length, keep, read_flag, read_flight, read_held, read_long_number, read_publication,
     read_qos, read_waiting,
 };
+pub use session_base;
 pub use writing::{
     write_flight, write_held, write_number, write_payload, write_publication, write_text,
 };

@@ -9,10 +9,10 @@ ghost use Rattle.session_form.specs.Counted.{keep};
 ghost use Rattle.session_form.specs.Form.{flag_at, long_number_at, qos_at, body_length, publication_at, held_at, waiting_at, sent_at, awaits_at, flight_at};
 
 use packet::{PacketId, Payload, QoS};
+use packet_base::topics::{Filter, MalformedKind};
 use packet_base::{Reader, Stop};
 use session_base::{Awaits, Publication};
 use std::alloc::Global;
-use topics::{Filter, MalformedKind};
 
 /// The most bytes of a body, this broker's own limit.
 const LONGEST_BODY: usize = 1_048_572;

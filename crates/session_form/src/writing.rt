@@ -5,9 +5,9 @@ ghost use Rattle.packet_base.specs.Spelling.{number, text};
 ghost use Rattle.session_form.specs.Form.{long_number, publication_bytes, held_bytes, flight_bytes, HasLength, IsWritable};
 
 use packet::{PacketId, QoS};
+use packet_base::topics::Filter;
 use session_base::{Awaits, Publication};
 use std::alloc::AllocError;
-use topics::Filter;
 
 /// Appends a number of two bytes, the high one first. Without memory a part may stand there, as with
 /// each of these.

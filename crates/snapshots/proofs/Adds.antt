@@ -3,12 +3,12 @@ use Rattle.std.proofs.Common.{◌≡◌, ℕ, ◌≤◌, cond, List, [], ◌∷�
 use Rattle.std.specs.Prelude.{nat_lt, ◌==◌}
 use Rattle.std.proofs.lemmas.List.{append-nil}
 use Rattle.machine.specs.Machine.{Rules}
-use Rattle.ballot_base.specs.declared.config.Config.{Config}
-use Rattle.ballot_base.specs.declared.message.Effect.{Effect}
-use Rattle.ballot_base.specs.Logs.{places}
-use Rattle.ballot_base.specs.Protocol.{Input}
-use Rattle.ballot_base.specs.Protocol.Input.{Receives, Proposes, Ticks}
-use Rattle.ballot_base.specs.Replica.{ReplicaState}
+use Rattle.agreement.specs.ballot_base.declared.config.Config.{Config}
+use Rattle.agreement.specs.ballot_base.declared.message.Effect.{Effect}
+use Rattle.agreement.specs.ballot_base.Logs.{places}
+use Rattle.agreement.specs.ballot_base.Protocol.{Input}
+use Rattle.agreement.specs.ballot_base.Protocol.Input.{Receives, Proposes, Ticks}
+use Rattle.agreement.specs.ballot_base.Replica.{ReplicaState}
 use Rattle.agreement.specs.Giving.{given_in as whole_given_in, given_of as whole_given_of}
 use Rattle.agreement.specs.MasterState.{MasterState}
 use Rattle.agreement.specs.Past.{Learns, Moment as WholeMoment, Past as WholePast}

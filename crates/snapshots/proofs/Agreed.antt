@@ -4,17 +4,17 @@ use Rattle.std.proofs.Common.{inl, ◌≡◌, ℕ, ◌≤◌, false, List, [], �
 use Rattle.std.specs.Prelude.{slice_get}
 use Rattle.std.proofs.lemmas.List.{append-nil, length-take-le, set-set, take-take}
 use Rattle.machine.specs.Machine.{Rules}
-use Rattle.lists.specs.Lists.{In, IsPrefixOf}
-use Rattle.lists.specs.Lists.In.{there}
-use Rattle.lists.proofs.Beginnings.{prefix_then, take_prefix}
-use Rattle.lists.proofs.Places.{get_set}
+use Rattle.agreement.specs.lists.Lists.{In, IsPrefixOf}
+use Rattle.agreement.specs.lists.Lists.In.{there}
+use Rattle.agreement.proofs.of_lists.Beginnings.{prefix_then, take_prefix}
+use Rattle.agreement.proofs.of_lists.Places.{get_set}
 use Rattle.agreement.specs.whole.Applying.{applied_to as whole_applied_to}
-use Rattle.ballot_base.specs.declared.config.Config.{Config}
+use Rattle.agreement.specs.ballot_base.declared.config.Config.{Config}
 use Rattle.agreement.specs.whole.Messages.{Effect as WholeEffect}
 use Rattle.agreement.specs.whole.Losses.{Thinned as WholeThinned}
 use Rattle.agreement.specs.whole.Protocol.{Input as WholeInput, replica_step as whole_step}
 use Rattle.agreement.specs.whole.Replica.{ReplicaState as WholeState}
-use Rattle.ballot_base.specs.Replica.{is_active}
+use Rattle.agreement.specs.ballot_base.Replica.{is_active}
 use Rattle.agreement.specs.Past.{IsAgreed, Learns, Moment, Past}
 use Rattle.agreement.specs.Past.Past.{went_on, learned}
 use Rattle.agreement.specs.Steps.{MayHappen, MayTake as WholeMayTake}

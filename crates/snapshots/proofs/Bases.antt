@@ -5,23 +5,23 @@ use Rattle.std.specs.Prelude.{nat_lt, nat_le, ◌&&◌, ◌==◌}
 use Rattle.std.specs.List.{list_any}
 use Rattle.std.proofs.lemmas.Bool.{and_parts, cases_lt, leb-true, lt-ltb, le-ltb}
 use Rattle.machine.specs.Machine.{Rules}
-use Rattle.ballot_base.specs.declared.status.Progress.{Progress}
-use Rattle.ballot_base.specs.Replica.{is_active, is_installing, others, progress_at, ReplicaState}
-use Rattle.ballot_base.specs.declared.status.Role.TheVariants.{Backup, Fetching, Installing, Active}
-use Rattle.ballot_base.specs.Serving.{least, most_places, raised, added, append_at, appends_behind, commit, commit_at, extended, follows, leads, on_append, on_commit, on_held, on_tick_active, proposed}
-use Rattle.lists.specs.Lists.{In}
-use Rattle.lists.specs.Lists.In.{here, there}
-use Rattle.lists.proofs.Members.{in_append}
-use Rattle.ballot_base.specs.Logs.{Log, command_at, places, pushed}
-use Rattle.ballot_base.specs.declared.message.Body.{Body}
-use Rattle.ballot_base.specs.declared.message.Effect.{Effect}
-use Rattle.ballot_base.specs.declared.message.Message.{Message}
-use Rattle.ballot_base.specs.Sending.{Outcome, message_to_each, message_to_followed, nothing_done}
+use Rattle.agreement.specs.ballot_base.declared.status.Progress.{Progress}
+use Rattle.agreement.specs.ballot_base.Replica.{is_active, is_installing, others, progress_at, ReplicaState}
+use Rattle.agreement.specs.ballot_base.declared.status.Role.TheVariants.{Backup, Fetching, Installing, Active}
+use Rattle.agreement.specs.ballot_base.Serving.{least, most_places, raised, added, append_at, appends_behind, commit, commit_at, extended, follows, leads, on_append, on_commit, on_held, on_tick_active, proposed}
+use Rattle.agreement.specs.lists.Lists.{In}
+use Rattle.agreement.specs.lists.Lists.In.{here, there}
+use Rattle.agreement.proofs.of_lists.Members.{in_append}
+use Rattle.agreement.specs.ballot_base.Logs.{Log, command_at, places, pushed}
+use Rattle.agreement.specs.ballot_base.declared.message.Body.{Body}
+use Rattle.agreement.specs.ballot_base.declared.message.Effect.{Effect}
+use Rattle.agreement.specs.ballot_base.declared.message.Message.{Message}
+use Rattle.agreement.specs.ballot_base.Sending.{Outcome, message_to_each, message_to_followed, nothing_done}
 use Rattle.snapshots.specs.World.{messages}
-use Rattle.ballot_base.specs.declared.message.Body.TheVariants.{Join, State, Install, Installed, Append, Held, Commit}
-use Rattle.ballot_base.specs.declared.message.Effect.TheVariants.{To, Out}
-use Rattle.ballot_base.specs.Changing.{activates, answers_installed, hands_on, installs, on_activated, on_installed, on_join, on_new_ballot, on_superseded}
-use Rattle.ballot_base.specs.Applying.{applied_to, outputs_from, outputs_to}
+use Rattle.agreement.specs.ballot_base.declared.message.Body.TheVariants.{Join, State, Install, Installed, Append, Held, Commit}
+use Rattle.agreement.specs.ballot_base.declared.message.Effect.TheVariants.{To, Out}
+use Rattle.agreement.specs.ballot_base.Changing.{activates, answers_installed, hands_on, installs, on_activated, on_installed, on_join, on_new_ballot, on_superseded}
+use Rattle.agreement.specs.ballot_base.Applying.{applied_to, outputs_from, outputs_to}
 
 -- what a log that is sent is
 abbrev pub IsOwn : {S C : Type 0} → ReplicaState S C → Body C → Type 0

@@ -2,9 +2,9 @@
 -- learns, has the master, the messages and the logs of the moment after it.
 use Rattle.std.proofs.Common.{◌≡◌, ℕ, ◌+◌, ◌⊎◌, inl, inr, List, [], ◌∷◌, length, Some, refl, ap, sym, ◌∙◌, subst}
 use Rattle.std.specs.Prelude.{slice_get}
-use Rattle.lists.specs.Lists.{In, IsPrefixOf}
-use Rattle.lists.specs.Lists.In.{here, there}
-use Rattle.ballot_base.specs.declared.config.Config.{Config}
+use Rattle.agreement.specs.lists.Lists.{In, IsPrefixOf}
+use Rattle.agreement.specs.lists.Lists.In.{here, there}
+use Rattle.agreement.specs.ballot_base.declared.config.Config.{Config}
 use Rattle.agreement.specs.whole.Replica.{ReplicaState as WholeState}
 use Rattle.machine.specs.Machine.{Rules}
 use Rattle.agreement.specs.whole.Messages.{Message as WholeMessage}

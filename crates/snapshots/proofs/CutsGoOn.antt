@@ -4,10 +4,10 @@ use Rattle.std.specs.Prelude.{slice_get, ◌==◌}
 use Rattle.std.proofs.lemmas.Bool.{cases_eq}
 use Rattle.std.proofs.lemmas.List.{append-nil}
 use Rattle.machine.specs.Machine.{Rules, replay}
-use Rattle.lists.specs.Lists.{In, IsPrefixOf}
-use Rattle.lists.proofs.Beginnings.{prefix_length, take_prefix}
-use Rattle.lists.proofs.Places.{get_set, get_set_other}
-use Rattle.ballot_base.specs.declared.config.Config.{Config}
+use Rattle.agreement.specs.lists.Lists.{In, IsPrefixOf}
+use Rattle.agreement.proofs.of_lists.Beginnings.{prefix_length, take_prefix}
+use Rattle.agreement.proofs.of_lists.Places.{get_set, get_set_other}
+use Rattle.agreement.specs.ballot_base.declared.config.Config.{Config}
 use Rattle.agreement.specs.whole.Messages.{Message as WholeMessage}
 use Rattle.agreement.specs.whole.Replica.{ReplicaState as WholeState}
 use Rattle.agreement.specs.Agreement.{Agrees, Holds}
@@ -17,13 +17,13 @@ use Rattle.agreement.specs.Past.{Moment, Past, IsAgreed}
 use Rattle.agreement.specs.Steps.MayHappen.{node_stops}
 use Rattle.agreement.specs.World.{World as WholeWorld}
 use Rattle.agreement.proofs.Agreed.PastAgrees.{has_agreed, machines_replay, nodes_agree}
-use Rattle.ballot_base.specs.Logs.{Log, places}
+use Rattle.agreement.specs.ballot_base.Logs.{Log, places}
 use Rattle.snapshots.specs.Whole.{whole_log, whole}
-use Rattle.ballot_base.specs.declared.message.Body.{Body}
-use Rattle.ballot_base.specs.declared.message.Body.TheVariants.{NewBallot, Join, State, Install, Installed, Activate, Activated, Superseded, Append, Held, Commit}
-use Rattle.ballot_base.specs.Replica.{ReplicaState}
-use Rattle.ballot_base.specs.Cutting.{cut}
-use Rattle.ballot_base.specs.Losses.{halted}
+use Rattle.agreement.specs.ballot_base.declared.message.Body.{Body}
+use Rattle.agreement.specs.ballot_base.declared.message.Body.TheVariants.{NewBallot, Join, State, Install, Installed, Activate, Activated, Superseded, Append, Held, Commit}
+use Rattle.agreement.specs.ballot_base.Replica.{ReplicaState}
+use Rattle.agreement.specs.ballot_base.Cutting.{cut}
+use Rattle.agreement.specs.ballot_base.Losses.{halted}
 use Rattle.snapshots.specs.World.{World, NodeGoes, moved, recorded, whole_letter, whole_world}
 use Rattle.snapshots.specs.World.NodeGoes.{takes, stops, cuts}
 use Rattle.snapshots.specs.Giving.{given_by_node}

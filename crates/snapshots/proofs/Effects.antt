@@ -1,7 +1,7 @@
 -- Effects.antt: the messages and the outputs among effects.
 use Rattle.std.proofs.Common.{◌≡◌, ℕ, List, [], ◌∷◌, ◌++◌, map, refl, ap}
-use Rattle.ballot_base.specs.declared.message.Effect.{Effect}
-use Rattle.ballot_base.specs.declared.message.Effect.TheVariants.{To, Out}
+use Rattle.agreement.specs.ballot_base.declared.message.Effect.{Effect}
+use Rattle.agreement.specs.ballot_base.declared.message.Effect.TheVariants.{To, Out}
 use Rattle.snapshots.specs.World.{messages, outputs}
 
 -- messages and outputs of effects that are joined

@@ -3,7 +3,7 @@ use Rattle.std.proofs.Common.{◌≡◌, ℕ, zero, suc, ◌-◌, ◌≤◌, Lis
 use Rattle.std.specs.Prelude.{slice_get}
 use Rattle.std.proofs.lemmas.Bool.{le-ltb}
 use Rattle.std.proofs.lemmas.List.{length-append, length-take-le}
-use Rattle.ballot_base.specs.Logs.{Log, command_at, part, places, pushed}
+use Rattle.agreement.specs.ballot_base.Logs.{Log, command_at, part, places, pushed}
 use Rattle.snapshots.specs.Whole.{whole_log}
 
 -- lists of which the first so many places are the front

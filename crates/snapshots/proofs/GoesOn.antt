@@ -3,26 +3,26 @@ use Rattle.std.proofs.Common.{◌≡◌, ℕ, ◌+◌, ◌≤◌, ◌⊎◌, inl
 use Rattle.std.specs.Prelude.{slice_get, nat_lt, nat_le, ◌&&◌, ◌||◌, ◌==◌}
 use Rattle.std.proofs.lemmas.Bool.{cases_Bool}
 use Rattle.machine.specs.Machine.{Rules}
-use Rattle.lists.specs.Lists.{In}
-use Rattle.ballot_base.specs.declared.config.Config.{Config}
-use Rattle.ballot_base.specs.Replica.{is_fetching, ReplicaState}
-use Rattle.ballot_base.specs.declared.status.Role.{Role}
-use Rattle.ballot_base.specs.declared.status.Role.TheVariants.{Backup, Fetching, Installing, Active}
+use Rattle.agreement.specs.lists.Lists.{In}
+use Rattle.agreement.specs.ballot_base.declared.config.Config.{Config}
+use Rattle.agreement.specs.ballot_base.Replica.{is_fetching, ReplicaState}
+use Rattle.agreement.specs.ballot_base.declared.status.Role.{Role}
+use Rattle.agreement.specs.ballot_base.declared.status.Role.TheVariants.{Backup, Fetching, Installing, Active}
 use Rattle.agreement.specs.MasterState.{MasterState}
 use Rattle.agreement.specs.Past.{Moment, Past}
 use Rattle.agreement.specs.Past.Past.{went_on}
 use Rattle.agreement.proofs.Agreed.PastKnown.{past_known}
-use Rattle.ballot_base.specs.Logs.{Log, places}
+use Rattle.agreement.specs.ballot_base.Logs.{Log, places}
 use Rattle.snapshots.specs.Whole.{whole, whole_effects, whole_input}
 use Rattle.snapshots.specs.Matches.{IsBased}
-use Rattle.ballot_base.specs.declared.message.Body.{Body}
-use Rattle.ballot_base.specs.declared.message.Effect.{Effect}
-use Rattle.ballot_base.specs.Sending.{Outcome}
-use Rattle.ballot_base.specs.Losses.{Thinned, Loses}
+use Rattle.agreement.specs.ballot_base.declared.message.Body.{Body}
+use Rattle.agreement.specs.ballot_base.declared.message.Effect.{Effect}
+use Rattle.agreement.specs.ballot_base.Sending.{Outcome}
+use Rattle.agreement.specs.ballot_base.Losses.{Thinned, Loses}
 use Rattle.snapshots.specs.World.{messages, World, MayTake, moved, whole_world}
-use Rattle.ballot_base.specs.declared.message.Body.TheVariants.{NewBallot, Join, State, Install, Installed, Activate, Activated, Superseded, Append, Held, Commit}
-use Rattle.ballot_base.specs.Protocol.{Input, received, replica_step, ticked}
-use Rattle.ballot_base.specs.Protocol.Input.{Receives, Proposes, Ticks}
+use Rattle.agreement.specs.ballot_base.declared.message.Body.TheVariants.{NewBallot, Join, State, Install, Installed, Activate, Activated, Superseded, Append, Held, Commit}
+use Rattle.agreement.specs.ballot_base.Protocol.{Input, received, replica_step, ticked}
+use Rattle.agreement.specs.ballot_base.Protocol.Input.{Receives, Proposes, Ticks}
 use Rattle.snapshots.proofs.Bases.{KeepsBase, SaysOwn, keeps_nothing, activated_keeps, append_keeps, commits_keep, held_keeps, install_own, installed_keeps, join_keeps, new_ballot_keeps, proposed_keeps, state_own, superseded_keeps, tick_keeps, each_keeps, handed_keeps, one_keeps}
 use Rattle.snapshots.proofs.Fronts.{whole_long}
 use Rattle.snapshots.proofs.Continues.{one_more}

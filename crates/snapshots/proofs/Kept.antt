@@ -3,32 +3,32 @@ use Rattle.std.proofs.Common.{◌≡◌, ℕ, ◌<◌, ◌≤◌, ◌⊎◌, inl
 use Rattle.std.specs.Prelude.{slice_get}
 use Rattle.std.proofs.lemmas.Bool.{cases_eq, cases_lt, lt-ltb, le-ltb}
 use Rattle.machine.specs.Machine.{Rules, replay}
-use Rattle.lists.specs.Lists.{In, IsPrefixOf}
-use Rattle.lists.specs.Lists.In.{here, there}
-use Rattle.lists.proofs.Beginnings.{prefix_then}
-use Rattle.lists.proofs.Members.{in_append}
-use Rattle.lists.proofs.Places.{get_set, get_set_other}
-use Rattle.ballot_base.specs.declared.config.Config.{Config}
+use Rattle.agreement.specs.lists.Lists.{In, IsPrefixOf}
+use Rattle.agreement.specs.lists.Lists.In.{here, there}
+use Rattle.agreement.proofs.of_lists.Beginnings.{prefix_then}
+use Rattle.agreement.proofs.of_lists.Members.{in_append}
+use Rattle.agreement.proofs.of_lists.Places.{get_set, get_set_other}
+use Rattle.agreement.specs.ballot_base.declared.config.Config.{Config}
 use Rattle.agreement.specs.whole.Protocol.{replica_step as whole_step}
-use Rattle.ballot_base.specs.Replica.{ReplicaState}
+use Rattle.agreement.specs.ballot_base.Replica.{ReplicaState}
 use Rattle.agreement.specs.MasterState.{MasterState}
 use Rattle.agreement.specs.Past.{Moment, Past, IsAgreed}
 use Rattle.agreement.specs.Past.Past.{went_on}
 use Rattle.agreement.proofs.Agreed.PastAgrees.{has_agreed}
 use Rattle.agreement.proofs.Agreed.PastKnown.{past_known}
-use Rattle.ballot_base.specs.Logs.{Log, places}
+use Rattle.agreement.specs.ballot_base.Logs.{Log, places}
 use Rattle.snapshots.specs.Whole.{whole, whole_input}
 use Rattle.snapshots.specs.Matches.{Matches}
-use Rattle.ballot_base.specs.declared.message.Body.{Body}
-use Rattle.ballot_base.specs.declared.message.Effect.{Effect}
-use Rattle.ballot_base.specs.declared.message.Message.{Message}
-use Rattle.ballot_base.specs.Losses.{Thinned}
+use Rattle.agreement.specs.ballot_base.declared.message.Body.{Body}
+use Rattle.agreement.specs.ballot_base.declared.message.Effect.{Effect}
+use Rattle.agreement.specs.ballot_base.declared.message.Message.{Message}
+use Rattle.agreement.specs.ballot_base.Losses.{Thinned}
 use Rattle.snapshots.specs.World.{messages, World, MayTake, moved, whole_world}
-use Rattle.ballot_base.specs.declared.message.Body.TheVariants.{NewBallot, Join, State, Install, Installed, Activate, Activated, Superseded, Append, Held, Commit}
-use Rattle.ballot_base.specs.declared.message.Effect.TheVariants.{To, Out}
-use Rattle.ballot_base.specs.Losses.Thinned.{none, keeps, loses}
-use Rattle.ballot_base.specs.Protocol.{Input, replica_step}
-use Rattle.ballot_base.specs.Taking.{taken, with_places, with_snapshot, read_into}
+use Rattle.agreement.specs.ballot_base.declared.message.Body.TheVariants.{NewBallot, Join, State, Install, Installed, Activate, Activated, Superseded, Append, Held, Commit}
+use Rattle.agreement.specs.ballot_base.declared.message.Effect.TheVariants.{To, Out}
+use Rattle.agreement.specs.ballot_base.Losses.Thinned.{none, keeps, loses}
+use Rattle.agreement.specs.ballot_base.Protocol.{Input, replica_step}
+use Rattle.agreement.specs.ballot_base.Taking.{taken, with_places, with_snapshot, read_into}
 use Rattle.snapshots.proofs.Agreed.{WasApplied}
 use Rattle.snapshots.proofs.Bases.{IsOwn, KeepsBase, SaysOwn}
 use Rattle.snapshots.proofs.Fronts.{whole_front, whole_long}

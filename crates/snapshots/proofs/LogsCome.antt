@@ -6,18 +6,18 @@ use Rattle.machine.specs.Machine.{Rules}
 use Rattle.agreement.proofs.of_whole.ChangeRows.{on_state-stays, on_state-takes, on_install-answers, on_install-stays, on_install-takes}
 use Rattle.agreement.specs.whole.Messages.{Body as bodies}
 use Rattle.agreement.specs.whole.Changing.{on_state as whole_on_state, on_install as whole_on_install, installs as whole_installs}
-use Rattle.ballot_base.specs.declared.status.Role.TheVariants.{Backup, Installing}
+use Rattle.agreement.specs.ballot_base.declared.status.Role.TheVariants.{Backup, Installing}
 use Rattle.agreement.specs.whole.Messages.{Effect as WholeEffect}
 use Rattle.agreement.specs.whole.Messages.{Effect as effects}
-use Rattle.ballot_base.specs.Replica.{is_active, is_fetching, others, ReplicaState}
+use Rattle.agreement.specs.ballot_base.Replica.{is_active, is_fetching, others, ReplicaState}
 use Rattle.agreement.specs.whole.Sending.{Outcome as WholeOutcome, message_to as whole_message_to}
-use Rattle.ballot_base.specs.Logs.{Log, places}
+use Rattle.agreement.specs.ballot_base.Logs.{Log, places}
 use Rattle.snapshots.specs.Whole.{whole_log, whole}
 use Rattle.snapshots.specs.Matches.{Matches}
-use Rattle.ballot_base.specs.Sending.{Outcome, message_to, nothing_done}
-use Rattle.ballot_base.specs.declared.message.Body.TheVariants.{State, Install, Installed}
-use Rattle.ballot_base.specs.Changing.{on_install, on_state}
-use Rattle.ballot_base.specs.Protocol.Input.{Receives}
+use Rattle.agreement.specs.ballot_base.Sending.{Outcome, message_to, nothing_done}
+use Rattle.agreement.specs.ballot_base.declared.message.Body.TheVariants.{State, Install, Installed}
+use Rattle.agreement.specs.ballot_base.Changing.{on_install, on_state}
+use Rattle.agreement.specs.ballot_base.Protocol.Input.{Receives}
 use Rattle.snapshots.proofs.Fronts.{whole_long}
 use Rattle.snapshots.proofs.LogsGoOn.{TakesLog}
 use Rattle.snapshots.proofs.LogsLearned.{install_learns, state_learns}

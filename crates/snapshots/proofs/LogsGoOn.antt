@@ -4,28 +4,28 @@ use Rattle.std.specs.Prelude.{◌==◌, slice_get}
 use Rattle.std.proofs.lemmas.Bool.{cases_eq, cases_lt, lt-ltb, le-ltb}
 use Rattle.std.proofs.lemmas.List.{take-take}
 use Rattle.machine.specs.Machine.{Rules, replay}
-use Rattle.lists.specs.Lists.{In}
-use Rattle.lists.specs.Lists.In.{there}
+use Rattle.agreement.specs.lists.Lists.{In}
+use Rattle.agreement.specs.lists.Lists.In.{there}
 use Rattle.agreement.specs.whole.Applying.{applied_to as whole_applied_to}
-use Rattle.ballot_base.specs.declared.config.Config.{Config}
+use Rattle.agreement.specs.ballot_base.declared.config.Config.{Config}
 use Rattle.agreement.specs.whole.Protocol.{replica_step as whole_step}
 use Rattle.agreement.specs.whole.Replica.{ReplicaState as WholeState}
-use Rattle.ballot_base.specs.Replica.{is_active, ReplicaState}
+use Rattle.agreement.specs.ballot_base.Replica.{is_active, ReplicaState}
 use Rattle.agreement.specs.whole.Sending.{Outcome as WholeOutcome}
 use Rattle.agreement.specs.MasterState.{MasterState}
 use Rattle.agreement.specs.Past.{Moment, Past}
 use Rattle.agreement.specs.Past.Past.{went_on}
 use Rattle.agreement.specs.World.{World as WholeWorld, moved as whole_moved}
 use Rattle.agreement.proofs.Agreed.PastAgrees.{machines_replay}
-use Rattle.ballot_base.specs.Logs.{Log, places}
+use Rattle.agreement.specs.ballot_base.Logs.{Log, places}
 use Rattle.snapshots.specs.Whole.{whole_log, whole, whole_effects, whole_input}
 use Rattle.snapshots.specs.Matches.{IsBased, Matches}
-use Rattle.ballot_base.specs.declared.message.Effect.{Effect}
-use Rattle.ballot_base.specs.Losses.{Thinned}
-use Rattle.ballot_base.specs.Protocol.{Input, replica_step}
-use Rattle.ballot_base.specs.Taking.{read_into, taken, with_places, with_snapshot}
+use Rattle.agreement.specs.ballot_base.declared.message.Effect.{Effect}
+use Rattle.agreement.specs.ballot_base.Losses.{Thinned}
+use Rattle.agreement.specs.ballot_base.Protocol.{Input, replica_step}
+use Rattle.agreement.specs.ballot_base.Taking.{read_into, taken, with_places, with_snapshot}
 use Rattle.snapshots.specs.World.{World, MayTake, moved, whole_world}
-use Rattle.lists.proofs.Places.{get_set, get_set_other}
+use Rattle.agreement.proofs.of_lists.Places.{get_set, get_set_other}
 use Rattle.snapshots.proofs.Continues.{Continues, TellsAs, one_more, two_more}
 use Rattle.snapshots.proofs.Agreed.{WasApplied, fronts_stay, learns_behind}
 use Rattle.snapshots.proofs.Fronts.{whole_front, whole_long}

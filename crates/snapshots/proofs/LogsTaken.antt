@@ -9,15 +9,15 @@ use Rattle.agreement.specs.whole.Messages.{Effect as WholeEffect}
 use Rattle.agreement.specs.whole.Messages.{Effect as effects}
 use Rattle.agreement.specs.whole.Losses.{Thinned as WholeThinned}
 use Rattle.agreement.specs.whole.Replica.{ReplicaState as WholeState}
-use Rattle.ballot_base.specs.Replica.{is_fetching, others, ReplicaState}
-use Rattle.ballot_base.specs.declared.status.Role.TheVariants.{Backup, Installing}
+use Rattle.agreement.specs.ballot_base.Replica.{is_fetching, others, ReplicaState}
+use Rattle.agreement.specs.ballot_base.declared.status.Role.TheVariants.{Backup, Installing}
 use Rattle.agreement.specs.whole.Sending.{Outcome as WholeOutcome}
-use Rattle.ballot_base.specs.Logs.{Log, places}
+use Rattle.agreement.specs.ballot_base.Logs.{Log, places}
 use Rattle.snapshots.specs.Whole.{whole_log, whole, whole_effects}
 use Rattle.snapshots.specs.Matches.{Matches}
-use Rattle.ballot_base.specs.Sending.{Outcome}
-use Rattle.ballot_base.specs.Changing.{answers_installed, hands_on, on_install, on_state}
-use Rattle.ballot_base.specs.Taking.{taken}
+use Rattle.agreement.specs.ballot_base.Sending.{Outcome}
+use Rattle.agreement.specs.ballot_base.Changing.{answers_installed, hands_on, on_install, on_state}
+use Rattle.agreement.specs.ballot_base.Taking.{taken}
 use Rattle.snapshots.proofs.Fronts.{whole_long}
 use Rattle.snapshots.proofs.Changing.{whole_handed}
 use Rattle.snapshots.proofs.Serving.{if_matches, matches_all, matches_nothing}

@@ -1,7 +1,7 @@
 -- MoreMoments.antt: with more moments what was told, chosen and active stays so, and the agreed list only grows.
 use Rattle.std.proofs.Common.{◌≡◌, ℕ, ◌⊎◌, inl, inr, List, [], refl, sym, subst}
-use Rattle.lists.specs.Lists.{In, IsPrefixOf}
-use Rattle.ballot_base.specs.declared.config.Config.{Config}
+use Rattle.agreement.specs.lists.Lists.{In, IsPrefixOf}
+use Rattle.agreement.specs.ballot_base.declared.config.Config.{Config}
 use Rattle.agreement.specs.Past.{Moment, HasConfig, WasActive, HasTold, IsChosen, IsAgreed}
 use Rattle.agreement.specs.Past.HasConfig.{opened_with, was_assigned}
 use Rattle.agreement.specs.Past.HasTold.{told_as_log, told_by_message}

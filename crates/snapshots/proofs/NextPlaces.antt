@@ -4,23 +4,23 @@ use Rattle.std.specs.Prelude.{slice_get, ◌==◌, ◌&&◌}
 use Rattle.std.proofs.lemmas.Bool.{cases_eq, eq-eqb, ne_eqb}
 use Rattle.std.proofs.lemmas.List.{length-take-le}
 use Rattle.machine.specs.Machine.{Rules, replay}
-use Rattle.lists.proofs.Beginnings.{prefix_length}
-use Rattle.lists.proofs.Places.{get_set, get_set_other}
-use Rattle.ballot_base.specs.declared.config.Config.{Config}
-use Rattle.ballot_base.specs.declared.message.Body.{Body}
-use Rattle.ballot_base.specs.declared.message.Body.TheVariants.{NewBallot, Join, State, Install, Installed, Activate, Activated, Superseded, Append, Held, Commit}
-use Rattle.ballot_base.specs.declared.message.Effect.{Effect}
-use Rattle.ballot_base.specs.declared.message.Effect.TheVariants.{To, Out}
-use Rattle.ballot_base.specs.declared.status.Role.TheVariants.{Installing}
-use Rattle.ballot_base.specs.Changing.{answers_installed, hands_on, installs, lacks, on_install, on_state, waits_for}
-use Rattle.ballot_base.specs.Logs.{Log, places}
-use Rattle.ballot_base.specs.Losses.{Loses, Thinned, halted}
-use Rattle.ballot_base.specs.Losses.Thinned.{none, keeps, loses}
-use Rattle.ballot_base.specs.Protocol.{Input, replica_step}
-use Rattle.ballot_base.specs.Protocol.Input.{Receives, Proposes, Ticks}
-use Rattle.ballot_base.specs.Replica.{ReplicaState, is_active, others}
-use Rattle.ballot_base.specs.Sending.{Outcome, message_to, message_to_each, nothing_done}
-use Rattle.ballot_base.specs.Taking.{taken}
+use Rattle.agreement.proofs.of_lists.Beginnings.{prefix_length}
+use Rattle.agreement.proofs.of_lists.Places.{get_set, get_set_other}
+use Rattle.agreement.specs.ballot_base.declared.config.Config.{Config}
+use Rattle.agreement.specs.ballot_base.declared.message.Body.{Body}
+use Rattle.agreement.specs.ballot_base.declared.message.Body.TheVariants.{NewBallot, Join, State, Install, Installed, Activate, Activated, Superseded, Append, Held, Commit}
+use Rattle.agreement.specs.ballot_base.declared.message.Effect.{Effect}
+use Rattle.agreement.specs.ballot_base.declared.message.Effect.TheVariants.{To, Out}
+use Rattle.agreement.specs.ballot_base.declared.status.Role.TheVariants.{Installing}
+use Rattle.agreement.specs.ballot_base.Changing.{answers_installed, hands_on, installs, lacks, on_install, on_state, waits_for}
+use Rattle.agreement.specs.ballot_base.Logs.{Log, places}
+use Rattle.agreement.specs.ballot_base.Losses.{Loses, Thinned, halted}
+use Rattle.agreement.specs.ballot_base.Losses.Thinned.{none, keeps, loses}
+use Rattle.agreement.specs.ballot_base.Protocol.{Input, replica_step}
+use Rattle.agreement.specs.ballot_base.Protocol.Input.{Receives, Proposes, Ticks}
+use Rattle.agreement.specs.ballot_base.Replica.{ReplicaState, is_active, others}
+use Rattle.agreement.specs.ballot_base.Sending.{Outcome, message_to, message_to_each, nothing_done}
+use Rattle.agreement.specs.ballot_base.Taking.{taken}
 use Rattle.agreement.specs.Giving.{GivesNext, gives_from}
 use Rattle.agreement.specs.MasterState.{AssignRefusal, MasterState, refusal}
 use Rattle.agreement.specs.Past.{Moment as WholeMoment}

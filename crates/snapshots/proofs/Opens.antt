@@ -3,24 +3,24 @@ use Rattle.std.proofs.Common.{cond, Bool, ◌≡◌, ℕ, zero, suc, ◌+◌, �
 use Rattle.std.specs.Prelude.{◌==◌}
 use Rattle.std.proofs.lemmas.List.{map-append}
 use Rattle.machine.specs.Machine.{Rules}
-use Rattle.lists.specs.Lists.{In}
-use Rattle.lists.specs.Lists.In.{here, there}
-use Rattle.lists.proofs.Beginnings.{prefix_then}
-use Rattle.lists.proofs.Members.{in_append, in_at}
-use Rattle.ballot_base.specs.declared.config.Config.{Config}
+use Rattle.agreement.specs.lists.Lists.{In}
+use Rattle.agreement.specs.lists.Lists.In.{here, there}
+use Rattle.agreement.proofs.of_lists.Beginnings.{prefix_then}
+use Rattle.agreement.proofs.of_lists.Members.{in_append, in_at}
+use Rattle.agreement.specs.ballot_base.declared.config.Config.{Config}
 use Rattle.agreement.specs.whole.Replica.{ReplicaState as WholeState, opening as whole_opening, opening_member as whole_member}
-use Rattle.ballot_base.specs.Replica.{others, progress_at, ReplicaState, opening, opening_member}
-use Rattle.ballot_base.specs.declared.status.Role.TheVariants.{Active}
+use Rattle.agreement.specs.ballot_base.Replica.{others, progress_at, ReplicaState, opening, opening_member}
+use Rattle.agreement.specs.ballot_base.declared.status.Role.TheVariants.{Active}
 use Rattle.agreement.specs.MasterState.{MasterState, opening_master}
 use Rattle.agreement.specs.Past.{Moment, Past}
 use Rattle.agreement.specs.Past.Past.{began, went_on}
 use Rattle.agreement.specs.World.{can_open, opening_nodes as whole_opening_nodes}
 use Rattle.snapshots.specs.Past.{opening_nodes, opening_world}
 use Rattle.agreement.proofs.Agreed.PastAgrees.{has_agreed}
-use Rattle.ballot_base.specs.Logs.{Log, empty_log}
-use Rattle.ballot_base.specs.declared.message.Body.{Body}
-use Rattle.ballot_base.specs.declared.message.Message.{Message}
-use Rattle.ballot_base.specs.declared.message.Body.TheVariants.{NewBallot, Join, State, Install, Installed, Activate, Activated, Superseded, Append, Held, Commit}
+use Rattle.agreement.specs.ballot_base.Logs.{Log, empty_log}
+use Rattle.agreement.specs.ballot_base.declared.message.Body.{Body}
+use Rattle.agreement.specs.ballot_base.declared.message.Message.{Message}
+use Rattle.agreement.specs.ballot_base.declared.message.Body.TheVariants.{NewBallot, Join, State, Install, Installed, Activate, Activated, Superseded, Append, Held, Commit}
 use Rattle.snapshots.specs.Whole.{whole, whole_body}
 use Rattle.snapshots.specs.World.{World, whole_letter, whole_world}
 use Rattle.snapshots.proofs.Adds.{Adds, SaysNothing, StepAdds, adds_one, nothing_added}

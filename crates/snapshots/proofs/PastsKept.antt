@@ -9,8 +9,8 @@ use Rattle.agreement.specs.Past.{Moment as WholeMoment, Past as WholePast}
 use Rattle.agreement.specs.Proposals.{proposals_of as whole_proposals_of, taken_at as whole_taken_at, taken_of as whole_taken_of}
 use Rattle.agreement.specs.Steps.{world_behind as whole_behind}
 use Rattle.agreement.specs.Steps.{MayHappen as happens}
-use Rattle.ballot_base.specs.declared.config.Config.{Config}
-use Rattle.ballot_base.specs.declared.message.Body.TheVariants.{Activated, Superseded}
+use Rattle.agreement.specs.ballot_base.declared.config.Config.{Config}
+use Rattle.agreement.specs.ballot_base.declared.message.Body.TheVariants.{Activated, Superseded}
 use Rattle.snapshots.specs.Past.{Moment, Past, opening_world, whole_moment}
 use Rattle.snapshots.specs.Past.Past.{began, went_on}
 use Rattle.snapshots.specs.Giving.{given_in, given_of}

@@ -2,14 +2,14 @@
 use Rattle.std.proofs.Common.{ℕ, List}
 use Rattle.machine.specs.Machine.{Rules}
 use Rattle.agreement.specs.whole.Protocol.{ticked as whole_ticked, replica_step as whole_step, received as whole_received}
-use Rattle.ballot_base.specs.declared.status.Role.{Role}
-use Rattle.ballot_base.specs.declared.status.Role.TheVariants.{Backup, Fetching, Installing, Active}
+use Rattle.agreement.specs.ballot_base.declared.status.Role.{Role}
+use Rattle.agreement.specs.ballot_base.declared.status.Role.TheVariants.{Backup, Fetching, Installing, Active}
 use Rattle.snapshots.specs.Matches.{IsBased, Matches}
-use Rattle.ballot_base.specs.declared.message.Body.{Body}
-use Rattle.ballot_base.specs.declared.message.Body.TheVariants.{NewBallot, Join, State, Install, Installed, Activate, Activated, Superseded, Append, Held, Commit}
-use Rattle.ballot_base.specs.Replica.{ReplicaState}
-use Rattle.ballot_base.specs.Protocol.{Input, received, replica_step, ticked}
-use Rattle.ballot_base.specs.Protocol.Input.{Receives, Proposes, Ticks}
+use Rattle.agreement.specs.ballot_base.declared.message.Body.{Body}
+use Rattle.agreement.specs.ballot_base.declared.message.Body.TheVariants.{NewBallot, Join, State, Install, Installed, Activate, Activated, Superseded, Append, Held, Commit}
+use Rattle.agreement.specs.ballot_base.Replica.{ReplicaState}
+use Rattle.agreement.specs.ballot_base.Protocol.{Input, received, replica_step, ticked}
+use Rattle.agreement.specs.ballot_base.Protocol.Input.{Receives, Proposes, Ticks}
 use Rattle.snapshots.specs.Whole.{whole, whole_body, whole_input}
 use Rattle.snapshots.proofs.Changing.{activated_matches, installed_matches, join_matches, new_ballot_matches, superseded_matches, tick_fetching_matches, tick_installing_matches}
 use Rattle.snapshots.proofs.Serving.{append_matches, commits_match, held_matches, matches_nothing, proposed_matches, tick_active_matches}

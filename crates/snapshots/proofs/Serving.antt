@@ -9,21 +9,21 @@ use Rattle.agreement.specs.whole.Messages.{Effect as effects}
 use Rattle.agreement.specs.whole.Messages.{Body as bodies}
 use Rattle.agreement.specs.whole.Losses.{Thinned as WholeThinned}
 use Rattle.agreement.specs.whole.Losses.Thinned.{none, keeps, loses}
-use Rattle.ballot_base.specs.declared.status.Progress.{Progress}
+use Rattle.agreement.specs.ballot_base.declared.status.Progress.{Progress}
 use Rattle.agreement.specs.whole.Replica.{ReplicaState as WholeState}
-use Rattle.ballot_base.specs.Replica.{is_active, ReplicaState}
+use Rattle.agreement.specs.ballot_base.Replica.{is_active, ReplicaState}
 use Rattle.agreement.specs.whole.Sending.{Outcome as WholeOutcome, message_to_followed as whole_followed, nothing_done as whole_nothing, sent_first as whole_sent_first}
 use Rattle.agreement.specs.whole.Applying.{outputs_from as whole_outputs_from}
-use Rattle.ballot_base.specs.Serving.{least, most_places, raised, extended, added, append_at, appends_behind, commit, commit_at, follows, leads, on_append, on_commit, on_held, on_tick_active, proposed}
+use Rattle.agreement.specs.ballot_base.Serving.{least, most_places, raised, extended, added, append_at, appends_behind, commit, commit_at, follows, leads, on_append, on_commit, on_held, on_tick_active, proposed}
 use Rattle.agreement.specs.whole.Serving.{commit as whole_commit, commit_at as whole_commit_at, added as whole_added, proposed as whole_proposed, on_append as whole_on_append, on_held as whole_on_held, on_commit as whole_on_commit, on_tick_active as whole_on_tick_active, appends_behind as whole_appends_behind, append_at as whole_append_at, extended as whole_extended}
-use Rattle.ballot_base.specs.Logs.{Log, command_at, part, places, pushed}
+use Rattle.agreement.specs.ballot_base.Logs.{Log, command_at, part, places, pushed}
 use Rattle.snapshots.specs.Whole.{whole_log, whole, whole_body, whole_effect, whole_effects}
 use Rattle.snapshots.specs.Matches.{IsBased, Matches}
-use Rattle.ballot_base.specs.declared.message.Body.{Body}
-use Rattle.ballot_base.specs.declared.message.Effect.{Effect}
-use Rattle.ballot_base.specs.Sending.{Outcome, message_to_followed, nothing_done, sent_first}
-use Rattle.ballot_base.specs.declared.message.Body.TheVariants.{Append, Commit}
-use Rattle.ballot_base.specs.Applying.{applied_to, outputs_from, outputs_to}
+use Rattle.agreement.specs.ballot_base.declared.message.Body.{Body}
+use Rattle.agreement.specs.ballot_base.declared.message.Effect.{Effect}
+use Rattle.agreement.specs.ballot_base.Sending.{Outcome, message_to_followed, nothing_done, sent_first}
+use Rattle.agreement.specs.ballot_base.declared.message.Body.TheVariants.{Append, Commit}
+use Rattle.agreement.specs.ballot_base.Applying.{applied_to, outputs_from, outputs_to}
 use Rattle.snapshots.proofs.Fronts.{whole_get, whole_long, whole_part, whole_pushed}
 
 -- effects that are the same are none missing; and parts of lists that are joined

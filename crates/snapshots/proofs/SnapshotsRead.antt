@@ -4,13 +4,13 @@ use Rattle.std.specs.Prelude.{◌&&◌}
 use Rattle.std.proofs.lemmas.Bool.{cases_lt}
 use Rattle.machine.specs.Machine.{Rules}
 use Rattle.agreement.specs.Past.{Moment}
-use Rattle.ballot_base.specs.declared.message.Body.{Body}
-use Rattle.ballot_base.specs.declared.message.Body.TheVariants.{NewBallot, Join, State, Install, Installed, Activate, Activated, Superseded, Append, Held, Commit}
-use Rattle.ballot_base.specs.Changing.{lacks, waits_for}
-use Rattle.ballot_base.specs.Logs.{Log, places}
-use Rattle.ballot_base.specs.Replica.{ReplicaState}
-use Rattle.ballot_base.specs.Unread.{is_unread, reads_none}
-use Rattle.ballot_base.proofs.LogsTaken.{reads_none-low, reads_none-not}
+use Rattle.agreement.specs.ballot_base.declared.message.Body.{Body}
+use Rattle.agreement.specs.ballot_base.declared.message.Body.TheVariants.{NewBallot, Join, State, Install, Installed, Activate, Activated, Superseded, Append, Held, Commit}
+use Rattle.agreement.specs.ballot_base.Changing.{lacks, waits_for}
+use Rattle.agreement.specs.ballot_base.Logs.{Log, places}
+use Rattle.agreement.specs.ballot_base.Replica.{ReplicaState}
+use Rattle.agreement.specs.ballot_base.Unread.{is_unread, reads_none}
+use Rattle.agreement.proofs.of_ballot_base.LogsTaken.{reads_none-low, reads_none-not}
 use Rattle.snapshots.specs.Laws.{log_in}
 use Rattle.snapshots.proofs.Kept.{Carries, IsSnapshot}
 

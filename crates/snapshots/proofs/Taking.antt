@@ -5,14 +5,14 @@ use Rattle.machine.specs.Machine.{Rules, replay}
 use Rattle.agreement.specs.whole.Applying.{applied_to as whole_applied_to}
 use Rattle.agreement.specs.whole.Replica.{ReplicaState as WholeState}
 use Rattle.agreement.proofs.of_whole.AppliesInOrder.{replay_goes_on}
-use Rattle.lists.specs.Lists.{IsPrefixOf}
-use Rattle.lists.proofs.Beginnings.{take_prefix}
-use Rattle.ballot_base.specs.Logs.{Log, places}
+use Rattle.agreement.specs.lists.Lists.{IsPrefixOf}
+use Rattle.agreement.proofs.of_lists.Beginnings.{take_prefix}
+use Rattle.agreement.specs.ballot_base.Logs.{Log, places}
 use Rattle.snapshots.specs.Whole.{whole_log, whole}
 use Rattle.snapshots.specs.Matches.{IsBased}
-use Rattle.ballot_base.specs.Replica.{ReplicaState}
-use Rattle.ballot_base.specs.Cutting.{cut}
-use Rattle.ballot_base.specs.Taking.{with_places, with_snapshot}
+use Rattle.agreement.specs.ballot_base.Replica.{ReplicaState}
+use Rattle.agreement.specs.ballot_base.Cutting.{cut}
+use Rattle.agreement.specs.ballot_base.Taking.{with_places, with_snapshot}
 use Rattle.snapshots.proofs.Fronts.{whole_front, whole_long, whole_shorter}
 
 -- its base is not over the replica's: the places below the replica's base are those of the record

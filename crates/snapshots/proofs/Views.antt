@@ -12,18 +12,18 @@ use Rattle.agreement.specs.MasterState.{MasterState}
 use Rattle.agreement.specs.Steps.{MayTake as WholeMayTake}
 use Rattle.agreement.specs.Steps.MayHappen.{node_takes}
 use Rattle.agreement.specs.World.{World as WholeWorld, moved as whole_moved, messages as whole_messages, outputs as whole_outputs}
-use Rattle.lists.specs.Lists.{In}
-use Rattle.lists.specs.Lists.In.{here, there}
+use Rattle.agreement.specs.lists.Lists.{In}
+use Rattle.agreement.specs.lists.Lists.In.{here, there}
 use Rattle.snapshots.specs.Matches.{Matches}
-use Rattle.ballot_base.specs.declared.message.Effect.{Effect}
-use Rattle.ballot_base.specs.Sending.{Outcome}
-use Rattle.ballot_base.specs.Losses.{Thinned, Loses}
+use Rattle.agreement.specs.ballot_base.declared.message.Effect.{Effect}
+use Rattle.agreement.specs.ballot_base.Sending.{Outcome}
+use Rattle.agreement.specs.ballot_base.Losses.{Thinned, Loses}
 use Rattle.snapshots.specs.World.{messages, outputs, World, MayTake, moved, whole_letter, whole_world}
-use Rattle.ballot_base.specs.declared.message.Effect.TheVariants.{To, Out}
-use Rattle.ballot_base.specs.Losses.Thinned.{none, keeps, loses}
-use Rattle.ballot_base.specs.Replica.{ReplicaState}
-use Rattle.ballot_base.specs.Protocol.{Input, replica_step}
-use Rattle.ballot_base.specs.Protocol.Input.{Receives, Proposes, Ticks}
+use Rattle.agreement.specs.ballot_base.declared.message.Effect.TheVariants.{To, Out}
+use Rattle.agreement.specs.ballot_base.Losses.Thinned.{none, keeps, loses}
+use Rattle.agreement.specs.ballot_base.Replica.{ReplicaState}
+use Rattle.agreement.specs.ballot_base.Protocol.{Input, replica_step}
+use Rattle.agreement.specs.ballot_base.Protocol.Input.{Receives, Proposes, Ticks}
 use Rattle.snapshots.specs.Whole.{whole, whole_effects, whole_input}
 use Rattle.snapshots.proofs.Adds.{StepAdds, added_whole}
 

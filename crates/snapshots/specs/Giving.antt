@@ -3,7 +3,7 @@ use Rattle.std.specs.Prelude.{ℕ, ◌==◌, List, [], ◌∷◌, ◌++◌, if�
 use Rattle.machine.specs.Machine.{Rules}
 use Rattle.agreement.specs.MasterState.{MasterState}
 use Rattle.agreement.specs.Primaries.{IsPrimary}
-use Rattle.ballot_base.specs.declared.config.Config.{Config}
+use Rattle.agreement.specs.ballot_base.declared.config.Config.{Config}
 use Rattle.snapshots.specs.Past.{Moment, Past}
 use Rattle.snapshots.specs.Past.Past.{began, went_on}
 use Rattle.snapshots.specs.Steps.{MayHappen}

@@ -1,19 +1,19 @@
 -- Laws.antt: what holds of every past of a group whose nodes cut their logs. What is said of logs is said of whole ones.
 use Rattle.std.specs.Prelude.{ℕ, ◌<◌, ◌≤◌, ◌≡◌, false, List, ◌∷◌, length, map, take, slice_get, Option, Some, None}
 use Rattle.machine.specs.Machine.{Rules, replay}
-use Rattle.lists.specs.Lists.{In, IsPrefixOf}
+use Rattle.agreement.specs.lists.Lists.{In, IsPrefixOf}
 use Rattle.agreement.specs.Agreement.{Agrees, Holds}
 use Rattle.agreement.specs.Leaving.{LeftInOrder}
 use Rattle.agreement.specs.Past.{IsAgreed}
 use Rattle.agreement.specs.Primaries.{IsPrimary}
 use Rattle.agreement.specs.Replays.{AreReplays}
-use Rattle.ballot_base.specs.declared.config.Config.{Config}
-use Rattle.ballot_base.specs.declared.message.Body.{Body}
-use Rattle.ballot_base.specs.declared.message.Body.TheVariants.{State, Install}
-use Rattle.ballot_base.specs.declared.message.Message.{Message}
-use Rattle.ballot_base.specs.Logs.{Log}
-use Rattle.ballot_base.specs.Replica.{ReplicaState}
-use Rattle.ballot_base.specs.Unread.{is_unread}
+use Rattle.agreement.specs.ballot_base.declared.config.Config.{Config}
+use Rattle.agreement.specs.ballot_base.declared.message.Body.{Body}
+use Rattle.agreement.specs.ballot_base.declared.message.Body.TheVariants.{State, Install}
+use Rattle.agreement.specs.ballot_base.declared.message.Message.{Message}
+use Rattle.agreement.specs.ballot_base.Logs.{Log}
+use Rattle.agreement.specs.ballot_base.Replica.{ReplicaState}
+use Rattle.agreement.specs.ballot_base.Unread.{is_unread}
 use Rattle.snapshots.specs.Past.{Moment, Past, whole_moment}
 use Rattle.snapshots.specs.World.{whole_world}
 

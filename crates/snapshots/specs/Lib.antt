@@ -9,5 +9,5 @@ pub mod Proposals
 pub mod Steps
 pub mod Whole
 pub mod World
+pub use Rattle.agreement.specs.ballot_base as ballot_base
 pub use Rattle.agreement.specs as agreement
-pub use Rattle.ballot_base.specs as ballot_base

@@ -2,8 +2,8 @@
 use Rattle.std.specs.Prelude.{◌≤◌, ◌≡◌, List, length}
 use Rattle.agreement.specs.whole.Losses.{Thinned}
 use Rattle.agreement.specs.whole.Sending.{Outcome as WholeOutcome}
-use Rattle.ballot_base.specs.Sending.{Outcome}
-use Rattle.ballot_base.specs.Replica.{ReplicaState}
+use Rattle.agreement.specs.ballot_base.Sending.{Outcome}
+use Rattle.agreement.specs.ballot_base.Replica.{ReplicaState}
 use Rattle.snapshots.specs.Whole.{whole, whole_effects}
 
 -- a replica whose base lies within the record, and within what it applied

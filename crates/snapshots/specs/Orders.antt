@@ -2,7 +2,7 @@
 -- What is said of logs is said of whole ones.
 use Rattle.std.specs.Prelude.{ℕ, Bool, ◌≤◌, ◌≡◌, List, [], ◌∷◌, ◌++◌, filter, length, map, slice_get, Some}
 use Rattle.machine.specs.Machine.{Rules}
-use Rattle.lists.specs.Lists.{In, IsPrefixOf}
+use Rattle.agreement.specs.lists.Lists.{In, IsPrefixOf}
 use Rattle.agreement.specs.whole.Applying.{outputs_between}
 use Rattle.agreement.specs.Giving.{GivesNext}
 use Rattle.agreement.specs.MasterState.{MasterState}
@@ -10,8 +10,8 @@ use Rattle.agreement.specs.Past.{IsAgreed}
 use Rattle.agreement.specs.Primaries.{IsPrimary}
 use Rattle.agreement.specs.Proposals.{IsOfBallot, IsPartOf, IsTaken, commands_of, rows_in}
 use Rattle.agreement.specs.World.{log_of, outputs}
-use Rattle.ballot_base.specs.declared.config.Config.{Config}
-use Rattle.ballot_base.specs.Replica.{ReplicaState}
+use Rattle.agreement.specs.ballot_base.declared.config.Config.{Config}
+use Rattle.agreement.specs.ballot_base.Replica.{ReplicaState}
 use Rattle.snapshots.specs.Giving.{LeadsOn, given_in, given_of}
 use Rattle.snapshots.specs.Past.{Moment, Past, whole_moment}
 use Rattle.snapshots.specs.Proposals.{proposal_of, proposals_of, taken_at, taken_in, taken_of, takes_at}

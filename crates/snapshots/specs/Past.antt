@@ -4,8 +4,8 @@ use Rattle.machine.specs.Machine.{Rules}
 use Rattle.agreement.specs.MasterState.{MasterState, opening_master}
 use Rattle.agreement.specs.Past.{IsAgreed as IsAgreedWhole, Moment as WholeMoment}
 use Rattle.agreement.specs.World.{can_open}
-use Rattle.ballot_base.specs.declared.config.Config.{Config}
-use Rattle.ballot_base.specs.Replica.{ReplicaState, opening}
+use Rattle.agreement.specs.ballot_base.declared.config.Config.{Config}
+use Rattle.agreement.specs.ballot_base.Replica.{ReplicaState, opening}
 use Rattle.snapshots.specs.Steps.{MayHappen}
 use Rattle.snapshots.specs.World.{World, whole_world}
 

@@ -2,11 +2,11 @@
 use Rattle.std.specs.Prelude.{ℕ, ◌==◌, List, [], ◌∷◌, ◌++◌, nat_lt, if◌then◌else◌}
 use Rattle.machine.specs.Machine.{Rules}
 use Rattle.agreement.specs.MasterState.{MasterState}
-use Rattle.ballot_base.specs.declared.config.Config.{Config}
-use Rattle.ballot_base.specs.Logs.{places}
-use Rattle.ballot_base.specs.Protocol.{Input}
-use Rattle.ballot_base.specs.Protocol.Input.{Receives, Proposes, Ticks}
-use Rattle.ballot_base.specs.Replica.{ReplicaState}
+use Rattle.agreement.specs.ballot_base.declared.config.Config.{Config}
+use Rattle.agreement.specs.ballot_base.Logs.{places}
+use Rattle.agreement.specs.ballot_base.Protocol.{Input}
+use Rattle.agreement.specs.ballot_base.Protocol.Input.{Receives, Proposes, Ticks}
+use Rattle.agreement.specs.ballot_base.Replica.{ReplicaState}
 use Rattle.snapshots.specs.Past.{Moment, Past}
 use Rattle.snapshots.specs.Past.Past.{began, went_on}
 use Rattle.snapshots.specs.Steps.{MayHappen}

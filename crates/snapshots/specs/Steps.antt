@@ -2,11 +2,11 @@
 -- master answers an Assign, or hears an Activate. Messages of the master may be lost, too.
 use Rattle.std.specs.Prelude.{ℕ, [], ◌∷◌, ◌++◌, Option, Some, None}
 use Rattle.machine.specs.Machine.{Rules}
-use Rattle.lists.specs.Lists.{In}
+use Rattle.agreement.specs.lists.Lists.{In}
 use Rattle.agreement.specs.MasterState.{MasterState, AssignRefusal, master_behind, refusal}
-use Rattle.ballot_base.specs.declared.config.Config.{Config}
-use Rattle.ballot_base.specs.declared.message.Body.TheVariants.{Activate}
-use Rattle.ballot_base.specs.Sending.{master}
+use Rattle.agreement.specs.ballot_base.declared.config.Config.{Config}
+use Rattle.agreement.specs.ballot_base.declared.message.Body.TheVariants.{Activate}
+use Rattle.agreement.specs.ballot_base.Sending.{master}
 use Rattle.snapshots.specs.Masters.{MasterOutcome, activated, assigned}
 use Rattle.snapshots.specs.World.{NodeGoes, World}
 

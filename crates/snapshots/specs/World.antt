@@ -4,16 +4,16 @@ use Rattle.std.specs.Prelude.{ℕ, ◌+◌, ◌<◌, ◌≡◌, false, List, [],
 use Rattle.machine.specs.Machine.{Rules}
 use Rattle.agreement.specs.World.{World as WholeWorld}
 use Rattle.agreement.specs.whole.Messages.{Message as WholeMessage}
-use Rattle.lists.specs.Lists.{In}
+use Rattle.agreement.specs.lists.Lists.{In}
 use Rattle.snapshots.specs.Whole.{whole_log, whole, whole_message}
-use Rattle.ballot_base.specs.declared.message.Effect.{Effect}
-use Rattle.ballot_base.specs.declared.message.Effect.TheVariants.{To, Out}
-use Rattle.ballot_base.specs.declared.message.Message.{Message}
-use Rattle.ballot_base.specs.Losses.{Loses, halted}
-use Rattle.ballot_base.specs.Replica.{ReplicaState}
-use Rattle.ballot_base.specs.Protocol.{Input, replica_step}
-use Rattle.ballot_base.specs.Cutting.{cut}
-use Rattle.ballot_base.specs.Protocol.Input.{Receives, Proposes, Ticks}
+use Rattle.agreement.specs.ballot_base.declared.message.Effect.{Effect}
+use Rattle.agreement.specs.ballot_base.declared.message.Effect.TheVariants.{To, Out}
+use Rattle.agreement.specs.ballot_base.declared.message.Message.{Message}
+use Rattle.agreement.specs.ballot_base.Losses.{Loses, halted}
+use Rattle.agreement.specs.ballot_base.Replica.{ReplicaState}
+use Rattle.agreement.specs.ballot_base.Protocol.{Input, replica_step}
+use Rattle.agreement.specs.ballot_base.Cutting.{cut}
+use Rattle.agreement.specs.ballot_base.Protocol.Input.{Receives, Proposes, Ticks}
 
 -- the nodes, number n + 1 at place n
 pub record World (S C O : Type 0) : Type 0 where

@@ -19,7 +19,7 @@ use Rattle.story.specs.Inside.Projections.{items_of, items_of_own, as_publisher,
 use Rattle.story.specs.Inside.Shape.{AreNumbered, HasShape, IsSoundStory, LastIsCurrent, NewestIsServed}
 use Rattle.story.proofs.places.Sessions.{received_outside}
 use Rattle.story.proofs.subscribing.places.Quiet.{no_entries}
-use Rattle.session_base.specs.declared.publication.Publication.{Publication}
+use Rattle.client_base.specs.session_base.declared.publication.Publication.{Publication}
 
 -- the story
 abbrev pub begun : Past → Client → List Own → List Own → Story

@@ -1,7 +1,7 @@
 -- A publication enters at the place where it is taken: a law of the broker, said of a client's story.
 use Rattle.std.proofs.Common.{◌≡◌, ◌∷◌, if◌then◌else◌, length, map, filter, subst, sym, ap₂}
 use Rattle.packet.specs.declared.packet.Packet.TheVariants as packets
-use Rattle.session_base.specs.Publication.{publication_of}
+use Rattle.client_base.specs.session_base.Publication.{publication_of}
 use Rattle.broker_base.specs.Command.{Command}
 use Rattle.broker_base.specs.Command.TheVariants as commands
 use Rattle.broker_base.specs.Marks.{is_queued_at}

@@ -4,8 +4,8 @@ use Rattle.std.proofs.Common.{◌≡◌, ℕ, Bool, true, false, not, ◌&&◌, 
 use Rattle.std.specs.Prelude.{flat_map}
 use Rattle.packet.specs.declared.packet.Packet.{Packet}
 use Rattle.packet.specs.declared.packet.Packet.TheVariants as packets
-use Rattle.session_base.specs.declared.publication.Publication.{Publication}
-use Rattle.session_base.specs.Publication.{is_answered, publish_of}
+use Rattle.client_base.specs.session_base.declared.publication.Publication.{Publication}
+use Rattle.client_base.specs.session_base.Publication.{is_answered, publish_of}
 use Rattle.broker_base.specs.Connection.{ConnectionName, same_connection}
 use Rattle.broker_base.specs.Place.{Client, Mark, Place, Past, Limits, only_if}
 use Rattle.broker_base.specs.Past.{is_leaving, ends_any, newest_session, current_connection, session_of, in_session}

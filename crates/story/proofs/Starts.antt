@@ -1,9 +1,9 @@
 -- The entries that start at a place are starts of the handshake, one after the other.
 use Rattle.std.proofs.Common.{◌≡◌, ℕ, Bool, true, false, ◌||◌, ◌==◌, nat_lt, if◌then◌else◌, List, [], ◌∷◌, ◌++◌, length, Some, refl, ap, sym, ◌∙◌, append_assoc}
 use Rattle.std.proofs.lemmas.List.{append-nil}
-use Rattle.session_base.specs.declared.publication.Publication.{Publication}
+use Rattle.client_base.specs.session_base.declared.publication.Publication.{Publication}
 use Rattle.lists.specs.Lists.{has_id}
-use Rattle.session_base.specs.Identifiers.{least_free}
+use Rattle.client_base.specs.session_base.Identifiers.{least_free}
 use Rattle.broker_base.specs.Entries.{Entry}
 use Rattle.broker_base.specs.Times.{start_all}
 use Rattle.broker_base.specs.IdentifierLaws.{WaitsLast, IsWaiting}

@@ -28,7 +28,7 @@ use Rattle.story.specs.Carried.{connection_named, number_at, number_of, more_by}
 use Rattle.story.specs.Inside.Projections.{forward_of_own, carried_by, backward_of_own, to_come, is_current, as_publisher, GoesTo, IsLike}
 use Rattle.story.proofs.Hears.{joined_link, numbers_more}
 use Rattle.story.proofs.Packets.{at_packet, current_packet, received_packet, copies_none}
-use Rattle.session_base.proofs.KeptIdentifiers.{has_with}
+use Rattle.client_base.proofs.of_session_base.KeptIdentifiers.{has_with}
 
 -- ---- lists
 

@@ -8,7 +8,7 @@ use Rattle.broker_base.specs.Place.{Past}
 use Rattle.broker_base.specs.Received.{is_new}
 use Rattle.broker_base.specs.Command.{Command}
 use Rattle.broker_base.specs.Command.TheVariants as commands
-use Rattle.session_base.specs.declared.publication.Publication.{Publication}
+use Rattle.client_base.specs.session_base.declared.publication.Publication.{Publication}
 use Rattle.client_base.specs.Keeper.{Own, Written}
 use Rattle.story.specs.Sides.{Connection}
 use Rattle.story.specs.Story.{count_of}

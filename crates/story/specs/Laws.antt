@@ -3,7 +3,7 @@
 use Rattle.std.specs.Prelude.{◌≡◌, if◌then◌else◌, ◌∷◌, length, filter}
 use Rattle.packet.specs.declared.publish.Publish.{Publish}
 use Rattle.packet.specs.declared.packet.Packet.TheVariants as packets
-use Rattle.session_base.specs.Publication.{publication_of}
+use Rattle.client_base.specs.session_base.Publication.{publication_of}
 use Rattle.broker_base.specs.Command.TheVariants as commands
 use Rattle.broker_base.specs.Commands.{usual_limits}
 use Rattle.broker_base.specs.Connection.{ConnectionName}

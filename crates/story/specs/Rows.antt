@@ -3,8 +3,8 @@ use Rattle.std.specs.Prelude.{true, false, List, [], ◌∷◌}
 use Rattle.packet.specs.declared.qos.QoS.TheVariants as levels
 use Rattle.packet.specs.declared.subscribe.Subscribe.{Subscribe}
 use Rattle.packet.specs.declared.packet.Packet.TheVariants as packets
-use Rattle.session_base.specs.declared.publication.Publication.{Publication}
-use Rattle.session_base.specs.Publication.{publish_of}
+use Rattle.client_base.specs.session_base.declared.publication.Publication.{Publication}
+use Rattle.client_base.specs.session_base.Publication.{publish_of}
 use Rattle.broker_base.specs.Connection.{ConnectionName}
 use Rattle.broker_base.specs.Place.{Client}
 use Rattle.broker_base.specs.Command.{Command}

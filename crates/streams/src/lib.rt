@@ -7,6 +7,7 @@ mod link;
 mod patient;
 mod place;
 
+pub use connection;
 pub use door::Door;
 pub use idle_lanes::IdleLanes;
 pub use link::{Late, Link, Pen};

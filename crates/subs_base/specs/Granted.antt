@@ -3,7 +3,7 @@ use Rattle.std.specs.Prelude.{◌≡◌, ◌≤◌, ℕ, List, [], ◌∷◌, �
 use Rattle.std.specs.List.Sorted.{IsStrictlySortedBy}
 use Rattle.std.specs.Cmp.Lexicographic.{slice_cmp}
 use Rattle.std.specs.Ordering.{nat_cmp}
-use Rattle.topics.specs.Matching.{Matches}
+use Rattle.packet.specs.topics.Matching.{Matches}
 use Rattle.packet.specs.declared.qos.QoS.{QoS}
 use Rattle.packet.specs.QoS.{qos_number}
 use Rattle.subs_base.specs.Content.{Content}

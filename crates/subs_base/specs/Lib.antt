@@ -3,3 +3,4 @@ pub mod Granted
 pub mod Laws
 pub mod ListIndex
 pub mod Inside
+pub use Rattle.packet.specs as packet

@@ -8,4 +8,5 @@ mod sub_index;
 
 pub use laws::grants_one_list;
 pub use list_index::ListIndex;
+pub use packet;
 pub use sub_index::SubIndex;

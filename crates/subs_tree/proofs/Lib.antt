@@ -17,3 +17,5 @@ pub mod WalkFinds
 pub mod ContentOfTree
 pub mod TreeGrants
 pub mod RowsGathered
+pub use Rattle.subs_base.proofs as of_subs_base
+pub use Rattle.topics.proofs as of_topics

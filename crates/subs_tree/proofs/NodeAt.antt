@@ -3,7 +3,7 @@ use Rattle.std.proofs.Common.{◌≡◌, ℕ, List, [], ◌∷◌, Bool, true, f
 use Rattle.std.specs.Prelude.{option_and_then}
 use Rattle.slab.specs.Slab.{Slab, get}
 use Rattle.topics.specs.Text.{Levels}
-use Rattle.packet.specs.declared.qos.QoS.{QoS}
+use Rattle.subs_base.specs.packet.declared.qos.QoS.{QoS}
 use Rattle.subs_tree.specs.declared.node.Node.{Node}
 use Rattle.subs_tree.specs.Shape.{Shape}
 use Rattle.subs_tree.specs.Changes.{IsBare}

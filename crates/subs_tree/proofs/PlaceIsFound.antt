@@ -3,7 +3,7 @@ use Rattle.std.proofs.Common.{◌≡◌, ℕ, List, Bool, true, false, ◌&&◌,
 use Rattle.std.specs.Cmp.Lexicographic.{bytes_decides}
 use Rattle.std.proofs.lemmas.Bool.{and_parts}
 use Rattle.topics.specs.Text.{Levels}
-use Rattle.packet.specs.declared.qos.QoS.{QoS}
+use Rattle.subs_base.specs.packet.declared.qos.QoS.{QoS}
 use Rattle.subs_tree.specs.Shape.{Children, Shape, rows}
 use Rattle.subs_tree.specs.Ways.{reach, led, place, IsTree}
 use Rattle.subs_tree.specs.Changes.{Writes}

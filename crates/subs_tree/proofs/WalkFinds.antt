@@ -10,8 +10,8 @@ use Rattle.topics.specs.Text.{Levels, levels, has_no_wildcard}
 use Rattle.topics.specs.Matching.{is_all, matches_rest}
 use Rattle.topics.proofs.OnePass.{bare}
 use Rattle.topics.proofs.FrontGoesBy.{no_plus, no_hash}
-use Rattle.packet.specs.declared.qos.QoS.{QoS}
-use Rattle.packet.specs.QoS.{qos_number}
+use Rattle.subs_base.specs.packet.declared.qos.QoS.{QoS}
+use Rattle.subs_base.specs.packet.QoS.{qos_number}
 use Rattle.subs_tree.specs.Shape.{Shape, asked}
 use Rattle.subs_tree.specs.Walk.{greatest, found_at, found_below}
 use Rattle.subs_tree.proofs.Raising.{greatest_left, greatest_right, greatest_either}

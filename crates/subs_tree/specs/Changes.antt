@@ -1,6 +1,6 @@
 -- The four changes of nodes: a client's row, a child, a new node, a node that is given up.
 use Rattle.std.specs.Prelude.{◌≡◌, ℕ, Bool, true, false, not, ◌&&◌, ◌||◌, ◌==◌, List, bytes_eq, Option, None, if◌then◌else◌}
-use Rattle.packet.specs.declared.qos.QoS.{QoS}
+use Rattle.subs_base.specs.packet.declared.qos.QoS.{QoS}
 use Rattle.subs_tree.specs.Shape.{Shape}
 
 abbrev pub same_side : Bool → Bool → Bool

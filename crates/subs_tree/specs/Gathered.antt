@@ -1,7 +1,7 @@
 -- The rows of each filter, gathered before the nodes are made.
 use Rattle.std.specs.Prelude.{ℕ, List, [], ◌∷◌, bytes_eq, Option, None, option_and_then, if◌then◌else◌, map}
 use Rattle.std.specs.Map.{lookup, update_all}
-use Rattle.packet.specs.declared.qos.QoS.{QoS}
+use Rattle.subs_base.specs.packet.declared.qos.QoS.{QoS}
 use Rattle.subs_base.specs.Content.{Content, with_row}
 use Rattle.subs_base.specs.ListIndex.{Filters, Clients}
 use Rattle.subs_tree.specs.declared.group.Group.{Group}

@@ -5,7 +5,7 @@ use Rattle.std.specs.Cmp.Lexicographic.{slice_cmp}
 use Rattle.std.specs.Ordering.{nat_cmp}
 use Rattle.slab.specs.Slab as slab
 use Rattle.topics.specs.Text.{Levels}
-use Rattle.packet.specs.declared.qos.QoS.{QoS}
+use Rattle.subs_base.specs.packet.declared.qos.QoS.{QoS}
 use Rattle.subs_base.specs.Content.{Content}
 use Rattle.subs_base.specs.ListIndex.{Filters, at}
 use Rattle.subs_tree.specs.declared.node.Node.{Node}

@@ -6,3 +6,6 @@ pub mod Inside
 pub mod Standing
 pub mod Walk
 pub mod Gathered
+pub use Rattle.subs_base.specs.packet as packet
+pub use Rattle.subs_base.specs as subs_base
+pub use Rattle.topics.specs as topics

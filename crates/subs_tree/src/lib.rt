@@ -15,4 +15,5 @@ mod slots;
 mod tests;
 mod tree_index;
 
+pub use subs_base;
 pub use tree_index::TreeIndex;

@@ -1,1 +1,2 @@
 pub mod Lines
+pub use Rattle.user_client.specs.client_base as client_base

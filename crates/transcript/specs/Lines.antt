@@ -1,7 +1,7 @@
 -- The lines of a transcript, as bytes; 32 is a space, and 10 ends a line.
 use Rattle.std.specs.Prelude.{ℕ, List, [], ◌∷◌, ◌++◌, codes}
 use Rattle.std.specs.Fmt.{decimal}
-use Rattle.client_base.specs.declared.accepted.Accepted.{Accepted}
+use Rattle.user_client.specs.client_base.declared.accepted.Accepted.{Accepted}
 use Rattle.user_client.specs.Printing.{line_of, printed}
 
 -- `7 idle`

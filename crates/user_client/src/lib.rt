@@ -10,6 +10,7 @@ mod servers;
 mod subscriber;
 mod visiting;
 
+pub use client;
 pub use fault::ClientFault;
 pub use printing::{print_line, print_text};
 pub use publisher::Publisher;

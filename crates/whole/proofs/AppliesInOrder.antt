@@ -1,6 +1,6 @@
 -- AppliesInOrder.antt: places that are applied one after the other give the replay and its outputs.
 use Rattle.std.proofs.Common.{◌≡◌, ℕ, ◌+◌, List, [], ◌∷◌, ◌++◌, length, map, ap, sym, ◌∙◌, append_assoc, arith}
-use Rattle.machine.specs.Machine.{Rules, replay_from}
+use Rattle.ballot_base.specs.machine.Machine.{Rules, replay_from}
 use Rattle.whole.specs.Messages.{Effect}
 use Rattle.whole.specs.Messages.Effect.{Out}
 use Rattle.whole.specs.Applying.{outputs_from}

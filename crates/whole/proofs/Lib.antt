@@ -2,3 +2,4 @@ pub mod AppliesInOrder
 pub mod ChangeRows
 pub mod MessageRows
 pub mod StepRows
+pub use Rattle.ballot_base.proofs as of_ballot_base

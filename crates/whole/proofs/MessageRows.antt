@@ -1,7 +1,7 @@
 -- MessageRows.antt: what the rows of messages and ticks give, where their conditions hold and where not.
 use Rattle.std.proofs.Common.{◌≡◌, ℕ, ◌<◌, ◌≤◌, true, false, List, [], ◌∷◌, ◌++◌, length, max, refl, ap, sym, ◌∙◌, ◌⊎◌, inl, inr}
 use Rattle.std.proofs.lemmas.Bool.{lt-leb, le-leb, cases_lt}
-use Rattle.machine.specs.Machine.{Rules}
+use Rattle.ballot_base.specs.machine.Machine.{Rules}
 use Rattle.whole.specs.Messages.{Body, Effect}
 use Rattle.whole.specs.Messages.Body.{Held, Commit}
 use Rattle.ballot_base.specs.declared.status.Progress.{Progress}

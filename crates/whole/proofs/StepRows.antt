@@ -1,7 +1,7 @@
 -- StepRows.antt: what each row of the protocol gives where its condition holds, and where it does not.
 use Rattle.std.proofs.Common.{◌≡◌, ℕ, ◌<◌, ◌≤◌, true, false, [], ◌∷◌, ◌++◌, length, refl, ap, ◌∙◌, ◌⊎◌, inl, inr}
 use Rattle.std.proofs.lemmas.Bool.{lt-ltb, le-ltb, cases_lt}
-use Rattle.machine.specs.Machine.{Rules}
+use Rattle.ballot_base.specs.machine.Machine.{Rules}
 use Rattle.whole.specs.Messages.Body.{Append, Commit}
 use Rattle.whole.specs.Replica.{ReplicaState, is_active}
 use Rattle.whole.specs.Sending.{Outcome, nothing_done, message_to_followed, sent_first}

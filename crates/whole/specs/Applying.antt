@@ -1,6 +1,6 @@
 -- Applying.antt: places of a log that are applied, and what they give.
 use Rattle.std.specs.Prelude.{ℕ, ◌+◌, List, [], ◌∷◌, ◌++◌, map, take, drop}
-use Rattle.machine.specs.Machine.{Rules, replay, replay_from}
+use Rattle.ballot_base.specs.machine.Machine.{Rules, replay, replay_from}
 use Rattle.whole.specs.Messages.{Effect}
 use Rattle.whole.specs.Messages.Effect.{Out}
 use Rattle.whole.specs.Replica.{ReplicaState}

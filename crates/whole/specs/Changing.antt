@@ -2,7 +2,7 @@
 -- ticks of a new primary. A message that a row's condition does not cover changes nothing.
 use Rattle.std.specs.Prelude.{ℕ, List, [], ◌∷◌, length, ◌==◌, ◌&&◌, ◌||◌, nat_lt, nat_le, if◌then◌else◌}
 use Rattle.std.specs.List.{list_any}
-use Rattle.machine.specs.Machine.{Rules}
+use Rattle.ballot_base.specs.machine.Machine.{Rules}
 use Rattle.whole.specs.Messages.Body.{Join, State, Install, Installed, Activate}
 use Rattle.whole.specs.Messages.{Effect}
 use Rattle.ballot_base.specs.declared.status.Role.TheVariants.{Backup, Fetching, Installing, Active}

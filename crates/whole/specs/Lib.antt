@@ -10,4 +10,5 @@ pub use Rattle.ballot_base.specs.LawfulConfig
 pub use Rattle.ballot_base.specs.declared.config.Config
 pub use Rattle.ballot_base.specs.declared.status.Progress
 pub use Rattle.ballot_base.specs.declared.status.Role
-pub use Rattle.machine.specs.Machine
+pub use Rattle.ballot_base.specs.machine.Machine
+pub use Rattle.ballot_base.specs as ballot_base

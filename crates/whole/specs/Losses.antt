@@ -1,6 +1,6 @@
 -- Losses.antt: a step in which memory was wanting.
 use Rattle.std.specs.Prelude.{ℕ, ◌≡◌, ◌⊎◌, true, List, [], ◌∷◌}
-use Rattle.machine.specs.Machine.{Rules}
+use Rattle.ballot_base.specs.machine.Machine.{Rules}
 use Rattle.whole.specs.Messages.{Message, Effect}
 use Rattle.whole.specs.Messages.Effect.{To}
 use Rattle.whole.specs.Replica.{ReplicaState}

@@ -1,6 +1,6 @@
 -- Protocol.antt: the step of a replica on a message, a proposal or a tick.
 use Rattle.std.specs.Prelude.{ℕ}
-use Rattle.machine.specs.Machine.{Rules}
+use Rattle.ballot_base.specs.machine.Machine.{Rules}
 use Rattle.whole.specs.Messages.{Message, Body}
 use Rattle.whole.specs.Messages.Body.{NewBallot, Join, State, Install, Installed, Activate, Activated, Superseded, Append, Held, Commit}
 use Rattle.ballot_base.specs.declared.status.Role.{Role}

@@ -1,6 +1,6 @@
 -- Replica.antt: what a replica keeps, and how it opens.
 use Rattle.std.specs.Prelude.{ℕ, Bool, false, List, [], ◌==◌, if◌then◌else◌}
-use Rattle.machine.specs.Machine.{Rules}
+use Rattle.ballot_base.specs.machine.Machine.{Rules}
 use Rattle.ballot_base.specs.declared.config.Config.{Config}
 use Rattle.ballot_base.specs.declared.status.Progress.{Progress}
 use Rattle.ballot_base.specs.declared.status.Role.{Role}

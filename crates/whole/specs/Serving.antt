@@ -2,7 +2,7 @@
 -- Receivers are taken in rising order. A message that no row's condition covers changes nothing.
 use Rattle.std.specs.Prelude.{ℕ, Bool, List, [], ◌∷◌, ◌++◌, length, max, slice_get, Option, Some, None, ◌==◌, ◌&&◌, nat_lt, nat_le, if◌then◌else◌}
 use Rattle.std.specs.List.{flat_map}
-use Rattle.machine.specs.Machine.{Rules}
+use Rattle.ballot_base.specs.machine.Machine.{Rules}
 use Rattle.whole.specs.Messages.Body.{Append, Held, Commit}
 use Rattle.whole.specs.Messages.{Effect}
 use Rattle.ballot_base.specs.declared.status.Progress.{Progress}

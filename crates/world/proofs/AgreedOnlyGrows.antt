@@ -9,7 +9,7 @@ use Rattle.exact_model.proofs.of_group_model.of_snapshots.PastsAgree.{has_agreed
 use Rattle.broker_base.specs.Command.{Command}
 use Rattle.broker_base.specs.Output.{Output}
 use Rattle.broker_base.specs.State.{State}
-use Rattle.world_base.specs.Core.{rules}
+use Rattle.world_pipes.specs.world_base.Core.{rules}
 use Rattle.exact_model.specs.group_model.Group.{Group, moment_of}
 use Rattle.exact_model.specs.group_model.Goes.{Went, all_put, groups_of, put_in_step}
 use Rattle.exact_model.specs.group_model.Goes.Went.{then_went}
@@ -19,7 +19,7 @@ use Rattle.exact_model.proofs.of_group_model.GroupsArePasts.{goes_on as past_goe
 use Rattle.exact_model.proofs.of_group_model.NamesInGroups.{puts_in_the_ballot_of_the_name}
 use Rattle.exact_model.proofs.of_group_model.Ordered.{groups_keep_the_order, in_agreed}
 use Rattle.exact_model.proofs.of_group_model.Packets.{packets_join}
-use Rattle.world_nodes.specs.Nodes.{NodesState}
+use Rattle.escaping_nodes.specs.world_nodes.Nodes.{NodesState}
 use Rattle.world.specs.Goes.{AgreedGrows, Goes, NodesGo}
 use Rattle.world.specs.Goes.Goes.{rests, goes_on}
 use Rattle.world.proofs.OneAgreed.{one_agreed}

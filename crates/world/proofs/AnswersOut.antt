@@ -6,7 +6,7 @@ use Rattle.broker_base.specs.Command.{Command}
 use Rattle.broker_base.specs.Connection.{ConnectionName}
 use Rattle.broker_base.specs.Output.{Output}
 use Rattle.broker_base.specs.State.{State}
-use Rattle.client.specs.Core.{Core}
+use Rattle.escaping_client.specs.client.Core.{Core}
 use Rattle.escaping_nodes.specs.Answered.{CanAsk, begun}
 use Rattle.escaping_nodes.specs.cut_ways.Deliveries.Delivered.{all_came}
 use Rattle.escaping_nodes.specs.cut_ways.ways_out.Deliveries.{AreApart, NodeIs}
@@ -19,13 +19,13 @@ use Rattle.exact_model.specs.node_model.Moves.Deed.{takes}
 use Rattle.lists.specs.Lists.{In}
 use Rattle.lists.proofs.Places.{get_set}
 use Rattle.packet.specs.declared.connect.Connect.{Connect}
-use Rattle.world_base.specs.Core.{CountedCore, rules}
-use Rattle.world_base.specs.declared.item.Item.{Item}
-use Rattle.world_base.specs.declared.item.Item.TheVariants.{Bytes}
-use Rattle.world_base.specs.Step.{node_step}
-use Rattle.world_nodes.specs.Goes.{behind_deed}
-use Rattle.world_nodes.specs.Nodes.{NodesState}
-use Rattle.world_nodes.proofs.Acts.{acts}
+use Rattle.world_pipes.specs.world_base.Core.{CountedCore, rules}
+use Rattle.world_pipes.specs.world_base.declared.item.Item.{Item}
+use Rattle.world_pipes.specs.world_base.declared.item.Item.TheVariants.{Bytes}
+use Rattle.world_pipes.specs.world_base.Step.{node_step}
+use Rattle.escaping_nodes.specs.world_nodes.Goes.{behind_deed}
+use Rattle.escaping_nodes.specs.world_nodes.Nodes.{NodesState}
+use Rattle.escaping_nodes.proofs.of_world_nodes.Acts.{acts}
 use Rattle.world.specs.declared.event.Event.{Event}
 use Rattle.world.specs.declared.event.Event.TheVariants as events
 use Rattle.world.specs.Found.{is_named, port_of}

@@ -11,7 +11,7 @@ use Rattle.broker_base.specs.Commands.{past_of, usual_limits}
 use Rattle.broker_base.specs.Output.{Output}
 use Rattle.broker_base.specs.Past.{session_of}
 use Rattle.broker_base.specs.State.{State}
-use Rattle.client.specs.Core.{Core}
+use Rattle.escaping_client.specs.client.Core.{Core}
 use Rattle.escaping_nodes.specs.Answered.{CanAsk, begun}
 use Rattle.escaping_nodes.specs.Opened.{IsOpened, first_of}
 use Rattle.escaping_nodes.specs.cut_ways.ways_out.Deliveries.{AreApart, NodeIs, asked_and_answered}
@@ -22,10 +22,10 @@ use Rattle.lists.specs.Lists.{In}
 use Rattle.packet.specs.declared.connect.Connect.{Connect}
 use Rattle.packet.specs.declared.packet.Packet.TheVariants as packets
 use Rattle.packet.specs.Verdict.{verdict}
-use Rattle.world_base.specs.Core.{rules}
-use Rattle.world_base.specs.declared.item.Item.TheVariants.{Bytes}
-use Rattle.world_nodes.specs.Goes.{behind_deed}
-use Rattle.world_nodes.specs.Nodes.{NodesState}
+use Rattle.world_pipes.specs.world_base.Core.{rules}
+use Rattle.world_pipes.specs.world_base.declared.item.Item.TheVariants.{Bytes}
+use Rattle.escaping_nodes.specs.world_nodes.Goes.{behind_deed}
+use Rattle.escaping_nodes.specs.world_nodes.Nodes.{NodesState}
 use Rattle.world.specs.declared.event.Event.{Event}
 use Rattle.world.specs.declared.event.Event.TheVariants as events
 use Rattle.world.specs.Found.{is_named, port_of}

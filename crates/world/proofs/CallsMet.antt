@@ -5,7 +5,7 @@ use Rattle.std.specs.Option.{is_some}
 use Rattle.std.proofs.lemmas.Bool.{both_ways}
 use Rattle.std.proofs.lemmas.Option.{none-some}
 use Rattle.ballot.specs.Losses.{one_more}
-use Rattle.client.specs.Core.{Core, publication_with}
+use Rattle.escaping_client.specs.client.Core.{Core, publication_with}
 use Rattle.client_base.specs.Answered.{Turn}
 use Rattle.client_base.specs.Calls.{publish_refusal, published}
 use Rattle.client_base.specs.State.{ClientState, is_online, is_open}

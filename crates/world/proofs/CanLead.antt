@@ -25,10 +25,10 @@ use Rattle.exact_model.proofs.of_group_model.of_snapshots.PastsKept.{past_stands
 use Rattle.exact_model.proofs.of_group_model.of_snapshots.Views.{get_whole}
 use Rattle.lists.specs.Lists.{In}
 use Rattle.lists.specs.Lists.In.{here, there}
-use Rattle.world_base.specs.Core.{CountedCore, rules}
-use Rattle.world_nodes.specs.Asking.{log_in, log_of}
-use Rattle.world_nodes.specs.Goes.{node_of}
-use Rattle.world_nodes.specs.Nodes.{NodesState, StandsFor}
+use Rattle.world_pipes.specs.world_base.Core.{CountedCore, rules}
+use Rattle.escaping_nodes.specs.world_nodes.Asking.{log_in, log_of}
+use Rattle.escaping_nodes.specs.world_nodes.Goes.{node_of}
+use Rattle.escaping_nodes.specs.world_nodes.Nodes.{NodesState, StandsFor}
 use Rattle.world.specs.Escaping.{CanEscape, configuration_of, held_in, is_running, is_up}
 use Rattle.world.specs.World.{WorldState}
 

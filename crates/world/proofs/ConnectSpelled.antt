@@ -13,7 +13,7 @@ use Rattle.packet.specs.Verdict.{verdict}
 use Rattle.packet.proofs.Clients.{client_parts, client_short}
 use Rattle.packet.proofs.OneSpelling.{spelling_is}
 use Rattle.packet.proofs.PacketReads.{verdict_again}
-use Rattle.client.specs.Core.{AppendsAll}
+use Rattle.escaping_client.specs.client.Core.{AppendsAll}
 use Rattle.escaping_nodes.specs.Answered.{session_present}
 
 -- what is spelled is read, and nothing is left

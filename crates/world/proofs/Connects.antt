@@ -6,17 +6,17 @@ use Rattle.std.proofs.lemmas.Bool.{both_ways, ne_eqb}
 use Rattle.std.proofs.lemmas.List.{reverse-reverse}
 use Rattle.std.proofs.lemmas.Option.{none-some}
 use Rattle.lists.proofs.Tests.{none_or}
-use Rattle.world_base.specs.declared.item.Item.TheVariants.{Opened}
-use Rattle.world_base.specs.declared.Port.{Port}
-use Rattle.world_base.specs.Core.{CoreState, CountedCore}
-use Rattle.world_base.specs.Handing.{listed_at}
+use Rattle.world_pipes.specs.world_base.declared.item.Item.TheVariants.{Opened}
+use Rattle.world_pipes.specs.world_base.declared.Port.{Port}
+use Rattle.world_pipes.specs.world_base.Core.{CoreState, CountedCore}
+use Rattle.world_pipes.specs.world_base.Handing.{listed_at}
 use Rattle.exact_model.specs.node_model.Moves.Deed.{takes}
 use Rattle.exact_model.proofs.of_group_model.Placed.{get_mapped}
 use Rattle.exact_model.specs.world_model.World.{ClientPipes, Pipe, World, is_used, leads_to, with_client}
 use Rattle.exact_model.specs.world_model.Goes.{after_connecting}
 use Rattle.exact_model.specs.world_model.Goes.WorldStep.{connects}
-use Rattle.world_nodes.specs.Goes.{Acts, node_of}
-use Rattle.world_nodes.specs.Nodes.{NodesState, StandsFor as NodesStand}
+use Rattle.escaping_nodes.specs.world_nodes.Goes.{Acts, node_of}
+use Rattle.escaping_nodes.specs.world_nodes.Nodes.{NodesState, StandsFor as NodesStand}
 use Rattle.world_pipes.specs.declared.way.Way.{Way}
 use Rattle.world_pipes.specs.Following.{ConnectingFollows}
 use Rattle.world_pipes.specs.Standing.{AreWays}

@@ -19,12 +19,12 @@ use Rattle.exact_model.specs.group_model.snapshots.Past.{Moment}
 use Rattle.exact_model.specs.node_model.Moves.Deed.{takes}
 use Rattle.lists.specs.Lists.{In}
 use Rattle.lists.proofs.Members.{in_at}
-use Rattle.world_base.specs.Core.{CoreState, CountedCore, rules}
-use Rattle.world_base.specs.declared.item.Item.TheVariants.{Peer}
-use Rattle.world_nodes.specs.Goes.{Comes, ComesToNobody, TakesExactly, behind_answer, behind_deed, running, unless_stopped}
-use Rattle.world_nodes.specs.Nodes.{NodesState, cores_of}
-use Rattle.world_nodes.proofs.Acts.{acts}
-use Rattle.world_nodes.proofs.MasterActs.{answers_exactly}
+use Rattle.world_pipes.specs.world_base.Core.{CoreState, CountedCore, rules}
+use Rattle.world_pipes.specs.world_base.declared.item.Item.TheVariants.{Peer}
+use Rattle.escaping_nodes.specs.world_nodes.Goes.{Comes, ComesToNobody, TakesExactly, behind_answer, behind_deed, running, unless_stopped}
+use Rattle.escaping_nodes.specs.world_nodes.Nodes.{NodesState, cores_of}
+use Rattle.escaping_nodes.proofs.of_world_nodes.Acts.{acts}
+use Rattle.escaping_nodes.proofs.of_world_nodes.MasterActs.{answers_exactly}
 use Rattle.world.specs.declared.event.Event.TheVariants as events
 use Rattle.world.specs.Cannot.{CannotHappen}
 use Rattle.world.specs.Doing.{Does, receiver_of}

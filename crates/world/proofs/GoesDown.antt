@@ -6,12 +6,12 @@ use Rattle.broker_base.specs.Connection.{ConnectionName, same_connection}
 use Rattle.broker_base.specs.Place.{Client}
 use Rattle.lists.specs.Lists.{In}
 use Rattle.lists.proofs.Tests.{eq_is}
-use Rattle.story.proofs.Takes.{same_name_self}
-use Rattle.world_base.specs.declared.Connection.{Connection as NodesEnd}
-use Rattle.world_base.specs.declared.Port.{Port}
-use Rattle.world_base.specs.Connections.{is_at}
-use Rattle.world_base.specs.Core.{CoreState, CountedCore}
-use Rattle.world_base.specs.Handing.{bytes_of, listed_at}
+use Rattle.world_pipes.proofs.of_story.Takes.{same_name_self}
+use Rattle.world_pipes.specs.world_base.declared.Connection.{Connection as NodesEnd}
+use Rattle.world_pipes.specs.world_base.declared.Port.{Port}
+use Rattle.world_pipes.specs.world_base.Connections.{is_at}
+use Rattle.world_pipes.specs.world_base.Core.{CoreState, CountedCore}
+use Rattle.world_pipes.specs.world_base.Handing.{bytes_of, listed_at}
 use Rattle.exact_model.specs.node_model.Moves.Deed.{gives}
 use Rattle.exact_model.proofs.of_node_model.Views.{found_passes}
 use Rattle.exact_model.specs.connection_model.Streams.{bytes_named}
@@ -22,8 +22,8 @@ use Rattle.exact_model.specs.world_model.Goes.WorldStep.{goes_down}
 use Rattle.exact_model.proofs.of_world_model.NodesGoOn.{carries_with}
 use Rattle.exact_model.proofs.of_world_model.PipesHold.{found_in}
 use Rattle.exact_model.proofs.of_world_model.PipesInOrder.{reached_holds}
-use Rattle.world_nodes.specs.Goes.{Acts, HandsOver}
-use Rattle.world_nodes.specs.Nodes.{NodesState}
+use Rattle.escaping_nodes.specs.world_nodes.Goes.{Acts, HandsOver}
+use Rattle.escaping_nodes.specs.world_nodes.Nodes.{NodesState}
 use Rattle.world_pipes.specs.declared.way.Way.{Way}
 use Rattle.world_pipes.specs.Piped.{Piped}
 use Rattle.world.specs.declared.place.Place.{Place}

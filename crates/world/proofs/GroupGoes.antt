@@ -7,16 +7,16 @@ use Rattle.ballot.specs.Message.{Message}
 use Rattle.broker_base.specs.Command.{Command}
 use Rattle.broker_base.specs.Place.{Client}
 use Rattle.master.specs.declared.event.Idle.{Idle}
-use Rattle.world_base.specs.declared.item.Item.TheVariants.{Cut, Expel, Peer}
+use Rattle.world_pipes.specs.world_base.declared.item.Item.TheVariants.{Cut, Expel, Peer}
 use Rattle.exact_model.specs.node_model.Moves.{Deed}
 use Rattle.exact_model.specs.node_model.Moves.Deed.{takes}
 use Rattle.exact_model.specs.group_model.Group.{Group}
 use Rattle.exact_model.specs.world_model.World.{World}
 use Rattle.exact_model.specs.world_model.Goes.{is_apart}
 use Rattle.exact_model.specs.world_model.Goes.WorldStep.{goes_on as group_goes}
-use Rattle.world_nodes.specs.Nodes.{NodesState, StandsFor as NodesStand}
-use Rattle.world_nodes.specs.Goes.{Acts, GoesBy}
-use Rattle.world_nodes.specs.Steps.{ActsOrRests, ComesOrRests, MasterGoesOrRests, MasterHears, forgetful}
+use Rattle.escaping_nodes.specs.world_nodes.Nodes.{NodesState, StandsFor as NodesStand}
+use Rattle.escaping_nodes.specs.world_nodes.Goes.{Acts, GoesBy}
+use Rattle.escaping_nodes.specs.world_nodes.Steps.{ActsOrRests, ComesOrRests, MasterGoesOrRests, MasterHears, forgetful}
 use Rattle.world.specs.Goes.{NodesGo, NodesGoOn}
 use Rattle.world.specs.Goes.Goes.{rests as stands_still, goes_on as then_goes}
 use Rattle.world.specs.Inside.Steps.{GoesOn, NodesStay}

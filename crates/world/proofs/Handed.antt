@@ -3,12 +3,12 @@ use Rattle.std.proofs.Common.{◌≡◌, inl, inr, ◌<◌, ◌≤◌, ◌-◌, 
 use Rattle.std.specs.Prelude.{IfOk, IfSome, drop, take}
 use Rattle.std.proofs.lemmas.Option.{same_Some}
 use Rattle.master.specs.declared.event.Idle.{Idle}
-use Rattle.world_base.specs.declared.item.Item.TheVariants.{Bytes}
-use Rattle.world_base.specs.declared.Port.{Port}
+use Rattle.world_pipes.specs.world_base.declared.item.Item.TheVariants.{Bytes}
+use Rattle.world_pipes.specs.world_base.declared.Port.{Port}
 use Rattle.exact_model.specs.node_model.Moves.Deed.{takes}
-use Rattle.world_nodes.specs.Goes.{Acts, running}
-use Rattle.world_nodes.specs.Nodes.{NodesState}
-use Rattle.world_nodes.specs.Steps.{TakesIn}
+use Rattle.escaping_nodes.specs.world_nodes.Goes.{Acts, running}
+use Rattle.escaping_nodes.specs.world_nodes.Nodes.{NodesState}
+use Rattle.escaping_nodes.specs.world_nodes.Steps.{TakesIn}
 use Rattle.world_pipes.specs.declared.way.Way.{Way}
 use Rattle.world_pipes.specs.Piped.{Piped}
 use Rattle.world.specs.declared.place.Place.{Place}

@@ -4,7 +4,7 @@ use Rattle.std.proofs.lemmas.List.{length-append, length-set}
 use Rattle.std.proofs.lemmas.Option.{same_Some, none-some}
 use Rattle.lists.proofs.Places.{get_pushed, get_set, get_set_other}
 use Rattle.exact_model.proofs.of_model.Lists.{same_or_other, set_get}
-use Rattle.world_base.specs.declared.Port.{Port}
+use Rattle.world_pipes.specs.world_base.declared.Port.{Port}
 use Rattle.world.specs.declared.place.Place.{Place}
 use Rattle.world.specs.Housed.{AreHoused, LeadsThere}
 

@@ -1,9 +1,9 @@
 -- HousedOpened.antt: behind an opening each connection stands where it is known to stand.
 use Rattle.std.proofs.Common.{◌≡◌, ℕ, suc, List, [], ◌∷◌, ◌++◌, Some, length, set, slice_get, sym, ap, ◌∙◌, subst}
 use Rattle.std.proofs.lemmas.List.{length-map, map-append, map-set}
-use Rattle.client.specs.Core.{Core}
+use Rattle.escaping_client.specs.client.Core.{Core}
 use Rattle.exact_model.proofs.of_group_model.Placed.{get_mapped}
-use Rattle.world_base.specs.declared.Port.{Port}
+use Rattle.world_pipes.specs.world_base.declared.Port.{Port}
 use Rattle.world_pipes.specs.declared.way.Way.{Way}
 use Rattle.world_pipes.specs.Piped.{Piped, new_way, sent_up}
 use Rattle.world.specs.declared.place.Place.{Place}

@@ -9,11 +9,11 @@ use Rattle.agreement.specs.MasterState.{refusal}
 use Rattle.ballot.specs.Config.{Config}
 use Rattle.ballot.specs.Losses.{one_more}
 use Rattle.master.specs.declared.event.Idle.{Idle}
-use Rattle.world_base.specs.declared.item.Item.{Item}
-use Rattle.world_base.specs.declared.item.Item.TheVariants.{Bytes, Crash, Ended, Expel, Tick}
-use Rattle.world_nodes.specs.Goes.{Comes, ComesToNobody, CutsExactly, TakesExactly, cutting, proposing, running}
-use Rattle.world_nodes.specs.Nodes.{NodesState}
-use Rattle.world_nodes.specs.Steps.{ComesIn, CutsIn, ExpelsIn, GivesIn, LosesNothing as NodesLoseNothing, TakesIn}
+use Rattle.world_pipes.specs.world_base.declared.item.Item.{Item}
+use Rattle.world_pipes.specs.world_base.declared.item.Item.TheVariants.{Bytes, Crash, Ended, Expel, Tick}
+use Rattle.escaping_nodes.specs.world_nodes.Goes.{Comes, ComesToNobody, CutsExactly, TakesExactly, cutting, proposing, running}
+use Rattle.escaping_nodes.specs.world_nodes.Nodes.{NodesState}
+use Rattle.escaping_nodes.specs.world_nodes.Steps.{ComesIn, CutsIn, ExpelsIn, GivesIn, LosesNothing as NodesLoseNothing, TakesIn}
 use Rattle.world_pipes.specs.declared.way.Way.{Way}
 use Rattle.world_pipes.specs.Piped.{Piped, is_holding}
 use Rattle.world.specs.declared.event.Event.{Event}

@@ -11,7 +11,7 @@ use Rattle.exact_model.specs.world_model.World.{World}
 use Rattle.exact_model.specs.world_model.Goes.{Reached}
 use Rattle.exact_model.specs.world_model.Goes.Reached.{goes_on as reached_more}
 use Rattle.exact_model.specs.world_model.Published.{published_in, published_on}
-use Rattle.world_nodes.specs.Nodes.{NodesState, StandsFor as NodesStand}
+use Rattle.escaping_nodes.specs.world_nodes.Nodes.{NodesState, StandsFor as NodesStand}
 use Rattle.world.specs.Goes.{LosesNothing, WorldGoesOn}
 use Rattle.world.specs.Inside.Steps.{GoesOn, GoesOnBy}
 use Rattle.world.specs.declared.world.WorldClient.{WorldClient}

@@ -9,8 +9,8 @@ use Rattle.broker_base.specs.Command.{Command}
 use Rattle.broker_base.specs.Output.{Output}
 use Rattle.broker_base.specs.Place.{Client}
 use Rattle.broker_base.specs.State.{State}
-use Rattle.client.specs.Core.{AppendsAll, Core}
-use Rattle.client.specs.State.{is_open}
+use Rattle.escaping_client.specs.client.Core.{AppendsAll, Core}
+use Rattle.escaping_client.specs.client.State.{is_open}
 use Rattle.escaping_nodes.specs.Answered.{begun}
 use Rattle.escaping_nodes.specs.Opened.{CanOpen}
 use Rattle.escaping_nodes.specs.cut_ways.ways_out.Deliveries.{asked_and_answered}
@@ -19,10 +19,10 @@ use Rattle.exact_model.specs.group_model.snapshots.Past.{Moment, Past}
 use Rattle.exact_model.specs.world_model.Carried.{went_of}
 use Rattle.lists.specs.Lists.{IsPrefixOf}
 use Rattle.packet.specs.declared.packet.Packet.TheVariants as packets
-use Rattle.world_base.specs.Core.{rules}
-use Rattle.world_nodes.specs.Agreed.{AgreeOn}
-use Rattle.world_nodes.specs.Asking.{log_of}
-use Rattle.world_nodes.specs.Nodes.{NodesState}
+use Rattle.world_pipes.specs.world_base.Core.{rules}
+use Rattle.escaping_nodes.specs.world_nodes.Agreed.{AgreeOn}
+use Rattle.escaping_nodes.specs.world_nodes.Asking.{log_of}
+use Rattle.escaping_nodes.specs.world_nodes.Nodes.{NodesState}
 use Rattle.world_pipes.specs.Standing.{CanGoOut}
 use Rattle.world.specs.declared.event.Event.{Event}
 use Rattle.world.specs.declared.event.Event.TheVariants as events

@@ -2,8 +2,8 @@
 use Rattle.std.proofs.Common.{◌≡◌, ℕ, Bool, true, false, List, ◌++◌, Some, refl, sym, ap, ◌∙◌, subst}
 use Rattle.std.proofs.lemmas.Bool.{both_ways}
 use Rattle.std.proofs.lemmas.Option.{same_Some}
-use Rattle.client.specs.Core.{Core, gone}
-use Rattle.client.specs.State.{is_open}
+use Rattle.escaping_client.specs.client.Core.{Core, gone}
+use Rattle.escaping_client.specs.client.State.{is_open}
 use Rattle.lists.proofs.Places.{get_set}
 use Rattle.world_pipes.specs.Piped.{Piped}
 use Rattle.world.specs.declared.event.Event.{Event}

@@ -19,11 +19,11 @@ use Rattle.escaping_nodes.proofs.LedOut.{assigned_seen, low_before, way_of}
 use Rattle.escaping_nodes.proofs.NodesFollow.{deliveries_are_followed}
 use Rattle.exact_model.specs.group_model.Group.{Group, moment_of}
 use Rattle.exact_model.specs.group_model.snapshots.Past.{Moment, Past}
-use Rattle.world_base.specs.Core.{rules}
-use Rattle.world_nodes.specs.Asking.{log_of}
-use Rattle.world_nodes.specs.Goes.{behind_giving}
-use Rattle.world_nodes.specs.Nodes.{NodesState, StandsFor as NodesStand}
-use Rattle.world_nodes.proofs.MasterActs.{gives_exactly}
+use Rattle.world_pipes.specs.world_base.Core.{rules}
+use Rattle.escaping_nodes.specs.world_nodes.Asking.{log_of}
+use Rattle.escaping_nodes.specs.world_nodes.Goes.{behind_giving}
+use Rattle.escaping_nodes.specs.world_nodes.Nodes.{NodesState, StandsFor as NodesStand}
+use Rattle.escaping_nodes.proofs.of_world_nodes.MasterActs.{gives_exactly}
 use Rattle.world.specs.declared.event.Event.{Event}
 use Rattle.world.specs.declared.event.Event.TheVariants as events
 use Rattle.world.specs.Escaping.{CanEscape, configuration_of}

@@ -4,7 +4,7 @@ use Rattle.std.specs.Prelude.{bytes_eq, nat_lt, not}
 use Rattle.std.specs.List.{position, position_or_len, prefix_len}
 use Rattle.std.proofs.lemmas.List.{length-map, map-set}
 use Rattle.std.proofs.lemmas.Option.{none-some, same_Some}
-use Rattle.client.specs.Core.{Core}
+use Rattle.escaping_client.specs.client.Core.{Core}
 use Rattle.exact_model.proofs.of_group_model.Placed.{get_mapped}
 use Rattle.world.specs.declared.world.WorldClient.{WorldClient}
 use Rattle.world.specs.Found.{core_at, core_named, core_of, is_named}

@@ -3,9 +3,9 @@ use Rattle.std.proofs.Common.{◌≡◌, inl, inr, ◌<◌, ◌≤◌, ◌^◌, 
 use Rattle.std.specs.Prelude.{Ok}
 use Rattle.std.proofs.lemmas.Bool.{eq-eqb, lt-ltb, le-leb, ne_eqb}
 use Rattle.broker_base.specs.Connection.{ConnectionName, is_connection_name}
-use Rattle.world_base.specs.Core.{CountedCore}
-use Rattle.world_base.specs.Step.{accepted}
-use Rattle.world_nodes.specs.Goes.{node_of}
+use Rattle.world_pipes.specs.world_base.Core.{CountedCore}
+use Rattle.world_pipes.specs.world_base.Step.{accepted}
+use Rattle.escaping_nodes.specs.world_nodes.Goes.{node_of}
 use Rattle.world.specs.declared.event.Event.TheVariants as events
 use Rattle.world.specs.Doing.{OpensUnless, is_full}
 use Rattle.world.specs.Happening.{Happens}

@@ -29,9 +29,9 @@ use Rattle.exact_model.proofs.of_group_model.Placed.{get_mapped}
 use Rattle.exact_model.proofs.of_world_model.NodesHoused.{nodes_are_orderly}
 use Rattle.lists.specs.Lists.{In}
 use Rattle.lists.specs.Lists.In.{here}
-use Rattle.world_base.specs.Core.{CoreState, CountedCore, rules}
-use Rattle.world_nodes.specs.Asking.{log_of}
-use Rattle.world_nodes.specs.Nodes.{cores_of}
+use Rattle.world_pipes.specs.world_base.Core.{CoreState, CountedCore, rules}
+use Rattle.escaping_nodes.specs.world_nodes.Asking.{log_of}
+use Rattle.escaping_nodes.specs.world_nodes.Nodes.{cores_of}
 use Rattle.world.specs.declared.event.Event.{Event}
 use Rattle.world.specs.Escaping.{CanEscape, is_running}
 use Rattle.world.specs.Found.{port_of}

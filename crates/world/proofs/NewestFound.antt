@@ -3,15 +3,15 @@ use Rattle.std.proofs.Common.{◌≡◌, ◌⊎◌, inl, inr, ◌<◌, ◌≤◌
 use Rattle.std.proofs.lemmas.Bool.{and_from, both_ways, eq-eqb}
 use Rattle.std.proofs.lemmas.List.{length-set, take_all}
 use Rattle.std.proofs.lemmas.Option.{none-some, same_Some}
-use Rattle.client.specs.Core.{Core}
-use Rattle.client.specs.State.{is_open}
+use Rattle.escaping_client.specs.client.Core.{Core}
+use Rattle.escaping_client.specs.client.State.{is_open}
 use Rattle.lists.proofs.Places.{get_set}
-use Rattle.world_base.specs.Core.{CountedCore}
-use Rattle.world_base.specs.declared.item.Item.{Item}
-use Rattle.world_base.specs.declared.item.Item.TheVariants.{Bytes}
+use Rattle.world_pipes.specs.world_base.Core.{CountedCore}
+use Rattle.world_pipes.specs.world_base.declared.item.Item.{Item}
+use Rattle.world_pipes.specs.world_base.declared.item.Item.TheVariants.{Bytes}
 use Rattle.exact_model.specs.node_model.Moves.Deed.{takes}
-use Rattle.world_nodes.specs.Goes.{TakesExactly, behind_deed, running, unless_stopped}
-use Rattle.world_nodes.specs.Nodes.{NodesState}
+use Rattle.escaping_nodes.specs.world_nodes.Goes.{TakesExactly, behind_deed, running, unless_stopped}
+use Rattle.escaping_nodes.specs.world_nodes.Nodes.{NodesState}
 use Rattle.world_pipes.specs.declared.way.Way.{Way}
 use Rattle.world_pipes.specs.Piped.{is_holding}
 use Rattle.world.specs.declared.event.Event.TheVariants as events

@@ -2,13 +2,13 @@
 use Rattle.std.proofs.Common.{◌≡◌, ◌<◌, ◌≤◌, ◌^◌, ◌-◌, ℕ, sym, subst, arith}
 use Rattle.ballot.specs.Config.{Config}
 use Rattle.exact_model.proofs.of_group_model.of_snapshots.PastsAgree.{has_agreed, nodes_agree}
-use Rattle.world_base.specs.Core.{rules}
+use Rattle.world_pipes.specs.world_base.Core.{rules}
 use Rattle.exact_model.specs.group_model.Group.{Group, moment_of}
 use Rattle.exact_model.specs.group_model.Goes.{Went}
 use Rattle.exact_model.specs.group_model.Goes.Went.{then_went}
 use Rattle.exact_model.proofs.of_group_model.Ordered.{groups_keep_the_order}
-use Rattle.world_nodes.specs.Nodes.{NodesState, StandsFor}
-use Rattle.world_nodes.specs.Steps.{LosesNothing as NodesLoseNothing, forgetful}
+use Rattle.escaping_nodes.specs.world_nodes.Nodes.{NodesState, StandsFor}
+use Rattle.escaping_nodes.specs.world_nodes.Steps.{LosesNothing as NodesLoseNothing, forgetful}
 use Rattle.world.specs.Goes.{AreReached, Goes, NodesGo, NodesGoOn, StaysReached}
 use Rattle.world.specs.Goes.Goes.{rests, goes_on}
 use Rattle.world.specs.Inside.Steps.{NodesStay}

@@ -11,8 +11,8 @@ use Rattle.broker_base.specs.Command.{Command}
 use Rattle.broker_base.specs.Output.{Output}
 use Rattle.broker_base.specs.Place.{Client}
 use Rattle.broker_base.specs.State.{State}
-use Rattle.world_nodes.specs.Agreed.{AgreeOn}
-use Rattle.world_nodes.specs.Nodes.{NodesState}
+use Rattle.escaping_nodes.specs.world_nodes.Agreed.{AgreeOn}
+use Rattle.escaping_nodes.specs.world_nodes.Nodes.{NodesState}
 use Rattle.world.specs.World.{WorldState}
 use Rattle.world.specs.Goes.{AreReached}
 use Rattle.world.specs.Standing.{IsReached}

@@ -16,10 +16,10 @@ use Rattle.exact_model.proofs.of_world_model.NodesHoused.{nodes_are_orderly, por
 use Rattle.lists.proofs.Tests.{eq_is}
 use Rattle.lists.specs.Lists.{Each, In}
 use Rattle.lists.specs.Lists.In.{here, there}
-use Rattle.world_base.specs.declared.Connection.{Connection}
-use Rattle.world_base.specs.declared.Port.{Port}
-use Rattle.world_base.specs.Connections.{is_at, is_open_named, is_over}
-use Rattle.world_base.specs.Core.{CoreState, CountedCore}
+use Rattle.world_pipes.specs.world_base.declared.Connection.{Connection}
+use Rattle.world_pipes.specs.world_base.declared.Port.{Port}
+use Rattle.world_pipes.specs.world_base.Connections.{is_at, is_open_named, is_over}
+use Rattle.world_pipes.specs.world_base.Core.{CoreState, CountedCore}
 use Rattle.world.specs.Found.{port_of}
 use Rattle.world.specs.Standing.{StandsFor}
 use Rattle.world.specs.World.{WorldState}

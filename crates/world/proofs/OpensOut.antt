@@ -8,10 +8,10 @@ use Rattle.ballot.specs.Replica.{is_active}
 use Rattle.broker_base.specs.Command.{Command}
 use Rattle.broker_base.specs.Output.{Output}
 use Rattle.broker_base.specs.State.{State}
-use Rattle.client.specs.Calls.{opened}
-use Rattle.client.specs.Core.{AppendsAll, Core, nothing_read}
-use Rattle.client.specs.Stage.TheVariants as stages
-use Rattle.client.specs.State.{ClientState, is_open}
+use Rattle.escaping_client.specs.client.Calls.{opened}
+use Rattle.escaping_client.specs.client.Core.{AppendsAll, Core, nothing_read}
+use Rattle.escaping_client.specs.client.Stage.TheVariants as stages
+use Rattle.escaping_client.specs.client.State.{ClientState, is_open}
 use Rattle.escaping_nodes.specs.Coming.{Come}
 use Rattle.escaping_nodes.specs.Coming.Come.{all_came as none_comes}
 use Rattle.escaping_nodes.specs.Opened.{CanOpen, IsOpened, first_of}
@@ -20,12 +20,12 @@ use Rattle.exact_model.specs.group_model.snapshots.Past.{Moment}
 use Rattle.exact_model.specs.node_model.Moves.{Deed}
 use Rattle.exact_model.specs.node_model.Moves.Deed.{takes}
 use Rattle.lists.proofs.Places.{get_pushed, get_set}
-use Rattle.world_base.specs.Core.{CountedCore}
-use Rattle.world_base.specs.declared.item.Item.{Item}
-use Rattle.world_base.specs.declared.item.Item.TheVariants.{Opened}
-use Rattle.world_nodes.specs.Goes.{behind_deed, node_of}
-use Rattle.world_nodes.specs.Nodes.{NodesState}
-use Rattle.world_nodes.proofs.Acts.{acts}
+use Rattle.world_pipes.specs.world_base.Core.{CountedCore}
+use Rattle.world_pipes.specs.world_base.declared.item.Item.{Item}
+use Rattle.world_pipes.specs.world_base.declared.item.Item.TheVariants.{Opened}
+use Rattle.escaping_nodes.specs.world_nodes.Goes.{behind_deed, node_of}
+use Rattle.escaping_nodes.specs.world_nodes.Nodes.{NodesState}
+use Rattle.escaping_nodes.proofs.of_world_nodes.Acts.{acts}
 use Rattle.world_pipes.specs.declared.way.Way.{Way}
 use Rattle.world_pipes.specs.Piped.{Piped, new_way}
 use Rattle.world.specs.declared.event.Event.{Event}

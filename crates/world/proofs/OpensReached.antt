@@ -8,10 +8,10 @@ use Rattle.agreement.specs.World.{can_open}
 use Rattle.broker_base.specs.Place.{Client}
 use Rattle.exact_model.specs.model.World.{AreApart}
 use Rattle.exact_model.specs.group_model.Group.{opening_group}
-use Rattle.world_base.specs.declared.Port.{Port}
+use Rattle.world_pipes.specs.world_base.declared.Port.{Port}
 use Rattle.exact_model.specs.world_model.World.{ClientPipes, Pipe, new_client, opening}
 use Rattle.exact_model.specs.world_model.Goes.Reached.{begins}
-use Rattle.world_nodes.specs.Nodes.{StandsFor as NodesStand}
+use Rattle.escaping_nodes.specs.world_nodes.Nodes.{StandsFor as NodesStand}
 use Rattle.world_pipes.specs.declared.way.Way.{Way}
 use Rattle.world_pipes.specs.Standing.{StandsFor as ClientStands}
 use Rattle.world.specs.declared.world.WorldClient.{WorldClient}

@@ -4,14 +4,14 @@ use Rattle.std.specs.Prelude.{IfSome, IfOk, IsErr}
 use Rattle.std.proofs.lemmas.List.{append-nil, set-set}
 use Rattle.lists.proofs.Places.{get_set}
 use Rattle.master.specs.declared.event.Idle.{Idle}
-use Rattle.world_base.specs.declared.Handed.{Handed}
-use Rattle.world_base.specs.declared.Port.{Port}
-use Rattle.world_base.specs.Core.{CountedCore}
+use Rattle.world_pipes.specs.world_base.declared.Handed.{Handed}
+use Rattle.world_pipes.specs.world_base.declared.Port.{Port}
+use Rattle.world_pipes.specs.world_base.Core.{CountedCore}
 use Rattle.exact_model.specs.node_model.Moves.Deed.{gives}
-use Rattle.world_nodes.specs.Goes.{node_of}
-use Rattle.world_nodes.specs.Nodes.{NodesState}
-use Rattle.world_nodes.specs.Steps.{HandsIn}
-use Rattle.world_nodes.proofs.Exactly.{gives_acts}
+use Rattle.escaping_nodes.specs.world_nodes.Goes.{node_of}
+use Rattle.escaping_nodes.specs.world_nodes.Nodes.{NodesState}
+use Rattle.escaping_nodes.specs.world_nodes.Steps.{HandsIn}
+use Rattle.escaping_nodes.proofs.of_world_nodes.Exactly.{gives_acts}
 use Rattle.world_pipes.specs.declared.way.Way.{Way}
 use Rattle.world_pipes.specs.Piped.{Piped}
 use Rattle.world.specs.Housed.{leads}

@@ -4,7 +4,7 @@ use Rattle.std.specs.List.{position}
 use Rattle.std.proofs.lemmas.Option.{none-some, same_Some}
 use Rattle.ballot.specs.Message.{Message}
 use Rattle.broker_base.specs.Command.{Command}
-use Rattle.client.specs.Core.{Core}
+use Rattle.escaping_client.specs.client.Core.{Core}
 use Rattle.escaping_nodes.specs.Answered.{PutsOutAtLast, last_held, session_present}
 use Rattle.escaping_nodes.specs.Coming.{Come}
 use Rattle.escaping_nodes.specs.Coming.Come.{all_came as none_comes, hands}
@@ -14,12 +14,12 @@ use Rattle.exact_model.specs.node_model.Moves.Deed.{takes}
 use Rattle.lists.specs.Lists.{IsPrefixOf}
 use Rattle.lists.proofs.Places.{get_set}
 use Rattle.packet.specs.Spelling.{spelling}
-use Rattle.world_base.specs.Core.{CountedCore}
-use Rattle.world_base.specs.declared.item.Item.TheVariants.{Peer}
-use Rattle.world_base.specs.Handing.{bytes_of}
-use Rattle.world_base.specs.Step.{node_step}
-use Rattle.world_nodes.specs.Goes.{ComesToNobody, behind_deed, node_of, running}
-use Rattle.world_nodes.specs.Nodes.{NodesState}
+use Rattle.world_pipes.specs.world_base.Core.{CountedCore}
+use Rattle.world_pipes.specs.world_base.declared.item.Item.TheVariants.{Peer}
+use Rattle.world_pipes.specs.world_base.Handing.{bytes_of}
+use Rattle.world_pipes.specs.world_base.Step.{node_step}
+use Rattle.escaping_nodes.specs.world_nodes.Goes.{ComesToNobody, behind_deed, node_of, running}
+use Rattle.escaping_nodes.specs.world_nodes.Nodes.{NodesState}
 use Rattle.world.specs.declared.event.Event.{Event}
 use Rattle.world.specs.declared.event.Event.TheVariants as events
 use Rattle.world.specs.Found.{is_named, port_of}

@@ -7,18 +7,18 @@ use Rattle.ballot.specs.Body.TheVariants.{NewBallot, Join, State, Install, Insta
 use Rattle.ballot.specs.Message.{Message}
 use Rattle.broker_base.specs.Command.{Command}
 use Rattle.master.specs.declared.event.Idle.{Idle}
-use Rattle.world_base.specs.Core.{CountedCore}
-use Rattle.world_base.specs.Handing.{hands_over}
-use Rattle.world_base.specs.Losses.{WaitsNothing}
-use Rattle.world_base.specs.Step.{node_step}
-use Rattle.world_base.specs.declared.Handed.{Handed}
-use Rattle.world_base.specs.declared.item.Item.{Item}
-use Rattle.world_base.specs.declared.item.Item.TheVariants.{Peer}
-use Rattle.world_base.specs.declared.Port.{Port}
-use Rattle.world_base.proofs.Calmly.{hands_over_waits, nothing_handed, step_waits}
-use Rattle.world_nodes.specs.Goes.{Comes, GivesExactly, HeardByMaster, TakesExactly, node_of, running, unless_stopped}
-use Rattle.world_nodes.specs.Nodes.{NodesState}
-use Rattle.world_nodes.specs.Quiet.{ComesUnheeded, IsUnheeded, RestsAt, WaitsAtNone}
+use Rattle.world_pipes.specs.world_base.Core.{CountedCore}
+use Rattle.world_pipes.specs.world_base.Handing.{hands_over}
+use Rattle.world_pipes.specs.world_base.Losses.{WaitsNothing}
+use Rattle.world_pipes.specs.world_base.Step.{node_step}
+use Rattle.world_pipes.specs.world_base.declared.Handed.{Handed}
+use Rattle.world_pipes.specs.world_base.declared.item.Item.{Item}
+use Rattle.world_pipes.specs.world_base.declared.item.Item.TheVariants.{Peer}
+use Rattle.world_pipes.specs.world_base.declared.Port.{Port}
+use Rattle.world_pipes.proofs.of_world_base.Calmly.{hands_over_waits, nothing_handed, step_waits}
+use Rattle.escaping_nodes.specs.world_nodes.Goes.{Comes, GivesExactly, HeardByMaster, TakesExactly, node_of, running, unless_stopped}
+use Rattle.escaping_nodes.specs.world_nodes.Nodes.{NodesState}
+use Rattle.escaping_nodes.specs.world_nodes.Quiet.{ComesUnheeded, IsUnheeded, RestsAt, WaitsAtNone}
 use Rattle.world.specs.declared.event.Event.{Event}
 use Rattle.world.specs.declared.place.Place.{Place}
 use Rattle.world.specs.Cannot.{CannotHappen}

@@ -4,11 +4,11 @@ use Rattle.std.proofs.lemmas.Bool.{eq-eqb, ne_eqb}
 use Rattle.std.proofs.lemmas.List.{length-set}
 use Rattle.std.proofs.lemmas.Option.{same_Some}
 use Rattle.lists.proofs.Places.{get_set, get_set_other}
-use Rattle.client.specs.Core.{Core}
+use Rattle.escaping_client.specs.client.Core.{Core}
 use Rattle.exact_model.proofs.of_model.Lists.{same_or_other}
-use Rattle.world_base.specs.Core.{CountedCore}
-use Rattle.world_base.specs.declared.Port.{Port}
-use Rattle.world_nodes.specs.Goes.{node_of}
+use Rattle.world_pipes.specs.world_base.Core.{CountedCore}
+use Rattle.world_pipes.specs.world_base.declared.Port.{Port}
+use Rattle.escaping_nodes.specs.world_nodes.Goes.{node_of}
 use Rattle.world_pipes.specs.declared.way.Way.{Way}
 use Rattle.world.specs.declared.place.Place.{Place}
 use Rattle.world.specs.declared.world.WorldClient.{WorldClient}

@@ -9,7 +9,7 @@ use Rattle.broker_base.specs.Command.{Command}
 use Rattle.broker_base.specs.Connection.{ConnectionName, same_connection}
 use Rattle.broker_base.specs.Output.{Output}
 use Rattle.broker_base.specs.State.{State}
-use Rattle.client.specs.Core.{Core}
+use Rattle.escaping_client.specs.client.Core.{Core}
 use Rattle.escaping_nodes.specs.cut_ways.Deliveries.{Delivered, after_activate, after_outcome}
 use Rattle.escaping_nodes.specs.cut_ways.Deliveries.Delivered.{all_came, to_node, to_master}
 use Rattle.escaping_nodes.specs.escaping.Waiting.{AwaitsAnswer}
@@ -20,16 +20,16 @@ use Rattle.escaping_nodes.proofs.NodesFollow.{deliveries_are_followed}
 use Rattle.exact_model.specs.group_model.snapshots.Past.{Moment}
 use Rattle.exact_model.specs.node_model.Moves.Deed.{takes}
 use Rattle.exact_model.proofs.of_node_model.Views.{found_passes}
-use Rattle.world_base.specs.declared.Connection.{Connection}
-use Rattle.world_base.specs.declared.Handed.{Handed}
-use Rattle.world_base.specs.declared.Handed.TheVariants as answers
-use Rattle.world_base.specs.declared.Port.{Port}
-use Rattle.world_base.specs.declared.item.Item.TheVariants.{Peer}
-use Rattle.world_base.specs.Connections.{is_open_named, is_over}
-use Rattle.world_base.specs.Core.{CountedCore, rules}
-use Rattle.world_base.specs.Handing.{answer_of, bytes_of}
-use Rattle.world_nodes.specs.Goes.{behind_answer, behind_deed, node_of}
-use Rattle.world_nodes.specs.Nodes.{NodesState}
+use Rattle.world_pipes.specs.world_base.declared.Connection.{Connection}
+use Rattle.world_pipes.specs.world_base.declared.Handed.{Handed}
+use Rattle.world_pipes.specs.world_base.declared.Handed.TheVariants as answers
+use Rattle.world_pipes.specs.world_base.declared.Port.{Port}
+use Rattle.world_pipes.specs.world_base.declared.item.Item.TheVariants.{Peer}
+use Rattle.world_pipes.specs.world_base.Connections.{is_open_named, is_over}
+use Rattle.world_pipes.specs.world_base.Core.{CountedCore, rules}
+use Rattle.world_pipes.specs.world_base.Handing.{answer_of, bytes_of}
+use Rattle.escaping_nodes.specs.world_nodes.Goes.{behind_answer, behind_deed, node_of}
+use Rattle.escaping_nodes.specs.world_nodes.Nodes.{NodesState}
 use Rattle.world.specs.declared.event.Event.TheVariants as events
 use Rattle.world.specs.Found.{port_of}
 use Rattle.world.specs.Gathering.{Gathers, is_more, is_told_open, put_out}

@@ -16,10 +16,10 @@ use Rattle.broker_base.specs.Place.{Client}
 use Rattle.escaping_nodes.specs.cut_ways.ways_out.Deliveries.{asked_and_answered, way_out}
 use Rattle.escaping_nodes.proofs.WelcomedKept.{welcomed_are_kept}
 use Rattle.way_numbers.specs.Lengths.{WaysAreShort}
-use Rattle.world_base.specs.Core.{CountedCore}
-use Rattle.world_nodes.specs.Asking.{log_in, log_of, welcomes_back}
-use Rattle.world_nodes.specs.Goes.{node_of}
-use Rattle.world_nodes.specs.Nodes.{NodesState}
+use Rattle.world_pipes.specs.world_base.Core.{CountedCore}
+use Rattle.escaping_nodes.specs.world_nodes.Asking.{log_in, log_of, welcomes_back}
+use Rattle.escaping_nodes.specs.world_nodes.Goes.{node_of}
+use Rattle.escaping_nodes.specs.world_nodes.Nodes.{NodesState}
 use Rattle.world.specs.declared.event.Event.{Event}
 use Rattle.world.specs.declared.event.Event.TheVariants as events
 use Rattle.world.specs.declared.world.WorldClient.{WorldClient}

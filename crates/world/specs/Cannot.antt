@@ -2,11 +2,11 @@
 use Rattle.std.specs.Prelude.{◌≡◌, ◌⊎◌, ◌<◌, ℕ, suc, ◌==◌, ◌&&◌, Bool, true, false, List, [], Option, Some, None, length, slice_get}
 use Rattle.std.specs.List.{position}
 use Rattle.agreement.specs.MasterState.{refusal}
-use Rattle.client.specs.Core.{Core}
+use Rattle.escaping_client.specs.client.Core.{Core}
 use Rattle.client_base.specs.State.{is_open}
 use Rattle.client_base.specs.Steps.{Call, keeper_step}
-use Rattle.world_base.specs.Core.{CountedCore, serves}
-use Rattle.world_nodes.specs.Goes.{ComesToNobody, cutting, node_of, proposing, running}
+use Rattle.world_pipes.specs.world_base.Core.{CountedCore, serves}
+use Rattle.escaping_nodes.specs.world_nodes.Goes.{ComesToNobody, cutting, node_of, proposing, running}
 use Rattle.world_pipes.specs.declared.way.Way.{Way}
 use Rattle.world_pipes.specs.Piped.{is_holding}
 use Rattle.world.specs.declared.event.Event.{Event}

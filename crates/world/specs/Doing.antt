@@ -4,17 +4,17 @@ use Rattle.ballot.specs.Config.{Config}
 use Rattle.ballot.specs.Message.{Message}
 use Rattle.broker_base.specs.Command.{Command}
 use Rattle.broker_base.specs.Connection.{is_connection_name}
-use Rattle.client.specs.Core.{gone}
+use Rattle.escaping_client.specs.client.Core.{gone}
 use Rattle.client_base.specs.Steps.{Call, keeper_step}
 use Rattle.client_base.specs.declared.error.ClientError.{ClientError}
 use Rattle.client_base.specs.declared.error.ClientError.TheVariants as errors
-use Rattle.world_base.specs.Core.{CountedCore}
-use Rattle.world_base.specs.Step.{next_name}
-use Rattle.world_base.specs.declared.item.Item.TheVariants as items
-use Rattle.world_base.specs.declared.Port.{Port}
-use Rattle.world_nodes.specs.Goes.{Comes, CutsExactly, TakesExactly, behind_giving, node_of}
-use Rattle.world_nodes.specs.Nodes.{NodesState}
-use Rattle.world_nodes.specs.Steps.{ComesIn, CutsIn, ExpelsIn, GivesIn, TakesIn}
+use Rattle.world_pipes.specs.world_base.Core.{CountedCore}
+use Rattle.world_pipes.specs.world_base.Step.{next_name}
+use Rattle.world_pipes.specs.world_base.declared.item.Item.TheVariants as items
+use Rattle.world_pipes.specs.world_base.declared.Port.{Port}
+use Rattle.escaping_nodes.specs.world_nodes.Goes.{Comes, CutsExactly, TakesExactly, behind_giving, node_of}
+use Rattle.escaping_nodes.specs.world_nodes.Nodes.{NodesState}
+use Rattle.escaping_nodes.specs.world_nodes.Steps.{ComesIn, CutsIn, ExpelsIn, GivesIn, TakesIn}
 use Rattle.world_pipes.specs.declared.sending.Sending.{Sending}
 use Rattle.world_pipes.specs.declared.sending.Sending.TheVariants as sendings
 use Rattle.world_pipes.specs.Piped.{Calls, Connects, Hears, Piped, TakesLeave, taken_back}

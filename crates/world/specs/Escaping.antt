@@ -10,12 +10,12 @@ use Rattle.broker_base.specs.Command.{Command}
 use Rattle.broker_base.specs.Commands.{past_of, usual_limits}
 use Rattle.broker_base.specs.Past.{session_of}
 use Rattle.broker_base.specs.Place.{Client}
-use Rattle.client.specs.Core.{Core}
+use Rattle.escaping_client.specs.client.Core.{Core}
 use Rattle.client_base.specs.State.{is_online}
-use Rattle.world_base.specs.Core.{CountedCore}
-use Rattle.world_nodes.specs.Agreed.{AgreeOn}
-use Rattle.world_nodes.specs.Asking.{log_of}
-use Rattle.world_nodes.specs.Goes.{node_of}
+use Rattle.world_pipes.specs.world_base.Core.{CountedCore}
+use Rattle.escaping_nodes.specs.world_nodes.Agreed.{AgreeOn}
+use Rattle.escaping_nodes.specs.world_nodes.Asking.{log_of}
+use Rattle.escaping_nodes.specs.world_nodes.Goes.{node_of}
 use Rattle.world.specs.declared.event.Event.{Event}
 use Rattle.world.specs.Found.{core_named}
 use Rattle.world.specs.Goes.{LosesNothing}

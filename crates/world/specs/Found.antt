@@ -1,8 +1,8 @@
 -- What is found in a world: a client by its identifier, and a connection by its number.
 use Rattle.std.specs.Prelude.{◌≡◌, ℕ, ◌-◌, ◌==◌, if◌then◌else◌, Bool, List, Option, Some, None, bytes_eq, drop, set, slice_get}
 use Rattle.std.specs.List.{position}
-use Rattle.client.specs.Core.{Core}
-use Rattle.world_base.specs.declared.Port.{Port}
+use Rattle.escaping_client.specs.client.Core.{Core}
+use Rattle.world_pipes.specs.world_base.declared.Port.{Port}
 use Rattle.world_pipes.specs.declared.way.Way.{Way}
 use Rattle.world_pipes.specs.Piped.{Piped}
 use Rattle.world.specs.declared.place.Place.{Place}

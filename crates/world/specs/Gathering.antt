@@ -1,15 +1,15 @@
 -- What a node put out goes down on its connections: exactly, or where losses are allowed (`whole` is false) perhaps with losses.
 use Rattle.std.specs.Prelude.{◌≡◌, ◌⊎◌, ℕ, zero, suc, ◌-◌, ◌==◌, ◌&&◌, Bool, true, false, List, [], ◌++◌, Option, Some, None, length, set}
 use Rattle.exact_model.specs.node_model.Moves.Deed.{gives}
-use Rattle.world_base.specs.Core.{CountedCore}
-use Rattle.world_base.specs.Handing.{answer_of, bytes_of, listed_at}
-use Rattle.world_base.specs.declared.Handed.{Handed}
-use Rattle.world_base.specs.declared.Handed.TheVariants as answers
-use Rattle.world_base.specs.declared.item.Item.{Item}
-use Rattle.world_base.specs.declared.Port.{Port}
-use Rattle.world_nodes.specs.Goes.{TakesExactly, behind_deed, node_of}
-use Rattle.world_nodes.specs.Nodes.{NodesState}
-use Rattle.world_nodes.specs.Steps.{TakesIn, forgetful}
+use Rattle.world_pipes.specs.world_base.Core.{CountedCore}
+use Rattle.world_pipes.specs.world_base.Handing.{answer_of, bytes_of, listed_at}
+use Rattle.world_pipes.specs.world_base.declared.Handed.{Handed}
+use Rattle.world_pipes.specs.world_base.declared.Handed.TheVariants as answers
+use Rattle.world_pipes.specs.world_base.declared.item.Item.{Item}
+use Rattle.world_pipes.specs.world_base.declared.Port.{Port}
+use Rattle.escaping_nodes.specs.world_nodes.Goes.{TakesExactly, behind_deed, node_of}
+use Rattle.escaping_nodes.specs.world_nodes.Nodes.{NodesState}
+use Rattle.escaping_nodes.specs.world_nodes.Steps.{TakesIn, forgetful}
 use Rattle.world.specs.declared.place.Place.{Place}
 use Rattle.world.specs.Found.{Connected, place_numbered, port_of, with_down, with_piped}
 use Rattle.world.specs.World.{WorldState}

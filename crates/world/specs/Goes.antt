@@ -6,11 +6,11 @@ use Rattle.ballot.specs.Config.{Config}
 use Rattle.exact_model.specs.group_model.snapshots.Agreeing.{Agrees, Holds, LeftInOrder}
 use Rattle.exact_model.specs.group_model.snapshots.Past.{IsAgreed}
 use Rattle.broker_base.specs.Command.{Command}
-use Rattle.world_base.specs.Core.{rules}
+use Rattle.world_pipes.specs.world_base.Core.{rules}
 use Rattle.exact_model.specs.group_model.Group.{Group, moment_of}
 use Rattle.exact_model.specs.group_model.Goes.{MayGo, Went, all_put, groups_of}
 use Rattle.exact_model.specs.group_model.Order.{KeepsOrder}
-use Rattle.world_nodes.specs.Nodes.{NodesState, StandsFor}
+use Rattle.escaping_nodes.specs.world_nodes.Nodes.{NodesState, StandsFor}
 use Rattle.world.specs.World.{WorldState}
 
 -- ---- steps of a group, one behind the other

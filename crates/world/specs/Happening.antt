@@ -5,8 +5,8 @@ use Rattle.ballot.specs.Losses.{one_more}
 use Rattle.broker_base.specs.Place.{Client}
 use Rattle.exact_model.specs.group_model.Group.{opening_group}
 use Rattle.master.specs.declared.event.Idle.{Idle}
-use Rattle.world_nodes.specs.Nodes.{StandsFor}
-use Rattle.world_nodes.specs.Steps.{LosesNothing as NodesLoseNothing}
+use Rattle.escaping_nodes.specs.world_nodes.Nodes.{StandsFor}
+use Rattle.escaping_nodes.specs.world_nodes.Steps.{LosesNothing as NodesLoseNothing}
 use Rattle.world_pipes.specs.Piped.{new_piped}
 use Rattle.world.specs.declared.event.Event.{Event}
 use Rattle.world.specs.declared.world.WorldClient.{WorldClient}

@@ -1,6 +1,6 @@
 -- What holds of every `World`, by its fields.
 use Rattle.std.specs.Prelude.{◌≡◌, ◌≤◌, ℕ, suc, List, [], ◌∷◌, Some, if◌then◌else◌, length, map, slice_get}
-use Rattle.world_base.specs.declared.Port.{Port}
+use Rattle.world_pipes.specs.world_base.declared.Port.{Port}
 use Rattle.world_pipes.specs.declared.way.Way.{Way}
 use Rattle.world.specs.declared.place.Place.{Place}
 use Rattle.world.specs.declared.world.WorldClient.{WorldClient}

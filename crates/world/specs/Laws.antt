@@ -1,7 +1,7 @@
 -- Laws of what comes of events. The calls of `laws.rt` prove them.
 use Rattle.std.specs.Prelude.{◌≡◌, ◌<◌, ◌≤◌, ◌^◌, ◌-◌, ℕ, false, List, Some, Ok}
-use Rattle.world_base.specs.Core.{CountedCore}
-use Rattle.world_nodes.specs.Goes.{node_of}
+use Rattle.world_pipes.specs.world_base.Core.{CountedCore}
+use Rattle.escaping_nodes.specs.world_nodes.Goes.{node_of}
 use Rattle.world.specs.declared.event.Event.{Event}
 use Rattle.world.specs.declared.event.Event.TheVariants as events
 use Rattle.world.specs.Doing.{is_full}

@@ -13,8 +13,10 @@ pub mod Asking
 pub mod Laws
 pub mod Escaping
 pub mod Refusals
-pub use Rattle.client.specs as client
+pub use Rattle.escaping_client.specs.client as client
 pub use Rattle.master.specs as master
-pub use Rattle.world_nodes.specs as world_nodes
+pub use Rattle.escaping_nodes.specs.world_nodes as world_nodes
 pub use Rattle.world_pipes.specs as world_pipes
 pub use Rattle.exact_model.specs.model as model
+pub use Rattle.agreement.specs as agreement
+pub use Rattle.ballot.specs as ballot

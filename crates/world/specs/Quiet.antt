@@ -2,13 +2,13 @@
 use Rattle.std.specs.Prelude.{◌≡◌, ℕ, zero, suc, true, Option, Some, None, slice_get}
 use Rattle.ballot.specs.Message.{Message}
 use Rattle.broker_base.specs.Command.{Command}
-use Rattle.world_base.specs.Core.{CountedCore}
-use Rattle.world_base.specs.Losses.{WaitsNothing}
-use Rattle.world_base.specs.declared.item.Item.{Item}
-use Rattle.world_base.specs.declared.item.Item.TheVariants as items
-use Rattle.world_nodes.specs.Goes.{node_of}
-use Rattle.world_nodes.specs.Nodes.{NodesState}
-use Rattle.world_nodes.specs.Quiet.{IsUnheeded, RestsAt}
+use Rattle.world_pipes.specs.world_base.Core.{CountedCore}
+use Rattle.world_pipes.specs.world_base.Losses.{WaitsNothing}
+use Rattle.world_pipes.specs.world_base.declared.item.Item.{Item}
+use Rattle.world_pipes.specs.world_base.declared.item.Item.TheVariants as items
+use Rattle.escaping_nodes.specs.world_nodes.Goes.{node_of}
+use Rattle.escaping_nodes.specs.world_nodes.Nodes.{NodesState}
+use Rattle.escaping_nodes.specs.world_nodes.Quiet.{IsUnheeded, RestsAt}
 use Rattle.world.specs.declared.event.Event.{Event}
 use Rattle.world.specs.declared.event.Event.TheVariants as events
 use Rattle.world.specs.declared.place.Place.{Place}

@@ -4,12 +4,12 @@ use Rattle.ballot.specs.Config.{Config}
 use Rattle.broker_base.specs.Place.{Client}
 use Rattle.exact_model.specs.model.World.{AreApart}
 use Rattle.session_base.specs.declared.publication.Publication.{Publication}
-use Rattle.story.specs.Sides.{Connection}
+use Rattle.world_pipes.specs.story.Sides.{Connection}
 use Rattle.exact_model.specs.Exact.{IsExact}
 use Rattle.exact_model.specs.world_model.World.{ClientPipes, World}
 use Rattle.exact_model.specs.world_model.Goes.{Reached, WorldStep}
 use Rattle.exact_model.specs.world_model.Published.{published_in, published_on}
-use Rattle.world_nodes.specs.Nodes.{StandsFor as NodesStand}
+use Rattle.escaping_nodes.specs.world_nodes.Nodes.{StandsFor as NodesStand}
 use Rattle.world_pipes.specs.Standing.{StandsFor as ClientStands}
 use Rattle.world.specs.World.{WorldState}
 use Rattle.world.specs.declared.world.WorldClient.{WorldClient}

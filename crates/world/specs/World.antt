@@ -2,7 +2,7 @@
 use Rattle.std.specs.Prelude.{ℕ, List}
 use Rattle.world.specs.declared.place.Place.{Place}
 use Rattle.world.specs.declared.world.WorldClient.{WorldClient}
-use Rattle.world_nodes.specs.Nodes.{NodesState}
+use Rattle.escaping_nodes.specs.world_nodes.Nodes.{NodesState}
 
 -- The nodes with their master; the clients, each by its identifier with all its connections; where each connection stands, the
 -- first opened first; and the count of steps in which memory was wanting, up to 2^64 - 1.

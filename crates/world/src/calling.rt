@@ -2,7 +2,7 @@
 
 ghost use Rattle.std.specs.Prelude.{◌≡◌, ◌<◌, if◌then◌else◌, true, false, [], ◌∷◌, length, slice_get, IfSome};
 ghost use Rattle.client_base.specs.Steps.{Call, keeper_step};
-ghost use Rattle.world_nodes.specs.Goes.{node_of};
+ghost use Rattle.escaping_nodes.specs.world_nodes.Goes.{node_of};
 ghost use Rattle.world_pipes.specs.Following.{CallingFollows, FollowsAll};
 ghost use Rattle.world_pipes.specs.Piped.{TakesLeave, is_holding, taken_back};
 ghost use Rattle.world.specs.Goes.{CountsOnce, NodesGoOn};
@@ -17,11 +17,11 @@ ghost use Rattle.world.specs.Inside.Steps.{GoesAsked, GoesOn, Meets};
 use crate::event::Event;
 use crate::place::Place;
 use crate::world::World;
+use escaping_nodes::world_nodes::{Idle, Nodes};
 use packet::{ClientId, QoS};
 use session_base::Publication;
 use topics::Filter;
-use world_base::Port;
-use world_nodes::{Idle, Nodes};
+use world_pipes::world_base::Port;
 use world_pipes::{ClientError, PipedClient, Sending};
 
 impl World {

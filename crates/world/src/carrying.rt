@@ -1,7 +1,7 @@
 // Bytes come to a node, or to a client.
 
 ghost use Rattle.std.specs.Prelude.{◌≡◌, ◌⊎◌, ◌≤◌, ◌<◌, ◌-◌, ◌↔◌, true, false, Some, None, length, slice_get, if◌then◌else◌, IfOk, OnErr};
-ghost use Rattle.world_nodes.specs.Goes.{running};
+ghost use Rattle.escaping_nodes.specs.world_nodes.Goes.{running};
 ghost use Rattle.world_pipes.specs.Following.{FollowsAll};
 ghost use Rattle.world.specs.Goes.{CountsOnce, NodesGoOn};
 ghost use Rattle.world.specs.Housed.{leads};
@@ -12,9 +12,9 @@ ghost use Rattle.world.specs.Inside.Calling.{forgetful};
 use crate::event::Event;
 use crate::place::Place;
 use crate::world::World;
+use escaping_nodes::world_nodes::{Idle, Nodes};
 use std::alloc::Global;
-use world_base::{Piece, Port};
-use world_nodes::{Idle, Nodes};
+use world_pipes::world_base::{Piece, Port};
 use world_pipes::{ClientError, PipedClient};
 
 impl World {

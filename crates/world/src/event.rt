@@ -3,7 +3,7 @@
 use packet::{ClientId, QoS};
 use session_base::Publication;
 use topics::Filter;
-use world_base::Config;
+use world_pipes::world_base::Config;
 
 /// One thing that happens in a world. Nodes are numbered from 1, messages from 0 in the order of their
 /// sending, connections from 1 in the order of [`Event::Open`].

@@ -1,7 +1,7 @@
 // What a node put out goes on its way.
 
 ghost use Rattle.std.specs.Prelude.{◌≡◌, ◌<◌, ◌-◌, true, false, Some, length, slice_get};
-ghost use Rattle.world_nodes.specs.Nodes.{NodesState};
+ghost use Rattle.escaping_nodes.specs.world_nodes.Nodes.{NodesState};
 ghost use Rattle.world.specs.Gathering.{Gathers, GathersAmong};
 ghost use Rattle.world.specs.Goes.{NodesGoOn};
 ghost use Rattle.world.specs.Housed.{leads, open_from};
@@ -10,10 +10,10 @@ ghost use Rattle.world.specs.Inside.Steps.{GoesOn};
 
 use crate::place::Place;
 use crate::world::World;
+use escaping_nodes::world_nodes::{Idle, Nodes};
 use std::alloc::Global;
-use world_base::{Handed, Port};
-use world_nodes::{Idle, Nodes};
 use world_pipes::PipedClient;
+use world_pipes::world_base::{Handed, Port};
 
 impl World {
     // What a node put out goes on its way down, on each connection whose end there is open. The master, node 0, has none.

@@ -9,9 +9,9 @@ ghost use Rattle.world.specs.Quiet.{IsQuietAt, TakesNoMemory};
 use crate::event::Event;
 use crate::place::Place;
 use crate::world::World;
+use escaping_nodes::world_nodes::Idle;
 use packet::ClientId;
-use world_base::{Config, Item, Port};
-use world_nodes::Idle;
+use world_pipes::world_base::{Config, Item, Port};
 
 impl World {
     pub(crate) fn deliver(&mut self, number: u64) -> Result<(), Idle>

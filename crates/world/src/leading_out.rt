@@ -5,10 +5,10 @@ ghost use Rattle.std.specs.List.{list_all, position};
 ghost use Rattle.agreement.specs.MasterState.{refusal};
 ghost use Rattle.broker_base.specs.Commands.{past_of, usual_limits};
 ghost use Rattle.broker_base.specs.Past.{session_of};
-ghost use Rattle.world_nodes.specs.Asking.{log_of};
+ghost use Rattle.escaping_nodes.specs.world_nodes.Asking.{log_of};
 ghost use Rattle.world_pipes.specs.Piped.{is_holding};
 ghost use Rattle.world.specs.declared.world.WorldClient.{WorldClient};
-ghost use Rattle.world_nodes.specs.Goes.{node_of};
+ghost use Rattle.escaping_nodes.specs.world_nodes.Goes.{node_of};
 ghost use Rattle.world.specs.Escaping.{CanEscape, LeadsOut, configuration_of, held_in, is_running};
 ghost use Rattle.world.specs.Inside.Escaping.{IsFetchedFrom, escaping_events};
 
@@ -20,7 +20,7 @@ use ballot::MOST_PLACES;
 use packet::ClientId;
 use std::alloc::Global;
 use way_numbers::ways_are_short;
-use world_base::{Config, Members, Memory};
+use world_pipes::world_base::{Config, Members, Memory};
 
 // More messages than any memory holds.
 const MOST_MESSAGES: u64 = 4_611_686_018_427_387_904;

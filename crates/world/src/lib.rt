@@ -15,9 +15,10 @@ mod scheduling;
 mod world;
 
 pub use escape_error::EscapeError;
+pub use escaping_nodes::world_nodes::Idle;
 pub use event::Event;
 pub use laws::{an_open_past_the_last_changes_nothing, uncounted_is_exact};
 pub use world::World;
-pub use world_base::{Command, Config, Members, Memory, OpeningError};
-pub use world_nodes::Idle;
+pub use world_pipes;
+pub use world_pipes::world_base::{Command, Config, Members, Memory, OpeningError};
 pub use world_pipes::{Accepted, ClientCore};

@@ -4,7 +4,7 @@ ghost use Rattle.std.specs.Prelude.{ℕ, List, ◌≡◌, ◌<◌, ◌-◌, ◌+
 ghost use Rattle.std.specs.List.{position};
 ghost use Rattle.ballot.specs.Config.{Config};
 ghost use Rattle.broker_base.specs.Place.{Client};
-ghost use Rattle.world_nodes.specs.Agreed.{AgreeOn, AgreeOnSoMany};
+ghost use Rattle.escaping_nodes.specs.world_nodes.Agreed.{AgreeOn, AgreeOnSoMany};
 ghost use Rattle.world.specs.Found.{core_named, is_named, place_numbered, way_of};
 ghost use Rattle.world.specs.Goes.{AreReached};
 ghost use Rattle.exact_model.specs.Promise.{Promise};
@@ -14,8 +14,8 @@ ghost use Rattle.world.specs.Standing.{IsReached, connections_at};
 use crate::place::Place;
 use crate::world::{World, WorldClient};
 use packet::ClientId;
-use world_base::Command;
 use world_pipes::ClientCore;
+use world_pipes::world_base::Command;
 
 impl WorldClient {
     // Whether it has this identifier.

@@ -10,8 +10,8 @@ use crate::event::Event;
 use packet::ClientId;
 use std::alloc::Global;
 use way_numbers::{answers, way_out};
-use world_base::{Config, Memory};
 use world_pipes::PipedClient;
+use world_pipes::world_base::{Config, Memory};
 
 /// Appends an Assign, and that the messages come which lead its ballot to the start. So many were `sent` before, and the member
 /// at `place` of so many `members` is asked for its log.

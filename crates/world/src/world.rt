@@ -17,12 +17,12 @@ ghost use Rattle.world.specs.Standing.{ClientsStand, IsReached, KeepsReached, Wo
 
 use crate::event::Event;
 use crate::place::Place;
+use escaping_nodes::world_nodes::{Idle, Nodes};
 use packet::ClientId;
 use std::alloc::Global;
 use std::marker::Model;
-use world_base::{Config, Memory, OpeningError};
-use world_nodes::{Idle, Nodes};
 use world_pipes::PipedClient;
+use world_pipes::world_base::{Config, Memory, OpeningError};
 
 /// A client of a world by its identifier.
 #[derive(Drop)]

@@ -1,8 +1,8 @@
 -- Accounts.antt: what was done where memory may have been wanting, one thing behind the other.
 use Rattle.std.proofs.Common.{◌≡◌, ℕ, zero, suc, ◌+◌, ◌-◌, ◌≤◌, List, [], ◌++◌, append_assoc, refl, sym, ap, subst, ◌∙◌, arith}
 use Rattle.std.proofs.lemmas.List.{append-nil}
-use Rattle.broker_model.specs.declared.command.Command.{Command}
-use Rattle.broker_model.specs.declared.command.Output.{Output}
+use Rattle.node_connections.specs.broker_model.declared.command.Command.{Command}
+use Rattle.node_connections.specs.broker_model.declared.command.Output.{Output}
 use Rattle.ballot.specs.Effect.{Effect}
 use Rattle.world_base.specs.Core.{CoreState}
 use Rattle.world_base.specs.Inside.{Ran}

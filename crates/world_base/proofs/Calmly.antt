@@ -1,9 +1,9 @@
 -- Calmly.antt: a step on an item that takes no memory says nothing, and puts nothing out.
 use Rattle.std.proofs.Common.{◌≡◌, ◌⊎◌, inl, inr, Bool, true, false, if◌then◌else◌, Option, Some, None, List, [], ◌∷◌, length, map, refl, sym, ap, subst, ◌∙◌}
 use Rattle.std.specs.List.{filter, find}
-use Rattle.lists.specs.Lists.{Each}
-use Rattle.broker_model.specs.declared.command.Command.{Command}
-use Rattle.broker_model.specs.declared.command.Output.{Output}
+use Rattle.ballot.specs.lists.Lists.{Each}
+use Rattle.node_connections.specs.broker_model.declared.command.Command.{Command}
+use Rattle.node_connections.specs.broker_model.declared.command.Output.{Output}
 use Rattle.ballot.specs.Effect.{Effect}
 use Rattle.ballot.specs.Message.{Message}
 use Rattle.ballot.specs.Protocol.Input.{Receives}

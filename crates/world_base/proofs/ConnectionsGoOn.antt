@@ -6,12 +6,12 @@ use Rattle.packet.specs.RefusalCode.{RefusalCode}
 use Rattle.packet.specs.declared.packet.Packet.TheVariants as packets
 use Rattle.packet.specs.declared.connack.Connack.TheVariants as connacks
 use Rattle.packet.specs.Spelling.{spelling}
-use Rattle.broker_model.specs.Connection.{ConnectionName, same_connection}
-use Rattle.broker_model.specs.declared.command.Command.{Command}
-use Rattle.broker_model.specs.declared.command.Output.{Output}
-use Rattle.broker_model.specs.declared.command.Output.TheVariants as outputs
-use Rattle.broker_model.proofs.ConnectionNames.{same_name}
-use Rattle.lists.specs.Lists.{Each}
+use Rattle.node_connections.specs.broker_model.Connection.{ConnectionName, same_connection}
+use Rattle.node_connections.specs.broker_model.declared.command.Command.{Command}
+use Rattle.node_connections.specs.broker_model.declared.command.Output.{Output}
+use Rattle.node_connections.specs.broker_model.declared.command.Output.TheVariants as outputs
+use Rattle.node_connections.proofs.of_broker_model.ConnectionNames.{same_name}
+use Rattle.ballot.specs.lists.Lists.{Each}
 use Rattle.ballot.specs.Effect.{Effect}
 use Rattle.ballot.specs.Effect.TheVariants.{To, Out}
 use Rattle.ballot.specs.Message.{Message}

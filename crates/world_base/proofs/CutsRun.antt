@@ -1,8 +1,8 @@
 -- CutsRun.antt: a cut of the replica's log is that of its node, or a loss that is counted.
 use Rattle.std.proofs.Common.{◌≡◌, ℕ, ◌⊎◌, inl, inr, ◌+◌, ◌-◌, ◌^◌, ◌<◌, Bool, true, false, min, Some, refl, sym, ap, ap₂, ◌∙◌, arith}
 use Rattle.std.proofs.lemmas.Bool.{cases_Bool}
-use Rattle.broker_base.specs.State.{State}
-use Rattle.broker_model.specs.declared.command.Command.{Command}
+use Rattle.broker.specs.broker_base.State.{State}
+use Rattle.node_connections.specs.broker_model.declared.command.Command.{Command}
 use Rattle.ballot.specs.Cutting.{can_cut, cut}
 use Rattle.ballot.specs.Losses.{one_more}
 use Rattle.ballot.specs.Replica.{CountedReplica, ReplicaState}

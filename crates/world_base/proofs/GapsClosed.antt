@@ -4,11 +4,11 @@ use Rattle.std.proofs.lemmas.List.{append-nil}
 use Rattle.std.specs.List.{list_any}
 use Rattle.packet.specs.declared.packet.Packet.{Packet}
 use Rattle.packet.specs.declared.packet.Packet.TheVariants as packets
-use Rattle.broker_base.specs.State.{State}
-use Rattle.broker_model.specs.Connection.{ConnectionName, is_connection_name}
-use Rattle.broker_model.specs.declared.command.Command.{Command}
-use Rattle.broker_model.specs.declared.command.Command.TheVariants as commands
-use Rattle.broker_model.specs.declared.command.Output.{Output}
+use Rattle.broker.specs.broker_base.State.{State}
+use Rattle.node_connections.specs.broker_model.Connection.{ConnectionName, is_connection_name}
+use Rattle.node_connections.specs.broker_model.declared.command.Command.{Command}
+use Rattle.node_connections.specs.broker_model.declared.command.Command.TheVariants as commands
+use Rattle.node_connections.specs.broker_model.declared.command.Output.{Output}
 use Rattle.ballot.specs.Protocol.{Input}
 use Rattle.ballot.specs.Protocol.Input.{Receives, Ticks}
 use Rattle.ballot.specs.Sending.{Outcome}

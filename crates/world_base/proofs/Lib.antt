@@ -26,3 +26,4 @@ mod Settles
 mod Silences
 mod TurnsJoin
 mod Repeats
+pub use Rattle.ballot.proofs as of_ballot

@@ -1,8 +1,8 @@
 -- Proposes.antt: what comes to the replica is what it makes of it, and what is given is done at once.
 use Rattle.std.proofs.Common.{◌≡◌, true, false, List, refl, ap, subst, ◌∙◌}
-use Rattle.broker_base.specs.State.{State}
-use Rattle.broker_model.specs.declared.command.Command.{Command}
-use Rattle.broker_model.specs.declared.command.Output.{Output}
+use Rattle.broker.specs.broker_base.State.{State}
+use Rattle.node_connections.specs.broker_model.declared.command.Command.{Command}
+use Rattle.node_connections.specs.broker_model.declared.command.Output.{Output}
 use Rattle.ballot.specs.Effect.{Effect}
 use Rattle.ballot.specs.Protocol.{Input}
 use Rattle.ballot.specs.Sending.{Outcome}

@@ -1,7 +1,7 @@
 -- Connections that were closed because there was no room for what was put out: the broker hears that they are lost.
 use Rattle.std.specs.Prelude.{length, Option, Some, None}
 use Rattle.std.specs.List.{find}
-use Rattle.broker_model.specs.declared.command.Command.TheVariants as commands
+use Rattle.node_connections.specs.broker_model.declared.command.Command.TheVariants as commands
 use Rattle.node_connections.specs.declared.connection.Connection.{Connection}
 use Rattle.node_connections.specs.Connections.{has_failed, closed, changed}
 use Rattle.world_base.specs.Core.{CoreState, Turn}

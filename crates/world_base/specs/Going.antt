@@ -1,14 +1,14 @@
 -- What becomes of each connection in a step of a node in which memory may be wanting: one with a gap is closed.
 use Rattle.std.specs.Prelude.{◌≡◌, ◌⊎◌, ℕ, true, false, if◌then◌else◌, List, [], ◌∷◌, ◌++◌}
-use Rattle.broker_model.specs.Connection.{ConnectionName, same_connection}
-use Rattle.broker_model.specs.declared.command.Command.{Command}
-use Rattle.broker_model.specs.declared.command.Output.{Output}
-use Rattle.broker_model.specs.declared.command.Output.TheVariants as outputs
+use Rattle.node_connections.specs.broker_model.Connection.{ConnectionName, same_connection}
+use Rattle.node_connections.specs.broker_model.declared.command.Command.{Command}
+use Rattle.node_connections.specs.broker_model.declared.command.Output.{Output}
+use Rattle.node_connections.specs.broker_model.declared.command.Output.TheVariants as outputs
 use Rattle.packet.specs.RefusalCode.{RefusalCode}
 use Rattle.packet.specs.declared.packet.Packet.TheVariants as packets
 use Rattle.packet.specs.declared.connack.Connack.TheVariants as connacks
 use Rattle.packet.specs.Spelling.{spelling}
-use Rattle.lists.specs.Lists.{Each, IsPrefixOf}
+use Rattle.ballot.specs.lists.Lists.{Each, IsPrefixOf}
 use Rattle.ballot.specs.Effect.{Effect}
 use Rattle.ballot.specs.Effect.TheVariants.{To, Out}
 use Rattle.world_base.specs.declared.item.Item.{Item}

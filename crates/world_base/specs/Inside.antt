@@ -1,11 +1,11 @@
 -- What the helpers of a step say of it.
 use Rattle.std.specs.Prelude.{◌≡◌, Bool, true, false, List, [], ◌++◌, None}
 use Rattle.std.specs.List.{find}
-use Rattle.broker_base.specs.State.{State}
-use Rattle.broker_model.specs.Connection.{ConnectionName}
-use Rattle.broker_model.specs.declared.command.Command.{Command}
-use Rattle.broker_model.specs.declared.command.Command.TheVariants as commands
-use Rattle.broker_model.specs.declared.command.Output.{Output}
+use Rattle.broker.specs.broker_base.State.{State}
+use Rattle.node_connections.specs.broker_model.Connection.{ConnectionName}
+use Rattle.node_connections.specs.broker_model.declared.command.Command.{Command}
+use Rattle.node_connections.specs.broker_model.declared.command.Command.TheVariants as commands
+use Rattle.node_connections.specs.broker_model.declared.command.Output.{Output}
 use Rattle.ballot.specs.Effect.{Effect}
 use Rattle.ballot.specs.Losses.{Done, Steps}
 use Rattle.ballot.specs.Replica.{CountedReplica}

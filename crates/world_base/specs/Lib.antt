@@ -17,5 +17,6 @@ pub use Rattle.ballot.specs.Replica
 pub use Rattle.ballot.specs.Effect
 pub use Rattle.ballot.specs.Message
 pub use Rattle.ballot.specs.Config
-pub use Rattle.broker_model.specs.declared.command.Command
-pub use Rattle.broker_model.specs.declared.command.Output
+pub use Rattle.node_connections.specs.broker_model.declared.command.Command
+pub use Rattle.node_connections.specs.broker_model.declared.command.Output
+pub use Rattle.ballot.specs as ballot

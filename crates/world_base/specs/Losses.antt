@@ -1,9 +1,9 @@
 -- How the steps of a node are counted in which memory was wanting, and which never are.
 use Rattle.std.specs.Prelude.{◌≡◌, ◌⊎◌, ◌<◌, ◌^◌, ◌-◌, Bool, false, List, [], ◌++◌, Option, Some, None}
 use Rattle.std.specs.List.{find}
-use Rattle.lists.specs.Lists.{Each}
-use Rattle.broker_model.specs.declared.command.Command.{Command}
-use Rattle.broker_model.specs.declared.command.Output.{Output}
+use Rattle.ballot.specs.lists.Lists.{Each}
+use Rattle.node_connections.specs.broker_model.declared.command.Command.{Command}
+use Rattle.node_connections.specs.broker_model.declared.command.Output.{Output}
 use Rattle.ballot.specs.Effect.{Effect}
 use Rattle.ballot.specs.Cutting.{can_cut}
 use Rattle.ballot.specs.Losses.{IsQuiet, one_more}

@@ -7,8 +7,8 @@ use Rattle.packet.specs.declared.packet.Packet.{Packet}
 use Rattle.packet.specs.declared.packet.Packet.TheVariants as packets
 use Rattle.packet.specs.declared.connect.Connect.{Connect}
 use Rattle.packet.specs.Verdict.{verdict}
-use Rattle.broker_model.specs.Connection.{ConnectionName}
-use Rattle.broker_model.specs.declared.command.Command.TheVariants as commands
+use Rattle.node_connections.specs.broker_model.Connection.{ConnectionName}
+use Rattle.node_connections.specs.broker_model.declared.command.Command.TheVariants as commands
 use Rattle.node_connections.specs.declared.port.Port.{Port}
 use Rattle.node_connections.specs.declared.connection.Connection.{Connection}
 use Rattle.node_connections.specs.Connections.{is_open_at, is_first, is_proposed, asked, left_with, closed, changed}

@@ -1,11 +1,11 @@
 -- What a step of the replica makes of a node: outputs are done on connections, messages are handed out.
 use Rattle.std.specs.Prelude.{ℕ, zero, suc, Bool, true, false, ◌&&◌, nat_lt, if◌then◌else◌, List, [], ◌++◌, length, filter}
 use Rattle.std.specs.List.{fold}
-use Rattle.broker_base.specs.State.{State}
-use Rattle.broker_model.specs.Connection.{ConnectionName}
-use Rattle.broker_model.specs.declared.command.Command.{Command}
-use Rattle.broker_model.specs.declared.command.Output.{Output}
-use Rattle.broker_model.specs.declared.command.Output.TheVariants as outputs
+use Rattle.broker.specs.broker_base.State.{State}
+use Rattle.node_connections.specs.broker_model.Connection.{ConnectionName}
+use Rattle.node_connections.specs.broker_model.declared.command.Command.{Command}
+use Rattle.node_connections.specs.broker_model.declared.command.Output.{Output}
+use Rattle.node_connections.specs.broker_model.declared.command.Output.TheVariants as outputs
 use Rattle.ballot.specs.Logs.{places}
 use Rattle.ballot.specs.Effect.{Effect}
 use Rattle.ballot.specs.Effect.TheVariants.{To, Out}

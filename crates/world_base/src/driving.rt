@@ -13,7 +13,7 @@ ghost use Rattle.world_base.specs.Turns.{delivered, drives, has_room, heard, pro
 
 use crate::serving::Serving;
 use ballot::{Effect, Message};
-use broker_model::{Command, Output};
+use node_connections::broker_model::{Command, Output};
 
 impl Serving {
     /// Proposes a command and does what it gives at once: whether it was taken.

@@ -4,7 +4,7 @@ ghost use Rattle.std.specs.Prelude.{◌≡◌, ◌++◌, [], IfOk, IsOk, OnErr, 
 ghost use Rattle.std.specs.List.{position};
 ghost use Rattle.node_connections.specs.Connections.{is_at};
 ghost use Rattle.node_connections.specs.Stands.{standing_of};
-ghost use Rattle.lists.specs.Lists.{IsPrefixOf};
+ghost use Rattle.ballot.specs.lists.Lists.{IsPrefixOf};
 ghost use Rattle.world_base.specs.Handing.{answer_of, bytes_of, hands_over, idle_ports, listed_at};
 
 use crate::serving::Serving;

@@ -7,7 +7,7 @@ ghost use Rattle.world_base.specs.Losses.{DoesNothing, IsIgnored, ReadsNone};
 use crate::item::Item;
 use crate::serving::Serving;
 use ballot::Message;
-use broker_model::Command;
+use node_connections::broker_model::Command;
 
 impl Serving {
     /// Whether an item does nothing.

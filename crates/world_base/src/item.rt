@@ -1,7 +1,7 @@
 // What a node takes in.
 
 use ballot::Message;
-use broker_model::Command;
+use node_connections::broker_model::Command;
 use node_connections::{Piece, Port};
 use packet::ClientId;
 

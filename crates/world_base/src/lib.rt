@@ -13,8 +13,8 @@ mod taking;
 
 pub use ballot::{Body, Config, Effect, Members, Memory, Message, OpeningError, Status};
 pub use broker::BrokerMachine;
-pub use broker_model::{Command, ConnectionId, Output};
 pub use item::Item;
 pub use laws::{a_gap_is_closed, proposals_are_steps};
+pub use node_connections::broker_model::{Command, ConnectionId, Output};
 pub use node_connections::{Connection, Handed, Piece, Port, Stage, Standing};
 pub use node_core::NodeCore;

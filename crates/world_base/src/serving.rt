@@ -2,7 +2,7 @@
 
 ghost use Rattle.std.specs.Prelude.{◌≡◌, ◌⊎◌, ◌≤◌, ◌^◌, ◌↔◌, false, true, not, [], length, IfOk, IfSome, OnSome, IfNone, IsErrOf};
 ghost use Rattle.std.specs.List.{list_any, position};
-ghost use Rattle.broker_model.specs.Connection.{is_connection_name};
+ghost use Rattle.node_connections.specs.broker_model.Connection.{is_connection_name};
 ghost use Rattle.ballot.specs.LawfulConfig.{is_lawful};
 ghost use Rattle.ballot.specs.Cutting.{can_cut};
 ghost use Rattle.ballot.specs.Logs.{places};
@@ -18,7 +18,7 @@ ghost use Rattle.world_base.specs.Turns.{changes_named, has_room};
 
 use ballot::{Config, MOST_PLACES, OpeningError, Replica, Status};
 use broker::BrokerMachine;
-use broker_model::{Command, ConnectionId};
+use node_connections::broker_model::{Command, ConnectionId};
 use node_connections::{
     Connection, Piece, Port, close_each, has_port, keep_listed, lowest_silent, push,
 };

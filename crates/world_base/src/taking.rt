@@ -2,8 +2,8 @@
 
 ghost use Rattle.std.specs.Prelude.{◌≡◌, false, if◌then◌else◌, None};
 ghost use Rattle.std.specs.List.{find};
-ghost use Rattle.broker_model.specs.declared.command.Command.TheVariants as commands;
-ghost use Rattle.broker_model.specs.Sized.{IsSized};
+ghost use Rattle.node_connections.specs.broker_model.declared.command.Command.TheVariants as commands;
+ghost use Rattle.node_connections.specs.broker_model.Sized.{IsSized};
 ghost use Rattle.node_connections.specs.Connections.{closed, has_failed, holding, is_first, is_proposed};
 ghost use Rattle.world_base.specs.Inside.{BeginsOrSays, IsCalm, Ran, TellsLost, Turns};
 ghost use Rattle.world_base.specs.declared.item.Item.TheVariants as items;
@@ -19,7 +19,7 @@ ghost use Rattle.world_base.specs.Turns.{proposes, quiet};
 use crate::item::Item;
 use crate::serving::Serving;
 use ballot::{Effect, Message};
-use broker_model::{Command, ConnectionId, Output, SizedPacket};
+use node_connections::broker_model::{Command, ConnectionId, Output, SizedPacket};
 use node_connections::{Front, Piece, Port, Stage};
 use packet::{ClientId, Connect, Packet};
 

@@ -1,10 +1,10 @@
 -- What a client writes on each of its connections begins with a CONNECT that asks for its session to be kept.
 use Rattle.std.proofs.Common.{◌≡◌, ℕ, List, [], ◌∷◌, ◌++◌, map, refl, sym, ap, ◌∙◌, subst}
-use Rattle.ballot.specs.Config.{Config}
-use Rattle.broker_base.specs.Place.{Client}
-use Rattle.client_base.specs.Called.{opens}
-use Rattle.client_base.specs.Keeper.{Written}
-use Rattle.client_base.specs.Written.{writes_first}
+use Rattle.connection_model.specs.ballot.Config.{Config}
+use Rattle.connection_model.specs.broker_base.Place.{Client}
+use Rattle.connection_model.specs.client_base.Called.{opens}
+use Rattle.connection_model.specs.client_base.Keeper.{Written}
+use Rattle.connection_model.specs.client_base.Written.{writes_first}
 use Rattle.lists.specs.Lists.{Each}
 use Rattle.connection_model.proofs.of_model.Lists.{each_get, each_set}
 use Rattle.connection_model.specs.story.Sides.{Connection}

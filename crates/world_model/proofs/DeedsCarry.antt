@@ -2,10 +2,10 @@
 use Rattle.std.proofs.Common.{◌≡◌, ℕ, ◌+◌, Bool, true, false, if◌then◌else◌, Some, List, [], ◌++◌, refl, sym, ap, ◌∙◌, subst}
 use Rattle.std.proofs.lemmas.List.{append-nil}
 use Rattle.lists.specs.Lists.{In}
-use Rattle.ballot.specs.Protocol.Input.{Receives, Proposes, Ticks}
-use Rattle.broker_base.specs.Connection.{ConnectionName}
+use Rattle.connection_model.specs.ballot.Protocol.Input.{Receives, Proposes, Ticks}
+use Rattle.connection_model.specs.broker_base.Connection.{ConnectionName}
 use Rattle.connection_model.specs.world_base.declared.item.Item.TheVariants.{Peer, Tick, Opened, Bytes, Ended, Expel, Cut, Crash}
-use Rattle.ballot.specs.Cutting.{can_cut}
+use Rattle.connection_model.specs.ballot.Cutting.{can_cut}
 use Rattle.connection_model.specs.world_base.Core.{CoreState, Turn, rules}
 use Rattle.connection_model.specs.world_base.Handing.{listed_at}
 use Rattle.connection_model.specs.world_base.Reading.{open_at}
@@ -20,7 +20,7 @@ use Rattle.connection_model.proofs.of_node_model.StepsMove.{deeds_begin}
 use Rattle.connection_model.specs.group_model.Group.{Group, behind_turn, replica_of, with_record}
 use Rattle.connection_model.specs.group_model.Putting.{recorded_by, recorded_in}
 use Rattle.connection_model.specs.group_model.snapshots.World.{recorded}
-use Rattle.broker_base.specs.Command.{Command}
+use Rattle.connection_model.specs.broker_base.Command.{Command}
 use Rattle.connection_model.specs.group_model.Goes.{AllWasSent, WasSent, all_given}
 use Rattle.connection_model.specs.group_model.Goes.MayGo.{node_acts}
 use Rattle.connection_model.specs.Streams.{bytes_named, handed_in_run, handed_on}

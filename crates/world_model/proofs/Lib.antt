@@ -20,3 +20,6 @@ pub use Rattle.connection_model.proofs as of_connection_model
 pub use Rattle.connection_model.proofs.of_group_model as of_group_model
 pub use Rattle.connection_model.proofs.of_node_model as of_node_model
 pub use Rattle.connection_model.proofs.of_model as of_model
+pub use Rattle.connection_model.proofs.of_broker_form as of_broker_form
+pub use Rattle.connection_model.proofs.of_story as of_story
+pub use Rattle.connection_model.proofs.of_world_base as of_world_base

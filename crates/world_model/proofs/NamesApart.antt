@@ -3,13 +3,13 @@ use Rattle.std.proofs.Common.{◌≡◌, ◌⊎◌, inl, inr, ℕ, List, [], ◌
 use Rattle.std.specs.List.{find}
 use Rattle.lists.specs.Lists.{In}
 use Rattle.lists.specs.Lists.In.{here, there}
-use Rattle.ballot.specs.Config.{Config}
-use Rattle.ballot.specs.Losses.{Thinned}
-use Rattle.broker_base.specs.State.{State}
-use Rattle.broker_base.specs.Command.{Command}
-use Rattle.broker_base.specs.Output.{Output}
-use Rattle.broker_base.specs.Connection.{ConnectionName}
-use Rattle.agreement.specs.MasterState.{refusal}
+use Rattle.connection_model.specs.ballot.Config.{Config}
+use Rattle.connection_model.specs.ballot.Losses.{Thinned}
+use Rattle.connection_model.specs.broker_base.State.{State}
+use Rattle.connection_model.specs.broker_base.Command.{Command}
+use Rattle.connection_model.specs.broker_base.Output.{Output}
+use Rattle.connection_model.specs.broker_base.Connection.{ConnectionName}
+use Rattle.connection_model.specs.agreement.MasterState.{refusal}
 use Rattle.connection_model.specs.group_model.snapshots.Past.{Moment, Past}
 use Rattle.connection_model.proofs.of_group_model.of_snapshots.PastsAgree.{one_primary_a_ballot}
 use Rattle.connection_model.specs.world_base.declared.Connection.{Connection}

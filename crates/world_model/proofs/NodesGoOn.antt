@@ -1,14 +1,14 @@
 -- What a step of a group makes of its nodes and of each connection's bytes: the deed of the step says it.
 use Rattle.std.proofs.Common.{◌≡◌, ◌⊎◌, inl, inr, ℕ, zero, suc, true, false, List, [], ◌∷◌, Option, Some, None, slice_get, slice_set, refl, sym, ap, ◌∙◌, subst}
 use Rattle.std.proofs.lemmas.Bool.{both_ways}
-use Rattle.ballot.specs.Config.{Config}
-use Rattle.ballot.specs.Effect.{Effect}
-use Rattle.broker_base.specs.Command.{Command}
-use Rattle.broker_base.specs.Output.{Output}
-use Rattle.broker_base.specs.Connection.{ConnectionName}
+use Rattle.connection_model.specs.ballot.Config.{Config}
+use Rattle.connection_model.specs.ballot.Effect.{Effect}
+use Rattle.connection_model.specs.broker_base.Command.{Command}
+use Rattle.connection_model.specs.broker_base.Output.{Output}
+use Rattle.connection_model.specs.broker_base.Connection.{ConnectionName}
 use Rattle.lists.specs.Lists.{Each, In}
 use Rattle.lists.specs.Lists.In.{here, there}
-use Rattle.agreement.specs.MasterState.{refusal}
+use Rattle.connection_model.specs.agreement.MasterState.{refusal}
 use Rattle.connection_model.proofs.of_model.Lists.{same_or_other}
 use Rattle.connection_model.specs.world_base.declared.Connection.{Connection}
 use Rattle.connection_model.specs.world_base.declared.item.Item.{Item}

@@ -1,19 +1,19 @@
 -- No Connect in a list on which the nodes of a world agree is clean: a client wrote it, as the first packet of a connection.
 use Rattle.std.proofs.Common.{◌≡◌, ◌⊎◌, inl, inr, ℕ, suc, Bool, true, false, if◌then◌else◌, List, [], ◌∷◌, ◌++◌, filter, refl, sym, ap, ◌∙◌, subst}
-use Rattle.ballot.specs.Config.{Config}
-use Rattle.broker_base.specs.Command.{Command}
-use Rattle.broker_base.specs.Command.TheVariants as commands
-use Rattle.broker_base.specs.Connection.{ConnectionName}
-use Rattle.broker_base.specs.Place.{Client}
-use Rattle.client_base.specs.Called.{opens}
-use Rattle.client_base.specs.Keeper.{Written}
+use Rattle.connection_model.specs.ballot.Config.{Config}
+use Rattle.connection_model.specs.broker_base.Command.{Command}
+use Rattle.connection_model.specs.broker_base.Command.TheVariants as commands
+use Rattle.connection_model.specs.broker_base.Connection.{ConnectionName}
+use Rattle.connection_model.specs.broker_base.Place.{Client}
+use Rattle.connection_model.specs.client_base.Called.{opens}
+use Rattle.connection_model.specs.client_base.Keeper.{Written}
 use Rattle.lists.specs.Lists.{Each, In, IsPrefixOf}
 use Rattle.lists.specs.Lists.In.{here, there}
 use Rattle.lists.proofs.Members.{in_left}
 use Rattle.connection_model.proofs.of_model.Lists.{each_get}
 use Rattle.connection_model.specs.story.Story.{is_packet_of}
 use Rattle.connection_model.proofs.of_story.Takes.{same_name_self}
-use Rattle.packet.specs.declared.packet.Packet.{Packet}
+use Rattle.connection_model.specs.packet.declared.packet.Packet.{Packet}
 use Rattle.connection_model.specs.node_model.Ends.{commands_of}
 use Rattle.connection_model.specs.group_model.Goes.{Went}
 use Rattle.connection_model.specs.group_model.Order.{packets_of as packets_in_list}

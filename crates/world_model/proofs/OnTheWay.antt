@@ -1,14 +1,14 @@
 -- The bytes of a connection on their way: packets that are written, and packets that are handled.
 use Rattle.std.proofs.Common.{◌≡◌, ℕ, suc, false, List, [], ◌∷◌, ◌++◌, length, drop, refl, sym, ap, ◌∙◌, subst, append_assoc, length-append, arith}
 use Rattle.std.proofs.lemmas.List.{append-nil}
-use Rattle.packet.specs.Spelling.{IsPacket, spelling}
-use Rattle.packet.specs.declared.packet.Packet.{Packet}
-use Rattle.packet.proofs.OneSpelling.{spelling_is}
-use Rattle.client_base.specs.Keeper.{Written}
-use Rattle.cutter.specs.Stream.{GoesOnWith, Stream}
+use Rattle.connection_model.specs.packet.Spelling.{IsPacket, spelling}
+use Rattle.connection_model.specs.packet.declared.packet.Packet.{Packet}
+use Rattle.connection_model.proofs.of_packet.OneSpelling.{spelling_is}
+use Rattle.connection_model.specs.client_base.Keeper.{Written}
+use Rattle.connection_model.specs.cutter.Stream.{GoesOnWith, Stream}
 use Rattle.lists.specs.Lists.{Each}
 use Rattle.lists.proofs.OfEach.{each_append}
-use Rattle.pipes.specs.Pipe.{Joins}
+use Rattle.connection_model.specs.pipes.Pipe.{Joins}
 use Rattle.connection_model.specs.node_model.Puts.{spelled}
 use Rattle.connection_model.specs.story.Sides.{Connection}
 use Rattle.world_model.specs.World.{newly_written, packets_of}

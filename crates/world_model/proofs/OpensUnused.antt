@@ -2,8 +2,8 @@
 use Rattle.std.proofs.Common.{◌≡◌, ℕ, zero, suc, Bool, true, false, ◌&&◌, ◌||◌, ◌==◌, List, [], ◌∷◌, ◌++◌, Option, Some, slice_get, refl, sym, ap, ◌∙◌}
 use Rattle.std.specs.List.{list_any}
 use Rattle.std.proofs.lemmas.Bool.{both_ways}
-use Rattle.ballot.specs.Config.{Config}
-use Rattle.broker_base.specs.Connection.{ConnectionName}
+use Rattle.connection_model.specs.ballot.Config.{Config}
+use Rattle.connection_model.specs.broker_base.Connection.{ConnectionName}
 use Rattle.lists.proofs.Tests.{eq_same}
 use Rattle.connection_model.specs.story.Sides.{Connection}
 use Rattle.connection_model.specs.world_base.declared.Connection.{Connection as NodesEnd}

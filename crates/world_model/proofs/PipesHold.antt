@@ -3,15 +3,15 @@ use Rattle.std.proofs.Common.{◌≡◌, ◌⊎◌, inl, inr, ℕ, Bool, true, f
 use Rattle.std.specs.List.{find}
 use Rattle.std.proofs.lemmas.Bool.{both_ways}
 use Rattle.std.proofs.lemmas.List.{append-nil}
-use Rattle.packet.specs.Spelling.{IsPacket}
-use Rattle.packet.specs.declared.packet.Packet.{Packet}
-use Rattle.ballot.specs.Config.{Config}
-use Rattle.broker_base.specs.Connection.{ConnectionName, same_connection}
-use Rattle.broker_model.proofs.ConnectionNames.{same_name}
+use Rattle.connection_model.specs.packet.Spelling.{IsPacket}
+use Rattle.connection_model.specs.packet.declared.packet.Packet.{Packet}
+use Rattle.connection_model.specs.ballot.Config.{Config}
+use Rattle.connection_model.specs.broker_base.Connection.{ConnectionName, same_connection}
+use Rattle.connection_model.proofs.of_broker_model.ConnectionNames.{same_name}
 use Rattle.lists.specs.Lists.{Each, In}
 use Rattle.lists.specs.Lists.In.{here, there}
 use Rattle.lists.proofs.Tests.{eq_is, eq_same}
-use Rattle.pipes.specs.Pipe.{Joins}
+use Rattle.connection_model.specs.pipes.Pipe.{Joins}
 use Rattle.connection_model.specs.story.Sides.{Connection}
 use Rattle.connection_model.proofs.of_story.Takes.{same_name_self}
 use Rattle.connection_model.specs.world_base.declared.Connection.{Connection as NodesEnd}

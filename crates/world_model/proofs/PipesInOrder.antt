@@ -1,8 +1,8 @@
 -- The pipes of a world carry in order.
 use Rattle.std.proofs.Common.{◌≡◌, inl, ℕ, zero, suc, List, [], ◌∷◌, ◌++◌, map, Option, Some, slice_get, refl, sym, ap, ◌∙◌, subst}
-use Rattle.ballot.specs.Config.{Config}
-use Rattle.broker_base.specs.Command.{Command}
-use Rattle.broker_base.specs.Place.{Client}
+use Rattle.connection_model.specs.ballot.Config.{Config}
+use Rattle.connection_model.specs.broker_base.Command.{Command}
+use Rattle.connection_model.specs.broker_base.Place.{Client}
 use Rattle.lists.specs.Lists.{In, IsPrefixOf}
 use Rattle.connection_model.specs.story.Sides.{Connection}
 use Rattle.connection_model.specs.world_base.declared.Connection.{Connection as NodesEnd}
@@ -11,7 +11,7 @@ use Rattle.connection_model.specs.group_model.Group.{opening_cores}
 use Rattle.connection_model.specs.group_model.Goes.{Went}
 use Rattle.connection_model.specs.group_model.Goes.Went.{opened}
 use Rattle.connection_model.proofs.of_group_model.NamesInGroups.{each_got}
-use Rattle.broker_base.specs.Connection.{ConnectionName}
+use Rattle.connection_model.specs.broker_base.Connection.{ConnectionName}
 use Rattle.connection_model.specs.Carried.{answers_to}
 use Rattle.connection_model.specs.Streams.{came_up, went_down}
 use Rattle.connection_model.proofs.CarriedInOrder.{CarriedSo, IsAgreedSo, carried_so, carries_each, no_connections}

@@ -2,28 +2,28 @@
 use Rattle.std.proofs.Common.{◌≡◌, ◌⊎◌, inl, inr, ℕ, zero, suc, Bool, true, false, not, ◌&&◌, ◌+◌, nat_le, length, if◌then◌else◌, List, [], ◌∷◌, ◌++◌, Option, Some, None, Result, Ok, Err, refl, ap, ◌∙◌}
 use Rattle.std.specs.List.{fold, list_any}
 use Rattle.std.proofs.lemmas.Bool.{both_ways}
-use Rattle.packet.specs.Stop.{Stop}
-use Rattle.packet.specs.Stop.TheVariants as stops
-use Rattle.packet.specs.RefusalCode.{RefusalCode}
-use Rattle.packet.specs.Spelling.{spelling}
-use Rattle.packet.specs.Verdict.{verdict}
-use Rattle.packet.specs.declared.packet.Packet.{Packet}
-use Rattle.packet.specs.declared.packet.Packet.TheVariants as packets
-use Rattle.ballot.specs.Effect.{Effect}
-use Rattle.ballot.specs.Effect.TheVariants.{To, Out}
-use Rattle.ballot.specs.Protocol.{Input}
-use Rattle.ballot.specs.Protocol.Input.{Receives, Ticks}
-use Rattle.broker_base.specs.Command.{Command}
-use Rattle.broker_base.specs.Command.TheVariants as commands
-use Rattle.broker_base.specs.Connection.{ConnectionName, is_connection_name}
-use Rattle.broker_base.specs.Output.{Output}
-use Rattle.broker_base.specs.Output.TheVariants as outputs
+use Rattle.connection_model.specs.packet.Stop.{Stop}
+use Rattle.connection_model.specs.packet.Stop.TheVariants as stops
+use Rattle.connection_model.specs.packet.RefusalCode.{RefusalCode}
+use Rattle.connection_model.specs.packet.Spelling.{spelling}
+use Rattle.connection_model.specs.packet.Verdict.{verdict}
+use Rattle.connection_model.specs.packet.declared.packet.Packet.{Packet}
+use Rattle.connection_model.specs.packet.declared.packet.Packet.TheVariants as packets
+use Rattle.connection_model.specs.ballot.Effect.{Effect}
+use Rattle.connection_model.specs.ballot.Effect.TheVariants.{To, Out}
+use Rattle.connection_model.specs.ballot.Protocol.{Input}
+use Rattle.connection_model.specs.ballot.Protocol.Input.{Receives, Ticks}
+use Rattle.connection_model.specs.broker_base.Command.{Command}
+use Rattle.connection_model.specs.broker_base.Command.TheVariants as commands
+use Rattle.connection_model.specs.broker_base.Connection.{ConnectionName, is_connection_name}
+use Rattle.connection_model.specs.broker_base.Output.{Output}
+use Rattle.connection_model.specs.broker_base.Output.TheVariants as outputs
 use Rattle.lists.specs.Lists.{Each, In}
 use Rattle.lists.specs.Lists.In.{here, there}
 use Rattle.lists.proofs.OfEach.{each_append, each_then}
 use Rattle.connection_model.specs.world_base.declared.Connection.{Connection}
 use Rattle.connection_model.specs.world_base.declared.item.Item.{Item}
-use Rattle.ballot.specs.Cutting.{can_cut}
+use Rattle.connection_model.specs.ballot.Cutting.{can_cut}
 use Rattle.connection_model.specs.world_base.declared.item.Item.TheVariants.{Peer, Tick, Opened, Bytes, Ended, Expel, Cut, Crash}
 use Rattle.connection_model.specs.world_base.declared.Port.{Port}
 use Rattle.connection_model.specs.world_base.Connections.{asked, changed, closed, failing, fresh, handed, holding, is_at, is_first, is_listed, is_open_at, is_open_named, is_proposed, left_with, most_pending, put_out, putting}

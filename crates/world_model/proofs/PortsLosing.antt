@@ -1,17 +1,17 @@
 -- In a step with losses, too, each connection keeps its port and its name, and none that was closed is open again.
 use Rattle.std.proofs.Common.{◌≡◌, inl, inr, ℕ, zero, suc, true, not, List, length, refl, sym, ap, subst}
 use Rattle.std.proofs.lemmas.Bool.{both_ways}
-use Rattle.packet.specs.Spelling.{spelling}
-use Rattle.packet.specs.declared.packet.Packet.{Packet}
-use Rattle.packet.specs.declared.packet.Packet.TheVariants as packets
-use Rattle.ballot.specs.Effect.{Effect}
-use Rattle.ballot.specs.Protocol.{Input}
-use Rattle.ballot.specs.Protocol.Input.{Receives, Ticks}
-use Rattle.broker_base.specs.Command.{Command}
-use Rattle.broker_base.specs.Command.TheVariants as commands
-use Rattle.broker_base.specs.Connection.{ConnectionName}
-use Rattle.broker_base.specs.Output.{Output}
-use Rattle.broker_base.specs.Output.TheVariants as outputs
+use Rattle.connection_model.specs.packet.Spelling.{spelling}
+use Rattle.connection_model.specs.packet.declared.packet.Packet.{Packet}
+use Rattle.connection_model.specs.packet.declared.packet.Packet.TheVariants as packets
+use Rattle.connection_model.specs.ballot.Effect.{Effect}
+use Rattle.connection_model.specs.ballot.Protocol.{Input}
+use Rattle.connection_model.specs.ballot.Protocol.Input.{Receives, Ticks}
+use Rattle.connection_model.specs.broker_base.Command.{Command}
+use Rattle.connection_model.specs.broker_base.Command.TheVariants as commands
+use Rattle.connection_model.specs.broker_base.Connection.{ConnectionName}
+use Rattle.connection_model.specs.broker_base.Output.{Output}
+use Rattle.connection_model.specs.broker_base.Output.TheVariants as outputs
 use Rattle.lists.specs.Lists.{Each}
 use Rattle.lists.proofs.OfEach.{each_then}
 use Rattle.connection_model.specs.world_base.declared.Connection.{Connection}

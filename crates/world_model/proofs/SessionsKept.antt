@@ -4,12 +4,12 @@ use Rattle.std.specs.Prelude.{not, ◌&&◌, ◌||◌}
 use Rattle.lists.specs.Lists.{Each, In}
 use Rattle.lists.specs.Lists.In.{here, there}
 use Rattle.lists.proofs.Members.{in_left}
-use Rattle.broker_base.specs.Command.{Command}
-use Rattle.broker_base.specs.Command.TheVariants as commands
-use Rattle.broker_base.specs.Commands.{past_from, past_of, place_of, usual_limits}
-use Rattle.broker_base.specs.Connection.{ConnectionName}
-use Rattle.broker_base.specs.Past.{accepts, current_connection, ends_any, expels, newest_session, session_of}
-use Rattle.broker_base.specs.Place.{Client, Limits, Mark, Past, Place, only_if, same_client}
+use Rattle.connection_model.specs.broker_base.Command.{Command}
+use Rattle.connection_model.specs.broker_base.Command.TheVariants as commands
+use Rattle.connection_model.specs.broker_base.Commands.{past_from, past_of, place_of, usual_limits}
+use Rattle.connection_model.specs.broker_base.Connection.{ConnectionName}
+use Rattle.connection_model.specs.broker_base.Past.{accepts, current_connection, ends_any, expels, newest_session, session_of}
+use Rattle.connection_model.specs.broker_base.Place.{Client, Limits, Mark, Past, Place, only_if, same_client}
 use Rattle.world_model.specs.Kept.{NoSessionIsClean, NoneIsClean}
 
 -- a command that asks for no clean session

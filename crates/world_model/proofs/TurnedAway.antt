@@ -1,8 +1,8 @@
 -- A connection that its node does not take changes nothing for the clients, and what holds of all connections is kept.
 use Rattle.std.proofs.Common.{◌≡◌, ◌⊎◌, inl, inr, ℕ, false, Option, Some, None, slice_get, refl, sym, ap, ◌∙◌, subst}
 use Rattle.std.proofs.lemmas.Bool.{both_ways}
-use Rattle.ballot.specs.Config.{Config}
-use Rattle.broker_base.specs.Connection.{ConnectionName}
+use Rattle.connection_model.specs.ballot.Config.{Config}
+use Rattle.connection_model.specs.broker_base.Connection.{ConnectionName}
 use Rattle.lists.specs.Lists.{In}
 use Rattle.connection_model.specs.world_base.declared.Connection.{Connection as NodesEnd}
 use Rattle.connection_model.specs.world_base.declared.item.Item.TheVariants.{Opened}

@@ -1,11 +1,11 @@
 -- What holds of all connections of a world with their pipes, and that what its clients do alone keeps it.
 use Rattle.std.proofs.Common.{◌≡◌, ◌⊎◌, inl, inr, ℕ, zero, suc, List, [], ◌∷◌, ◌++◌, Option, Some, set, slice_get, refl, sym, ap, ◌∙◌, subst}
-use Rattle.packet.specs.Spelling.{IsPacket}
-use Rattle.packet.specs.declared.packet.Packet.{Packet}
-use Rattle.ballot.specs.Config.{Config}
-use Rattle.broker_base.specs.Connection.{ConnectionName}
-use Rattle.client_base.specs.Keeper.{Written}
-use Rattle.cutter.specs.Stream.{Stream}
+use Rattle.connection_model.specs.packet.Spelling.{IsPacket}
+use Rattle.connection_model.specs.packet.declared.packet.Packet.{Packet}
+use Rattle.connection_model.specs.ballot.Config.{Config}
+use Rattle.connection_model.specs.broker_base.Connection.{ConnectionName}
+use Rattle.connection_model.specs.client_base.Keeper.{Written}
+use Rattle.connection_model.specs.cutter.Stream.{Stream}
 use Rattle.lists.specs.Lists.{Each, In}
 use Rattle.lists.proofs.Places.{get_set, get_set_other}
 use Rattle.connection_model.proofs.of_model.Lists.{same_or_other, set_get}

@@ -2,18 +2,18 @@
 use Rattle.std.proofs.Common.{◌≡◌, ◌⊎◌, inl, inr, ℕ, Bool, true, false, if◌then◌else◌, List, [], ◌∷◌, ◌++◌, Option, Some, None, Ok, slice_get, refl, sym, ap, ◌∙◌, subst}
 use Rattle.std.proofs.lemmas.Bool.{both_ways}
 use Rattle.std.proofs.lemmas.List.{append-nil}
-use Rattle.packet.specs.Spelling.{IsPacket}
-use Rattle.packet.specs.declared.packet.Packet.{Packet}
-use Rattle.packet.specs.declared.packet.Packet.TheVariants as packets
-use Rattle.ballot.specs.Config.{Config}
-use Rattle.broker_base.specs.Connection.{ConnectionName, same_connection}
-use Rattle.broker_base.specs.Place.{Limits}
-use Rattle.broker_model.proofs.ConnectionNames.{same_name}
-use Rattle.client_base.specs.Called.{written_for}
-use Rattle.client_base.specs.Handled.{handled}
-use Rattle.client_base.specs.Keeper.{Keeper, Written}
-use Rattle.client_base.specs.Written.{plain, writes, writes_first}
-use Rattle.cutter.specs.Stream.{Stream, Takes}
+use Rattle.connection_model.specs.packet.Spelling.{IsPacket}
+use Rattle.connection_model.specs.packet.declared.packet.Packet.{Packet}
+use Rattle.connection_model.specs.packet.declared.packet.Packet.TheVariants as packets
+use Rattle.connection_model.specs.ballot.Config.{Config}
+use Rattle.connection_model.specs.broker_base.Connection.{ConnectionName, same_connection}
+use Rattle.connection_model.specs.broker_base.Place.{Limits}
+use Rattle.connection_model.proofs.of_broker_model.ConnectionNames.{same_name}
+use Rattle.connection_model.specs.client_base.Called.{written_for}
+use Rattle.connection_model.specs.client_base.Handled.{handled}
+use Rattle.connection_model.specs.client_base.Keeper.{Keeper, Written}
+use Rattle.connection_model.specs.client_base.Written.{plain, writes, writes_first}
+use Rattle.connection_model.specs.cutter.Stream.{Stream, Takes}
 use Rattle.lists.specs.Lists.{Each, In}
 use Rattle.lists.proofs.Places.{get_set_other}
 use Rattle.connection_model.proofs.of_model.Lists.{same_or_other, set_get}

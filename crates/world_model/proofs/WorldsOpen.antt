@@ -2,16 +2,16 @@
 use Rattle.std.proofs.Common.{◌≡◌, ◌⊎◌, inl, inr, ℕ, zero, suc, false, List, [], ◌++◌, Option, Some, None, set, slice_get, refl, sym, ap, ◌∙◌, subst}
 use Rattle.std.specs.List.{find}
 use Rattle.std.proofs.lemmas.Bool.{both_ways}
-use Rattle.packet.specs.Spelling.{IsPacket}
-use Rattle.packet.specs.declared.packet.Packet.TheVariants as packets
-use Rattle.ballot.specs.Config.{Config}
-use Rattle.broker_base.specs.Connection.{ConnectionName, same_connection}
-use Rattle.client_base.specs.Called.{new_connection}
+use Rattle.connection_model.specs.packet.Spelling.{IsPacket}
+use Rattle.connection_model.specs.packet.declared.packet.Packet.TheVariants as packets
+use Rattle.connection_model.specs.ballot.Config.{Config}
+use Rattle.connection_model.specs.broker_base.Connection.{ConnectionName, same_connection}
+use Rattle.connection_model.specs.client_base.Called.{new_connection}
 use Rattle.lists.specs.Lists.{In}
 use Rattle.lists.specs.Lists.In.{here, there}
 use Rattle.lists.proofs.Places.{get_set, get_set_other}
 use Rattle.connection_model.proofs.of_model.Lists.{same_or_other, set_get}
-use Rattle.pipes.specs.Pipe.{Joins}
+use Rattle.connection_model.specs.pipes.Pipe.{Joins}
 use Rattle.connection_model.specs.story.Sides.{Connection}
 use Rattle.connection_model.proofs.of_story.Takes.{same_name_self}
 use Rattle.connection_model.specs.world_base.declared.Connection.{Connection as NodesEnd}

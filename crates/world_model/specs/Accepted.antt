@@ -1,7 +1,7 @@
 -- What a client shows as accepted at QoS 2.
 use Rattle.std.specs.Prelude.{Bool, List, filter, map}
-use Rattle.session_base.specs.declared.publication.Publication.{Publication}
-use Rattle.client_base.specs.declared.accepted.Accepted.{Accepted}
+use Rattle.connection_model.specs.session_base.declared.publication.Publication.{Publication}
+use Rattle.connection_model.specs.client_base.declared.accepted.Accepted.{Accepted}
 use Rattle.connection_model.specs.story.Carried.{is_two}
 
 abbrev pub publication_accepted : Accepted → Publication

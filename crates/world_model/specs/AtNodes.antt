@@ -1,7 +1,7 @@
 -- What the nodes of a world keep of connections: each was opened by a client, and its name was given in a ballot that its node had joined.
 use Rattle.std.specs.Prelude.{◌≡◌, ℕ, List, slice_get, Some}
-use Rattle.ballot.specs.Config.{Config}
-use Rattle.broker_base.specs.Place.{Client}
+use Rattle.connection_model.specs.ballot.Config.{Config}
+use Rattle.connection_model.specs.broker_base.Place.{Client}
 use Rattle.lists.specs.Lists.{In}
 use Rattle.connection_model.specs.story.Sides.{Connection}
 use Rattle.connection_model.specs.world_base.declared.Connection.{Connection as NodesEnd}

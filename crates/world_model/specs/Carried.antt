@@ -1,7 +1,7 @@
 -- What of a world goes on in its group.
 use Rattle.std.specs.Prelude.{ℕ, List}
-use Rattle.ballot.specs.Config.{Config}
-use Rattle.broker_base.specs.Place.{Client}
+use Rattle.connection_model.specs.ballot.Config.{Config}
+use Rattle.connection_model.specs.broker_base.Place.{Client}
 use Rattle.connection_model.specs.group_model.Goes.{Went}
 use Rattle.connection_model.specs.group_model.Goes.Went.{opened, then_went}
 use Rattle.connection_model.specs.Carried.{Carries}

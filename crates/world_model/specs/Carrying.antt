@@ -1,6 +1,6 @@
 -- What a step of a group carries for connections: of a deed of a node just its bytes.
 use Rattle.std.specs.Prelude.{◌≡◌, ℕ, Bool, true, false, List, [], Option, Some, None}
-use Rattle.broker_base.specs.Connection.{ConnectionName}
+use Rattle.connection_model.specs.broker_base.Connection.{ConnectionName}
 use Rattle.connection_model.specs.world_base.declared.item.Item.TheVariants.{Peer, Tick, Opened, Bytes, Ended, Expel, Cut, Crash}
 use Rattle.connection_model.specs.world_base.Core.{CoreState, Turn}
 use Rattle.connection_model.specs.world_base.Handing.{listed_at}

@@ -1,11 +1,11 @@
 -- That a world can go on: each deed of a node has moves that carry just its bytes.
 use Rattle.std.specs.Prelude.{◌≡◌, ℕ, ◌+◌, true, if◌then◌else◌, List, slice_get, Some}
 use Rattle.lists.specs.Lists.{In}
-use Rattle.ballot.specs.Effect.{Effect}
-use Rattle.broker_base.specs.Command.{Command}
-use Rattle.broker_base.specs.Output.{Output}
+use Rattle.connection_model.specs.ballot.Effect.{Effect}
+use Rattle.connection_model.specs.broker_base.Command.{Command}
+use Rattle.connection_model.specs.broker_base.Output.{Output}
 use Rattle.connection_model.specs.world_base.declared.item.Item.TheVariants.{Peer, Cut}
-use Rattle.ballot.specs.Cutting.{can_cut}
+use Rattle.connection_model.specs.ballot.Cutting.{can_cut}
 use Rattle.connection_model.specs.world_base.Core.{CoreState, Turn, rules}
 use Rattle.connection_model.specs.node_model.Hearing.{HearsAtFirst}
 use Rattle.connection_model.specs.node_model.Moves.{Deed, Runs, done}

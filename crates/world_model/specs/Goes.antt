@@ -1,16 +1,16 @@
 -- What may happen in a world of clients and a group of nodes.
 use Rattle.std.specs.Prelude.{◌≡◌, ℕ, true, false, List, [], ◌∷◌, ◌++◌, Option, Some, None, Ok, slice_get}
-use Rattle.packet.specs.Spelling.{IsPacket}
-use Rattle.packet.specs.declared.packet.Packet.{Packet}
-use Rattle.packet.specs.declared.packet.Packet.TheVariants as packets
-use Rattle.cutter.specs.Stream.{Stream, Takes}
-use Rattle.ballot.specs.Config.{Config}
-use Rattle.agreement.specs.World.{can_open}
-use Rattle.broker_base.specs.Commands.{usual_limits}
-use Rattle.broker_base.specs.Connection.{ConnectionName}
-use Rattle.broker_base.specs.Place.{Client}
-use Rattle.client_base.specs.Called.{new_connection}
-use Rattle.client_base.specs.Handled.{handled, lost}
+use Rattle.connection_model.specs.packet.Spelling.{IsPacket}
+use Rattle.connection_model.specs.packet.declared.packet.Packet.{Packet}
+use Rattle.connection_model.specs.packet.declared.packet.Packet.TheVariants as packets
+use Rattle.connection_model.specs.cutter.Stream.{Stream, Takes}
+use Rattle.connection_model.specs.ballot.Config.{Config}
+use Rattle.connection_model.specs.agreement.World.{can_open}
+use Rattle.connection_model.specs.broker_base.Commands.{usual_limits}
+use Rattle.connection_model.specs.broker_base.Connection.{ConnectionName}
+use Rattle.connection_model.specs.broker_base.Place.{Client}
+use Rattle.connection_model.specs.client_base.Called.{new_connection}
+use Rattle.connection_model.specs.client_base.Handled.{handled, lost}
 use Rattle.lists.specs.Lists.{Each}
 use Rattle.connection_model.specs.story.Sides.{Connection, Side}
 use Rattle.connection_model.specs.story.Story.{Story, Happens}

@@ -1,10 +1,10 @@
 -- That the pipes of a world carry in order: what comes out at one end of a connection is a beginning of what goes in at the other.
 use Rattle.std.specs.Prelude.{◌≡◌, ℕ, false, List, ◌∷◌, ◌++◌, length}
-use Rattle.packet.specs.declared.packet.Packet.{Packet}
-use Rattle.packet.specs.Spelling.{IsPacket}
-use Rattle.ballot.specs.Config.{Config}
-use Rattle.broker_base.specs.Command.{Command}
-use Rattle.broker_base.specs.Place.{Client}
+use Rattle.connection_model.specs.packet.declared.packet.Packet.{Packet}
+use Rattle.connection_model.specs.packet.Spelling.{IsPacket}
+use Rattle.connection_model.specs.ballot.Config.{Config}
+use Rattle.connection_model.specs.broker_base.Command.{Command}
+use Rattle.connection_model.specs.broker_base.Place.{Client}
 use Rattle.lists.specs.Lists.{Each, IsPrefixOf}
 use Rattle.connection_model.specs.story.Sides.{Connection}
 use Rattle.connection_model.specs.group_model.snapshots.Past.{IsAgreed}

@@ -1,13 +1,13 @@
 -- That the sessions of a world's clients are kept: no Connect in the list on which its nodes agree asks for a clean session (MQTT 3.1.2.4).
 use Rattle.std.specs.Prelude.{◌≡◌, Bool, false, ℕ, List, ◌∷◌, Some}
-use Rattle.ballot.specs.Config.{Config}
+use Rattle.connection_model.specs.ballot.Config.{Config}
 use Rattle.lists.specs.Lists.{In, IsPrefixOf}
-use Rattle.broker_base.specs.Command.{Command}
-use Rattle.broker_base.specs.Command.TheVariants as commands
-use Rattle.broker_base.specs.Commands.{past_of, usual_limits}
-use Rattle.broker_base.specs.Connection.{ConnectionName}
-use Rattle.broker_base.specs.Past.{session_of}
-use Rattle.broker_base.specs.Place.{Client}
+use Rattle.connection_model.specs.broker_base.Command.{Command}
+use Rattle.connection_model.specs.broker_base.Command.TheVariants as commands
+use Rattle.connection_model.specs.broker_base.Commands.{past_of, usual_limits}
+use Rattle.connection_model.specs.broker_base.Connection.{ConnectionName}
+use Rattle.connection_model.specs.broker_base.Past.{session_of}
+use Rattle.connection_model.specs.broker_base.Place.{Client}
 use Rattle.connection_model.specs.group_model.snapshots.Past.{IsAgreed}
 use Rattle.connection_model.specs.group_model.Group.{moment_of}
 use Rattle.connection_model.specs.group_model.Goes.{all_put, groups_of}

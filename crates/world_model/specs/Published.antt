@@ -1,8 +1,8 @@
 -- What clients publish in a world, step by step.
 use Rattle.std.specs.Prelude.{ℕ, ◌==◌, if◌then◌else◌, List, [], ◌∷◌, ◌++◌, map}
-use Rattle.ballot.specs.Config.{Config}
-use Rattle.broker_base.specs.Place.{Client, Limits}
-use Rattle.session_base.specs.declared.publication.Publication.{Publication}
+use Rattle.connection_model.specs.ballot.Config.{Config}
+use Rattle.connection_model.specs.broker_base.Place.{Client, Limits}
+use Rattle.connection_model.specs.session_base.declared.publication.Publication.{Publication}
 use Rattle.connection_model.specs.story.Story.{Story, Happens}
 use Rattle.connection_model.specs.story.Story.Happens.{takes, others_take, receives, opens_anew, loses, disconnects, publishes_one, subscribes, unsubscribes}
 use Rattle.world_model.specs.World.{World}

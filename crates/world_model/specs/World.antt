@@ -1,11 +1,11 @@
 -- Clients beside a group of nodes, with a pipe of bytes each way on every connection.
 use Rattle.std.specs.Prelude.{◌≡◌, ℕ, ◌==◌, Bool, ◌&&◌, List, [], ◌∷◌, ◌++◌, map, drop, length, set, slice_get, Some}
 use Rattle.std.specs.List.{list_any}
-use Rattle.packet.specs.declared.packet.Packet.{Packet}
-use Rattle.cutter.specs.Stream.{Stream}
-use Rattle.ballot.specs.Config.{Config}
-use Rattle.broker_base.specs.Place.{Client}
-use Rattle.client_base.specs.Keeper.{Keeper, Written, new_keeper}
+use Rattle.connection_model.specs.packet.declared.packet.Packet.{Packet}
+use Rattle.connection_model.specs.cutter.Stream.{Stream}
+use Rattle.connection_model.specs.ballot.Config.{Config}
+use Rattle.connection_model.specs.broker_base.Place.{Client}
+use Rattle.connection_model.specs.client_base.Keeper.{Keeper, Written, new_keeper}
 use Rattle.connection_model.specs.story.Sides.{Connection}
 use Rattle.connection_model.specs.world_base.declared.Port.{Port}
 use Rattle.connection_model.specs.node_model.Puts.{spelled}

@@ -6,6 +6,7 @@ mod kept_laws;
 mod laws;
 mod node_laws;
 
+pub use connection_model::world_base;
 pub use kept_laws::{no_connect_is_clean, no_session_is_clean};
 pub use laws::{
     deeds_carry_their_bytes, groups_do_each_deed, names_stay_apart, pipes_carry_in_order,

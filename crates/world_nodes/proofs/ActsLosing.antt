@@ -4,9 +4,9 @@ use Rattle.std.specs.Prelude.{slice_get, slice_set}
 use Rattle.ballot.specs.Message.{Message}
 use Rattle.master.specs.snapshots.World.{messages}
 use Rattle.broker_base.specs.Command.{Command}
-use Rattle.world_base.specs.declared.item.Item.{Item}
-use Rattle.world_base.specs.declared.item.Item.TheVariants.{Peer, Tick, Opened, Bytes, Ended, Expel, Cut, Crash}
-use Rattle.world_base.specs.Core.{CoreState, CountedCore, Turn}
+use Rattle.world_model.specs.world_base.declared.item.Item.{Item}
+use Rattle.world_model.specs.world_base.declared.item.Item.TheVariants.{Peer, Tick, Opened, Bytes, Ended, Expel, Cut, Crash}
+use Rattle.world_model.specs.world_base.Core.{CoreState, CountedCore, Turn}
 use Rattle.world_model.specs.node_model.LossyRuns.{IsRunOn, heard_with, is_cut}
 use Rattle.world_model.specs.node_model.Moves.Deed.{takes}
 use Rattle.world_model.proofs.of_node_model.LossesAreMoves.{losses_are_moves}

@@ -9,7 +9,7 @@ use Rattle.ballot.specs.Status.{Status}
 use Rattle.agreement.specs.MasterState.{MasterState}
 use Rattle.broker_base.specs.Command.{Command}
 use Rattle.broker_base.specs.State.{State}
-use Rattle.world_base.specs.Core.{CoreState, CountedCore, rules}
+use Rattle.world_model.specs.world_base.Core.{CoreState, CountedCore, rules}
 use Rattle.world_model.specs.group_model.Group.{Group, moment_of, replica_of}
 use Rattle.world_model.proofs.of_group_model.Placed.{get_mapped}
 use Rattle.master.specs.Inside.{HasCounted, HoldsAt, IsShort, ToldIn, held_by, least_but_one}

@@ -11,8 +11,8 @@ use Rattle.broker_base.specs.Command.{Command}
 use Rattle.master.specs.Inside.{ToldIn}
 use Rattle.master.specs.snapshots.World.{messages, recorded}
 use Rattle.master.proofs.Archived.{begins_by, recorded_by, taken_back}
-use Rattle.world_base.specs.declared.item.Item.TheVariants.{Cut}
-use Rattle.world_base.specs.Core.{CountedCore}
+use Rattle.world_model.specs.world_base.declared.item.Item.TheVariants.{Cut}
+use Rattle.world_model.specs.world_base.Core.{CountedCore}
 use Rattle.world_model.specs.node_model.Moves.Deed.{takes}
 use Rattle.world_model.specs.group_model.Group.{replica_of}
 use Rattle.world_model.proofs.of_group_model.Placed.{get_mapped}

@@ -3,7 +3,7 @@ use Rattle.std.proofs.Common.{◌≡◌, inl, inr, ◌-◌, ℕ, refl, subst}
 use Rattle.std.specs.Prelude.{OnOk, Result, Ok, Err}
 use Rattle.broker_base.specs.Place.{Client}
 use Rattle.master.specs.declared.event.Idle.{Idle}
-use Rattle.world_base.specs.declared.item.Item.TheVariants.{Expel}
+use Rattle.world_model.specs.world_base.declared.item.Item.TheVariants.{Expel}
 use Rattle.world_model.specs.node_model.Moves.Deed.{takes}
 use Rattle.world_nodes.specs.Nodes.{NodesState}
 use Rattle.world_nodes.specs.Goes.{Acts, TakesExactly}

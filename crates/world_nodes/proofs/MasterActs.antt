@@ -12,7 +12,7 @@ use Rattle.ballot.specs.Message.{Message}
 use Rattle.agreement.specs.MasterState.{AssignRefusal, MasterState, activating, assigning, is_granted, master_behind, refusal}
 use Rattle.master.specs.snapshots.Masters.{activated, assigned}
 use Rattle.broker_base.specs.Command.{Command}
-use Rattle.world_base.specs.declared.item.Item.TheVariants.{Peer}
+use Rattle.world_model.specs.world_base.declared.item.Item.TheVariants.{Peer}
 use Rattle.world_model.specs.node_model.Moves.Deed.{takes}
 use Rattle.world_model.specs.group_model.Group.{Group, told_by_master, with_master}
 use Rattle.world_model.specs.group_model.Goes.{MayGo, behind_assign}

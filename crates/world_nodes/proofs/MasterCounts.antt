@@ -10,7 +10,7 @@ use Rattle.ballot.specs.Config.{Config}
 use Rattle.agreement.specs.MasterState.AssignRefusal.{bad_members, ballots_spent}
 use Rattle.agreement.specs.MasterState.{AssignRefusal, MasterState, activating, assigning, is_granted, refusal}
 use Rattle.broker_base.specs.Command.{Command}
-use Rattle.world_base.specs.Core.{rules}
+use Rattle.world_model.specs.world_base.Core.{rules}
 use Rattle.world_model.specs.group_model.Group.{Group, moment_of, with_master}
 use Rattle.master.specs.declared.error.AssignError.{AssignError}
 use Rattle.master.specs.declared.error.AssignError.TheVariants.{BadMembers, BallotsSpent}

@@ -5,7 +5,7 @@ use Rattle.agreement.specs.MasterState.{MasterState, opening_master}
 use Rattle.ballot.specs.Config.{Config}
 use Rattle.ballot.specs.Message.{Message}
 use Rattle.broker_base.specs.Command.{Command}
-use Rattle.world_base.specs.Core.{CoreState, CountedCore, opening_core}
+use Rattle.world_model.specs.world_base.Core.{CoreState, CountedCore, opening_core}
 use Rattle.world_model.specs.group_model.Group.{opening_cores, opening_group}
 use Rattle.world_nodes.specs.Nodes.{StandsFor, cores_of}
 

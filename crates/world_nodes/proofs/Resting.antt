@@ -20,14 +20,14 @@ use Rattle.lists.proofs.Members.{in_at}
 use Rattle.broker_base.specs.Command.{Command}
 use Rattle.broker_base.specs.Output.{Output}
 use Rattle.broker_base.specs.State.{State as BrokerState}
-use Rattle.world_base.specs.Connections.{has_failed}
-use Rattle.world_base.specs.declared.item.Item.{Item}
-use Rattle.world_base.specs.declared.item.Item.TheVariants.{Peer}
-use Rattle.world_base.specs.Core.{CoreState, CountedCore, rules}
-use Rattle.world_base.specs.Losses.{DoesNothing, IsExactly, IsHeardQuietly, IsIgnored, Stepped, TakesNoMemory}
-use Rattle.world_base.specs.LossyStep.{RunsOn}
-use Rattle.world_base.specs.Step.{node_step}
-use Rattle.world_base.proofs.Calmly.{says_nothing}
+use Rattle.world_model.specs.world_base.Connections.{has_failed}
+use Rattle.world_model.specs.world_base.declared.item.Item.{Item}
+use Rattle.world_model.specs.world_base.declared.item.Item.TheVariants.{Peer}
+use Rattle.world_model.specs.world_base.Core.{CoreState, CountedCore, rules}
+use Rattle.world_model.specs.world_base.Losses.{DoesNothing, IsExactly, IsHeardQuietly, IsIgnored, Stepped, TakesNoMemory}
+use Rattle.world_model.specs.world_base.LossyStep.{RunsOn}
+use Rattle.world_model.specs.world_base.Step.{node_step}
+use Rattle.world_model.proofs.of_world_base.Calmly.{says_nothing}
 use Rattle.world_model.specs.group_model.Group.{moment_of}
 use Rattle.world_model.specs.node_model.Moves.Deed.{takes}
 use Rattle.world_nodes.specs.Nodes.{NodesState}

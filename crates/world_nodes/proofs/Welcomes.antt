@@ -13,7 +13,7 @@ use Rattle.broker_base.specs.State.{State}
 use Rattle.master.specs.Inside.{ToldIn}
 use Rattle.master.specs.snapshots.Laws.{IsCutRight}
 use Rattle.master.proofs.of_snapshots.PastsAgree.{logs_are_cut_right}
-use Rattle.world_base.specs.Core.{CoreState, CountedCore, rules}
+use Rattle.world_model.specs.world_base.Core.{CoreState, CountedCore, rules}
 use Rattle.world_model.specs.group_model.Group.{moment_of, replica_of}
 use Rattle.world_model.proofs.of_group_model.Placed.{get_mapped}
 use Rattle.world_nodes.specs.Asking.{first_connection, is_welcome, log_in, log_of, welcomes_back}

@@ -5,7 +5,7 @@ use Rattle.master.specs.snapshots.Past.{IsAgreed, Moment, Past}
 use Rattle.broker_base.specs.Command.{Command}
 use Rattle.broker_base.specs.Output.{Output}
 use Rattle.broker_base.specs.State.{State}
-use Rattle.world_base.specs.Core.{rules}
+use Rattle.world_model.specs.world_base.Core.{rules}
 use Rattle.world_model.specs.group_model.Group.{Group, moment_of}
 use Rattle.world_nodes.specs.Nodes.{NodesState, StandsFor}
 

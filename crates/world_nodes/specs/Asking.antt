@@ -10,7 +10,7 @@ use Rattle.broker_base.specs.Connection.{ConnectionName}
 use Rattle.broker_base.specs.Output.{Output}
 use Rattle.broker_base.specs.Output.TheVariants.{Send}
 use Rattle.broker_base.specs.Place.{Client}
-use Rattle.world_base.specs.Core.{CountedCore, rules}
+use Rattle.world_model.specs.world_base.Core.{CountedCore, rules}
 use Rattle.world_nodes.specs.Goes.{node_of}
 use Rattle.world_nodes.specs.Nodes.{NodesState}
 

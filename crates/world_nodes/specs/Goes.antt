@@ -9,13 +9,13 @@ use Rattle.ballot.specs.Cutting.{can_cut}
 use Rattle.master.specs.snapshots.Masters.{MasterOutcome, activated, assigned}
 use Rattle.master.specs.snapshots.World.{messages, recorded}
 use Rattle.broker_base.specs.Command.{Command}
-use Rattle.world_base.specs.Core.{CountedCore}
-use Rattle.world_base.specs.declared.Handed.{Handed}
-use Rattle.world_base.specs.declared.item.Item.{Item}
-use Rattle.world_base.specs.declared.item.Item.TheVariants.{Cut, Peer}
-use Rattle.world_base.specs.declared.Port.{Port}
-use Rattle.world_base.specs.Handing.{answer_of, bytes_of, listed_at}
-use Rattle.world_base.specs.Turns.{has_room}
+use Rattle.world_model.specs.world_base.Core.{CountedCore}
+use Rattle.world_model.specs.world_base.declared.Handed.{Handed}
+use Rattle.world_model.specs.world_base.declared.item.Item.{Item}
+use Rattle.world_model.specs.world_base.declared.item.Item.TheVariants.{Cut, Peer}
+use Rattle.world_model.specs.world_base.declared.Port.{Port}
+use Rattle.world_model.specs.world_base.Handing.{answer_of, bytes_of, listed_at}
+use Rattle.world_model.specs.world_base.Turns.{has_room}
 use Rattle.world_model.specs.node_model.Moves.{Deed, done}
 use Rattle.world_model.specs.node_model.Moves.Deed.{takes, gives}
 use Rattle.world_model.specs.group_model.Group.{Group}

@@ -10,13 +10,13 @@ use Rattle.ballot.specs.Losses.{Thinned}
 use Rattle.ballot.specs.Message.{Message}
 use Rattle.broker_base.specs.Command.{Command}
 use Rattle.broker_base.specs.Output.{Output}
-use Rattle.world_base.specs.declared.item.Item.{Item}
-use Rattle.world_base.specs.declared.item.Item.TheVariants.{Cut, Peer}
-use Rattle.world_base.specs.Core.{CountedCore, rules}
-use Rattle.world_base.specs.Connections.{has_failed}
-use Rattle.world_base.specs.Losses.{DoesNothing, TakesNoMemory}
-use Rattle.world_base.specs.LossyStep.{RunsOn}
-use Rattle.world_base.specs.Step.{node_step}
+use Rattle.world_model.specs.world_base.declared.item.Item.{Item}
+use Rattle.world_model.specs.world_base.declared.item.Item.TheVariants.{Cut, Peer}
+use Rattle.world_model.specs.world_base.Core.{CountedCore, rules}
+use Rattle.world_model.specs.world_base.Connections.{has_failed}
+use Rattle.world_model.specs.world_base.Losses.{DoesNothing, TakesNoMemory}
+use Rattle.world_model.specs.world_base.LossyStep.{RunsOn}
+use Rattle.world_model.specs.world_base.Step.{node_step}
 use Rattle.master.specs.Inside.{IsGroup, ToldIn, held_by}
 use Rattle.world_model.specs.group_model.Group.{Group, moment_of, replica_of}
 use Rattle.world_nodes.specs.Goes.{running}

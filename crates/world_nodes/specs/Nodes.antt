@@ -3,7 +3,7 @@ use Rattle.std.specs.Prelude.{◌≡◌, ℕ, List, map}
 use Rattle.ballot.specs.Message.{Message}
 use Rattle.agreement.specs.MasterState.{MasterState}
 use Rattle.broker_base.specs.Command.{Command}
-use Rattle.world_base.specs.Core.{CoreState, CountedCore}
+use Rattle.world_model.specs.world_base.Core.{CoreState, CountedCore}
 use Rattle.world_model.specs.group_model.Group.{Group}
 
 -- Node n + 1 stands at place n; all messages that were ever sent stay, each with its receiver. The record has the places

@@ -5,13 +5,13 @@ use Rattle.ballot.specs.Body.{Body}
 use Rattle.ballot.specs.Body.TheVariants.{Activate}
 use Rattle.ballot.specs.Message.{Message}
 use Rattle.broker_base.specs.Command.{Command}
-use Rattle.world_base.specs.Connections.{has_failed}
-use Rattle.world_base.specs.declared.item.Item.{Item}
-use Rattle.world_base.specs.declared.item.Item.TheVariants.{Peer}
-use Rattle.world_base.specs.declared.Port.{Port}
-use Rattle.world_base.specs.Core.{CountedCore}
-use Rattle.world_base.specs.Handing.{bytes_of, listed_at}
-use Rattle.world_base.specs.Losses.{TakesNoMemory}
+use Rattle.world_model.specs.world_base.Connections.{has_failed}
+use Rattle.world_model.specs.world_base.declared.item.Item.{Item}
+use Rattle.world_model.specs.world_base.declared.item.Item.TheVariants.{Peer}
+use Rattle.world_model.specs.world_base.declared.Port.{Port}
+use Rattle.world_model.specs.world_base.Core.{CountedCore}
+use Rattle.world_model.specs.world_base.Handing.{bytes_of, listed_at}
+use Rattle.world_model.specs.world_base.Losses.{TakesNoMemory}
 use Rattle.world_nodes.specs.Goes.{node_of, running}
 use Rattle.world_nodes.specs.Nodes.{NodesState}
 

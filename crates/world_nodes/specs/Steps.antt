@@ -9,13 +9,13 @@ use Rattle.ballot.specs.Losses.{Thinned, one_more}
 use Rattle.ballot.specs.Message.{Message}
 use Rattle.broker_base.specs.Command.{Command}
 use Rattle.broker_base.specs.Output.{Output}
-use Rattle.world_base.specs.declared.Handed.{Handed}
-use Rattle.world_base.specs.declared.Handed.TheVariants as answers
-use Rattle.world_base.specs.declared.item.Item.{Item}
-use Rattle.world_base.specs.declared.item.Item.TheVariants.{Cut, Expel, Peer}
-use Rattle.world_base.specs.declared.Port.{Port}
-use Rattle.world_base.specs.Core.{CountedCore}
-use Rattle.world_base.specs.LossyStep.{RunsOn}
+use Rattle.world_model.specs.world_base.declared.Handed.{Handed}
+use Rattle.world_model.specs.world_base.declared.Handed.TheVariants as answers
+use Rattle.world_model.specs.world_base.declared.item.Item.{Item}
+use Rattle.world_model.specs.world_base.declared.item.Item.TheVariants.{Cut, Expel, Peer}
+use Rattle.world_model.specs.world_base.declared.Port.{Port}
+use Rattle.world_model.specs.world_base.Core.{CountedCore}
+use Rattle.world_model.specs.world_base.LossyStep.{RunsOn}
 use Rattle.world_model.specs.node_model.Moves.{Deed}
 use Rattle.world_model.specs.node_model.Moves.Deed.{takes}
 use Rattle.world_model.specs.group_model.Group.{Group}

@@ -10,14 +10,16 @@ ghost use Rattle.world_model.specs.node_model.Moves.Deed.{takes};
 ghost use Rattle.world_nodes.specs.Goes.{Acts, Comes, CutsExactly, TakesExactly, running};
 ghost use Rattle.world_nodes.specs.Quiet.{ComesUnheeded, RestsAt};
 ghost use Rattle.world_nodes.specs.Steps.{ActsOrRests, ComesIn, ComesOrRests, CutsIn, GivesIn, HearsIn, LosesNothing, MasterGoes, TakesIn, forgetful};
-ghost use Rattle.world_base.specs.Core.{CountedCore};
+ghost use Rattle.world_model.specs.world_base.Core.{CountedCore};
 ghost use Rattle.world_nodes.specs.Inside.{IsPassedOver, RunsAt, WasSent};
 
 use crate::keeping::counted;
 use crate::nodes::Nodes;
 use crate::turning::{cut_back, pass_over, take_in};
 use master::{Idle, answer_of, config_of, record, tell};
-use world_base::{Body, BrokerMachine, Command, Config, Item, Members, Memory, Message};
+use world_model::world_base::{
+    Body, BrokerMachine, Command, Config, Item, Members, Memory, Message,
+};
 
 impl Nodes {
     // A node that runs takes an item in.

@@ -3,7 +3,7 @@
 ghost use Rattle.std.specs.Prelude.{◌≡◌, ◌<◌, ◌++◌, ◌↔◌, [], ◌∷◌, None, Some, true, false, IfOk, OnOk};
 ghost use Rattle.agreement.specs.MasterState.{refusal};
 ghost use Rattle.ballot.specs.Machine.{replay_from};
-ghost use Rattle.world_base.specs.Core.{CountedCore, rules};
+ghost use Rattle.world_model.specs.world_base.Core.{CountedCore, rules};
 ghost use Rattle.world_nodes.specs.Asking.{first_connection, is_present, is_welcome, log_of, welcomes_back};
 ghost use Rattle.world_nodes.specs.Goes.{node_of};
 
@@ -11,7 +11,7 @@ use crate::nodes::Nodes;
 use ballot::Machine;
 use packet::{ClientId, Connack, Packet};
 use std::alloc::Global;
-use world_base::{BrokerMachine, Command, Config, ConnectionId, Memory, Output};
+use world_model::world_base::{BrokerMachine, Command, Config, ConnectionId, Memory, Output};
 
 impl Nodes {
     /// Returns whether the master gives the next ballot to a configuration when [`Nodes::assign`] asks for it.

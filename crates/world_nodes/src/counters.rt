@@ -6,7 +6,7 @@ ghost use Rattle.master.specs.Inside.{HasCounted, least_but_one};
 
 use master::{Told, turn_over};
 use std::alloc::Global;
-use world_base::{Command, Memory, Message};
+use world_model::world_base::{Command, Memory, Message};
 
 /// What was told in the active ballot, and in the one that waits. Its calls but `new` take no memory.
 #[derive(Drop)]

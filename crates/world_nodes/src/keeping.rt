@@ -6,7 +6,7 @@ ghost use Rattle.master.specs.snapshots.World.{messages};
 ghost use Rattle.ballot.specs.Losses.{Thinned, one_more};
 ghost use Rattle.world_nodes.specs.Inside.{Keeps};
 
-use world_base::{Command, Effect, Message, Output};
+use world_model::world_base::{Command, Effect, Message, Output};
 
 /// Puts the messages among effects behind those that were sent. One that finds no memory is lost;
 /// whether none was is the result.

@@ -17,7 +17,7 @@ use master::{Idle, Master, asks_for, copy_of};
 use packet::ClientId;
 use std::alloc::Global;
 use std::marker::Model;
-use world_base::{
+use world_model::world_base::{
     BrokerMachine, Command, Config, Handed, Item, Message, NodeCore, OpeningError, Piece, Port,
 };
 

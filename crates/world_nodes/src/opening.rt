@@ -4,7 +4,7 @@ ghost use Rattle.std.specs.Prelude.{◌≡◌, nat_le};
 ghost use Rattle.std.specs.List.{list_all};
 ghost use Rattle.agreement.specs.World.{can_open};
 
-use world_base::Config;
+use world_model::world_base::Config;
 
 /// Whether so many nodes may open in a configuration.
 pub fn can_open(nodes: u8, config: &Config) -> bool

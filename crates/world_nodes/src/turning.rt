@@ -1,12 +1,12 @@
 // The turn of one node.
 
 ghost use Rattle.std.specs.Prelude.{◌≡◌, ◌<◌, ◌-◌, ◌^◌, true, take, length, slice_get, if◌then◌else◌, IfSome};
-ghost use Rattle.world_base.specs.Losses.{DoesNothing};
+ghost use Rattle.world_model.specs.world_base.Losses.{DoesNothing};
 ghost use Rattle.world_nodes.specs.Inside.{TookItem};
 
 use crate::keeping::keep_all;
 use std::alloc::Global;
-use world_base::{Command, Item, Message, NodeCore};
+use world_model::world_base::{Command, Item, Message, NodeCore};
 
 /// A node takes an item in, and its messages are kept behind those that were sent. Whether memory
 /// sufficed is the result.

@@ -23,7 +23,7 @@ use Rattle.client_base.specs.Answered.{Turn, accepted_of, accepting, awaits_pubr
 use Rattle.client_base.specs.Calls.{confirmed, discarded, loses_session, numbered, on_first, on_later, publish_refusal, published, received}
 use Rattle.client_base.specs.Handled.{handled, handled_first, handled_online, is_sent_with, releasing, takes_in}
 use Rattle.client_base.specs.Steps.{Call, disconnected, keeper_step, request_refusal, subscribed, unless_refused, unsubscribed}
-use Rattle.story.specs.Sides.{Side}
+use Rattle.world_model.specs.story.Sides.{Side}
 use Rattle.world_model.specs.Accepted.{accepted_once, is_accepted_once, publication_accepted}
 
 -- one more

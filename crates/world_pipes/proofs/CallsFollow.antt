@@ -11,7 +11,7 @@ use Rattle.client_base.specs.Written.{writes, writes_first}
 use Rattle.client.specs.Core.{AppendsAll, Core, gone}
 use Rattle.world_model.specs.node_model.Puts.{spelled}
 use Rattle.session_base.specs.declared.publication.Publication.{Publication}
-use Rattle.story.specs.Sides.{Connection}
+use Rattle.world_model.specs.story.Sides.{Connection}
 use Rattle.world_model.specs.World.{ClientPipes, Pipe, after_writing, newly_written, sent_up}
 use Rattle.world_model.specs.Goes.{CanBeSpelled}
 use Rattle.world_model.specs.Published.{published_by}
@@ -23,7 +23,7 @@ use Rattle.world_pipes.specs.Following.{CallingFollows, after_losing}
 use Rattle.world_pipes.specs.Goes.{ClientGoes, ClientStep}
 use Rattle.world_pipes.specs.Piped.{Calls, GoesUp, GoesUpWhere, Piped, TakesLeave, broken, is_holding, piped}
 use Rattle.world_pipes.specs.Piped as pipings
-use Rattle.story.specs.Headline.{accepted_on}
+use Rattle.world_model.specs.story.Headline.{accepted_on}
 use Rattle.world_pipes.specs.Standing.{AreWays, CanGoOut, StandsFor}
 use Rattle.world_model.specs.Accepted.{accepted_once}
 use Rattle.world_pipes.proofs.HearingFollows.{IsLeft, finished, left_lost, way_up}

@@ -19,14 +19,14 @@ use Rattle.client_base.specs.Steps.{Call, keeper_step, subscribed, unless_refuse
 use Rattle.client_base.specs.Written.{writes, writes_first}
 use Rattle.client_base.proofs.FollowsCalls.{turn_of}
 use Rattle.client.specs.Core.{Core}
-use Rattle.story.specs.Sides.{Connection}
+use Rattle.world_model.specs.story.Sides.{Connection}
 use Rattle.world_model.specs.World.{after_writing, newly_written, packets_of, sent_up}
 use Rattle.world_model.proofs.OnTheWay.{newly_is}
 use Rattle.world_pipes.specs.declared.sending.Sending.{Sending}
 use Rattle.world_pipes.specs.declared.sending.Sending.TheVariants as sendings
 use Rattle.world_pipes.specs.Following.{CallingFollows}
 use Rattle.world_pipes.specs.Piped.{GoesUpWhere, Piped, is_holding, piped}
-use Rattle.story.specs.Headline.{accepted_on}
+use Rattle.world_model.specs.story.Headline.{accepted_on}
 use Rattle.world_pipes.specs.Standing.{AreWays, CanGoOut, StandsFor}
 use Rattle.world_model.specs.Accepted.{accepted_once}
 use Rattle.world_pipes.proofs.CallsFollow.{HasCall, up_follows}

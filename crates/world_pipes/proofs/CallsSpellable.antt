@@ -4,8 +4,8 @@ use Rattle.std.proofs.lemmas.Bool.{ltb-false, ltb-true}
 use Rattle.std.proofs.lemmas.List.{length-append}
 use Rattle.std.specs.List.{All}
 use Rattle.topics.specs.Text.{is_filter, is_topic}
-use Rattle.packet_base.specs.Spelling.{IsId}
-use Rattle.packet_base.proofs.FieldsAgain.{filter_parts}
+use Rattle.packet.specs.packet_base.Spelling.{IsId}
+use Rattle.packet.proofs.of_packet_base.FieldsAgain.{filter_parts}
 use Rattle.packet.specs.Delivery.{FitsDelivery}
 use Rattle.packet.specs.QoS.{qos_number}
 use Rattle.packet.specs.Spelling.{IsPacket, body, longest_body}

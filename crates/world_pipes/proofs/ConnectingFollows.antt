@@ -6,7 +6,7 @@ use Rattle.packet.specs.ClientId.{is_client}
 use Rattle.packet.proofs.Clients.{client_short}
 use Rattle.packet.specs.Spelling.{IsPacket}
 use Rattle.packet.specs.declared.packet.Packet.TheVariants as packets
-use Rattle.broker_base.specs.Connection.{ConnectionName}
+use Rattle.world_model.specs.broker_base.Connection.{ConnectionName}
 use Rattle.client_base.specs.declared.error.ClientError.{ClientError}
 use Rattle.client_base.specs.State.{ClientState, is_open}
 use Rattle.client_base.specs.Called as called
@@ -16,14 +16,14 @@ use Rattle.client_base.specs.Keeper.{Keeper}
 use Rattle.client_base.specs.Steps.{Call, keeper_step}
 use Rattle.client.specs.Core.{AppendsAll, Core, Opens}
 use Rattle.world_model.specs.node_model.Puts.{spelled}
-use Rattle.world_base.specs.declared.Port.{Port}
+use Rattle.world_model.specs.world_base.declared.Port.{Port}
 use Rattle.world_model.specs.World.{ClientPipes, new_client}
 use Rattle.world_model.specs.Goes.{after_connecting}
 use Rattle.world_pipes.specs.declared.way.Way.{Way}
 use Rattle.world_pipes.specs.Following.{ConnectingFollows, FollowsAll}
 use Rattle.world_pipes.specs.Goes.{ClientGoes}
 use Rattle.world_pipes.specs.Piped.{Connects, Piped, is_holding, new_piped, new_way, piped, sent_up}
-use Rattle.story.specs.Headline.{accepted_on}
+use Rattle.world_model.specs.story.Headline.{accepted_on}
 use Rattle.world_pipes.specs.Standing.{AreWays, CanGoOut, StandsFor}
 use Rattle.world_model.specs.Accepted.{accepted_once}
 use Rattle.world_pipes.proofs.PacketsHandled.{appended}

@@ -2,7 +2,7 @@
 use Rattle.std.proofs.Common.{◌≡◌, ℕ, suc, true, false, ◌⊎◌, inl, inr, List, [], ◌∷◌, ◌++◌, length, take, drop, reverse, set, slice_get, Result, Ok, Err, refl, ap, ap₂, sym, subst, ◌∙◌, arith, append_assoc}
 use Rattle.std.proofs.lemmas.Bool.{both_ways}
 use Rattle.std.proofs.lemmas.List.{append-nil, take-append-drop}
-use Rattle.cutter.specs.Stream.{Stream}
+use Rattle.client.specs.cutter.Stream.{Stream}
 use Rattle.client_base.specs.declared.error.ClientError.{ClientError}
 use Rattle.client_base.specs.declared.error.ClientError.TheVariants as errors
 use Rattle.client_base.specs.declared.stage.Stage.{Stage}
@@ -12,13 +12,13 @@ use Rattle.client_base.specs.History as history
 use Rattle.client_base.proofs.FollowsHandled.{lost_stands}
 use Rattle.client.specs.Core.{Core, gone}
 use Rattle.client.specs.Reading.{EndsWith, Handles, OnBytes, fed}
-use Rattle.story.specs.Sides.{Connection}
+use Rattle.world_model.specs.story.Sides.{Connection}
 use Rattle.world_model.specs.World.{ClientPipes, Pipe, with_pipe}
 use Rattle.world_pipes.specs.declared.way.Way.{Way}
 use Rattle.world_pipes.specs.Following.{Follows, HearingFollows, after_losing}
 use Rattle.world_pipes.specs.Goes.{ClientGoes, ClientStep, published_along, published_with}
 use Rattle.world_pipes.specs.Piped.{Hears, Piped, broken, come_down, piped, sent_up}
-use Rattle.story.specs.Headline.{accepted_on}
+use Rattle.world_model.specs.story.Headline.{accepted_on}
 use Rattle.world_pipes.specs.Standing.{AreWays, CanGoOut, IsWay, StandsFor}
 use Rattle.world_model.specs.Accepted.{accepted_once}
 use Rattle.world_pipes.proofs.PacketsHandled.{GoFar, IsInMidst, all_go, one_goes}

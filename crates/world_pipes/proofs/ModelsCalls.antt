@@ -7,7 +7,7 @@ use Rattle.packet.specs.declared.qos.QoS.{QoS}
 use Rattle.session_base.specs.declared.publication.Publication.{Publication}
 use Rattle.session_base.specs.Identifiers.{least_free}
 use Rattle.session_base.proofs.IdentifiersOfFills.{least_free_is}
-use Rattle.broker_base.specs.Commands.{usual_limits}
+use Rattle.world_model.specs.broker_base.Commands.{usual_limits}
 use Rattle.client_base.specs.declared.request.Request.TheVariants as requests
 use Rattle.client_base.specs.declared.stage.Stage.{Stage}
 use Rattle.client_base.specs.declared.stage.Stage.TheVariants as stages
@@ -23,8 +23,8 @@ use Rattle.client_base.specs.Steps.{Call, disconnected, keeper_step, request_ref
 use Rattle.client_base.specs.Written.{plain, writes_first}
 use Rattle.client_base.proofs.Follows.{calls_follow}
 use Rattle.world_model.specs.model.Goes.{is_call}
-use Rattle.story.specs.Sides.{Connection}
-use Rattle.story.specs.Story.{Happens}
+use Rattle.world_model.specs.story.Sides.{Connection}
+use Rattle.world_model.specs.story.Story.{Happens}
 use Rattle.world_model.specs.World.{ClientPipes, packets_of}
 use Rattle.world_model.specs.Goes.{story_alone}
 use Rattle.world_model.specs.Published.{published_by}

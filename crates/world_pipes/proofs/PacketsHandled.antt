@@ -4,7 +4,7 @@ use Rattle.std.proofs.lemmas.List.{append-nil}
 use Rattle.packet.specs.Spelling.{IsPacket, spelling}
 use Rattle.packet.specs.declared.packet.Packet.{Packet}
 use Rattle.packet.proofs.OneSpelling.{spelling_is}
-use Rattle.cutter.specs.Stream.{Stream, Takes}
+use Rattle.client.specs.cutter.Stream.{Stream, Takes}
 use Rattle.lists.specs.Lists.{Each}
 use Rattle.client_base.specs.State.{ClientState, is_open}
 use Rattle.client_base.specs.Answered.{Turn}
@@ -16,12 +16,12 @@ use Rattle.client_base.proofs.FollowsPackets.{Same}
 use Rattle.client.specs.Core.{AppendsAll, Core, IsDone}
 use Rattle.client.specs.Reading.{Handles, Reads, turn_of}
 use Rattle.world_model.specs.node_model.Puts.{spelled}
-use Rattle.story.specs.Sides.{Connection, Side}
+use Rattle.world_model.specs.story.Sides.{Connection, Side}
 use Rattle.world_model.specs.World.{ClientPipes, Pipe, newly_written}
 use Rattle.world_model.specs.Goes.{after_packet}
 use Rattle.world_model.proofs.OnTheWay.{newly_is}
 use Rattle.world_pipes.specs.Goes.{ClientGoes, ClientStep, published_along, published_with}
-use Rattle.story.specs.Headline.{accepted_on}
+use Rattle.world_model.specs.story.Headline.{accepted_on}
 use Rattle.world_pipes.specs.Standing.{CanGoOut}
 use Rattle.world_model.specs.Accepted.{accepted_once}
 use Rattle.world_pipes.proofs.AcceptedAlike.{accepts_alike}

@@ -10,7 +10,7 @@ use Rattle.session_base.specs.Publication.{publication_of}
 use Rattle.lists.specs.Lists.{has_id}
 use Rattle.client_base.specs.Keeper as keepers
 use Rattle.client_base.specs.Handled.{handled, handled_first, handled_online, is_sent_with, releasing, takes_in}
-use Rattle.story.specs.Sides.{Connection, Side}
+use Rattle.world_model.specs.story.Sides.{Connection, Side}
 
 -- a side whose connection has a number for a name
 abbrev pub renamed_connection : Connection → keepers.Connection ℕ

@@ -1,7 +1,7 @@
 -- Spellable.antt: all that a client writes can be spelled, and so can what it keeps then.
 use Rattle.std.proofs.Common.{ℕ, Bool, true, false, not, if◌then◌else◌, List, [], ◌∷◌, ◌++◌, map, filter, None, arith}
 use Rattle.std.specs.List.{list_any}
-use Rattle.packet_base.specs.Spelling.{IsId}
+use Rattle.packet.specs.packet_base.Spelling.{IsId}
 use Rattle.packet.specs.declared.connack.Connack.TheVariants as connacks
 use Rattle.packet.specs.declared.delivery.Delivery.{Delivery}
 use Rattle.packet.specs.declared.delivery.Delivery.TheVariants as deliveries

@@ -9,7 +9,7 @@ use Rattle.client_base.specs.State.{ClientState}
 use Rattle.client_base.specs.Steps.{Call, keeper_step}
 use Rattle.client_base.proofs.FollowsHandled.{lost_stands}
 use Rattle.client.specs.Core.{Core, gone}
-use Rattle.world_base.specs.declared.Port.{Port}
+use Rattle.world_model.specs.world_base.declared.Port.{Port}
 use Rattle.world_pipes.specs.declared.way.Way.{Way}
 use Rattle.world_pipes.specs.Following.{FollowsAll, after_losing}
 use Rattle.world_pipes.specs.Piped.{Connects, Piped, new_way, piped, taken_back}

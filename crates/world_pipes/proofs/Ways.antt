@@ -7,8 +7,8 @@ use Rattle.packet.specs.Spelling.{IsPacket}
 use Rattle.client_base.specs.Handled.{lost}
 use Rattle.client_base.proofs.FollowsHandled.{lost_stands}
 use Rattle.client.specs.Core.{Core, gone}
-use Rattle.story.specs.Sides.{Connection}
-use Rattle.story.specs.Story.{Happens}
+use Rattle.world_model.specs.story.Sides.{Connection}
+use Rattle.world_model.specs.story.Story.{Happens}
 use Rattle.world_model.specs.World.{ClientPipes, Pipe, newly_written, sent_up}
 use Rattle.world_model.proofs.OnTheWay.{newly_is}
 use Rattle.world_pipes.specs.declared.way.Way.{Way}

@@ -2,15 +2,15 @@
 use Rattle.std.specs.Prelude.{◌≡◌, ◌-◌, ℕ, true, false, List, [], ◌++◌, length, take, slice_get, IfSome, Some, Result, Ok, Err}
 use Rattle.packet.specs.Spelling.{IsPacket}
 use Rattle.packet.specs.declared.packet.Packet.TheVariants as packets
-use Rattle.broker_base.specs.Commands.{usual_limits}
-use Rattle.broker_base.specs.Connection.{ConnectionName}
+use Rattle.world_model.specs.broker_base.Commands.{usual_limits}
+use Rattle.world_model.specs.broker_base.Connection.{ConnectionName}
 use Rattle.client_base.specs.declared.error.ClientError.{ClientError}
 use Rattle.client_base.specs.Handled.{lost}
 use Rattle.world_model.specs.model.Goes.{is_call}
 use Rattle.session_base.specs.declared.publication.Publication.{Publication}
-use Rattle.story.specs.Sides.{Connection}
-use Rattle.story.specs.Story.{Happens, Story}
-use Rattle.world_base.specs.declared.Port.{Port}
+use Rattle.world_model.specs.story.Sides.{Connection}
+use Rattle.world_model.specs.story.Story.{Happens, Story}
+use Rattle.world_model.specs.world_base.declared.Port.{Port}
 use Rattle.world_model.specs.World.{ClientPipes, Pipe, after_writing, with_pipe}
 use Rattle.world_model.specs.Goes.{CanBeSpelled, after_connecting, story_alone}
 use Rattle.world_model.specs.Published.{published_by}

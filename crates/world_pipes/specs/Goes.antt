@@ -1,12 +1,12 @@
 -- What one client of a world does, of which the nodes have no part.
 use Rattle.std.specs.Prelude.{◌≡◌, ℕ, true, List, [], ◌∷◌, ◌++◌, Some, Ok, slice_get}
 use Rattle.packet.specs.declared.packet.Packet.{Packet}
-use Rattle.cutter.specs.Stream.{Stream, Takes}
-use Rattle.broker_base.specs.Commands.{usual_limits}
+use Rattle.client.specs.cutter.Stream.{Stream, Takes}
+use Rattle.world_model.specs.broker_base.Commands.{usual_limits}
 use Rattle.session_base.specs.declared.publication.Publication.{Publication}
 use Rattle.client_base.specs.Handled.{handled}
-use Rattle.story.specs.Sides.{Connection}
-use Rattle.story.specs.Story.{Story, Happens}
+use Rattle.world_model.specs.story.Sides.{Connection}
+use Rattle.world_model.specs.story.Story.{Story, Happens}
 use Rattle.world_model.specs.model.Goes.{is_call}
 use Rattle.world_model.specs.World.{ClientPipes, Pipe, World, after_writing, with_client, with_pipe}
 use Rattle.world_model.specs.Goes.{CanBeSpelled, WorldStep, after_packet, story_alone}

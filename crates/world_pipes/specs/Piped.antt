@@ -1,6 +1,6 @@
 -- What a `PipedClient` shows: the client, and its connections with the bytes under way, the oldest first.
 use Rattle.std.specs.Prelude.{◌≡◌, ℕ, ◌-◌, Bool, true, false, ◌⊎◌, List, [], ◌∷◌, ◌++◌, length, take, drop, Result, Ok, Err}
-use Rattle.world_base.specs.declared.Port.{Port}
+use Rattle.world_model.specs.world_base.declared.Port.{Port}
 use Rattle.client_base.specs.declared.error.ClientError.{ClientError}
 use Rattle.client_base.specs.declared.error.ClientError.TheVariants as errors
 use Rattle.client_base.specs.State.{is_open}

@@ -1,14 +1,14 @@
 -- Which client of the model of worlds a `PipedClient` stands for. History stands in the model alone.
 use Rattle.std.specs.Prelude.{◌≡◌, true, false, IsTrue, List, [], ◌∷◌, ◌++◌, length, reverse}
-use Rattle.packet_base.specs.Spelling.{IsId}
+use Rattle.packet.specs.packet_base.Spelling.{IsId}
 use Rattle.packet.specs.ClientId.{is_client}
 use Rattle.packet.specs.Spelling.{IsPacket}
 use Rattle.lists.specs.Lists.{Each, IsPrefixOf}
 use Rattle.client_base.specs.declared.kept_publication.KeptPublication.{KeptPublication}
 use Rattle.client_base.specs.State.{ClientState, publish_kept}
 use Rattle.client_base.specs.History as history
-use Rattle.story.specs.Headline.{accepted_on}
-use Rattle.story.specs.Sides.{Connection}
+use Rattle.world_model.specs.story.Headline.{accepted_on}
+use Rattle.world_model.specs.story.Sides.{Connection}
 use Rattle.world_model.specs.Accepted.{accepted_once}
 use Rattle.world_model.specs.World.{ClientPipes, Pipe}
 use Rattle.world_pipes.specs.declared.way.Way.{Way}

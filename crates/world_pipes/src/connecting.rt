@@ -9,7 +9,7 @@ use crate::piped_client::PipedClient;
 use crate::sending::{Sending, send_up};
 use crate::way::Way;
 use client::ClientError;
-use world_base::Port;
+use world_model::world_base::Port;
 
 impl PipedClient {
     /// Opens a connection to the node at this place, which is to know it by this port: CONNECT is under way on it. It

@@ -15,4 +15,5 @@ pub use client::{Accepted, ClientCore, ClientError};
 pub use laws::clients_step_in_worlds;
 pub use piped_client::PipedClient;
 pub use sending::Sending;
-pub use world_base::Port;
+pub use world_model::world_base;
+pub use world_model::world_base::Port;

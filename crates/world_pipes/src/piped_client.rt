@@ -12,7 +12,7 @@ use client::ClientCore;
 use packet::ClientId;
 use std::alloc::Global;
 use std::marker::Model;
-use world_base::Port;
+use world_model::world_base::Port;
 
 /// A client with all its connections, the oldest first, and the bytes under way on each. It holds at most the newest one;
 /// what is under way on the others still goes up, and is not heard any more.

@@ -5,7 +5,7 @@ ghost use Rattle.world_pipes.specs.Piped.{new_way};
 
 use crate::bytes_under_way::BytesUnderWay;
 use std::alloc::Global;
-use world_base::Port;
+use world_model::world_base::Port;
 
 /// Where a connection leads, and the bytes under way on it.
 #[derive(Drop)]

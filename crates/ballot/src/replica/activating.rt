@@ -10,7 +10,7 @@ ghost use Rattle.ballot_base.specs.Serving.{commit, most_places};
 ghost use Rattle.ballot_base.specs.Sending.{message_to_followed};
 ghost use Rattle.ballot_base.specs.Losses.{halted, one_more};
 ghost use Rattle.ballot_base.specs.Applying.{applied_to};
-ghost use Rattle.lists.specs.Lists.{IsPrefixOf};
+ghost use Rattle.ballot_base.specs.lists.Lists.{IsPrefixOf};
 
 use super::{MOST_PLACES, Replica};
 use ballot_base::{

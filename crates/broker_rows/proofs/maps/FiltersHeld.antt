@@ -2,8 +2,8 @@
 use Rattle.std.proofs.Common.{◌≡◌, ℕ, Bool, true, false, not, if◌then◌else◌, List, [], ◌∷◌, Option, Some, None, refl, ap, ◌∙◌, sym}
 use Rattle.std.specs.Prelude.{bytes_eq}
 use Rattle.std.specs.Cmp.Lexicographic.{bytes_decides}
-use Rattle.packet.specs.declared.qos.QoS.{QoS}
-use Rattle.session_base.specs.Subscriptions.{HeldFilter, with_subscription, without_filter}
+use Rattle.subs.specs.packet.declared.qos.QoS.{QoS}
+use Rattle.broker_model.specs.session_base.Subscriptions.{HeldFilter, with_subscription, without_filter}
 use Rattle.broker_rows.specs.Indexed.{qos_at}
 
 -- bytes that are tested equal, either way round

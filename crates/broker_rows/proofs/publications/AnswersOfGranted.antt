@@ -1,15 +1,15 @@
 -- What a taken publication is answered by is sent to the clients of the granted rows alone, in their order.
 use Rattle.std.proofs.Common.{◌≡◌, ℕ, List, [], ◌∷◌, ◌++◌, Option, Some, None, refl, ap₂, sym}
 use Rattle.std.specs.Prelude.{flat_map, option_map}
-use Rattle.packet.specs.declared.qos.QoS.{QoS}
-use Rattle.packet.specs.declared.publish.Publish.{Publish}
-use Rattle.packet.specs.declared.packet.Packet.TheVariants as packets
-use Rattle.retained.specs.Retained.{RetainedTopics}
-use Rattle.session_base.specs.Publication.{publication_of, lower_qos}
-use Rattle.session_base.specs.Sending.{copies_sent}
+use Rattle.subs.specs.packet.declared.qos.QoS.{QoS}
+use Rattle.subs.specs.packet.declared.publish.Publish.{Publish}
+use Rattle.subs.specs.packet.declared.packet.Packet.TheVariants as packets
+use Rattle.broker_model.specs.retained.Retained.{RetainedTopics}
+use Rattle.broker_model.specs.session_base.Publication.{publication_of, lower_qos}
+use Rattle.broker_model.specs.session_base.Sending.{copies_sent}
 use Rattle.broker_base.specs.Connection.{ConnectionName}
 use Rattle.broker_base.specs.Place.{Client, Mark, Place}
-use Rattle.session_base.specs.Subscriptions.{granted_qos}
+use Rattle.broker_model.specs.session_base.Subscriptions.{granted_qos}
 use Rattle.broker_base.specs.Entries.{copy_of}
 use Rattle.broker_base.specs.ClientSession.{ClientSession}
 use Rattle.broker_base.specs.State.{Sessions, session_in}

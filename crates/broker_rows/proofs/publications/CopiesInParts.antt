@@ -3,12 +3,12 @@ use Rattle.std.proofs.Common.{◌≡◌, ℕ, ◌+◌, ◌-◌, suc, Bool, true,
 use Rattle.std.proofs.lemmas.List.{append_assoc, length-append}
 use Rattle.std.proofs.lemmas.List.Elements.{filter-append}
 use Rattle.std.proofs.lemmas.Bool.Decides.{nat_tests}
-use Rattle.packet.specs.declared.packet.Packet.{Packet}
-use Rattle.packet.specs.declared.packet.Packet.TheVariants as packets
-use Rattle.session_base.specs.declared.publication.Publication.{Publication}
-use Rattle.session_base.specs.Publication.{is_answered, publish_of}
-use Rattle.session_base.specs.Queue.{Flight, Queue, started_flight, enqueue, fill, filled, room, copies_left}
-use Rattle.session_base.specs.Sending.{fill_sends, copies_sent}
+use Rattle.subs.specs.packet.declared.packet.Packet.{Packet}
+use Rattle.subs.specs.packet.declared.packet.Packet.TheVariants as packets
+use Rattle.broker_model.specs.session_base.declared.publication.Publication.{Publication}
+use Rattle.broker_model.specs.session_base.Publication.{is_answered, publish_of}
+use Rattle.broker_model.specs.session_base.Queue.{Flight, Queue, started_flight, enqueue, fill, filled, room, copies_left}
+use Rattle.broker_model.specs.session_base.Sending.{fill_sends, copies_sent}
 use Rattle.broker_base.specs.Entries.{queued}
 use Rattle.broker_rows.specs.CopyLaws.{CopiesJoin, CopiesTakeRoom, CopiesFindRoom}
 

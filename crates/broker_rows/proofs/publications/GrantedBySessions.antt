@@ -4,12 +4,12 @@ use Rattle.std.specs.List.{AllByRecursion}
 use Rattle.std.specs.List.Sorted.{IsStrictlySortedBy}
 use Rattle.std.specs.declared.cmp.Ordering.TheVariants.{Less}
 use Rattle.std.proofs.lemmas.List.Elements.{All-nil, All-cons, Contains-append_right}
-use Rattle.topics.specs.Matching.{is_match}
-use Rattle.topics.proofs.MatchingIsTested.{tested}
-use Rattle.packet.specs.declared.qos.QoS.{QoS}
-use Rattle.packet.specs.QoS.{qos_number}
+use Rattle.subs.specs.topics.Matching.{is_match}
+use Rattle.subs.proofs.of_topics.MatchingIsTested.{tested}
+use Rattle.subs.specs.packet.declared.qos.QoS.{QoS}
+use Rattle.subs.specs.packet.QoS.{qos_number}
 use Rattle.broker_base.specs.Place.{Client, by_bytes, same_client}
-use Rattle.session_base.specs.Subscriptions.{granted_qos}
+use Rattle.broker_model.specs.session_base.Subscriptions.{granted_qos}
 use Rattle.broker_base.specs.ClientSession.{ClientSession}
 use Rattle.broker_base.specs.State.{Sessions, session_in}
 use Rattle.broker_base.proofs.SessionsStayByClient.{ComesBefore}
@@ -20,7 +20,7 @@ use Rattle.subs.specs.Granted.{Row, clients_of, IsGreatest, IsGranted, row_of}
 use Rattle.subs.proofs.GrantsOneList.{one_list}
 use Rattle.broker_rows.specs.Published.{granted_rows}
 use Rattle.broker_rows.specs.Indexed.{subscribed_in, content_in}
-use Rattle.session_base.specs.KeepingLaws.{AreFiltersApart}
+use Rattle.broker_model.specs.session_base.KeepingLaws.{AreFiltersApart}
 use Rattle.broker_base.specs.StateLaws.{AllSound}
 use Rattle.broker_rows.proofs.FindsEach.{Finds, finds_each}
 use Rattle.broker_rows.proofs.publications.GreatestGranted.{reaches, comes}

@@ -4,13 +4,13 @@ use Rattle.std.specs.Prelude.{bytes_eq}
 use Rattle.std.specs.Cmp.Lexicographic.{bytes_decides}
 use Rattle.std.proofs.lemmas.Bool.Decides.{nat_tests}
 use Rattle.std.proofs.lemmas.Bool.{or_parts}
-use Rattle.topics.specs.Matching.{is_match}
-use Rattle.packet.specs.declared.qos.QoS.{QoS}
-use Rattle.packet.specs.QoS.{qos_number}
-use Rattle.session_base.specs.Publication.{greater_qos}
-use Rattle.session_base.specs.Subscriptions.{HeldFilter, is_held, granted_qos}
+use Rattle.subs.specs.topics.Matching.{is_match}
+use Rattle.subs.specs.packet.declared.qos.QoS.{QoS}
+use Rattle.subs.specs.packet.QoS.{qos_number}
+use Rattle.broker_model.specs.session_base.Publication.{greater_qos}
+use Rattle.broker_model.specs.session_base.Subscriptions.{HeldFilter, is_held, granted_qos}
 use Rattle.broker_rows.specs.Indexed.{qos_at}
-use Rattle.session_base.specs.KeepingLaws.{AreFiltersApart}
+use Rattle.broker_model.specs.session_base.KeepingLaws.{AreFiltersApart}
 
 -- ---- the greater of two
 

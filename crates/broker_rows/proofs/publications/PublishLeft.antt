@@ -3,12 +3,12 @@ use Rattle.std.proofs.Common.{◌≡◌, ℕ, Bool, true, false, if◌then◌els
 use Rattle.std.specs.Ordering.{is_eq}
 use Rattle.std.specs.declared.cmp.Ordering.TheVariants.{Less}
 use Rattle.std.specs.List.Sorted.{IsStrictlySortedBy}
-use Rattle.packet.specs.declared.qos.QoS.{QoS}
-use Rattle.packet.specs.declared.publish.Publish.{Publish}
-use Rattle.retained.specs.Retained.{RetainedTopics}
-use Rattle.session_base.specs.declared.publication.Publication.{Publication}
-use Rattle.session_base.specs.Publication.{publication_of}
-use Rattle.session_base.specs.Subscriptions.{granted_qos}
+use Rattle.subs.specs.packet.declared.qos.QoS.{QoS}
+use Rattle.subs.specs.packet.declared.publish.Publish.{Publish}
+use Rattle.broker_model.specs.retained.Retained.{RetainedTopics}
+use Rattle.broker_model.specs.session_base.declared.publication.Publication.{Publication}
+use Rattle.broker_model.specs.session_base.Publication.{publication_of}
+use Rattle.broker_model.specs.session_base.Subscriptions.{granted_qos}
 use Rattle.broker_base.specs.Connection.{ConnectionName}
 use Rattle.broker_base.specs.Place.{Client, by_bytes, same_client}
 use Rattle.broker_base.specs.EntryLaws.{taken}

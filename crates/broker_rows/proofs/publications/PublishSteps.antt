@@ -1,8 +1,8 @@
 -- The step at a PUBLISH of a served client that is no repeat.
 use Rattle.std.proofs.Common.{◌≡◌, Bool, true, false, ◌||◌, if◌then◌else◌, ◌++◌, ap, ap₂, ◌∙◌}
-use Rattle.packet.specs.declared.publish.Publish.{Publish}
-use Rattle.packet.specs.declared.packet.Packet.TheVariants as packets
-use Rattle.session_base.specs.Publication.{publication_of}
+use Rattle.subs.specs.packet.declared.publish.Publish.{Publish}
+use Rattle.subs.specs.packet.declared.packet.Packet.TheVariants as packets
+use Rattle.broker_model.specs.session_base.Publication.{publication_of}
 use Rattle.broker_base.specs.Place.{Client, Mark, Limits}
 use Rattle.broker_base.specs.Answers.{acknowledged}
 use Rattle.broker_base.specs.Retained.{retains}

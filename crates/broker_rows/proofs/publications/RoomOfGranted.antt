@@ -2,12 +2,12 @@
 use Rattle.std.proofs.Common.{◌≡◌, ◌&&◌, ◌||◌, ◌==◌, [], ◌∷◌, ◌++◌, Option, Some, None, refl, ap₂, sym}
 use Rattle.std.specs.Prelude.{option_map}
 use Rattle.std.specs.List.{list_any}
-use Rattle.packet.specs.declared.qos.QoS.{QoS}
-use Rattle.session_base.specs.declared.publication.Publication.{Publication}
-use Rattle.session_base.specs.Publication.{lower_qos}
-use Rattle.session_base.specs.Queue.{room}
+use Rattle.subs.specs.packet.declared.qos.QoS.{QoS}
+use Rattle.broker_model.specs.session_base.declared.publication.Publication.{Publication}
+use Rattle.broker_model.specs.session_base.Publication.{lower_qos}
+use Rattle.broker_model.specs.session_base.Queue.{room}
 use Rattle.broker_base.specs.Place.{Client, Limits}
-use Rattle.session_base.specs.Subscriptions.{granted_qos}
+use Rattle.broker_model.specs.session_base.Subscriptions.{granted_qos}
 use Rattle.broker_base.specs.Marks.{is_queued_at}
 use Rattle.broker_base.specs.ClientSession.{ClientSession}
 use Rattle.broker_base.specs.State.{Sessions, session_in}

@@ -1,15 +1,15 @@
 -- What a taken PUBLISH leaves of one session: its identifier noted, and the copy delivered.
 use Rattle.std.proofs.Common.{◌≡◌, ℕ, Bool, true, false, not, ◌&&◌, ◌||◌, if◌then◌else◌, [], Option, Some, None, refl, ap, ◌∙◌}
 use Rattle.std.specs.Prelude.{is_some, option_map}
-use Rattle.packet.specs.declared.qos.QoS.{QoS}
-use Rattle.packet.specs.declared.delivery.Delivery.{Delivery}
-use Rattle.packet.specs.declared.publish.Publish.{Publish}
-use Rattle.packet.specs.declared.packet.Packet.TheVariants as packets
-use Rattle.retained.specs.Retained.{RetainedTopics}
-use Rattle.session_base.specs.declared.publication.Publication.{Publication}
-use Rattle.session_base.specs.Publication.{publication_of, lower_qos}
-use Rattle.session_base.specs.Subscriptions.{granted_qos}
-use Rattle.session_base.specs.Queue.{Queue}
+use Rattle.subs.specs.packet.declared.qos.QoS.{QoS}
+use Rattle.subs.specs.packet.declared.delivery.Delivery.{Delivery}
+use Rattle.subs.specs.packet.declared.publish.Publish.{Publish}
+use Rattle.subs.specs.packet.declared.packet.Packet.TheVariants as packets
+use Rattle.broker_model.specs.retained.Retained.{RetainedTopics}
+use Rattle.broker_model.specs.session_base.declared.publication.Publication.{Publication}
+use Rattle.broker_model.specs.session_base.Publication.{publication_of, lower_qos}
+use Rattle.broker_model.specs.session_base.Subscriptions.{granted_qos}
+use Rattle.broker_model.specs.session_base.Queue.{Queue}
 use Rattle.broker_base.specs.Connection.{ConnectionName}
 use Rattle.broker_base.specs.Place.{Client, Mark, same_client, only_if}
 use Rattle.broker_base.specs.EntryLaws.{taken}

@@ -2,12 +2,12 @@
 use Rattle.std.proofs.Common.{◌≡◌, ℕ, ◌-◌, Bool, true, false, not, ◌||◌, nat_lt, if◌then◌else◌, List, [], ◌∷◌, ◌++◌, refl, ap, ◌∙◌, sym}
 use Rattle.std.specs.Prelude.{map}
 use Rattle.std.proofs.lemmas.List.{append-nil}
-use Rattle.packet.specs.declared.subscribe.Subscription.{Subscription}
-use Rattle.retained.specs.Retained.{RetainedTopics}
-use Rattle.session_base.specs.Session.{SessionState, with_filters, with_queue}
-use Rattle.session_base.specs.Subscriptions.{with_subscription, with_subscriptions}
-use Rattle.session_base.specs.Queue.{room, copies_left}
-use Rattle.session_base.specs.Sending.{copies_sent}
+use Rattle.subs.specs.packet.declared.subscribe.Subscription.{Subscription}
+use Rattle.broker_model.specs.retained.Retained.{RetainedTopics}
+use Rattle.broker_model.specs.session_base.Session.{SessionState, with_filters, with_queue}
+use Rattle.broker_model.specs.session_base.Subscriptions.{with_subscription, with_subscriptions}
+use Rattle.broker_model.specs.session_base.Queue.{room, copies_left}
+use Rattle.broker_model.specs.session_base.Sending.{copies_sent}
 use Rattle.broker_base.specs.Place.{Limits}
 use Rattle.broker_base.specs.Subscriptions.{as_held, granted_of}
 use Rattle.broker_base.specs.Entries.{copies_for, copies_for_all}

@@ -25,7 +25,7 @@ use Rattle.story.proofs.carrying.KeepsWritten.{events_say, events_keep_of}
 use Rattle.story.proofs.carrying.KeepsNumbers.{AreWithin, numbers_keep, shape_within}
 use Rattle.story.proofs.carrying.PlacesSay.{PlacesSay, says_nothing, places_later, Says}
 use Rattle.story.proofs.carrying.SaysTaken.{taken_says}
-use Rattle.session_base.specs.declared.publication.Publication.{Publication}
+use Rattle.client_base.specs.session_base.declared.publication.Publication.{Publication}
 use Rattle.client_base.specs.Keeper.{all_own}
 use Rattle.client_base.proofs.NumbersStay.{AreAllNumbered}
 use Rattle.story.proofs.carrying.NumbersGoOn.{numbers_go_on}

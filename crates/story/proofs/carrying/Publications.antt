@@ -6,8 +6,8 @@ use Rattle.packet.specs.declared.qos.QoS.TheVariants as levels
 use Rattle.packet.specs.Delivery.{delivery_qos}
 use Rattle.packet.specs.declared.packet.Packet.{Packet}
 use Rattle.packet.specs.declared.packet.Packet.TheVariants as packets
-use Rattle.session_base.specs.declared.publication.Publication.{Publication}
-use Rattle.session_base.specs.Publication.{publication_of, publish_of, delivery_at, is_acknowledged}
+use Rattle.client_base.specs.session_base.declared.publication.Publication.{Publication}
+use Rattle.client_base.specs.session_base.Publication.{publication_of, publish_of, delivery_at, is_acknowledged}
 use Rattle.lists.specs.Lists.{Each, IsPrefixOf}
 use Rattle.lists.proofs.Beginnings.{prefix_get}
 use Rattle.lists.proofs.OfEach.{each_append}

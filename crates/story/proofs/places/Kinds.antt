@@ -7,7 +7,7 @@ use Rattle.broker_base.specs.Connection.{ConnectionName, same_connection}
 use Rattle.broker_base.specs.Place.{Client, Mark, Place, Past, Limits, only_if}
 use Rattle.broker_base.specs.Past.{accepts, any_connection, expels, ends_any, is_leaving, current_connection, session_of}
 use Rattle.broker_base.specs.Received.{receives, received_by, received_of}
-use Rattle.session_base.specs.Identifiers.{without_id}
+use Rattle.client_base.specs.session_base.Identifiers.{without_id}
 use Rattle.broker_base.specs.Marks.{packet_mark, packet_mark_of}
 use Rattle.broker_base.specs.Commands.{place_of}
 use Rattle.broker_base.specs.Command.TheVariants as commands

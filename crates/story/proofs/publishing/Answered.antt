@@ -16,7 +16,7 @@ use Rattle.story.specs.Sides.{Connection, Side}
 use Rattle.client_base.specs.Keeper.{Keeper}
 use Rattle.client_base.specs.Written.{plain, writing}
 use Rattle.client_base.specs.Handled.{at_pubrec, at_pubcomp, is_sent_with, handled_online}
-use Rattle.session_base.specs.Identifiers.{without_id}
+use Rattle.client_base.specs.session_base.Identifiers.{without_id}
 use Rattle.story.specs.Story.{with_side}
 use Rattle.story.specs.Inside.Projections.{forward_of_own, backward_of_own, to_be_taken, is_current, as_publisher, GoesTo}
 use Rattle.story.specs.Inside.Shape.{ConnectionInShape}

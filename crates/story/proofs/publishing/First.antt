@@ -3,7 +3,7 @@ use Rattle.std.proofs.Common.{◌≡◌, ◌≤◌, ℕ, suc, Bool, true, false,
 use Rattle.std.specs.Prelude.{slice_get}
 use Rattle.std.proofs.lemmas.List.{append-nil}
 use Rattle.packet.specs.declared.packet.Packet.{Packet}
-use Rattle.session_base.specs.declared.publication.Publication.{Publication}
+use Rattle.client_base.specs.session_base.declared.publication.Publication.{Publication}
 use Rattle.lists.specs.Lists.{has_id}
 use Rattle.broker_base.specs.Place.{Past, Limits}
 use Rattle.broker_base.specs.Past.{current_connection}

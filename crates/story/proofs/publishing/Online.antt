@@ -6,9 +6,9 @@ use Rattle.packet.specs.declared.delivery.Delivery.{Delivery}
 use Rattle.packet.specs.declared.delivery.Delivery.TheVariants as deliveries
 use Rattle.packet.specs.declared.packet.Packet.{Packet}
 use Rattle.packet.specs.declared.packet.Packet.TheVariants as packets
-use Rattle.session_base.specs.declared.publication.Publication.{Publication}
+use Rattle.client_base.specs.session_base.declared.publication.Publication.{Publication}
 use Rattle.lists.specs.Lists.{has_id}
-use Rattle.session_base.specs.Publication.{publication_of}
+use Rattle.client_base.specs.session_base.Publication.{publication_of}
 use Rattle.broker_base.specs.Place.{Past, Limits}
 use Rattle.handshake.specs.Sides.{IsGood}
 use Rattle.story.specs.Sends.{put_to}
@@ -16,7 +16,7 @@ use Rattle.client_base.specs.Keeper.{Written, Keeper}
 use Rattle.story.specs.Sides.{Connection}
 use Rattle.client_base.specs.Written.{plain, writing}
 use Rattle.client_base.specs.Handled.{at_puback, not_subscribes, not_unsubscribes, takes_in, lost, handled_online}
-use Rattle.session_base.specs.Identifiers.{without_id}
+use Rattle.client_base.specs.session_base.Identifiers.{without_id}
 use Rattle.story.specs.Story.{with_side}
 use Rattle.story.specs.Inside.Projections.{items_of_own, forward_of_own, backward_of_own, as_publisher, GoesTo}
 use Rattle.story.specs.Inside.Shape.{ConnectionInShape}

@@ -23,7 +23,7 @@ use Rattle.story.proofs.sessions.Beside.{kept_of, IsHeadKept, AreGone, HasBeside
 use Rattle.story.proofs.sessions.Anew.{waiting, session_lost, settles}
 use Rattle.std.proofs.lemmas.List.{append-nil}
 use Rattle.lists.specs.Lists.{Each}
-use Rattle.session_base.specs.Identifiers.{least_free}
+use Rattle.client_base.specs.session_base.Identifiers.{least_free}
 use Rattle.client_base.specs.OrderLaws.{AreNumbered}
 use Rattle.client_base.proofs.NumbersStay.{AreAllNumbered, joined_numbers}
 

@@ -6,7 +6,7 @@ use Rattle.std.proofs.lemmas.Grind.{flat_map-append}
 use Rattle.std.proofs.lemmas.List.{append_assoc, append-nil}
 use Rattle.lists.specs.Lists.{Each}
 use Rattle.lists.proofs.Tests.{eq_same}
-use Rattle.session_base.specs.declared.publication.Publication.{Publication}
+use Rattle.client_base.specs.session_base.declared.publication.Publication.{Publication}
 use Rattle.broker_base.specs.Place.{Client, Place, Past}
 use Rattle.broker_base.specs.Past.{begins}
 use Rattle.client_base.specs.Keeper.{Written}

@@ -4,9 +4,9 @@ use Rattle.std.proofs.lemmas.Bool.{both_ways}
 use Rattle.packet.specs.declared.connack.Connack.TheVariants as connacks
 use Rattle.packet.specs.declared.packet.Packet.{Packet}
 use Rattle.packet.specs.declared.packet.Packet.TheVariants as packets
-use Rattle.session_base.specs.declared.publication.Publication.{Publication}
-use Rattle.session_base.specs.Publication.{is_answered}
-use Rattle.session_base.specs.Identifiers.{least_free}
+use Rattle.client_base.specs.session_base.declared.publication.Publication.{Publication}
+use Rattle.client_base.specs.session_base.Publication.{is_answered}
+use Rattle.client_base.specs.session_base.Identifiers.{least_free}
 use Rattle.lists.specs.Lists.{IsDistinct}
 use Rattle.broker_base.specs.Place.{Client}
 use Rattle.client_base.specs.Keeper.{Own, Keeper, ids_in_use}

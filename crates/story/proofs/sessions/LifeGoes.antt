@@ -2,7 +2,7 @@
 use Rattle.std.proofs.Common.{false, [], ◌∷◌, refl, sym, ap, subst, arith}
 use Rattle.std.proofs.lemmas.Bool.{both_ways}
 use Rattle.packet.specs.declared.packet.Packet.TheVariants as packets
-use Rattle.session_base.specs.Identifiers.{least_free}
+use Rattle.client_base.specs.session_base.Identifiers.{least_free}
 use Rattle.broker_base.specs.Place.{Client, Limits}
 use Rattle.client_base.specs.Keeper.{Keeper, ids_in_use, next_number}
 use Rattle.client_base.specs.Called.{new_connection, adds_own, written_for, opens}

@@ -13,7 +13,7 @@ use Rattle.broker_base.specs.Marks.{mark_of}
 use Rattle.broker_base.specs.Commands.{place_of}
 use Rattle.broker_base.specs.Command.{Command}
 use Rattle.broker_base.proofs.QuietPasts.{no_connection}
-use Rattle.session_base.specs.declared.publication.Publication.{Publication}
+use Rattle.client_base.specs.session_base.declared.publication.Publication.{Publication}
 use Rattle.client_base.specs.Keeper.{Written, all_own, next_number}
 use Rattle.story.specs.Sides.{Connection}
 use Rattle.story.specs.Story.{Story, Happens, command_of, counted_at}

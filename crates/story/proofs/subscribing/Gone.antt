@@ -1,6 +1,6 @@
 -- A client that holds no connection any more.
 use Rattle.std.proofs.Common.{◌≡◌, ℕ, List, [], ap, sym, ◌∙◌, inl, inr}
-use Rattle.session_base.specs.declared.publication.Publication.{Publication}
+use Rattle.client_base.specs.session_base.declared.publication.Publication.{Publication}
 use Rattle.handshake.specs.Handshake.{Backward, Link, Handshake, with_items}
 use Rattle.handshake.specs.Handshake.Moves.{receiver_leaves, parts}
 use Rattle.handshake.specs.Handshake.Run.{stays, goes_on}

@@ -1,7 +1,7 @@
 -- The list takes an answer of the client: the sender hears it.
 use Rattle.std.proofs.Common.{◌≡◌, ℕ, true, false, ◌==◌, List, [], ◌∷◌, ◌++◌, Some, None, refl, ap, sym, ◌∙◌, subst, inl, inr}
 use Rattle.std.proofs.lemmas.Bool.{both_ways}
-use Rattle.session_base.specs.declared.publication.Publication.{Publication}
+use Rattle.client_base.specs.session_base.declared.publication.Publication.{Publication}
 use Rattle.handshake.specs.Items.{Item, has_sent}
 use Rattle.handshake.specs.Handshake.{Forward, Backward, Link, Handshake, Run, heard, reply, with_items}
 use Rattle.handshake.specs.Handshake.Moves.{hears, hears_alone}

@@ -2,12 +2,12 @@
 use Rattle.std.proofs.Common.{◌≡◌, ◌≤◌, ◌+◌, ℕ, zero, suc, Bool, true, false, ◌||◌, ◌==◌, if◌then◌else◌, List, [], ◌∷◌, ◌++◌, map, refl, ap, sym, ◌∙◌, ◌⊎◌, inl, inr, arith}
 use Rattle.std.proofs.lemmas.List.{map-append}
 use Rattle.std.proofs.lemmas.Bool.{cases_Bool}
-use Rattle.session_base.specs.declared.publication.Publication.{Publication}
+use Rattle.client_base.specs.session_base.declared.publication.Publication.{Publication}
 use Rattle.broker_base.specs.Entries.{Entry}
 use Rattle.broker_base.specs.Readings.{released_at, released_below}
 use Rattle.broker_base.specs.ClientSession.{sent_flights, released_flight, flights_below}
-use Rattle.session_base.specs.Queue.{Flight, ids_of}
-use Rattle.session_base.proofs.CountedIdentifiers.{one_if, count, count-append}
+use Rattle.client_base.specs.session_base.Queue.{Flight, ids_of}
+use Rattle.client_base.proofs.of_session_base.CountedIdentifiers.{one_if, count, count-append}
 use Rattle.broker_base.proofs.SoundEntries.{Sound}
 use Rattle.broker_base.proofs.flights.IdentifiersInFlight.{same_ids}
 use Rattle.lists.specs.Lists.{has_id, IsDistinct, Each}

@@ -1,11 +1,11 @@
 -- Bytes come to a node, or to a client.
 use Rattle.std.specs.Prelude.{◌≡◌, ◌⊎◌, ◌-◌, ◌==◌, ◌&&◌, ◌≤◌, ◌<◌, ℕ, suc, Bool, true, false, Some, None, Err, length, slice_get, take}
-use Rattle.world_base.specs.declared.Port.{Port}
-use Rattle.world_base.specs.declared.item.Item.TheVariants.{Bytes}
+use Rattle.world_pipes.specs.world_base.declared.Port.{Port}
+use Rattle.world_pipes.specs.world_base.declared.item.Item.TheVariants.{Bytes}
 use Rattle.exact_model.specs.node_model.Moves.Deed.{takes}
-use Rattle.world_nodes.specs.Goes.{Acts, running}
-use Rattle.world_nodes.specs.Nodes.{NodesState}
-use Rattle.world_nodes.specs.Steps.{TakesIn}
+use Rattle.escaping_nodes.specs.world_nodes.Goes.{Acts, running}
+use Rattle.escaping_nodes.specs.world_nodes.Nodes.{NodesState}
+use Rattle.escaping_nodes.specs.world_nodes.Steps.{TakesIn}
 use Rattle.world_pipes.specs.declared.way.Way.{Way}
 use Rattle.client_base.specs.declared.error.ClientError.TheVariants as errors
 use Rattle.world_pipes.specs.Piped.{Hears, Piped, is_holding}

@@ -3,14 +3,14 @@ use Rattle.std.specs.Prelude.{◌≡◌, ◌⊎◌, ◌-◌, ℕ, Bool, true, fa
 use Rattle.std.specs.Option.{is_some}
 use Rattle.ballot.specs.Losses.{one_more}
 use Rattle.client_base.specs.Steps.{Call, keeper_step}
-use Rattle.world_base.specs.Core.{CountedCore}
-use Rattle.world_base.specs.Handing.{listed_at}
-use Rattle.world_base.specs.declared.Port.{Port}
-use Rattle.world_base.specs.declared.item.Item.TheVariants.{Opened}
+use Rattle.world_pipes.specs.world_base.Core.{CountedCore}
+use Rattle.world_pipes.specs.world_base.Handing.{listed_at}
+use Rattle.world_pipes.specs.world_base.declared.Port.{Port}
+use Rattle.world_pipes.specs.world_base.declared.item.Item.TheVariants.{Opened}
 use Rattle.exact_model.specs.node_model.Moves.Deed.{takes}
-use Rattle.world_nodes.specs.Goes.{Acts, node_of}
-use Rattle.world_nodes.specs.Nodes.{NodesState}
-use Rattle.world_nodes.specs.Steps.{LosesNothing as NodesLoseNothing, TakesIn}
+use Rattle.escaping_nodes.specs.world_nodes.Goes.{Acts, node_of}
+use Rattle.escaping_nodes.specs.world_nodes.Nodes.{NodesState}
+use Rattle.escaping_nodes.specs.world_nodes.Steps.{LosesNothing as NodesLoseNothing, TakesIn}
 use Rattle.world_pipes.specs.Following.{ConnectingFollows, FollowsAll}
 use Rattle.world_pipes.specs.Piped.{Connects as Opens, Piped}
 use Rattle.world.specs.declared.world.WorldClient.{WorldClient}

@@ -1,12 +1,12 @@
 -- What a node put out goes down.
 use Rattle.std.specs.Prelude.{◌≡◌, ◌⊎◌, ◌-◌, ℕ, Bool, true, false, List, ◌++◌, Some, Result, Ok, Err, length, set, slice_get, take}
 use Rattle.master.specs.declared.event.Idle.{Idle}
-use Rattle.world_base.specs.declared.Handed.{Handed}
-use Rattle.world_base.specs.declared.Port.{Port}
+use Rattle.world_pipes.specs.world_base.declared.Handed.{Handed}
+use Rattle.world_pipes.specs.world_base.declared.Port.{Port}
 use Rattle.exact_model.specs.node_model.Moves.Deed.{gives}
-use Rattle.world_nodes.specs.Goes.{Acts, HandsOver, node_of}
-use Rattle.world_nodes.specs.Nodes.{NodesState}
-use Rattle.world_nodes.specs.Steps.{forgetful as nodes_forgetful}
+use Rattle.escaping_nodes.specs.world_nodes.Goes.{Acts, HandsOver, node_of}
+use Rattle.escaping_nodes.specs.world_nodes.Nodes.{NodesState}
+use Rattle.escaping_nodes.specs.world_nodes.Steps.{forgetful as nodes_forgetful}
 use Rattle.world_pipes.specs.declared.way.Way.{Way}
 use Rattle.world_pipes.specs.Piped.{Piped}
 use Rattle.world.specs.declared.place.Place.{Place}

@@ -4,8 +4,8 @@ use Rattle.ballot.specs.Losses.{one_more}
 use Rattle.master.specs.declared.event.Idle.{Idle}
 use Rattle.exact_model.specs.group_model.Group.{Group}
 use Rattle.session_base.specs.declared.publication.Publication.{Publication}
-use Rattle.world_nodes.specs.Nodes.{NodesState, StandsFor as NodesStand}
-use Rattle.world_nodes.specs.Steps.{LosesNothing as NodesLoseNothing}
+use Rattle.escaping_nodes.specs.world_nodes.Nodes.{NodesState, StandsFor as NodesStand}
+use Rattle.escaping_nodes.specs.world_nodes.Steps.{LosesNothing as NodesLoseNothing}
 use Rattle.world.specs.declared.event.Event.{Event}
 use Rattle.world.specs.Asking.{IsAsked}
 use Rattle.world.specs.Goes.{NodesGoOn}

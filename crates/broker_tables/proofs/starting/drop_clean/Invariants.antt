@@ -1,5 +1,5 @@
 use Rattle.std.proofs.Common.{◌≡◌}
-use Rattle.subs_base.specs.ListIndex.{content_of}
+use Rattle.broker_rows.specs.subs_base.ListIndex.{content_of}
 use Rattle.broker_rows.specs.Indexed.{all_dropped, clean_clients}
 use Rattle.broker_tables.proofs.starting.drop_clean.Given as goal
 

@@ -4,13 +4,13 @@ use Rattle.std.proofs.lemmas.List.{append-nil}
 use Rattle.std.proofs.lemmas.Bool.{cases_Bool}
 use Rattle.packet.specs.declared.packet.Packet.{Packet}
 use Rattle.packet.specs.declared.packet.Packet.TheVariants as packets
-use Rattle.session_base.specs.Publication.{publication_of}
+use Rattle.client_base.specs.session_base.Publication.{publication_of}
 use Rattle.broker_base.specs.Connection.{ConnectionName, same_connection}
 use Rattle.broker_base.specs.Place.{Client, Mark, Place, Past, Limits, same_client, only_if}
 use Rattle.broker_base.specs.Past.{accepts, ends_any, current_connection}
 use Rattle.broker_base.specs.Owner.{owner_of}
 use Rattle.broker_base.specs.Received.{is_new, is_repeat, receives, received_by, received_of}
-use Rattle.session_base.specs.Identifiers.{without_id}
+use Rattle.client_base.specs.session_base.Identifiers.{without_id}
 use Rattle.broker_base.specs.Marks.{is_refused, packet_mark, packet_mark_of}
 use Rattle.broker_base.specs.Commands.{place_of}
 use Rattle.broker_base.specs.Command.{Command}

@@ -4,9 +4,9 @@ use Rattle.std.proofs.lemmas.List.{append-nil}
 use Rattle.std.proofs.lemmas.Bool.{cases_Bool, both_ways}
 use Rattle.packet.specs.declared.qos.QoS.{QoS}
 use Rattle.packet.specs.declared.qos.QoS.TheVariants as levels
-use Rattle.session_base.specs.declared.publication.Publication.{Publication}
-use Rattle.session_base.specs.Publication.{is_answered}
-use Rattle.session_base.specs.Identifiers.{least_free}
+use Rattle.client_base.specs.session_base.declared.publication.Publication.{Publication}
+use Rattle.client_base.specs.session_base.Publication.{is_answered}
+use Rattle.client_base.specs.session_base.Identifiers.{least_free}
 use Rattle.broker_base.specs.Place.{Past, Limits}
 use Rattle.broker_base.specs.Past.{current_connection}
 use Rattle.lists.specs.Lists.{Each}

@@ -5,11 +5,11 @@ use Rattle.packet.specs.declared.publish.Publish.{Publish}
 use Rattle.packet.specs.declared.packet.Packet.{Packet}
 use Rattle.packet.specs.declared.packet.Packet.TheVariants as packets
 use Rattle.lists.specs.Lists.{has_id}
-use Rattle.session_base.specs.Publication.{publication_of}
+use Rattle.client_base.specs.session_base.Publication.{publication_of}
 use Rattle.broker_base.specs.Connection.{ConnectionName}
 use Rattle.broker_base.specs.Place.{Mark, Past, Limits, same_client}
 use Rattle.broker_base.specs.Received.{receives, received_of, is_exactly_once, is_repeat}
-use Rattle.session_base.specs.Identifiers.{without_id}
+use Rattle.client_base.specs.session_base.Identifiers.{without_id}
 use Rattle.broker_base.specs.Owner.{clients}
 use Rattle.broker_base.specs.Marks.{is_refused, packet_mark}
 use Rattle.broker_base.specs.Sends.{deliveries_to}
@@ -29,7 +29,7 @@ use Rattle.story.proofs.publishing.First.{story_by}
 use Rattle.story.proofs.publishing.Elsewhere.{NoneSent, none_both}
 use Rattle.story.proofs.publishing.AtPlaces.{no_number}
 use Rattle.story.proofs.publishing.events.TakesOwn.{OnCurrent, behind_place, passes, ends_current, takes_one}
-use Rattle.session_base.proofs.KeptIdentifiers.{has_without}
+use Rattle.client_base.proofs.of_session_base.KeptIdentifiers.{has_without}
 
 -- one packet to its own connection
 pub own_send : (x : ConnectionName) (packet : Packet) → sends_to x (Send x packet ∷ []) ≡ packet ∷ []

@@ -6,7 +6,7 @@ use Rattle.packet.specs.declared.delivery.Delivery.TheVariants as deliveries
 use Rattle.packet.specs.declared.publish.Publish.{Publish}
 use Rattle.packet.specs.declared.packet.Packet.TheVariants as packets
 use Rattle.lists.specs.Lists.{has_id}
-use Rattle.session_base.specs.Publication.{publication_of}
+use Rattle.client_base.specs.session_base.Publication.{publication_of}
 use Rattle.broker_base.specs.Connection.{same_connection}
 use Rattle.broker_base.specs.Place.{Client, Mark, Past, Limits}
 use Rattle.broker_base.specs.Received.{receives, received_of}
@@ -24,7 +24,7 @@ use Rattle.story.specs.Carried.{connection_named, number_at, number_of, more_by}
 use Rattle.story.specs.Inside.Projections.{backward_of_own, as_publisher, GoesTo}
 use Rattle.story.specs.Inside.Shape.{NamesApart}
 use Rattle.story.proofs.Packets.{at_packet, copies_none}
-use Rattle.session_base.proofs.KeptIdentifiers.{has_with}
+use Rattle.client_base.proofs.of_session_base.KeptIdentifiers.{has_with}
 use Rattle.broker_base.proofs.ConnectionNames.{same_itself}
 use Rattle.story.proofs.places.Counts.{counted_here}
 use Rattle.story.proofs.publishing.Last.{each_there, none_named}

@@ -1,7 +1,7 @@
 -- Identifiers of which some are gone stay distinct.
 use Rattle.std.proofs.Common.{◌≡◌, ℕ, Bool, true, false, not, ◌&&◌, ◌==◌, if◌then◌else◌, List, [], ◌∷◌, ◌++◌, map, filter}
 use Rattle.lists.specs.Lists.{has_id, IsDistinct}
-use Rattle.session_base.specs.Publication.{is_acknowledged}
+use Rattle.client_base.specs.session_base.Publication.{is_acknowledged}
 use Rattle.lists.proofs.Tests.{or_none, none_or}
 use Rattle.client_base.specs.Keeper.{Own, ids_of_own}
 use Rattle.client_base.specs.declared.request.Request.{Request}

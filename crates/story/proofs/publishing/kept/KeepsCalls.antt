@@ -4,9 +4,9 @@ use Rattle.std.specs.Prelude.{slice_get}
 use Rattle.std.proofs.lemmas.List.{map-append, append-nil}
 use Rattle.std.proofs.lemmas.Bool.{both_ways}
 use Rattle.packet.specs.declared.packet.Packet.{Packet}
-use Rattle.session_base.specs.declared.publication.Publication.{Publication}
-use Rattle.session_base.specs.Identifiers.{least_free}
-use Rattle.session_base.specs.Publication.{is_answered}
+use Rattle.client_base.specs.session_base.declared.publication.Publication.{Publication}
+use Rattle.client_base.specs.session_base.Identifiers.{least_free}
+use Rattle.client_base.specs.session_base.Publication.{is_answered}
 use Rattle.broker_base.specs.Place.{Limits}
 use Rattle.lists.specs.Lists.{has_id, IsDistinct}
 use Rattle.broker_base.proofs.LeastFree.{least-is-free}

@@ -14,7 +14,7 @@ use Rattle.client_base.specs.Keeper.{Written, ids_in_use, next_number}
 use Rattle.story.specs.Sides.{Connection}
 use Rattle.client_base.specs.Written.{plain, publishes, writes}
 use Rattle.client_base.specs.Handled.{handled}
-use Rattle.session_base.specs.Identifiers.{least_free}
+use Rattle.client_base.specs.session_base.Identifiers.{least_free}
 use Rattle.story.specs.Story.{Story, Happens, counted_at}
 use Rattle.client_base.specs.Written.{writes_first}
 use Rattle.client_base.specs.Called.{written_for}

@@ -1,7 +1,7 @@
 -- A client's publications with one more behind them, as items of a handshake.
 use Rattle.std.proofs.Common.{◌≡◌, ℕ, Bool, true, false, if◌then◌else◌, List, [], ◌∷◌, ◌++◌, map, refl, ap}
 use Rattle.std.proofs.lemmas.Bool.{both_ways}
-use Rattle.session_base.specs.Identifiers.{least_free}
+use Rattle.client_base.specs.session_base.Identifiers.{least_free}
 use Rattle.broker_base.proofs.LeastFree.{least-is-free}
 use Rattle.handshake.specs.Items.{Item, busy}
 use Rattle.lists.specs.Lists.{has_id}

@@ -1,7 +1,7 @@
 -- The answers keep the numbers of a client's publications, and what a PUBREC releases is of QoS 2.
 use Rattle.std.proofs.Common.{◌≡◌, ℕ, suc, Bool, true, false, not, ◌&&◌, ◌==◌, if◌then◌else◌, List, [], ◌∷◌, map, refl, ap, sym, ◌∙◌, subst, inl, inr, ◌⊎◌}
 use Rattle.std.proofs.lemmas.Bool.{both_ways, cases_Bool}
-use Rattle.session_base.specs.Publication.{is_acknowledged}
+use Rattle.client_base.specs.session_base.Publication.{is_acknowledged}
 use Rattle.lists.specs.Lists.{has_id, IsDistinct}
 use Rattle.handshake.specs.Items.{Item, busy, has_sent}
 use Rattle.lists.proofs.Tests.{or_none, or_second, eq_is}

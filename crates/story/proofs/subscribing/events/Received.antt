@@ -14,7 +14,7 @@ use Rattle.story.specs.Sides.{Connection, Side}
 use Rattle.client_base.specs.Keeper.{Keeper}
 use Rattle.client_base.specs.Written.{plain, writing, resent, sent_all}
 use Rattle.client_base.specs.Handled.{at_puback, at_pubrec, at_pubcomp, is_sent_with, not_subscribes, not_unsubscribes, releasing, discarded, confirmed, lost, handled_online, handled_first, handled}
-use Rattle.session_base.specs.Identifiers.{without_id}
+use Rattle.client_base.specs.session_base.Identifiers.{without_id}
 use Rattle.story.specs.Story.{Story, with_side}
 use Rattle.story.specs.Headline.{accepted_on}
 use Rattle.story.specs.Inside.Projections.{left_behind, as_subscriber, GoesTo}

@@ -4,7 +4,7 @@ use Rattle.std.specs.Prelude.{slice_get}
 use Rattle.std.proofs.lemmas.List.{append-nil}
 use Rattle.packet.specs.declared.packet.Packet.{Packet}
 use Rattle.packet.specs.declared.packet.Packet.TheVariants as packets
-use Rattle.session_base.specs.declared.publication.Publication.{Publication}
+use Rattle.client_base.specs.session_base.declared.publication.Publication.{Publication}
 use Rattle.lists.specs.Lists.{has_id}
 use Rattle.broker_base.specs.Place.{Limits}
 use Rattle.handshake.specs.Handshake.{Forward}
@@ -13,12 +13,12 @@ use Rattle.client_base.specs.Keeper.{Own, Written, Keeper}
 use Rattle.client_base.specs.declared.request.Request.{Request}
 use Rattle.story.specs.Sides.{Connection, Side}
 use Rattle.client_base.specs.Written.{plain, writing}
-use Rattle.session_base.specs.Identifiers.{without_id}
+use Rattle.client_base.specs.session_base.Identifiers.{without_id}
 use Rattle.story.specs.Story.{Story, with_side}
 use Rattle.story.specs.Inside.Projections.{backward_of, as_subscriber, GoesTo}
 use Rattle.story.specs.Inside.Shape.{ConnectionInShape}
 use Rattle.story.proofs.subscribing.events.Handling.{forward_one, handles_other, handles_one}
-use Rattle.session_base.proofs.KeptIdentifiers.{has_without}
+use Rattle.client_base.proofs.of_session_base.KeptIdentifiers.{has_without}
 
 -- one packet more handled
 abbrev pub counted : Keeper → Connection → Side

@@ -6,7 +6,7 @@ use Rattle.std.specs.List.Sorted.{IsStrictlySortedBy}
 use Rattle.std.specs.Cmp.Lexicographic.{slice_cmp}
 use Rattle.std.specs.Ordering.{nat_cmp}
 use Rattle.std.proofs.lemmas.Map.Keys.{sorted_tail}
-use Rattle.packet.specs.declared.qos.QoS.{QoS}
+use Rattle.subs_base.specs.packet.declared.qos.QoS.{QoS}
 use Rattle.subs_base.proofs.RowsAreGranted.{later, first}
 use Rattle.subs_tree.specs.Walk.{greatest}
 use Rattle.subs_tree.proofs.ContentOfTree.{anyhow}

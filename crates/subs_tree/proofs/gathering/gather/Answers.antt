@@ -1,7 +1,7 @@
 -- None is left: all were told.
 use Rattle.std.proofs.Common.{rules, ◌≡◌, ◌∙◌, [], ap, sym, subst, ℕ, List}
 use Rattle.std.specs.BTreeMap.{BTreeMap}
-use Rattle.packet.specs.declared.qos.QoS.{QoS}
+use Rattle.subs_base.specs.packet.declared.qos.QoS.{QoS}
 use Rattle.subs_base.specs.Inside.{listed, AreOrdered}
 use Rattle.subs_tree.specs.Gathered.{gathered, groups_of, clients_told}
 use Rattle.subs_tree.proofs.RowsGathered.{list_told}

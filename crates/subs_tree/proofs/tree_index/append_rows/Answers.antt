@@ -1,6 +1,6 @@
 -- Where one is left for whom there is no memory, somebody was found.
 use Rattle.std.proofs.Common.{rules, ◌≡◌, ◌∷◌, ◌++◌, ◌∙◌, ap, sym, List, ℕ}
-use Rattle.packet.specs.declared.qos.QoS.{QoS}
+use Rattle.subs_base.specs.packet.declared.qos.QoS.{QoS}
 use Rattle.subs_tree.proofs.ContentOfTree.{anyhow}
 use Rattle.subs_tree.proofs.Raising.{left_gives}
 use Rattle.subs_tree.proofs.tree_index.append_rows.Goals as goal

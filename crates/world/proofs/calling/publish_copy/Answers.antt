@@ -1,5 +1,5 @@
 use Rattle.std.proofs.Common.{subst}
-use Rattle.client.specs.Core.{publication_with}
+use Rattle.escaping_client.specs.client.Core.{publication_with}
 use Rattle.client_base.specs.Steps.{Call}
 use Rattle.session_base.specs.declared.publication.Publication.{Publication}
 use Rattle.world.specs.Inside.Calling.{IsCall}

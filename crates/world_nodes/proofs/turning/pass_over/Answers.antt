@@ -3,7 +3,7 @@ use Rattle.std.specs.Prelude.{IfSome}
 use Rattle.ballot.specs.Message.{Message}
 use Rattle.broker_base.specs.Command.{Command}
 use Rattle.master.proofs.Counting.{get_there}
-use Rattle.world_base.specs.declared.item.Item.TheVariants.{Peer}
+use Rattle.world_model.specs.world_base.declared.item.Item.TheVariants.{Peer}
 use Rattle.world_nodes.specs.Inside.{TookItem}
 use Rattle.world_nodes.proofs.Resting.{took_in}
 use Rattle.world_nodes.proofs.turning.pass_over.Goals as goal

@@ -3,7 +3,7 @@
 use packet::{ClientId, Payload, QoS};
 use std::alloc::Global;
 use topics::{Filter, TopicName};
-use world_pipes::{ClientError, PipedClient, Port, Sending};
+use world::world_pipes::{ClientError, PipedClient, Port, Sending};
 
 /// What a client does, or what is seen of it.
 #[derive(Clone, Copy)]

@@ -1,6 +1,6 @@
 -- The index holds the subscriptions of the sessions, so it grants those that match.
 use Rattle.std.proofs.Common.{◌∙◌, ◌++◌, ap}
-use Rattle.subs_base.specs.ListIndex.{content_of}
+use Rattle.broker_rows.specs.subs_base.ListIndex.{content_of}
 use Rattle.broker_rows.proofs.GrantedBySessions.{rows_are}
 use Rattle.broker_tables.proofs.tables.Tables.granted.Goals as goal
 

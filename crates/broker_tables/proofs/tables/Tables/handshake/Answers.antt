@@ -6,8 +6,8 @@ use Rattle.std.specs.BTreeMap.{is_at}
 use Rattle.std.specs.Map.{set_value}
 use Rattle.broker_model.specs.Place.{by_bytes}
 use Rattle.broker_model.specs.declared.command.Output.TheVariants as outputs
-use Rattle.broker_base.specs.ClientSession.{ClientSession}
-use Rattle.broker_base.specs.State.{Sessions, session_in}
+use Rattle.broker_rows.specs.broker_base.ClientSession.{ClientSession}
+use Rattle.broker_rows.specs.broker_base.State.{Sessions, session_in}
 use Rattle.broker_rows.specs.PacketLaws.{handled_state}
 use Rattle.broker_rows.specs.Served.{holding}
 use Rattle.broker_tables.specs.Inside.{handshake_sends}

@@ -1,9 +1,9 @@
 -- By what becomes of the publication: another try, a refused one, a taken one.
 use Rattle.std.proofs.Common.{◌≡◌, ◌∙◌, ◌++◌, ap, sym, subst, ℕ, List, true, false}
 use Rattle.std.proofs.lemmas.List.{append_assoc}
-use Rattle.session_base.specs.declared.publication.Publication.{Publication}
-use Rattle.session_base.specs.Publication.{publication_of}
-use Rattle.subs_base.specs.Granted.{Row}
+use Rattle.broker_model.specs.session_base.declared.publication.Publication.{Publication}
+use Rattle.broker_model.specs.session_base.Publication.{publication_of}
+use Rattle.broker_rows.specs.subs_base.Granted.{Row}
 use Rattle.broker_model.specs.Answers.{acknowledged}
 use Rattle.broker_model.specs.Retained.{retains}
 use Rattle.broker_model.specs.Commands.{usual_limits}

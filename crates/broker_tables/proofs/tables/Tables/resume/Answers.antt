@@ -4,9 +4,9 @@ use Rattle.std.proofs.lemmas.List.{append_assoc}
 use Rattle.std.specs.Prelude.{map}
 use Rattle.broker_model.specs.Answers.{closed, welcome}
 use Rattle.broker_model.specs.declared.command.Output.TheVariants as outputs
-use Rattle.broker_base.specs.State.{session_in}
-use Rattle.broker_base.specs.StepAnswers.{connection_of}
-use Rattle.broker_base.specs.SessionStep.{kept_resumed}
+use Rattle.broker_rows.specs.broker_base.State.{session_in}
+use Rattle.broker_rows.specs.broker_base.StepAnswers.{connection_of}
+use Rattle.broker_rows.specs.broker_base.SessionStep.{kept_resumed}
 use Rattle.broker_rows.specs.Published.{changed}
 use Rattle.broker_tables.specs.Connecting.{sent_to_resumed}
 use Rattle.broker_tables.specs.Tables.{owners_at}

@@ -4,12 +4,12 @@ use Rattle.std.specs.Option.{option_copied_mut}
 use Rattle.std.specs.BTreeMap.{is_at}
 use Rattle.std.specs.Map.{set_value}
 use Rattle.packet.specs.declared.packet.Packet.TheVariants as packets
-use Rattle.session_base.specs.Subscriptions.{without_filters}
-use Rattle.session_base.specs.Session.{with_filters}
-use Rattle.subs_base.specs.ListIndex.{content_of}
+use Rattle.broker_model.specs.session_base.Subscriptions.{without_filters}
+use Rattle.broker_model.specs.session_base.Session.{with_filters}
+use Rattle.broker_rows.specs.subs_base.ListIndex.{content_of}
 use Rattle.broker_model.specs.Place.{by_bytes}
-use Rattle.broker_base.specs.ClientSession.{ClientSession}
-use Rattle.broker_base.specs.State.{Sessions, session_in}
+use Rattle.broker_rows.specs.broker_base.ClientSession.{ClientSession}
+use Rattle.broker_rows.specs.broker_base.State.{Sessions, session_in}
 use Rattle.broker_rows.specs.Indexed.{all_cleared}
 use Rattle.broker_rows.specs.PacketLaws.{handled_state}
 use Rattle.broker_rows.specs.Served.{holding}

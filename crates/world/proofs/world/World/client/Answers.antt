@@ -1,5 +1,5 @@
 use Rattle.std.proofs.Common.{◌≡◌, ℕ, List, Some, slice_get, sym, subst, ◌∙◌}
-use Rattle.client.specs.Core.{Core}
+use Rattle.escaping_client.specs.client.Core.{Core}
 use Rattle.exact_model.specs.Promise.{Promise}
 use Rattle.exact_model.specs.world_model.Published.{published_of, published_on}
 use Rattle.master.proofs.Counting.{get_there}

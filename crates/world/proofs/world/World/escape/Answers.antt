@@ -3,9 +3,9 @@ use Rattle.std.specs.List.{list_all}
 use Rattle.agreement.specs.MasterState.{refusal}
 use Rattle.broker_base.specs.Commands.{past_of, usual_limits}
 use Rattle.broker_base.specs.Past.{session_of}
-use Rattle.client.specs.Core.{Core}
+use Rattle.escaping_client.specs.client.Core.{Core}
 use Rattle.master.proofs.Counting.{get_there}
-use Rattle.world_nodes.specs.Asking.{log_of}
+use Rattle.escaping_nodes.specs.world_nodes.Asking.{log_of}
 use Rattle.world_pipes.specs.Piped.{is_holding}
 use Rattle.world.specs.declared.event.Event.{Event}
 use Rattle.world.specs.Escaping.{CanEscape, LeadsOut, is_running}

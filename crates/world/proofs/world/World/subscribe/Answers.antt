@@ -1,7 +1,7 @@
 use Rattle.std.proofs.Common.{◌≤◌, ◌<◌, [], length, refl, sym, arith, ◌≡◌, true, false, subst, ap, ◌∙◌}
 use Rattle.std.specs.Option.{is_some}
 use Rattle.std.proofs.lemmas.Option.{same_Some}
-use Rattle.client.specs.Core.{Core}
+use Rattle.escaping_client.specs.client.Core.{Core}
 use Rattle.client_base.specs.Steps.{request_refusal}
 use Rattle.world.specs.declared.world.WorldClient.{WorldClient}
 use Rattle.master.proofs.Counting.{get_there}

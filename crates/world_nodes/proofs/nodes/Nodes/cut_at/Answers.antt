@@ -1,6 +1,6 @@
 use Rattle.std.proofs.Common.{◌≡◌, ◌+◌, inl, inr, ◌∙◌, ap, length, refl, arith}
-use Rattle.world_base.specs.Core.{CountedCore}
-use Rattle.world_base.specs.declared.item.Item.TheVariants.{Cut}
+use Rattle.world_model.specs.world_base.Core.{CountedCore}
+use Rattle.world_model.specs.world_base.declared.item.Item.TheVariants.{Cut}
 use Rattle.world_model.specs.node_model.Moves.Deed.{takes}
 use Rattle.master.proofs.Archived.{taken_back}
 use Rattle.master.proofs.Groups.{more_than}

@@ -1,0 +1,1 @@
+pub use Rattle.connection.specs as connection
