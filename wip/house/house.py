@@ -402,7 +402,7 @@ WORDS = [
     (("streams", "server", "node_tests", "server_tests", "jobs", "jobs_tests", "server_bench"), {
         "Door": "ConnectionTable", "PenCase": "WriteSlot", "Pen": "WriteToken", "Late": "Blocked", "Place": "Listener",
     }, {"door": "connection_table", "place": "listener", "late_writer": "blocked_writer"}),
-    (("server", "node_tests"), {"Ear": "LaneReporter", "Tap": "NodeOutlet", "Seat": "NodeContext", "Desk": "LaneSlot", "sit": "run_lane"},
+    (("server", "node_tests"), {"Ear": "LaneReporter", "Seat": "NodeContext", "Desk": "LaneSlot", "sit": "run_lane"},
      {"ear": "lane_reporter", "seat": "node_context"}),
     (("node", "server", "node_tests", "server_tests"), {"Leave": "Permit"}, {"leave": "permit"}),
     (("post", "server", "server_tests", "jobs"), {"Tray": "Outbox", "Bell": "Waker", "Peers": "Cluster"}, {"tray": "outbox", "bell": "waker", "peers": "cluster"}),

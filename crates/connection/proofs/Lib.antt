@@ -1,2 +1,3 @@
 mod PiecesJoin
+mod StreamStaysWhole
 mod WritesJoin

@@ -5,7 +5,7 @@ use Rattle.connection.specs.Life.{Lives}
 use Rattle.connection.specs.Writing.{Writes}
 
 -- Over the whole life of a connection nothing is left out: what was handed over is what was written, and then what is left.
-abbrev pub NothingIsLeftOut : {O : Type 0} → (O → List ℕ → Handed → O → Type 0) → Type 0
-NothingIsLeftOut {O = O} hands =
-    (first : O) (start : Option (List ℕ)) (now : O) (handed : List ℕ) (contents : Option (List ℕ)) (left : List ℕ)
+abbrev pub NothingIsLeftOut : {T : Type 0} → (T → List ℕ → Handed → T → Type 0) → Type 0
+NothingIsLeftOut {T = T} hands =
+    (first : T) (start : Option (List ℕ)) (now : T) (handed : List ℕ) (contents : Option (List ℕ)) (left : List ℕ)
     → Lives hands first start now handed contents left → Writes start contents handed left

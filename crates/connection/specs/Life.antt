@@ -4,12 +4,12 @@ use Rattle.world_base.specs.declared.Handed.{Handed}
 use Rattle.connection.specs.declared.flow.Flow.{Flow}
 use Rattle.connection.specs.Writing.{Flows}
 
--- From an outlet and a device on: the outlet now, all that was handed over, the device's bytes now, and what is left.
-pub data Lives {O : Type 0} (hands : O → List ℕ → Handed → O → Type 0) (first : O) (start : Option (List ℕ))
-    : O → List ℕ → Option (List ℕ) → List ℕ → Type 0 where
+-- From a tap and a device on: the tap now, all that was handed over by it, the device's bytes now, and what is left.
+pub data Lives {T : Type 0} (hands : T → List ℕ → Handed → T → Type 0) (first : T) (start : Option (List ℕ))
+    : T → List ℕ → Option (List ℕ) → List ℕ → Type 0 where
   begins : Lives hands first start first [] start []
-  goes_on : {before : O} {handed left : List ℕ} {old : Option (List ℕ)}
-      (flow : Flow) (behind : O) (new : Option (List ℕ)) (rest : List ℕ)
+  goes_on : {before : T} {handed left : List ℕ} {old : Option (List ℕ)}
+      (flow : Flow) (behind : T) (new : Option (List ℕ)) (rest : List ℕ)
       → Lives hands first start before handed old left
       → (flows : Flows hands flow before behind old new left rest)
       → Lives hands first start behind (handed ++ flows.bytes) new rest

@@ -22,10 +22,10 @@ LeavesSo wrotes.Full left = 0 < length left
 LeavesSo wrotes.Stopped left = 0 < length left
 LeavesSo wrotes.Fault left = 0 < length left
 
-module _ {O : Type 0} where
+module _ {T : Type 0} where
   -- these bytes are what is handed over with this answer, and they joined the list
   pub record HandsOver
-      (hands : O → List ℕ → Handed → O → Type 0) (before : O) (answer : Handed) (behind : O)
+      (hands : T → List ℕ → Handed → T → Type 0) (before : T) (answer : Handed) (behind : T)
       (old new : List ℕ)
       : Type 0 where
     pub bytes : List ℕ
@@ -33,12 +33,12 @@ module _ {O : Type 0} where
     pub is : new ≡ old ++ bytes
 
   -- these bytes are handed over, or none, since the device did not take what was left, or memory ran out
-  abbrev pub HandsAny : (O → List ℕ → Handed → O → Type 0) → O → List ℕ → O → Type 0
+  abbrev pub HandsAny : (T → List ℕ → Handed → T → Type 0) → T → List ℕ → T → Type 0
   HandsAny hands before bytes behind =
       ((answer : Handed) × hands before bytes answer behind) ⊎ ((bytes ≡ []) × (behind ≡ before))
 
   -- what is handed over, by how the writing ended
-  abbrev pub HandsSo : (O → List ℕ → Handed → O → Type 0) → Flow → O → List ℕ → O → Type 0
+  abbrev pub HandsSo : (T → List ℕ → Handed → T → Type 0) → Flow → T → List ℕ → T → Type 0
   HandsSo hands flows.Open before bytes behind = hands before bytes answers.Open behind
   HandsSo hands flows.Closed before bytes behind = hands before bytes answers.Closed behind
   HandsSo hands flows.Late before bytes behind = HandsAny hands before bytes behind
@@ -63,8 +63,8 @@ faults_flowed flows.Fault faults = counted_once faults
 faults_flowed _ faults = faults
 
 -- what was left before, and then what is handed over, is what is written, and then what is left now
-pub record Flows {O : Type 0}
-    (hands : O → List ℕ → Handed → O → Type 0) (flow : Flow) (before behind : O)
+pub record Flows {T : Type 0}
+    (hands : T → List ℕ → Handed → T → Type 0) (flow : Flow) (before behind : T)
     (old new : Option (List ℕ)) (left rest : List ℕ)
     : Type 0 where
   pub bytes : List ℕ

@@ -4,6 +4,7 @@ ghost use Rattle.std.specs.Prelude.{◌≡◌};
 ghost use Rattle.connection.specs.Writing.{Flows, faults_flowed};
 
 use crate::outlet::Outlet;
+use crate::tap::Tap;
 use crate::unwritten::Unwritten;
 use crate::wrote::Wrote;
 use node_base::Counted;
@@ -26,15 +27,16 @@ pub enum Flow {
     Fault,
 }
 
-/// Writes what was left before, and then what is handed over now. As long as something is left nothing more is handed
-/// over, so that it waits where its size is bounded. What is not written is left, in its order.
-pub fn write_out<R: Wait, O: Outlet, W: Write>(
+/// Writes what was left before, and then what is handed over now by a tap. As long as something is left nothing more is
+/// handed over, so that it waits where its size is bounded. What is not written is left, in its order.
+pub fn write_out<R: Wait, T: Tap, O: Outlet<T>, W: Write>(
     rt: &R,
     left: &mut Unwritten,
+    tap: &mut T,
     outlet: &mut O,
     device: &mut Counted<W>,
 ) -> Flow
-    ensures flows { Flows O.hands result outlet.old outlet.new
+    ensures flows { Flows T.hands result tap.old tap.new
         (W.contents device.old.device) (W.contents device.new.device) left.old left.new }
 
     // A fault is told exactly where one more call of the device failed.
@@ -46,7 +48,7 @@ pub fn write_out<R: Wait, O: Outlet, W: Write>(
         Wrote::Stopped => return Flow::Stopped,
         Wrote::Fault => return Flow::Fault,
     }
-    let Ok(handed) = left.take_from(rt, outlet) else {
+    let Ok(handed) = left.take_from(rt, tap, outlet) else {
         return Flow::Stopped;
     };
     match left.write(device) {

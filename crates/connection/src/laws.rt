@@ -2,10 +2,10 @@
 
 ghost use Rattle.connection.specs.Laws.{NothingIsLeftOut};
 
-use crate::outlet::Outlet;
+use crate::tap::Tap;
 
 /// States that over the whole life of a connection nothing is left out. What was handed over is what was written, and then
 /// what is left, in order and without a gap.
-pub fn nothing_is_left_out<O: Outlet>()
-    ensures { NothingIsLeftOut O.hands }
+pub fn nothing_is_left_out<T: Tap>()
+    ensures { NothingIsLeftOut T.hands }
 {}

@@ -8,7 +8,9 @@ mod flow;
 mod hearer;
 mod laws;
 mod listening;
+mod outflow;
 mod outlet;
+mod tap;
 mod unwritten;
 mod wrote;
 
@@ -18,6 +20,8 @@ pub use hearer::Hearer;
 pub use laws::nothing_is_left_out;
 pub use listening::listen;
 pub use node_base::{Counted, PIECE_BYTES};
+pub use outflow::Outflow;
 pub use outlet::Outlet;
+pub use tap::Tap;
 pub use unwritten::Unwritten;
 pub use wrote::Wrote;

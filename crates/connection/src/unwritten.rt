@@ -4,6 +4,7 @@ ghost use Rattle.std.specs.Prelude.{◌≡◌, ◌==◌, ◌≤◌, [], drop, le
 ghost use Rattle.connection.specs.Writing.{HandsOver, LeavesSo, Writes, faults_written};
 
 use crate::outlet::Outlet;
+use crate::tap::Tap;
 use crate::wrote::Wrote;
 use node_base::{Counted, WriteOutcome};
 use std::alloc::{AllocError, Global};
@@ -93,21 +94,22 @@ impl Unwritten {
         }
     }
 
-    /// Takes what an outlet hands over, if nothing is left. Where the outlet changes places with an empty list, as a node
-    /// does, no byte is copied.
-    pub(crate) fn take_from<R: Wait, O: Outlet>(
+    /// Takes what an outlet hands over by a tap, if nothing is left. Where the outlet changes places with an empty list, as a
+    /// node does, no byte is copied.
+    pub(crate) fn take_from<R: Wait, T: Tap, O: Outlet<T>>(
         &mut self,
         rt: &R,
+        tap: &mut T,
         outlet: &mut O,
     ) -> Result<Handed, Memory>
         requires { self.old ≡ [] }
-        ensures ok { IfOk result (λ answer. HandsOver O.hands outlet.old answer outlet.new [] self.new) }
-        ensures same { OnErr result (outlet.new ≡ outlet.old) }
+        ensures ok { IfOk result (λ answer. HandsOver T.hands tap.old answer tap.new [] self.new) }
+        ensures same { OnErr result (tap.new ≡ tap.old) }
         ensures none { OnErr result (self.new ≡ []) }
     {
         self.done = 0;
         empty(self.alloc, &mut self.bytes);
-        outlet.hand_over(rt, &mut self.bytes)
+        outlet.hand_over(rt, tap, &mut self.bytes)
     }
 
     // The bytes that are left.

@@ -1,7 +1,6 @@
 mod AllMet
 mod CutsApart
 mod GivenBySteps
-mod HandedOver
 mod OwnSendsJoin
 mod PortsApart
 mod TurnsEnd

@@ -1,12 +1,8 @@
--- What a lane tells of a connection, and what a node puts out for it.
+-- What a lane tells of a connection.
 use Rattle.std.specs.Prelude.{◌≡◌, ℕ, ◌+◌, ◌*◌, List, [], ◌∷◌, ◌++◌, None}
 use Rattle.node.specs.declared.Item.{Item}
 use Rattle.node.specs.declared.Item.TheVariants.{Tick, Cut}
 use Rattle.node.specs.declared.Port.{Port}
-use Rattle.node.specs.declared.Handed.{Handed}
-use Rattle.node.specs.Core.{CountedCore}
-use Rattle.node.specs.Handing.{answer_of, bytes_of, listed_at}
-use Rattle.node.specs.State.{Replays, Seen}
 use Rattle.streams.specs.connection.declared.ending.Ending.{Ending}
 use Rattle.streams.specs.connection.Hearing.{Hears}
 use Rattle.post.specs.Letters.{IsLeft}
@@ -47,11 +43,3 @@ pub data SendsOwn (node : ℕ) (before : List Item) : List Item → Type 0 where
   hands : {sent : List Item} (item : Item)
       → SendsOwn node before sent → IsLeft node item
       → SendsOwn node before (sent ++ item ∷ [])
-
--- These bytes, with this answer, are what a node hands over for a port that is what its first state became by one step for
--- each item that was taken from its inbox.
-pub record PutsOut (first_of : ℕ → CountedCore) (port : Port) (bytes : List ℕ) (answer : Handed) : Type 0 where
-  pub seen : Seen
-  pub replays : Replays (first_of seen.taker.inbox) seen.taker.taken seen.node
-  pub bytes_are : bytes ≡ bytes_of (listed_at port seen.node.core)
-  pub answer_is : answer ≡ answer_of (listed_at port seen.node.core)

@@ -1,5 +1,9 @@
 // The thread that goes on with connections whose sockets were full.
 
+ghost use Rattle.std.specs.Prelude.{IfSome};
+ghost use Rattle.std.specs.Arc.{arc_value};
+ghost use Rattle.streams.specs.Pens.{IsPenOf};
+
 use crate::shared::Shared;
 use node::{Gate, NodeNaming, Standing, Stated};
 use std::alloc::Global;
@@ -35,14 +39,18 @@ impl<'a, J: NodeNaming, S: Stated<J>, G: Gate> Shared<'a, J, S, G> {
     }
 
     /// Leaves a connection whose socket is full to that thread.
-    pub(crate) fn leave_late<R: Wait>(&self, rt: &R, link: &Arc<Link, Global>, pen: Pen) {
+    pub(crate) fn leave_late<R: Wait>(&self, rt: &R, link: &Arc<Link, Global>, pen: Pen)
+        requires { IsPenOf (arc_value link.now).port pen }
+    {
         if self.keep_late(rt, link, pen) {
             self.late_waker.unpark();
         }
     }
 
     // Keeps a connection for that thread's next round. If there is no memory for it, it is ended.
-    fn keep_late<R: Wait>(&self, rt: &R, link: &Arc<Link, Global>, pen: Pen) -> bool {
+    fn keep_late<R: Wait>(&self, rt: &R, link: &Arc<Link, Global>, pen: Pen) -> bool
+        requires { IsPenOf (arc_value link.now).port pen }
+    {
         let kept = match Arc::try_clone(link) {
             Ok(link) => self.late.lock(rt).push(Late { link, pen }).is_ok(),
             Err(_) => false,
@@ -69,7 +77,10 @@ impl<'a, J: NodeNaming, S: Stated<J>, G: Gate> Shared<'a, J, S, G> {
 
     // Writes as much as the socket takes. Returns the pen if that is still full. A connection that the node closed meanwhile is
     // ended then, so that a client that does not read keeps no place.
-    fn go_on_late<R: Wait>(&self, rt: &R, link: &Arc<Link, Global>, pen: Pen) -> Option<Pen> {
+    fn go_on_late<R: Wait>(&self, rt: &R, link: &Arc<Link, Global>, pen: Pen) -> Option<Pen>
+        requires { IsPenOf (arc_value link.now).port pen }
+        ensures { IfSome result (λ late. IsPenOf (arc_value link.now).port late) }
+    {
         let pen = self.write(rt, link, pen, false)?;
         let standing = self.node.lock(rt).state().standing(link.port);
         if standing == Standing::Closed {

@@ -13,7 +13,7 @@ use std::net::TcpStream;
 use std::sync::{Arc, Wait};
 use std::time::{Clock, Duration};
 use streams::connection::{Counted, listen};
-use streams::{Link, Patient};
+use streams::{Link, forget};
 
 /// How long a write may wait before the rest is left to the late writer, in milliseconds.
 const WRITE_MILLIS: u64 = 1;
@@ -79,11 +79,8 @@ impl<'a, J: NodeNaming, S: Stated<J>, G: Gate> Shared<'a, J, S, G> {
             .set_write_timeout(Some(Duration::from_millis(WRITE_MILLIS)))
             .ok()?;
         let opened = self.seat.now(rt);
-        Arc::new(
-            self.alloc,
-            Link::new(self.alloc, port, place, opened, stream),
-        )
-        .ok()
+        let link = Link::new(self.alloc, port, place, opened, stream).ok()?;
+        Arc::new(self.alloc, link).ok()
     }
 
     // Tells the node of a connection by a lane, until it ends: the lane, which sent that the connection was
@@ -117,7 +114,7 @@ impl<'a, J: NodeNaming, S: Stated<J>, G: Gate> Shared<'a, J, S, G> {
             link,
             lane,
         };
-        let mut source = Counted::new(Patient::new(&link.stream));
+        let mut source = Counted::new(link.source());
         // However it ended, the node was told so.
         let _ending = listen(rt, self.alloc, link.port, &mut source, &mut ear);
         ear.lane
@@ -125,9 +122,7 @@ impl<'a, J: NodeNaming, S: Stated<J>, G: Gate> Shared<'a, J, S, G> {
 
     // Takes what the node still holds for a connection that has ended, so that it holds no more.
     fn forget<R: Wait>(&self, rt: &R, port: Port) {
-        let mut left = Vec::new(self.alloc);
-        // Where there is no memory for it the node keeps it.
-        let _ = self.node.lock(rt).state().outgoing(port, &mut left);
+        forget(self.alloc, self.node.lock(rt).state(), port);
     }
 }
 

@@ -1,27 +1,31 @@
 // What the node put out for a connection, onto its stream.
 
+ghost use Rattle.std.specs.Prelude.{◌≡◌, IfSome};
+ghost use Rattle.std.specs.Arc.{arc_value};
+ghost use Rattle.streams.specs.Pens.{HasWholeStream, IsPenOf};
+
 use crate::shared::Shared;
-use node::{Gate, Handed, Memory, NodeNaming, Port, Stated};
+use node::{Gate, Handed, Memory, NodeNaming, Stated};
 use std::alloc::Global;
 use std::sync::{Arc, Wait};
-use streams::connection::{Counted, Flow, Outlet, write_out};
-use streams::{Link, Pen};
+use streams::connection::{Flow, Outlet};
+use streams::{Link, Pen, PortTap};
 
-// What the node behind its lock puts out for a port.
+// The node behind its lock, which puts out bytes for its connections.
 #[derive(Drop)]
-struct Tap<'e, 'a, J: NodeNaming, S: Stated<J>, G: Gate> {
+struct Source<'e, 'a, J: NodeNaming, S: Stated<J>, G: Gate> {
     shared: &'e Shared<'a, J, S, G>,
-    port: Port,
 }
 
-impl<'e, 'a, J: NodeNaming, S: Stated<J>, G: Gate> Outlet for Tap<'e, 'a, J, S, G> {
-    ghost use Rattle.server.specs.Serving.{PutsOut};
-
-    ghost hands = { λ tap bytes answer _. PutsOut J.first_of tap.port bytes answer };
-
-    fn hand_over<R: Wait>(&mut self, rt: &R, out: &mut Vec<u8>) -> Result<Handed, Memory> {
+impl<'e, 'a, J: NodeNaming, S: Stated<J>, G: Gate> Outlet<PortTap> for Source<'e, 'a, J, S, G> {
+    fn hand_over<R: Wait>(
+        &mut self,
+        rt: &R,
+        tap: &mut PortTap,
+        out: &mut Vec<u8>,
+    ) -> Result<Handed, Memory> {
         let shared = self.shared;
-        shared.node.lock(rt).state().outgoing(self.port, out)
+        tap.hand_over(shared.node.lock(rt).state(), out)
     }
 }
 
@@ -45,7 +49,10 @@ impl<'a, J: NodeNaming, S: Stated<J>, G: Gate> Shared<'a, J, S, G> {
         link: &Arc<Link, Global>,
         pen: Pen,
         waits: bool,
-    ) -> Option<Pen> {
+    ) -> Option<Pen>
+        requires { IsPenOf (arc_value link.now).port pen }
+        ensures { IfSome result (λ late. IsPenOf (arc_value link.now).port late) }
+    {
         let mut pen = pen;
         for _ in rt.forever() {
             match self.write_so(rt, link, &mut pen, waits) {
@@ -67,14 +74,16 @@ impl<'a, J: NodeNaming, S: Stated<J>, G: Gate> Shared<'a, J, S, G> {
         link: &Arc<Link, Global>,
         pen: &mut Pen,
         waits: bool,
-    ) -> Flow {
+    ) -> Flow
+        ensures { IsPenOf pen.old.tap.port pen.new }
+    {
         if waits {
-            return self.write_once(rt, link, pen);
+            return self.write_once(rt, pen);
         }
         if !link.set_waiting(false) {
             return Flow::Stopped;
         }
-        let flow = self.write_once(rt, link, pen);
+        let flow = self.write_once(rt, pen);
         if link.set_waiting(true) {
             flow
         } else {
@@ -84,12 +93,11 @@ impl<'a, J: NodeNaming, S: Stated<J>, G: Gate> Shared<'a, J, S, G> {
 
     // Writes what a full socket left, and then what the node puts out, as far as the socket takes it within
     // its time.
-    fn write_once<R: Wait>(&self, rt: &R, link: &Arc<Link, Global>, pen: &mut Pen) -> Flow {
-        let mut tap = Tap {
-            shared: self,
-            port: link.port,
-        };
-        let mut device = Counted::new(&link.stream);
-        write_out(rt, &mut pen.rest, &mut tap, &mut device)
+    fn write_once<R: Wait>(&self, rt: &R, pen: &mut Pen) -> Flow
+        ensures whole { HasWholeStream pen.new }
+        ensures port { IsPenOf pen.old.tap.port pen.new }
+    {
+        let mut source = Source { shared: self };
+        pen.write(rt, &mut source)
     }
 }

@@ -1,21 +1,21 @@
 // A connection's stream, and who writes on it.
 
 ghost use Rattle.std.specs.Prelude.{◌≡◌};
+ghost use Rattle.std.specs.Arc.{arc_value};
 
-use connection::Unwritten;
+use crate::patient::Patient;
+use crate::port_tap::PortTap;
+use crate::socket::Socket;
+use connection::Outflow;
 use node::Port;
-use std::alloc::Global;
+use std::alloc::{AllocError, Global};
 use std::mem;
 use std::net::{Shutdown, TcpStream};
 use std::sync::{Arc, Mutex, Wait};
 
-/// What a thread has to hold to write on a connection's stream. A connection has one, made with it, so one thread at a
-/// time writes, and its bytes keep their order.
-#[derive(Drop)]
-pub struct Pen {
-    /// What a full socket did not take yet.
-    pub rest: Unwritten,
-}
+/// What a thread has to hold to write on a connection's stream: the tap of the connection's port, its socket, and what a full socket did not
+/// take yet. A connection has one, made with it, so one thread at a time writes, and its stream is whole wherever the pen lies.
+pub type Pen = Outflow<PortTap, Socket>;
 
 /// Where a connection's pen lies while nobody writes.
 #[derive(Drop)]
@@ -35,8 +35,7 @@ pub struct Link {
     pub place: usize,
     /// When it was accepted.
     pub opened: u64,
-    /// Its stream.
-    pub stream: TcpStream,
+    stream: Arc<TcpStream, Global>,
     case: Mutex<PenCase>,
 }
 
@@ -47,37 +46,61 @@ pub struct Late {
     pub link: Arc<Link, Global>,
     /// Its pen.
     pub pen: Pen,
+    pub ghost its: { pen.tap.port.0 ≡ (arc_value link).port.0 },
 }
 
 impl Link {
-    /// Makes a connection on whose stream nothing was written.
-    pub fn new(alloc: Global, port: Port, place: usize, opened: u64, stream: TcpStream) -> Link
-        ensures { result.port ≡ port }
+    ghost use Rattle.std.specs.Prelude.{◌≡◌, IfOk, IfSome};
+    ghost use Rattle.streams.specs.Pens.{IsPenOf};
+
+    /// Makes a connection on whose stream nothing was written. The only error is that memory runs out: the stream is closed then.
+    pub fn new(
+        alloc: Global,
+        port: Port,
+        place: usize,
+        opened: u64,
+        stream: TcpStream,
+    ) -> Result<Link, AllocError>
+        ensures { IfOk result (λ link. link.port ≡ port) }
     {
-        Link {
+        let stream = Arc::new(alloc, stream)?;
+        let socket = Socket::new(Arc::try_clone(&stream)?);
+        Ok(Link {
             port,
             place,
             opened,
             stream,
             case: Mutex::new(PenCase {
-                pen: Some(Pen {
-                    rest: Unwritten::new(alloc),
-                }),
+                pen: Some(Outflow::new(alloc, PortTap::new(port), socket)),
                 again: false,
             }),
-        }
+        })
+    }
+
+    /// Its stream, to be read.
+    pub fn source(&self) -> Patient<'_> {
+        Patient::new(&self.stream)
     }
 
     /// Takes the pen, with which the caller writes. If another thread has it, that one looks again.
-    pub fn take_pen<R: Wait>(&self, rt: &R) -> Option<Pen> {
+    pub fn take_pen<R: Wait>(&self, rt: &R) -> Option<Pen>
+        ensures { IfSome result (λ pen. IsPenOf self.now.port pen) }
+    {
         let mut case = self.case.lock(rt);
         let pen = mem::replace(&mut case.pen, None);
         case.again = pen.is_none();
-        pen
+        let pen = pen?;
+        // It is this connection's, but of what stands behind a lock no clause tells that.
+        if pen.tap().port() != self.port {
+            return None;
+        }
+        Some(pen)
     }
 
     /// Lays the pen back. If more may have been put out meanwhile the caller keeps it, and looks again.
-    pub fn lay_back<R: Wait>(&self, rt: &R, pen: Pen) -> Option<Pen> {
+    pub fn lay_back<R: Wait>(&self, rt: &R, pen: Pen) -> Option<Pen>
+        ensures { IfSome result (λ kept. kept ≡ pen) }
+    {
         let mut case = self.case.lock(rt);
         if case.again {
             case.again = false;

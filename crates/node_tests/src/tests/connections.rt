@@ -3,7 +3,7 @@
 ghost use Rattle.std.specs.Prelude.{◌≡◌};
 
 use super::fakes::{Sink, Source};
-use connection::{Ending, Flow, Hearer, Outlet, Unwritten, listen, write_out};
+use connection::{Ending, Flow, Hearer, Outflow, Outlet, Tap, Unwritten, listen, write_out};
 use mailbox::{Inbox, Lane, Naming, Receiver};
 use node::{Config, Handed, Item, Members, Memory, NodeCore, Piece, Port};
 use node_base::Counted;
@@ -52,16 +52,29 @@ impl<J: Naming> Hearer for Ear<J> {
     }
 }
 
+// The tap of the port.
+#[derive(Drop)]
+struct OneTap;
+
+impl Tap for OneTap {
+    ghost opens = { λ _. Unit {0} };
+
+    ghost hands = { λ _ _ _ _. Unit {0} };
+}
+
 // A node, and what it puts out for the port.
 #[derive(Drop)]
-struct Tap {
+struct Spring {
     node: NodeCore,
 }
 
-impl Outlet for Tap {
-    ghost hands = { λ _ _ _ _. Unit {0} };
-
-    fn hand_over<R: Wait>(&mut self, _rt: &R, out: &mut Vec<u8>) -> Result<Handed, Memory> {
+impl Outlet<OneTap> for Spring {
+    fn hand_over<R: Wait>(
+        &mut self,
+        _rt: &R,
+        _tap: &mut OneTap,
+        out: &mut Vec<u8>,
+    ) -> Result<Handed, Memory> {
         self.node.outgoing(PORT, out)
     }
 }
@@ -198,22 +211,22 @@ const LEFT: &[u8] = b"01234";
 const ALL: &[u8] = &[b'0', b'1', b'2', b'3', b'4', 0x20, 0x02, 0x00, 0x00];
 
 // A node, the sole member of ballot 1.
-fn sole(alloc: Global) -> Option<Tap> {
+fn sole(alloc: Global) -> Option<Spring> {
     let config = Config {
         members: Members::from_slice(alloc, &[1]).ok()?,
         primary: 1,
     };
     let node = NodeCore::new(alloc, 1, &config).ok()?;
-    Some(Tap { node })
+    Some(Spring { node })
 }
 
 // Whether the node has an answer to a CONNECT for the port.
-fn connects(alloc: Global, tap: &mut Tap) -> bool {
+fn connects(alloc: Global, spring: &mut Spring) -> bool {
     let mut effects = Vec::new(alloc);
-    tap.node.step(Item::Opened(PORT, 0), &mut effects);
+    spring.node.step(Item::Opened(PORT, 0), &mut effects);
     match Piece::from_slice(alloc, CONNECT) {
         Ok(piece) => {
-            tap.node.step(Item::Bytes(PORT, piece, 0), &mut effects);
+            spring.node.step(Item::Bytes(PORT, piece, 0), &mut effects);
             true
         }
         Err(_) => false,
@@ -225,12 +238,12 @@ fn connects(alloc: Global, tap: &mut Tap) -> bool {
 fn write_all<R: Wait>(
     rt: &R,
     alloc: Global,
-    tap: &mut Tap,
+    spring: &mut Spring,
     sink: &mut Counted<Sink>,
 ) -> Option<(u64, Flow)> {
     let mut left = Unwritten::from_slice(alloc, LEFT).ok()?;
     for times in 0..9u64 {
-        match write_out(rt, &mut left, tap, sink) {
+        match write_out(rt, &mut left, &mut OneTap, spring, sink) {
             Flow::Late => {}
             flow => return Some((times, flow)),
         }
@@ -239,10 +252,11 @@ fn write_all<R: Wait>(
 }
 
 // Whether what was left before and then the node's answer are written so.
-fn writes<R: Wait>(rt: &R, alloc: Global, tap: &mut Tap, row: &WriteRow) -> bool {
+fn writes<R: Wait>(rt: &R, alloc: Global, spring: &mut Spring, row: &WriteRow) -> bool {
     let (bad_call, kind, late, flow, count) = *row;
     let mut sink = Counted::new(Sink::new(alloc, 3, bad_call, kind));
-    let ended = connects(alloc, tap) && write_all(rt, alloc, tap, &mut sink) == Some((late, flow));
+    let ended = connects(alloc, spring)
+        && write_all(rt, alloc, spring, &mut sink) == Some((late, flow));
     let counted = sink.faults() == u64::from(flow == Flow::Fault);
     ended && counted && has_written(&sink.into_device(), count)
 }
@@ -255,7 +269,7 @@ fn has_written(sink: &Sink, count: usize) -> bool {
 // Whether a row comes out with a fresh node as it says.
 fn comes_out<R: Wait>(rt: &R, alloc: Global, row: &WriteRow) -> bool {
     match sole(alloc) {
-        Some(mut tap) => writes(rt, alloc, &mut tap, row),
+        Some(mut spring) => writes(rt, alloc, &mut spring, row),
         None => false,
     }
 }
@@ -267,4 +281,23 @@ fn what_was_left_is_written_first(rt: HostRuntime) {
         .iter()
         .position(|row| !comes_out(&rt, alloc, row));
     assert_eq!(rt; fault, None);
+}
+
+// How three writes of a stream end, whose device is full at its second call.
+fn stream_ends<R: Wait>(rt: &R, alloc: Global) -> Option<(Flow, Flow, Flow)> {
+    let mut spring = sole(alloc)?;
+    if !connects(alloc, &mut spring) {
+        return None;
+    }
+    let sink = Sink::new(alloc, 3, 2, ErrorKind::WouldBlock);
+    let mut stream = Outflow::new(alloc, OneTap, sink);
+    let first = stream.write(rt, &mut spring);
+    let second = stream.write(rt, &mut spring);
+    Some((first, second, stream.write(rt, &mut spring)))
+}
+
+#[test]
+fn a_stream_goes_on_where_it_was_full(rt: HostRuntime) {
+    let ends = stream_ends(&rt, rt.alloc());
+    assert_eq!(rt; ends, Some((Flow::Late, Flow::Open, Flow::Open)));
 }

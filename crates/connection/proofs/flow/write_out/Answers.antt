@@ -1,14 +1,30 @@
-use Rattle.std.proofs.Common.{subst, inl}
+use Rattle.std.proofs.Common.{[], refl, subst, inl, inr}
 use Rattle.world_base.specs.declared.Handed.{Handed}
-use Rattle.connection.proofs.WritesJoin.{writes_behind}
+use Rattle.connection.proofs.WritesJoin.{writes_alone, writes_behind}
 use Rattle.connection.proofs.flow.write_out.Goals as goal
+
+pub returns-in-Full-clause-flows : goal.returns-in-Full-clause-flows
+returns-in-Full-clause-flows g c = record {
+  bytes = [];
+  handed = inr (refl, refl);
+  writes = writes_alone _ _ _ _ c.write.ensures.writes;
+  rests = c.in-Full.ensures.leaves;
+}
+
+pub returns-in-Fault-clause-flows : goal.returns-in-Fault-clause-flows
+returns-in-Fault-clause-flows g c = record {
+  bytes = [];
+  handed = inr (refl, refl);
+  writes = writes_alone _ _ _ _ c.write.ensures.writes;
+  rests = c.in-Fault.ensures.leaves;
+}
 
 pub returns-in-Open-clause-flows : goal.returns-in-Open-clause-flows
 returns-in-Open-clause-flows g c =
     let h = c.in-Ok.ensures.ok in
     record {
       bytes = h.bytes;
-      handed = subst (λ (answer : Handed). g.O.Outlet.hands c.args.outlet.now h.bytes answer c.take_from.new.outlet) c.in-Open.is h.handed;
+      handed = subst (λ (answer : Handed). g.T.Tap.hands c.args.tap.now h.bytes answer c.take_from.new.tap) c.in-Open.is h.handed;
       writes =
           writes_behind _ _ _ c.args.left.now h.bytes c.take_from.new.self c.write.new.self c.write-2.new.self
           c.write.ensures.writes c.in-Whole.ensures.leaves h.is c.write-2.ensures.writes;
@@ -20,7 +36,7 @@ returns-in-Closed-clause-flows g c =
     let h = c.in-Ok.ensures.ok in
     record {
       bytes = h.bytes;
-      handed = subst (λ (answer : Handed). g.O.Outlet.hands c.args.outlet.now h.bytes answer c.take_from.new.outlet) c.in-Closed.is h.handed;
+      handed = subst (λ (answer : Handed). g.T.Tap.hands c.args.tap.now h.bytes answer c.take_from.new.tap) c.in-Closed.is h.handed;
       writes =
           writes_behind _ _ _ c.args.left.now h.bytes c.take_from.new.self c.write.new.self c.write-2.new.self
           c.write.ensures.writes c.in-Whole.ensures.leaves h.is c.write-2.ensures.writes;

@@ -1,0 +1,76 @@
+// What is written on a connection, from its first byte on.
+
+ghost use Rattle.std.specs.Prelude.{◌≡◌, []};
+ghost use Rattle.std.specs.Io.KnownBytes.{IsAtEnd};
+ghost use Rattle.connection.specs.Whole.{IsWhole};
+ghost use Rattle.connection.specs.Writing.{Flows, faults_flowed};
+
+use crate::flow::{Flow, write_out};
+use crate::outlet::Outlet;
+use crate::tap::Tap;
+use crate::unwritten::Unwritten;
+use node_base::Counted;
+use std::alloc::Global;
+use std::io::Write;
+use std::marker::Model;
+use std::sync::Wait;
+
+/// A connection's tap, the device on which what it gives is written, and what the device did not take yet. Nobody else has any of
+/// them. So wherever it lies between two writes, its stream is whole.
+#[derive(Drop)]
+pub struct Outflow<T: Tap, W: Write> {
+    tap: T,
+    left: Unwritten,
+    device: Counted<W>,
+}
+
+impl<T: Tap, W: Write> Model for Outflow<T, W> {
+    ghost use Rattle.connection.specs.Whole.{Flowing, IsWhole};
+
+    ghost Value = { Flowing T W };
+
+    ghost view = { λ flow. record { tap = flow.tap; left = flow.left; device = flow.device } };
+
+    ghost invariant = { λ flow.
+        IsWhole T.opens T.hands flow.tap (W.contents flow.device.device) flow.left };
+}
+
+impl<T: Tap, W: Write> Outflow<T, W> {
+    /// Begins a stream, with a tap by which nothing was handed over.
+    pub fn new(alloc: Global, tap: T, device: W) -> Outflow<T, W>
+        requires opens { T.opens tap }
+        requires empty { IsAtEnd (W.contents device) }
+        ensures { result ≡ record {
+          tap = tap;
+          left = [];
+          device = record { device = device; faults = 0 };
+        } }
+    {
+        let left = Unwritten::new(alloc);
+        let device = Counted::new(device);
+        Outflow { tap, left, device }
+    }
+
+    /// Returns its tap.
+    pub fn tap(&self) -> &T
+        ensures { result.now ≡ self.now.tap }
+    {
+        &self.tap
+    }
+
+    /// Writes what was left before, and then what an outlet hands over now, as [`write_out`].
+    pub fn write<R: Wait, O: Outlet<T>>(&mut self, rt: &R, outlet: &mut O) -> Flow
+        ensures flows { Flows T.hands result self.old.tap self.new.tap
+            (W.contents self.old.device.device) (W.contents self.new.device.device)
+            self.old.left self.new.left }
+
+        // All that was handed over since the stream began is what was written, and then what is left.
+        ensures whole { IsWhole T.opens T.hands
+            self.new.tap (W.contents self.new.device.device) self.new.left }
+
+        // A fault is told exactly where one more call of the device failed.
+        ensures faults { self.new.device.faults ≡ faults_flowed result self.old.device.faults }
+    {
+        write_out(rt, &mut self.left, &mut self.tap, outlet, &mut self.device)
+    }
+}

@@ -1,0 +1,50 @@
+-- CountsAll.antt: a tap counts all that was handed over by it.
+use Rattle.std.proofs.Common.{◌≡◌, ℕ, ◌+◌, Option, List, [], ◌++◌, length, refl, sym, ◌∙◌, ap, subst, inl, inr, arith, length-append}
+use Rattle.std.proofs.lemmas.List.{append-nil}
+use Rattle.node.specs.declared.Handed.{Handed}
+use Rattle.node.specs.Growth.{counted}
+use Rattle.connection.specs.declared.flow.Flow.{Flow}
+use Rattle.connection.specs.declared.flow.Flow.TheVariants as flows
+use Rattle.connection.specs.Life.{Lives}
+use Rattle.connection.specs.Life.Lives.{begins, goes_on}
+use Rattle.connection.specs.Writing.{HandsAny, HandsSo}
+use Rattle.streams.specs.Laws.{TapsCountAll}
+use Rattle.streams.specs.Tapping.{HandsNone, HandsOut}
+use Rattle.streams.specs.declared.port_tap.PortTap.{PortTap}
+
+-- a tap counts these bytes, and its port is that of another
+abbrev Counts : PortTap → List ℕ → PortTap → Type 0
+Counts first handed tap = (tap.handed ≡ counted (length handed)) × (tap.port ≡ first.port)
+
+-- one call more
+counts_call : (first before behind : PortTap) (handed bytes : List ℕ) (answer : Handed)
+    → Counts first handed before → HandsOut before bytes answer behind → Counts first (handed ++ bytes) behind
+counts_call first before behind handed bytes answer (count, port) out =
+    let more = ap (λ (tap : PortTap). tap.handed) out.counts in
+    let same = ap (λ (tap : PortTap). tap.port) out.counts in (
+      omega (arith, count, more, length-append handed bytes),
+      same ∙ port,
+    )
+
+-- a call, or none
+counts_any : (first before behind : PortTap) (handed bytes : List ℕ)
+    → Counts first handed before → HandsAny HandsOut before bytes behind → Counts first (handed ++ bytes) behind
+counts_any first before behind handed bytes counts (inl (answer, out)) =
+    counts_call first before behind handed bytes answer counts out
+counts_any first before behind handed bytes counts (inr (none, same)) =
+    subst (λ (tap : PortTap). Counts first (handed ++ bytes) tap) (sym same)
+    (subst (λ (l : List ℕ). Counts first l before) (sym (ap (λ (l : List ℕ). handed ++ l) none ∙ append-nil handed)) counts)
+
+-- one write more
+counts_flow : (first before behind : PortTap) (handed bytes : List ℕ) (flow : Flow)
+    → Counts first handed before → HandsSo HandsOut flow before bytes behind → Counts first (handed ++ bytes) behind
+counts_flow first before behind handed bytes flows.Open counts out = counts_call first before behind handed bytes _ counts out
+counts_flow first before behind handed bytes flows.Closed counts out = counts_call first before behind handed bytes _ counts out
+counts_flow first before behind handed bytes flows.Late counts out = counts_any first before behind handed bytes counts out
+counts_flow first before behind handed bytes flows.Stopped counts out = counts_any first before behind handed bytes counts out
+counts_flow first before behind handed bytes flows.Fault counts out = counts_any first before behind handed bytes counts out
+
+pub counts_all : TapsCountAll
+counts_all first start _ _ _ _ none begins = (none, refl)
+counts_all first start _ _ _ _ none (goes_on flow behind new rest lives write) =
+    counts_flow first _ behind _ write.bytes flow (counts_all first start _ _ _ _ none lives) write.handed

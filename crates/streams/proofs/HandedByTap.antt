@@ -1,0 +1,44 @@
+-- HandedByTap.antt: what a node gave for a tap's port is handed over by the tap, which counts it.
+use Rattle.std.proofs.Common.{◌≡◌, List, ◌++◌, length, refl, ◌∙◌, ap, inl, inr, arith, length-append}
+use Rattle.std.specs.Prelude.{ℕ, ◌+◌, ◌-◌, ◌^◌, ◌⊎◌, min, Result, Ok, Err, OnOk, OnErr}
+use Rattle.node.specs.declared.Handed.{Handed}
+use Rattle.node.specs.declared.Port.{Port}
+use Rattle.node.specs.Core.{CountedCore}
+use Rattle.node.specs.Growth.{counted}
+use Rattle.node.specs.Handing.{answer_of, bytes_of, listed_at}
+use Rattle.node.specs.State.{Replays, Seen}
+use Rattle.connection.specs.Writing.{HandsOver}
+use Rattle.streams.specs.Tapping.{Began, HandsOut}
+use Rattle.streams.specs.declared.port_tap.PortTap.{PortTap}
+
+pub handed_by_tap :
+    (first_of : ℕ → CountedCore) (before behind : PortTap) (seen : Seen) (answer : Handed) (old new : List ℕ)
+    (was is count : ℕ)
+    → Began first_of
+    → Replays (first_of seen.taker.inbox) seen.taker.taken seen.node
+    → new ≡ old ++ bytes_of (listed_at before.port seen.node.core)
+    → answer ≡ answer_of (listed_at before.port seen.node.core)
+    → was ≡ length old → is ≡ length new
+    → behind ≡ record before { handed = count }
+    → count ≡ min (before.handed + (is - was)) (2 ^ 64 - 1)
+    → HandsOver HandsOut before answer behind old new
+handed_by_tap first_of before behind seen answer old new was is count began replays bytes answers first last counts sum =
+    let more = bytes_of (listed_at before.port seen.node.core) in
+    let size : length new ≡ length old + length more = ap length bytes ∙ length-append old more in
+    let all : count ≡ counted (before.handed + length more) = omega (arith, size, first, last, sum) in
+    record {
+      bytes = more;
+      handed = record {
+        first_of = first_of;
+        began = began;
+        puts = record { seen = seen; replays = replays; bytes_are = refl; answer_is = answers };
+        counts = counts ∙ ap (λ (handed : ℕ). record before { handed = handed }) all;
+      };
+      is = bytes;
+    }
+
+-- a state that is taken on where a call went well stays or is taken on
+pub stays_or_goes : {S E : Type 0} (old next new : S) (result : Result Handed E)
+    → OnOk result (new ≡ next) → OnErr result (new ≡ old) → (new ≡ old) ⊎ (new ≡ next)
+stays_or_goes old next new (Ok answer) goes stays = inr goes
+stays_or_goes old next new (Err e) goes stays = inl stays

@@ -1,0 +1,3 @@
+mod CountsAll
+mod HandedByTap
+pub mod KeepsItsPort

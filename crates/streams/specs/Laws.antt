@@ -1,0 +1,14 @@
+-- What readers may want to know of taps.
+use Rattle.std.specs.Prelude.{◌≡◌, ℕ, List, length, Option}
+use Rattle.connection.specs.Life.{Lives}
+use Rattle.node.specs.Growth.{counted}
+use Rattle.streams.specs.Tapping.{HandsNone, HandsOut}
+use Rattle.streams.specs.declared.port_tap.PortTap.{PortTap}
+
+-- Over the whole life of a connection its tap counts all that was handed over by it, for one port. So no byte that a node handed
+-- over by the tap is missing among these.
+abbrev pub TapsCountAll : Type 0
+TapsCountAll =
+    (first : PortTap) (start : Option (List ℕ)) (tap : PortTap) (handed : List ℕ) (contents : Option (List ℕ)) (left : List ℕ)
+    → HandsNone first → Lives HandsOut first start tap handed contents left
+    → (tap.handed ≡ counted (length handed)) × (tap.port ≡ first.port)

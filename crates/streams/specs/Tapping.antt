@@ -1,0 +1,35 @@
+-- What a node hands over for a port by a tap, which counts the bytes.
+use Rattle.std.specs.Prelude.{◌≡◌, ℕ, ◌+◌, List, length}
+use Rattle.node.specs.declared.Config.{Config}
+use Rattle.node.specs.declared.Handed.{Handed}
+use Rattle.node.specs.declared.Port.{Port}
+use Rattle.node.specs.Core.{CountedCore, opening_core}
+use Rattle.node.specs.Growth.{counted}
+use Rattle.node.specs.Handing.{answer_of, bytes_of, listed_at}
+use Rattle.node.specs.State.{Replays, Seen}
+use Rattle.streams.specs.declared.port_tap.PortTap.{PortTap}
+
+-- whatever its inbox's number, a node began as the one of this number in this configuration of ballot 1
+pub record Began (first_of : ℕ → CountedCore) : Type 0 where
+  pub number : ℕ
+  pub config : Config
+  pub is : (inbox : ℕ) → first_of inbox ≡ record { core = opening_core number config; losses = 0 }
+
+-- These bytes, with this answer, are what a node hands over for a port that is what its first state became by one step for
+-- each item that was taken from its inbox.
+pub record PutsOut (first_of : ℕ → CountedCore) (port : Port) (bytes : List ℕ) (answer : Handed) : Type 0 where
+  pub seen : Seen
+  pub replays : Replays (first_of seen.taker.inbox) seen.taker.taken seen.node
+  pub bytes_are : bytes ≡ bytes_of (listed_at port seen.node.core)
+  pub answer_is : answer ≡ answer_of (listed_at port seen.node.core)
+
+-- nothing was handed over by a tap
+abbrev pub HandsNone : PortTap → Type 0
+HandsNone tap = tap.handed ≡ 0
+
+-- a node that opened in some configuration hands over these bytes for a tap's port, and the tap counts them, up to 2^64 - 1
+pub record HandsOut (before : PortTap) (bytes : List ℕ) (answer : Handed) (behind : PortTap) : Type 0 where
+  pub first_of : ℕ → CountedCore
+  pub began : Began first_of
+  pub puts : PutsOut first_of before.port bytes answer
+  pub counts : behind ≡ record before { handed = counted (before.handed + length bytes) }

@@ -1,0 +1,71 @@
+// By what a node hands over the bytes of one port.
+
+ghost use Rattle.std.specs.Prelude.{◌≡◌, ◌++◌, IfOk, OnErr, OnOk};
+ghost use Rattle.connection.specs.Writing.{HandsOver};
+ghost use Rattle.node.specs.Handing.{bytes_of, hands_over, listed_at};
+ghost use Rattle.streams.specs.Tapping.{Began, HandsOut};
+
+use connection::Tap;
+use node::{Handed, Memory, NodeNaming, NodeState, Port};
+
+/// By this a node hands over what it puts out for a port, and nobody else's bytes. A connection has one, made with it, and it counts
+/// the bytes.
+#[derive(Drop)]
+pub struct PortTap {
+    port: Port,
+    /// How many bytes were handed over by it, at most 2^64 - 1.
+    handed: u64,
+}
+
+impl Tap for PortTap {
+    ghost use Rattle.streams.specs.Tapping.{HandsOut, HandsNone};
+
+    ghost opens = { HandsNone };
+
+    ghost hands = { HandsOut };
+}
+
+impl PortTap {
+    /// One by which nothing was handed over.
+    pub(crate) fn new(port: Port) -> PortTap
+        ensures { result ≡ record { port = port; handed = 0 } }
+    {
+        PortTap { port, handed: 0 }
+    }
+
+    /// Returns its port.
+    pub(crate) fn port(&self) -> Port
+        ensures { result ≡ self.now.port }
+    {
+        self.port
+    }
+
+    /// Appends what a node put out for the port and did not hand over before, and tells whether more may come, as
+    /// [`NodeState::outgoing`]. The bytes are counted.
+    pub fn hand_over<J: NodeNaming>(
+        &mut self,
+        node: &mut NodeState<J>,
+        out: &mut Vec<u8>,
+    ) -> Result<Handed, Memory>
+        requires began { Began J.first_of }
+        ensures ok { IfOk result (λ answer.
+            HandsOver HandsOut self.old answer self.new out.old.items out.new.items) }
+
+        // All that the node put out for the port, and nothing else.
+        ensures bytes { OnOk result
+            (out.new.items ≡ out.old.items ++ bytes_of (listed_at self.old.port node.old.node.core)) }
+        ensures left { OnOk result (node.new ≡ record node.old {
+          node = record node.old.node { core = hands_over self.old.port node.old.node.core };
+        }) }
+
+        // Want of memory changes nothing.
+        ensures same { OnErr result (self.new ≡ self.old) }
+        ensures kept { OnErr result (node.new ≡ node.old) }
+        ensures err { OnErr result (out.new.items ≡ out.old.items) }
+    {
+        let before = out.len();
+        let handed = node.outgoing(self.port, out)?;
+        self.handed = self.handed.saturating_add((out.len() - before) as u64);
+        Ok(handed)
+    }
+}

@@ -1,0 +1,31 @@
+// A connection's socket, to be written on.
+
+use std::alloc::Global;
+use std::io;
+use std::io::Write;
+use std::net::TcpStream;
+use std::sync::Arc;
+
+/// A connection's socket, which only the connection's pen writes on.
+#[derive(Drop)]
+pub struct Socket {
+    stream: Arc<TcpStream, Global>,
+}
+
+impl Socket {
+    /// Writes on this stream.
+    pub(crate) fn new(stream: Arc<TcpStream, Global>) -> Socket {
+        Socket { stream }
+    }
+}
+
+impl Write for Socket {
+    fn write(&mut self, buf: &[u8]) -> io::Result<usize> {
+        let mut stream = &*self.stream;
+        stream.write(buf)
+    }
+
+    fn flush(&mut self) -> io::Result<()> {
+        Ok(())
+    }
+}
