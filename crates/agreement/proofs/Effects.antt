@@ -21,7 +21,7 @@ outputs-append [] ys = refl
 outputs-append (To receiver m ∷ xs) ys = outputs-append xs ys
 outputs-append (Out place o ∷ xs) ys = ap (λ us. (place, o) ∷ us) (outputs-append xs ys)
 
--- messages alone are missing
+-- only messages are missing
 pub thinned_outputs : {C O : Type 0} {xs ys : List (Effect C O)} → Thinned xs ys → outputs xs ≡ outputs ys
 thinned_outputs none = refl
 thinned_outputs (keeps {e = To receiver m} t) = thinned_outputs t

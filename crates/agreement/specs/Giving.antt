@@ -1,4 +1,5 @@
--- Giving.antt: what one node gives, in a step and between two moments at which it leads one ballot.
+-- Giving.antt: the outputs of one node, in a step and between two moments at which it leads one
+-- ballot.
 use Rattle.std.specs.Prelude.{ℕ, true, false, ◌≤◌, ◌≡◌, ◌==◌, List, [], ◌∷◌, ◌++◌, length, if◌then◌else◌}
 use Rattle.machine.specs.Machine.{Rules}
 use Rattle.whole.specs.Applying.{outputs_between}
@@ -12,7 +13,7 @@ use Rattle.agreement.specs.Steps.{MayHappen}
 use Rattle.agreement.specs.Steps.MayHappen.{node_takes, node_stops, master_assigns, master_hears, assignment_lost, answer_lost}
 use Rattle.agreement.specs.World.{World, outputs}
 
--- the outputs that the node at place n gives in a step, each with its place in the list
+-- the outputs of the node at place n in a step, each with its place in the list
 abbrev pub given_in : {S C O : Type 0} {rules : Rules S C O} {m : MasterState} {w : World S C O}
     {k : MasterState} {v : World S C O} → ℕ → MayHappen rules m w k v → List (ℕ × O)
 given_in n (node_takes i r input {new = new} {given = given} stands runs may loses) =
@@ -30,12 +31,12 @@ given_of n (began nodes lawful is) = []
 given_of n (went_on came step) = given_of n came ++ given_in n step
 given_of n (learned came learns) = given_of n came
 
--- the place from which a node gives: how far it has applied its log, if it is the active primary;
--- one that becomes it applies its whole log first, and gives nothing for that
+-- the place from which a node's outputs start: how far it has applied its log, if it is the active
+-- primary; one that becomes it applies its whole log first, and outputs nothing for that
 abbrev pub gives_from : {S C : Type 0} → ReplicaState S C → ℕ
 gives_from r = if is_active r.role then r.committed else length r.log
 
--- what a node gave while it became another: nothing where it is no active primary, and else the
+-- what a node gave while it became another: nothing if it is no active primary, and otherwise the
 -- machine's answers at the places of the list from there on to where it has applied it now
 pub record GivesNext {S C O : Type 0} (rules : Rules S C O) (old new : ReplicaState S C)
     (xs : List C) (given : List (ℕ × O)) : Type 0 where
@@ -45,8 +46,8 @@ pub record GivesNext {S C O : Type 0} (rules : Rules S C O) (old new : ReplicaSt
   pub next : is_active new.role ≡ true →
       given ≡ outputs (outputs_between rules xs (gives_from old) new.committed)
 
--- a past goes on from a moment, by steps and by nodes that learn, and the node at place n is the active
--- primary of a ballot at that moment and at each later one
+-- a past continues from a moment, by steps and by nodes that learn, and the node at place n is the
+-- active primary of a ballot at that moment and at each later one
 pub data LeadsOn {S C O : Type 0} {rules : Rules S C O} {config : Config} (n ballot : ℕ)
     {a : Moment S C O} {past : List (Moment S C O)} (came : Past rules config (a ∷ past)) :
     (b : Moment S C O) (later : List (Moment S C O)) → Past rules config (b ∷ later) →

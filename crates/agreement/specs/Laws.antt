@@ -1,4 +1,4 @@
--- Laws.antt: what holds of every past of a group whose master answers each Assign.
+-- Laws.antt: what holds for every past of a group whose master answers each Assign.
 use Rattle.std.specs.Prelude.{ℕ, Bool, ◌≤◌, ◌≡◌, List, [], ◌∷◌, ◌++◌, filter, length, slice_get, Some}
 use Rattle.machine.specs.Machine.{Rules}
 use Rattle.lists.specs.Lists.{In, IsPrefixOf}
@@ -43,7 +43,7 @@ MachinesReplay {S} {C} {O} rules =
     (config : Config) (a : Moment S C O) (past : List (Moment S C O)) →
     Past rules config (a ∷ past) → AreReplays rules a.world
 
--- of the commands that were taken in one ballot only, each log has a beginning in the order of
+-- of the commands that were taken only in one ballot, each log has a prefix in the order of
 -- proposing
 abbrev pub KeepsTheOrder : {S C O : Type 0} → Rules S C O → Type 0
 KeepsTheOrder {S} {C} {O} rules =
@@ -54,8 +54,8 @@ KeepsTheOrder {S} {C} {O} rules =
     (n : ℕ) (r : ReplicaState S C) → slice_get a.world.nodes n ≡ Some r →
     IsPrefixOf (filter names r.log) (filter names (commands_of (taken_of came))))
 
--- what a node takes in a step stands at once at the end of its log; all that is taken some node
--- takes; and a proposal that is not taken changes no log
+-- what a node takes in a step is at once at the end of its log; everything that is taken is taken
+-- by some node; and a proposal that is not taken changes no log
 pub record StandsAtOnce {S C O : Type 0} {rules : Rules S C O} {m : MasterState} {w : World S C O}
     {k : MasterState} {v : World S C O} (step : MayHappen rules m w k v) : Type 0 where
   pub stands : (n : ℕ) (row : ℕ × C) → In row (takes_at n step) → IsTaken w v n row
@@ -63,7 +63,7 @@ pub record StandsAtOnce {S C O : Type 0} {rules : Rules S C O} {m : MasterState}
   pub refused : taken_in step ≡ [] → (row : ℕ × C) → In row (proposal_of step) →
       (n : ℕ) → log_of (slice_get v.nodes n) ≡ log_of (slice_get w.nodes n)
 
--- so it is in each step
+-- that holds in each step
 abbrev pub TakenStandAtOnce : {S C O : Type 0} → Rules S C O → Type 0
 TakenStandAtOnce {S} {C} {O} rules =
     (m : MasterState) (w : World S C O) (k : MasterState) (v : World S C O) →
@@ -85,7 +85,7 @@ OneNodeTakesABallot {S} {C} {O} rules =
     (c : Moment S C O) (n ballot : ℕ) → In c (a ∷ past) → IsPrimary c.world n ballot →
     rows_in ballot (taken_of came) ≡ rows_in ballot (taken_at n came)
 
--- what a node gives in a step is the answers at the next places of the agreed list
+-- the outputs of a node in a step are the answers at the next places of the agreed list
 abbrev pub AnswersAtTheNextPlaces : {S C O : Type 0} → Rules S C O → Type 0
 AnswersAtTheNextPlaces {S} {C} {O} rules =
     (config : Config) (a b : Moment S C O) (past : List (Moment S C O)) (xs : List C) →
@@ -94,7 +94,7 @@ AnswersAtTheNextPlaces {S} {C} {O} rules =
     (n : ℕ) (old new : ReplicaState S C) → slice_get a.world.nodes n ≡ Some old →
     slice_get b.world.nodes n ≡ Some new → GivesNext rules old new xs (given_in n step)
 
--- so between two moments of a ballot that it leads a node gives the answers at all places of the
+-- so between two moments of a ballot that it leads a node outputs the answers at all places of the
 -- agreed list, from where it had applied it to where it has applied it: none is left out, and none
 -- comes twice
 abbrev pub AnswersWhileItLeads : {S C O : Type 0} → Rules S C O → Type 0

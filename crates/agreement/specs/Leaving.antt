@@ -13,16 +13,16 @@ pub record Segment : Type 0 where
   pub first : ℕ
   pub past : ℕ
 
--- of two segments that of the lower ballot comes before the other in the list, and of one ballot
--- that which left first
+-- of two segments, the one of the lower ballot comes before the other in the list; of one ballot,
+-- the one that left first
 abbrev pub AreInOrder : List Segment → Type 0
 AreInOrder segments =
     (i j : ℕ) (s t : Segment) → slice_get segments i ≡ Some s → slice_get segments j ≡ Some t →
     (s.ballot < t.ballot) ⊎ ((s.ballot ≡ t.ballot) × (i < j)) → s.past ≤ t.first
 
--- what left is the machine's answers at segments of a list, each given in a ballot that was active.
--- No two share a place, and while one ballot alone was active the places rise as they left; the
--- primary of an earlier ballot may give late what it had not given yet
+-- the outputs that left are the machine's answers at segments of a list, each output in a ballot
+-- that was active. No two share a place, and as long as only one ballot was active the places rise
+-- as they left; the primary of an earlier ballot may output late what it had not yet output
 pub record LeftInOrder {S C O : Type 0} (rules : Rules S C O) (past : List (Moment S C O))
     (w : World S C O) (xs : List C) : Type 0 where
   pub segments : List Segment

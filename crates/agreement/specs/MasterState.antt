@@ -22,11 +22,11 @@ pub record MasterOutcome (C : Type 0) : Type 0 where
   pub receiver : ℕ
   pub body : Body C
 
--- the master behind an Assign: the next ballot waits, and one that waited is put out
+-- the master after an Assign: the next ballot waits, and one that waited is superseded
 abbrev pub assigning : MasterState → Config → MasterState
 assigning m config = record m { waiting = Some (m.given + 1, config); given = m.given + 1 }
 
--- the master behind an Activate: the ballot that waits becomes the active one
+-- the master after an Activate: the ballot that waits becomes the active one
 abbrev pub activating : MasterState → ℕ → Option (ℕ × Config) → MasterState
 activating m ballot None = m
 activating m ballot (Some (waiting, config)) =
@@ -34,13 +34,13 @@ activating m ballot (Some (waiting, config)) =
     then record m { active = ballot; members = config.members; waiting = None }
     else m
 
--- whether a ballot is active then: it waited, or was active before. Any other was put out
+-- whether a ballot is active then: it waited, or was active before. Any other was superseded
 abbrev pub is_granted : MasterState → ℕ → Option (ℕ × Config) → Bool
 is_granted m ballot None = ballot == m.active
 is_granted m ballot (Some (waiting, config)) =
     if ballot == waiting then true else ballot == m.active
 
--- Assign: the primary is told of the ballot
+-- Assign: a message to the primary with the ballot
 abbrev pub assigned : (C : Type 0) → MasterState → Config → MasterOutcome C
 assigned C m config =
     record {
@@ -76,7 +76,7 @@ refusal m config =
     then if nat_le last_ballot m.given then Some ballots_spent else None
     else Some bad_members
 
--- the master behind an Assign: where it is refused, nothing changes
+-- the master after an Assign: if it is refused, nothing changes
 abbrev pub master_behind : MasterState → Config → Option AssignRefusal → MasterState
 master_behind m config (Some why) = m
 master_behind m config None = assigning m config

@@ -1,5 +1,5 @@
--- Past.antt: the moments of a group from its opening on, and what its members have told in each
--- ballot.
+-- Past.antt: the moments of a group from its opening on, and what its members have acknowledged
+-- (told) in each ballot.
 use Rattle.std.specs.Prelude.{ℕ, true, false, ◌+◌, ◌≤◌, ◌≡◌, ◌⊎◌, List, [], ◌∷◌, length, slice_get, take, Some}
 use Rattle.lists.specs.Lists.{In, IsPrefixOf}
 use Rattle.machine.specs.Machine.{Rules}
@@ -21,9 +21,9 @@ abbrev pub opening_moment : {S C O : Type 0} → Rules S C O → ℕ → Config 
 opening_moment rules nodes config =
     record { master = opening_master config; world = opening_world rules nodes config }
 
--- A node that is no active primary applies places of its log that some node had applied at an earlier
--- moment, and gives no output for them. That node had joined no higher ballot then than this one now.
--- A replica that takes over a snapshot in place of these commands does so
+-- A node that is no active primary applies places of its log that some node had applied at an
+-- earlier moment, and has no output for them. That node had joined no higher ballot then than this
+-- one now. A replica that takes over a snapshot in place of these commands does so
 pub record Learns {S C O : Type 0} (rules : Rules S C O) (past : List (Moment S C O))
     (a b : Moment S C O) : Type 0 where
   pub node : ℕ
@@ -56,8 +56,8 @@ pub data Past {S C O : Type 0} (rules : Rules S C O) (config : Config) :
   learned : {a b : Moment S C O} {past : List (Moment S C O)} → Past rules config (a ∷ past) →
       Learns rules (a ∷ past) a b → Past rules config (b ∷ a ∷ past)
 
--- the configuration of a ballot: that of the opening for ballot 1, and else the one with which the
--- master let the ballot wait
+-- the configuration of a ballot: that of the opening for ballot 1, and otherwise the one with which
+-- the master let the ballot wait
 pub data HasConfig {S C O : Type 0} (config : Config) (past : List (Moment S C O)) (ballot : ℕ)
     (c : Config) : Type 0 where
   opened_with : ballot ≡ 1 → c ≡ config → HasConfig config past ballot c
@@ -69,16 +69,17 @@ abbrev pub WasActive : {S C O : Type 0} → List (Moment S C O) → ℕ → Type
 WasActive {S} {C} {O} past ballot =
     (a : Moment S C O) × In a past × (a.master.active ≡ ballot)
 
--- a member told a length in a ballot
+-- a member acknowledged a length in a ballot
 abbrev pub ToldLength : {S C O : Type 0} → World S C O → ℕ → ℕ → ℕ → Type 0
 ToldLength w member ballot held =
     (receiver : ℕ)
     × (In (receiver, record { from = member; body = Held ballot held }) w.sent
     ⊎ In (receiver, record { from = member; body = Installed ballot held }) w.sent)
 
--- node n + 1 has told a list in a ballot: the primary by holding it as its log there, another by a
--- message with its length, from a log that begins with it. While a node holds its log in one ballot
--- the log only grows, so it began with the list already when the message was sent
+-- node n + 1 has acknowledged a list in a ballot: the primary by holding it as its log there,
+-- another member by a message with its length, from a log of which it is a prefix. While a node
+-- holds its log in one ballot the log only grows, so it had that prefix already when the message
+-- was sent
 pub data HasTold {S C O : Type 0} (config : Config) (past : List (Moment S C O)) (ballot n : ℕ)
     (xs : List C) : Type 0 where
   told_as_log : (a : Moment S C O) (r : ReplicaState S C) (c : Config) → In a past →
@@ -90,15 +91,15 @@ pub data HasTold {S C O : Type 0} (config : Config) (past : List (Moment S C O))
       ToldLength a.world (n + 1) ballot (length xs) → IsPrefixOf xs r.log →
       HasTold config past ballot n xs
 
--- each member of a ballot has told the list, or a list that it begins; one that told nothing has
--- not told the empty list
+-- each member of a ballot has acknowledged the list, or a list of which it is a prefix; a member
+-- that acknowledged nothing has not acknowledged the empty list
 abbrev pub IsChosen : {S C O : Type 0} → Config → List (Moment S C O) → ℕ → List C → Type 0
 IsChosen {S} {C} {O} config past ballot xs =
     (c : Config) × HasConfig config past ballot c
     × ((n : ℕ) → In (n + 1) c.members →
     (told : List C) × HasTold config past ballot n told × IsPrefixOf xs told)
 
--- the agreed list: the longest that is chosen in a ballot that was active, or empty where none is
+-- the agreed list: the longest that is chosen in a ballot that was active, or empty if none is
 pub record IsAgreed {S C O : Type 0} (config : Config) (past : List (Moment S C O))
     (xs : List C) : Type 0 where
   pub chosen : (xs ≡ []) ⊎ ((b : ℕ) × WasActive past b × IsChosen config past b xs)

@@ -15,7 +15,7 @@ use Rattle.agreement.specs.Steps.{MayHappen}
 use Rattle.agreement.specs.Steps.MayHappen.{node_takes, node_stops, master_assigns, master_hears, assignment_lost, answer_lost}
 use Rattle.agreement.specs.World.{World}
 
--- the proposal that a node takes in, with the ballot that it has joined
+-- the proposal that a node is given, with the ballot that it has joined
 abbrev pub proposal_by : {S C : Type 0} → ReplicaState S C → Input C → List (ℕ × C)
 proposal_by r (Receives message) = []
 proposal_by r (Proposes command) = (r.joined, command) ∷ []
@@ -37,7 +37,7 @@ proposals_of (began nodes lawful is) = []
 proposals_of (went_on came step) = proposals_of came ++ proposal_of step
 proposals_of (learned came learns) = proposals_of came
 
--- of it what the node takes: its log is longer behind the step
+-- what the node takes of it: its log is longer after the step
 abbrev pub taken_by : {S C : Type 0} → ReplicaState S C → ReplicaState S C → Input C → List (ℕ × C)
 taken_by old new input =
     if nat_lt (length old.log) (length new.log) then proposal_by old input else []
@@ -81,7 +81,7 @@ abbrev pub rows_in : {C : Type 0} → ℕ → List (ℕ × C) → List (ℕ × C
 rows_in {C} ballot rows = filter (λ (row : ℕ × C). row.0 == ballot) rows
 
 -- the node at place n took a proposal in a step: it ran, and was the active primary of the ballot
--- that the row names; behind the step its log is what it was, with the command at its end
+-- that the row names; after the step its log is what it was, with the command at its end
 pub record IsTaken {S C O : Type 0} (w v : World S C O) (n : ℕ) (row : ℕ × C) : Type 0 where
   pub primary : IsPrimary w n row.0
   pub runs : primary.replica.stopped ≡ false
@@ -89,7 +89,7 @@ pub record IsTaken {S C O : Type 0} (w v : World S C O) (n : ℕ) (row : ℕ × 
   pub stands : slice_get v.nodes n ≡ Some behind
   pub log : behind.log ≡ primary.replica.log ++ row.1 ∷ []
 
--- some of a list, in its order
+-- some of a list, in order
 pub data IsPartOf {X : Type 0} : List X → List X → Type 0 where
   nothing_left : IsPartOf [] []
   with_one : {x : X} {xs ys : List X} → IsPartOf xs ys → IsPartOf (x ∷ xs) (x ∷ ys)
@@ -100,7 +100,7 @@ abbrev pub commands_of : {C : Type 0} → List (ℕ × C) → List C
 commands_of [] = []
 commands_of (row ∷ rows) = row.1 ∷ commands_of rows
 
--- commands that the test holds of are proposed in this ballot alone, and no ballot's start is one
+-- commands that the test holds for are proposed in this ballot alone, and no ballot's start is one
 pub record IsOfBallot {C : Type 0} (start_of : ℕ → C) (names : C → Bool) (ballot : ℕ)
     (proposals : List (ℕ × C)) : Type 0 where
   pub starts : (b : ℕ) → names (start_of b) ≡ false

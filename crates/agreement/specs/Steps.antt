@@ -1,5 +1,5 @@
 -- Steps.antt: what may happen in a group: a node takes its step, perhaps with losses, or stops; its
--- master answers an Assign, or hears an Activate. Messages of the master may be lost, too.
+-- master answers an Assign, or receives an Activate. Messages of the master may be lost, too.
 use Rattle.std.specs.Prelude.{ℕ, ◌+◌, ◌≡◌, false, List, [], slice_get, Some, ◌∷◌, ◌++◌, Option, None}
 use Rattle.machine.specs.Machine.{Rules}
 use Rattle.whole.specs.Config.{Config}
@@ -20,12 +20,12 @@ MayTake w n (Receives message) = In (n + 1, message) w.sent
 MayTake w n (Proposes command) = Unit {0}
 MayTake w n Ticks = Unit {0}
 
--- a world behind a message of the master
+-- a world after a message of the master
 abbrev pub tells_from_master : {S C O : Type 0} → World S C O → MasterOutcome C → World S C O
 tells_from_master w o =
     record w { sent = w.sent ++ (o.receiver, record { from = master; body = o.body }) ∷ [] }
 
--- the world behind an Assign: its primary is told of the ballot
+-- the world after an Assign: its primary is sent the ballot
 abbrev pub world_behind : {S C O : Type 0} →
     MasterState → World S C O → Config → Option AssignRefusal → World S C O
 world_behind m w config (Some why) = w
@@ -48,7 +48,7 @@ pub data MayHappen {S C O : Type 0} (rules : Rules S C O) :
       In (0, record { from = from; body = Activate b }) w.sent →
       MayHappen rules m w (activated C m b from m.waiting).state
       (tells_from_master w (activated C m b from m.waiting))
-  -- the same where the master's message is lost
+  -- the same if the master's message is lost
   assignment_lost : {m : MasterState} {w : World S C O} (config : Config) →
       MayHappen rules m w (master_behind m config (refusal m config)) w
   answer_lost : {m : MasterState} {w : World S C O} (from b : ℕ) →

@@ -42,7 +42,7 @@ outputs [] = []
 outputs (To receiver message ∷ effects) = outputs effects
 outputs (Out place output ∷ effects) = (place, output) ∷ outputs effects
 
--- a world in which the node at a place became another and handed out effects
+-- a world after the node at a place changed and returned effects
 abbrev pub moved : {S C O : Type 0} →
     World S C O → ℕ → ReplicaState S C → List (Effect C O) → World S C O
 moved w n new given =
@@ -52,7 +52,7 @@ moved w n new given =
       left = w.left ++ outputs given;
     }
 
--- the log of a node, if it is there
+-- the log of a node, if the node exists
 abbrev pub log_of : {S C : Type 0} → Option (ReplicaState S C) → List C
 log_of None = []
 log_of (Some r) = r.log

@@ -40,19 +40,19 @@ pub fn machines_replay<M: Machine>()
     ensures { MachinesReplay M.rules }
 {}
 
-/// Of the commands that were taken in one ballot only, each log has a beginning in the order of
-/// proposing. Which were taken the past tells: those by which a log grew.
+/// Of the commands that were taken only in one ballot, each log has a prefix in the order of
+/// proposing. The past says which were taken: those by which a log grew.
 pub fn keeps_the_order<M: Machine>()
     ensures { KeepsTheOrder M.rules }
 {}
 
-/// What a node takes in a step stands at once at the end of its log, and the node is the active
-/// primary of the ballot in which it is counted; a proposal that is not taken changes no log.
+/// What a node takes in a step is at once at the end of its log, and the node is the active primary
+/// of the ballot in which it is counted; a proposal that is not taken changes no log.
 pub fn taken_stand_at_once<M: Machine>()
     ensures { TakenStandAtOnce M.rules }
 {}
 
-/// A ballot has one active primary: two nodes that were active in it, at whatever moments, are one.
+/// A ballot has one active primary: two nodes that were active in it, at any moments, are one.
 pub fn one_primary_a_ballot<M: Machine>()
     ensures { OnePrimaryABallot M.rules }
 {}
@@ -63,14 +63,15 @@ pub fn one_node_takes_a_ballot<M: Machine>()
     ensures { OneNodeTakesABallot M.rules }
 {}
 
-/// What a node gives in a step is the machine's answers at the next places of the agreed list: from
-/// where it had applied it to where it has applied it now, where it is the active primary, and else
-/// nothing. One that becomes the active primary gives nothing for what its log had before.
+/// The outputs of a node in a step are the machine's answers at the next places of the agreed list,
+/// from where it had applied it to where it has applied it now, if it is the active primary, and
+/// otherwise nothing. A node that becomes the active primary outputs nothing for what its log had
+/// before.
 pub fn answers_at_the_next_places<M: Machine>()
     ensures { AnswersAtTheNextPlaces M.rules }
 {}
 
-/// So while a node is the active primary of one ballot it gives the answers at all places of the
+/// So while a node is the active primary of one ballot it outputs the answers at all places of the
 /// agreed list, from one moment to another: none is left out, and none comes twice.
 pub fn answers_while_it_leads<M: Machine>()
     ensures { AnswersWhileItLeads M.rules }

@@ -1,5 +1,5 @@
-//! Nodes with changes of configuration: what may happen to them, and the proof that they agree.
-//! No code runs here; the laws are carried by calls that do nothing.
+//! Nodes with changes of configuration: what may happen to them, and the proof that they agree. No
+//! code runs here; the laws are contracts of calls that do nothing.
 #![tactic(auto)]
 
 mod laws;

@@ -95,7 +95,7 @@ become_active_is {S = S} {C = C} {O = O} rules old grown active b progress p m a
       };
     } in x) (part_pushed old.state.log start old.state.committed (places old.state.log) (omega arith))
 
--- the ballot has begun, or a place could not be applied behind its start
+-- the ballot has begun, or a place could not be applied after its start
 abbrev pub Begun : {S C O : Type 0} → Rules S C O → CountedReplica S C → CountedReplica S C → ℕ → List Progress → List (Effect C O) →
     List (Effect C O) → CountedReplica S C → Type 0
 Begun rules active new committed waiting before behind old = (behind ≡ before) × (new ≡ record {

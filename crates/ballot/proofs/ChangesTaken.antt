@@ -111,7 +111,7 @@ state_taken {S = S} {C = C} {O = O} {rules = rules} old took mid new ballot log 
     (state ∙ ap (λ (z : CountedReplica S C). z.state) same)
     (count ∙ ap (λ (z : CountedReplica S C). cond sent z.losses (one_more z.losses)) same ∙ ap (λ n. cond sent n (one_more n)) losses))
 
--- State that counts as lost: there was no memory, or its snapshot stands for no machine
+-- State that counts as lost: there was no memory, or its snapshot does not thaw
 pub state_lost : {S C O : Type 0} {rules : Rules S C O} (old new : CountedReplica S C) (ballot : ℕ) (log : Log C) (before : List (Effect C O)) →
     waits_for old.state ballot (places log) ≡ true → new.state ≡ old.state → new.losses ≡ one_more old.losses →
     Heard rules old (on_state rules old.state ballot log) (waits_for old.state ballot (places log) && reads_none rules old.state log) new before before

@@ -1,4 +1,4 @@
--- Heeding.antt: what a replica does not heed does nothing by the protocol, and only that.
+-- Heeding.antt: what a replica ignores does nothing by the protocol, and only that.
 use Rattle.std.proofs.Common.{◌≡◌, ℕ, suc, ◌<◌, ◌≤◌, ◌⊎◌, inl, inr, Bool, true, false, cond, List, [], ◌∷◌, ◌++◌, length, max, Some, None, Option, refl, ap, ap₂, sym, ◌∙◌, arith}
 use Rattle.std.specs.Prelude.{nat_lt, nat_le, ◌&&◌, ◌||◌, ◌==◌}
 use Rattle.std.specs.List.{list_any}
@@ -193,7 +193,7 @@ applied {S = S} {C = C} rules r b held e f =
     let c : max r.committed held ≡ r.committed = ap (λ (z : ReplicaState S C). z.committed) s in
     let low = ltb-true r.committed held q.1 in absurd (omega (arith, c, low))
 
--- a snapshot that has to be read either stands for a machine or is none that was read
+-- a snapshot that has to be read either thaws or is none that was read
 pub read_or_none : {S C O : Type 0} (rules : Rules S C O) (r : ReplicaState S C) (log : Log C) →
     ((took : ReplicaState S C) × (taken rules r log ≡ Some took) × (reads_none rules r log ≡ false))
     ⊎ ((taken rules r log ≡ None) × (reads_none rules r log ≡ true))
@@ -249,7 +249,7 @@ superseded {S = S} {C = C} O r b e f =
     let t : Backup ≡ r.role = ap (λ (z : ReplicaState S C). z.role) s in
     let u : is_installing Backup ≡ true = ap is_installing t ∙ q in cc
 
--- so a message that is not heeded does nothing
+-- so a message that is ignored does nothing
 pub unheeded : {S C O : Type 0} (rules : Rules S C O) (r : ReplicaState S C) (from : ℕ) (body : Body C) → is_heeded r from body ≡ false →
     received rules r from body ≡ nothing_done O r
 unheeded {O = O} rules r from (NewBallot b members a old) e = on_new_ballot-stays O r b members a old (ltb-false r.joined b e)
@@ -281,7 +281,7 @@ reads_nothing rules r from (Append b place command) e = refl
 reads_nothing rules r from (Held b held) e = refl
 reads_nothing rules r from (Commit b held) e = refl
 
--- and one that is heeded does something, unless its snapshot stands for no machine
+-- and one that is heeded does something, unless its snapshot does not thaw
 heeded : {S C O P : Type 0} (rules : Rules S C O) (r : ReplicaState S C) (from : ℕ) (body : Body C) → is_heeded r from body ≡ true →
     received rules r from body ≡ nothing_done O r → is_unread rules r body ≡ false → P
 heeded {S = S} {C = C} {O = O} rules r from (NewBallot b members a old) e f read =

@@ -7,7 +7,7 @@ pub shown : {S : Type 0} (stopped : Bool) (opens machine : S) → stopped ≡ fa
 shown true opens machine running = cc
 shown false opens machine running = refl
 
--- and so behind the places that its machine did
+-- and so after the places that its machine did
 pub shown_applied : {S C O : Type 0} (rules : Rules S C O) (stopped : Bool) (opens machine after : S) (commands : List C) →
     stopped ≡ false → after ≡ replay_from rules machine commands →
     cond stopped opens after ≡ replay_from rules (cond stopped opens machine) commands

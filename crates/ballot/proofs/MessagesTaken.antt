@@ -32,7 +32,7 @@ went_stepped {rules = rules} {old = old} {o = o} {unread = unread} {new = new} w
     by_way (inl e) = inl e
     by_way (inr e) = inr (e.0, e.1)
 
--- a quiet step is done exactly, where no snapshot has to be read
+-- a quiet step is done exactly, if no snapshot has to be read
 pub went_quiet : {S C O : Type 0} {rules : Rules S C O} {old : CountedReplica S C} {o : Outcome S C O} {unread : Bool} {new : CountedReplica S C} {before behind : List (Effect C O)} →
     Heard rules old o unread new before behind → IsQuiet old.state o → unread ≡ false → new ≡ record { state = o.state; losses = old.losses }
 went_quiet {S = S} {C = C} {rules = rules} {old = old} {o = o} {unread = unread} {new = new} w quiet read = by_way w.way
@@ -55,7 +55,7 @@ went_same {S = S} {C = C} {O = O} {rules = rules} old o out e =
       way = inl (ap (λ (z : Outcome S C O). z.state) (sym e), ap (λ (z : Outcome S C O). z.effects) (sym e), refl);
     }
 
--- the row was done, but for messages that were lost
+-- the row was done, except messages that were lost
 pub went_sent : {S C O : Type 0} {rules : Rules S C O} {unread : Bool} (old : CountedReplica S C) (o : Outcome S C O) (new : CountedReplica S C) (before behind : List (Effect C O))
     (whole : Bool) → Sends before behind o.effects whole → new.state ≡ o.state →
     new.losses ≡ cond whole old.losses (one_more old.losses) → Heard rules old o unread new before behind
@@ -73,7 +73,7 @@ went_sent {S = S} {C = C} {O = O} {rules = rules} {unread = unread} old o new be
     by_whole true exact idle e = inl (state, exact refl, e)
     by_whole false exact idle e = inr (inl (state, sent.thinned), e, λ quiet. let h = idle quiet.nothing_sent in cc)
 
--- nothing was done: there was no memory, or a snapshot stands for no machine
+-- nothing was done: there was no memory, or a snapshot does not thaw
 pub went_lost : {S C O : Type 0} {rules : Rules S C O} {unread : Bool} (old : CountedReplica S C) (o : Outcome S C O) (new : CountedReplica S C) (before behind : List (Effect C O)) →
     new.state ≡ old.state → new.losses ≡ one_more old.losses → behind ≡ before → (IsQuiet old.state o → unread ≡ true) →
     Heard rules old o unread new before behind
@@ -89,7 +89,7 @@ pub went_ignored : {S C O : Type 0} {rules : Rules S C O} {unread : Bool} (old :
     Heard rules old o unread new before behind
 went_ignored old o new before behind state losses same busy = went_lost old o new before behind state losses same (λ quiet. absurd (busy quiet))
 
--- the replica stopped, for want of memory
+-- the replica stopped, because memory ran out
 pub went_halted : {S C O : Type 0} {rules : Rules S C O} {unread : Bool} (old : CountedReplica S C) (o : Outcome S C O) (new : CountedReplica S C) (before behind : List (Effect C O)) →
     new.state ≡ halted rules old.state → new.losses ≡ one_more old.losses → behind ≡ before → (IsQuiet old.state o → ⊥) →
     Heard rules old o unread new before behind
@@ -100,7 +100,7 @@ went_halted old o new before behind state losses same busy =
       way = inr (inr (inr (state, refl)), losses, λ quiet. absurd (busy quiet));
     }
 
--- where nothing was handed out, nothing was
+-- if nothing was handed out, nothing was
 pub went_silent : {S C O : Type 0} {rules : Rules S C O} {old : CountedReplica S C} {o : Outcome S C O} {new : CountedReplica S C} (out : List (Effect C O)) →
     Went rules old o new [] [] → Went rules old o new out out
 went_silent out w =
@@ -231,7 +231,7 @@ commit_halted {S = S} {C = C} {O = O} rules old new ballot held follower within 
 pub written_back : {X : Type 0} (n : ℕ) (xs ys : List X) → length xs ≡ n → take n (xs ++ drop (length xs) ys) ≡ xs
 written_back n xs ys e = take_at xs (drop (length xs) ys) n e
 
--- effects of a call that stopped are taken back
+-- effects of a call that stopped are undone
 pub taken_back : {C O : Type 0} {before behind : List (Effect C O)} (back : List (Effect C O)) (n : ℕ) →
     IsPrefixOf before behind → n ≡ length before → back ≡ take n behind → back ≡ before
 taken_back {before = before} back n grew e cut =

@@ -1,4 +1,4 @@
--- ProposalAnswered.antt: what each answer of a proposal says of the step that was done.
+-- ProposalAnswered.antt: what each answer of a proposal says about the step that was done.
 use Rattle.std.proofs.Common.{◌≡◌, true, false, ◌⊎◌, inl, inr, List, [], Result, Ok, Err, OnErr, ◌<◌, refl, ap, sym, subst, ◌∙◌}
 use Rattle.std.specs.Result.{MatchResult, IsErrOf}
 use Rattle.std.proofs.lemmas.List.{append-nil}
@@ -70,7 +70,7 @@ answered_proposed {S = S} {C = C} {O = O} rules old command result new before be
     subst (λ (o : Outcome S C O). Stepped rules old o new before behind)
     (sym (proposed-adds rules old.state command active room)) (answered_steps result d same)
 
--- the replica stopped exactly where Halted is answered
+-- the replica stopped exactly if Halted is answered
 pub answered_halted : {S C O T : Type 0} (rules : Rules S C O) (result : Result T ProposeError) (old : CountedReplica S C) (o : Outcome S C O)
     (new : CountedReplica S C) (before behind : List (Effect C O)) →
     MatchResult result (λ _. Done old o new before behind) (λ e. Lacks rules e old new) →

@@ -26,7 +26,7 @@ ticked-state O r Fetching = refl
 ticked-state O r Installing = refl
 ticked-state {S = S} {C = C} O r Active = ap (λ (o : Outcome S C O). o.state) (on_tick_active-is O r)
 
--- its messages are sent, but for those that are lost
+-- its messages are sent, except those that are lost
 pub tick_taken : {S C O : Type 0} (rules : Rules S C O) (old new : CountedReplica S C) (before behind : List (Effect C O)) (whole : Bool) →
     Sends before behind (ticked O old.state old.state.role).effects whole →
     new.state ≡ old.state → new.losses ≡ cond whole old.losses (one_more old.losses) →

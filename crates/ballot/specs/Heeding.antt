@@ -1,4 +1,4 @@
--- Heeding.antt: what the rows of the protocol ask of a message and of a tick to do something.
+-- Heeding.antt: when a message or a tick has an effect, by the rows of the protocol.
 use Rattle.std.specs.Prelude.{ℕ, Bool, true, false, List, length, ◌==◌, ◌&&◌, ◌||◌, nat_lt, nat_le}
 use Rattle.std.specs.List.{list_any}
 use Rattle.ballot_base.specs.declared.message.Body.{Body}
@@ -16,7 +16,7 @@ abbrev pub rises : ℕ → ℕ → List Progress → Bool
 rises member held progress =
     list_any (λ reached. reached.member == member && nat_lt reached.held held) progress
 
--- whether a message does something, by its kind
+-- whether a message has an effect, by its kind
 abbrev pub is_heeded : {S C : Type 0} → ReplicaState S C → ℕ → Body C → Bool
 is_heeded r from (NewBallot ballot members previous previous_members) = nat_lt r.joined ballot
 is_heeded r from (Join ballot previous) = nat_le r.joined ballot && nat_le previous r.held_in
@@ -39,7 +39,7 @@ is_heeded r from (Held ballot held) =
 is_heeded r from (Commit ballot held) =
     follows r ballot && (nat_le held (places r.log) && nat_lt r.committed held)
 
--- whether a tick says something, by the role
+-- whether a tick sends something, by the role
 abbrev pub says_again : {S C : Type 0} → ReplicaState S C → Role → Bool
 says_again r Backup = false
 says_again r Fetching = nat_lt 0 (length r.previous_members)

@@ -1,4 +1,4 @@
--- Inside.antt: what the helpers of a replica say of the list of effects.
+-- Inside.antt: what the helpers of a replica ensure about the list of effects.
 use Rattle.std.specs.Prelude.{◌≡◌, ◌⊎◌, Bool, true, false, List, ◌++◌, if◌then◌else◌}
 use Rattle.machine.specs.Machine.{Rules}
 use Rattle.ballot_base.specs.declared.message.Effect.{Effect}
@@ -12,7 +12,7 @@ use Rattle.ballot_base.specs.declared.message.Body.TheVariants.{Append}
 use Rattle.ballot.specs.declared.error.ProposeError.{ProposeError}
 use Rattle.ballot.specs.declared.error.ProposeError.TheVariants.{NotActive, LogFull, Memory, Halted}
 
--- a replica sent messages, and counted it where some were lost
+-- a replica sent messages, and counted it if some were lost
 pub record Says {S C O : Type 0} (old : CountedReplica S C) (wanted : List (Effect C O))
     (new : CountedReplica S C) (before behind : List (Effect C O)) : Type 0 where
   pub whole : Bool
@@ -20,8 +20,8 @@ pub record Says {S C O : Type 0} (old : CountedReplica S C) (wanted : List (Effe
   pub counted : new
       ≡ record old { losses = if whole then old.losses else one_more old.losses }
 
--- the step was done, or one with losses that were counted, and only where there was something to
--- lose: a message, a place, or a snapshot that has to be read and stands for no machine
+-- the step was done, or one with losses that were counted, and only if there was something to lose:
+-- a message, a place, or a snapshot that has to be read and does not thaw
 pub record Heard {S C O : Type 0} (rules : Rules S C O) (old : CountedReplica S C) (outcome : Outcome S C O)
     (unread : Bool) (new : CountedReplica S C) (before behind : List (Effect C O)) : Type 0 where
   pub given : List (Effect C O)
@@ -31,12 +31,12 @@ pub record Heard {S C O : Type 0} (rules : Rules S C O) (old : CountedReplica S 
       × (new.losses ≡ one_more old.losses)
       × (IsQuiet old.state outcome → unread ≡ true))
 
--- the same where no snapshot has to be read
+-- the same if no snapshot has to be read
 abbrev pub Went : {S C O : Type 0} → Rules S C O → CountedReplica S C → Outcome S C O →
     CountedReplica S C → List (Effect C O) → List (Effect C O) → Type 0
 Went rules old outcome new before after = Heard rules old outcome false new before after
 
--- what a proposal that found no memory leaves
+-- what is left by a proposal for which there was no memory
 abbrev pub Lacks : {S C O : Type 0} →
     Rules S C O → ProposeError → CountedReplica S C → CountedReplica S C → Type 0
 Lacks rules NotActive old new = ⊥
@@ -45,8 +45,8 @@ Lacks rules Memory old new = new ≡ record old { losses = one_more old.losses }
 Lacks rules Halted old new =
     new ≡ record { state = halted rules old.state; losses = one_more old.losses }
 
--- a primary that has become active tells the others of the last place of its log, and commits what
--- all hold; messages that were lost are counted
+-- a primary that has become active sends the others the last place of its log, and commits what all
+-- hold; messages that were lost are counted
 pub record Begins {S C O : Type 0} (rules : Rules S C O) (old new : CountedReplica S C)
     (before behind : List (Effect C O)) : Type 0 where
   pub whole : Bool

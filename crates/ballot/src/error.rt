@@ -14,12 +14,12 @@ pub enum OpeningError {
     /// No member, more than 7, not strictly rising, one outside 1 to 15, or a primary that is no
     /// member.
     BadMembers,
-    /// A growth was refused.
+    /// Memory ran out.
     Memory,
 }
 
 impl OpeningError {
-    /// The number of this refusal, the same in every program and document of this broker.
+    /// Returns the number of this refusal, the same in every program and document of this broker.
     pub fn number(self) -> u8
         ensures { result ≡ opening_number self }
     {
@@ -79,14 +79,14 @@ pub enum ProposeError {
     NotActive,
     /// The log has 2^40 places.
     LogFull,
-    /// A growth of the log was refused.
+    /// Memory for the log ran out.
     Memory,
-    /// The replica stopped for want of memory, now or before.
+    /// The replica stopped because memory ran out, now or before.
     Halted,
 }
 
 impl ProposeError {
-    /// The number of this refusal, the same in every program and document of this broker.
+    /// Returns the number of this refusal, the same in every program and document of this broker.
     pub fn number(self) -> u8
         ensures { result ≡ propose_number self }
     {

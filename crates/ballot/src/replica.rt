@@ -27,11 +27,11 @@ mod installing;
 mod messages;
 mod ticking;
 
-/// How many places a log can have.
+/// The most places of a log.
 pub const MOST_PLACES: u64 = 1 << 40;
 
-/// A log, the machine that it drives and a role in a ballot. Other nodes hear of it by the messages
-/// that its calls hand out, and what the machine gave comes out with its place.
+/// A log, the machine that it drives and a role in a ballot. It reaches other nodes only by the
+/// messages that its calls return. Its calls also return the machine's outputs, with their places.
 #[derive(Drop)]
 pub struct Replica<M: Machine> {
     alloc: Global,
@@ -128,7 +128,7 @@ impl<M: Machine> Replica<M> {
         Ok(replica)
     }
 
-    /// What the replica shows of itself.
+    /// Returns what the replica shows of itself.
     pub fn status(&self) -> Status
         ensures { result ≡ status_of self.now.state }
     {
@@ -141,8 +141,8 @@ impl<M: Machine> Replica<M> {
         }
     }
 
-    /// The commands of the log from its base on. The base is what [`Replica::snapshot`] tells. What is
-    /// applied lies within the log.
+    /// Returns the commands of the log from its base on. [`Replica::snapshot`] returns the base.
+    /// What is applied lies within the log.
     pub fn rest(&self) -> &[M::Command]
         ensures rest { result.now ≡ self.now.state.log.rest }
         ensures within { self.now.state.committed ≤ places self.now.state.log }
@@ -150,15 +150,15 @@ impl<M: Machine> Replica<M> {
         self.log.rest()
     }
 
-    /// In how many calls memory was wanting. The count stays at 2^64 - 1.
+    /// Returns how many calls ran out of memory (saturates at 2^64 - 1).
     pub fn losses(&self) -> u64
         ensures { result ≡ self.now.losses }
     {
         self.losses
     }
 
-    /// Stops for good, as a crash of its node does. Of what the replica shows its machine alone is
-    /// gone.
+    /// Stops for good, as a crash of its node does. After it the replica shows everything except
+    /// its machine.
     pub fn stop(&mut self)
         ensures { self.new ≡ record self.old {
           state = halted M.rules self.old.state;
@@ -167,15 +167,15 @@ impl<M: Machine> Replica<M> {
         self.stopped = true;
     }
 
-    /// Takes a command into the log of an active primary. Its outputs come out, with its place,
-    /// once every member is known to hold it: for a sole member in this call, else in a later one.
-    /// Where memory is wanting for a message, that message is lost.
+    /// Adds a command to the log of an active primary. Its outputs are returned, with its place,
+    /// once every member is known to hold it: for a sole member in this call, otherwise in a later
+    /// one. If memory runs out for a message, that message is lost.
     pub fn propose(
         &mut self,
         command: M::Command,
         out: &mut Vec<Effect<M::Command, M::Output>>,
     ) -> Result<(), ProposeError>
-        // The protocol's step, or one in which memory was wanting and that was counted.
+        // The protocol's step, or one in which memory ran out and that was counted.
         ensures step { self.old.state.stopped ≡ false →
             Stepped M.rules self.old (proposed M.rules self.old.state command)
             self.new out.old.items out.new.items }
@@ -183,7 +183,7 @@ impl<M: Machine> Replica<M> {
             (Done self.old (added M.rules self.old.state command)
             self.new out.old.items out.new.items) }
 
-        // When each refusal comes; want of memory alone is free to come at any time.
+        // When each refusal comes; only running out of memory may happen at any time.
         ensures halted { IsErrOf result ProposeError.Halted ↔ (self.new.state.stopped ≡ true) }
         ensures not_active { IsErrOf result ProposeError.NotActive
             ↔ ((self.old.state.stopped ≡ false) × (is_active self.old.state.role ≡ false)) }
@@ -212,8 +212,8 @@ impl<M: Machine> Replica<M> {
         self.add(command, out)
     }
 
-    // Adds a command behind the log, sends it to the other members and commits what all hold. A
-    // call that fails takes back what it did.
+    // Appends a command to the log, sends it to the other members and commits what all hold. A call
+    // that fails undoes what it did.
     fn add(
         &mut self,
         command: M::Command,
@@ -257,9 +257,10 @@ impl<M: Machine> Replica<M> {
         }
     }
 
-    // Commits the places below `held`: applies those that are not applied yet, gives their outputs
-    // and tells the other members. Whether all messages found memory is the result. On an error the
-    // replica has stopped, and some outputs may stand behind `out`.
+    // Commits the places below `held`: applies those that are not yet applied, returns their
+    // outputs and sends Commit to the other members. Returns whether there was memory for all
+    // messages. On an error the replica has stopped, and some outputs may have been appended to
+    // `out`.
     fn commit_at(
         &mut self,
         held: u64,
@@ -297,7 +298,7 @@ impl<M: Machine> Replica<M> {
         }
     }
 
-    // Counts a call in which memory was wanting.
+    // Counts a call in which memory ran out.
     fn count(&mut self, whole: bool)
         ensures { self.new ≡ record self.old {
           losses = if whole then self.old.losses else one_more self.old.losses;

@@ -1,4 +1,4 @@
--- AppliesInOrder.antt: places that are applied one after the other give the replay and its outputs.
+-- AppliesInOrder.antt: places that are applied one after another give the replay and its outputs.
 use Rattle.std.proofs.Common.{◌≡◌, ℕ, zero, suc, ◌+◌, ◌-◌, ◌<◌, ◌≤◌, List, [], ◌∷◌, ◌++◌, length, get_or, map, take, drop, refl, ap, sym, ◌∙◌, append_assoc, arith}
 use Rattle.std.proofs.lemmas.List.{take_more, take-take, take-append-drop, drop-append-le, length-take-le, length-drop, append-nil}
 use Rattle.machine.specs.Machine.{Rules, replay, replay_from}
@@ -7,13 +7,13 @@ use Rattle.ballot_base.specs.declared.message.Effect.TheVariants.{Out}
 use Rattle.ballot_base.specs.Applying.{outputs_from}
 use Rattle.ballot_base.specs.Logs.{Log, part, places}
 
--- commands behind others are done in the state that those leave
+-- commands after others are done in the state that those leave
 pub replay_from-append : {S C O : Type 0} (rules : Rules S C O) (s : S) (xs ys : List C) →
     replay_from rules s (xs ++ ys) ≡ replay_from rules (replay_from rules s xs) ys
 replay_from-append rules s [] ys = refl
 replay_from-append rules s (x ∷ xs) ys = replay_from-append rules (rules.after s x) xs ys
 
--- commands behind others give what they give in the state that those leave
+-- commands after others give what they give in the state that those leave
 pub outputs_from-append : {S C O : Type 0} (rules : Rules S C O) (s : S) (place : ℕ) (xs ys : List C) →
     outputs_from rules s place (xs ++ ys)
     ≡ outputs_from rules s place xs
@@ -79,7 +79,7 @@ outputs_part-more {C = C} rules s log from place d kept rising below =
         outputs_from rules s place (c ∷ []) ≡ map (Out place) (rules.gives s c)
     one_output rules s place c = append-nil (map (Out place) (rules.gives s c))
 
--- a machine that is the replay of a front goes on to the replay of a longer one
+-- a machine that is the replay of a front continues to the replay of a longer one
 pub replay_goes_on : {S C O : Type 0} (rules : Rules S C O) (s : S) (log : List C) (from to : ℕ) → from ≤ to →
     s ≡ replay rules (take from log) → replay_from rules s (drop from (take to log)) ≡ replay rules (take to log)
 replay_goes_on rules s log from to rising before =

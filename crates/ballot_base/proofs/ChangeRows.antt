@@ -66,7 +66,7 @@ pub on_state-takes : {S C O : Type 0} (rules : Rules S C O) (r took : ReplicaSta
 unfolding on_state
 on_state-takes rules r took b log e f = rw e (ap (hands_on _ r b) f)
 
--- .. whose snapshot stands for no machine
+-- .. whose snapshot does not thaw
 pub on_state-unread : {S C O : Type 0} (rules : Rules S C O) (r : ReplicaState S C) (b : ℕ) (log : Log C) →
     waits_for r b (places log) ≡ true → taken rules r log ≡ None → on_state rules r b log ≡ nothing_done O r
 unfolding on_state
@@ -140,7 +140,7 @@ pub on_activated-adds : {S C O : Type 0} (rules : Rules S C O) (r : ReplicaState
 unfolding on_activated
 on_activated-adds rules r b e = rw e refl
 
--- the log that is sent where members lack it, and where none does
+-- the log that is sent if members lack it, and if none does
 pub installs-some : {S C : Type 0} (O : Type 0) (r : ReplicaState S C) (members : List ℕ) → (members ≡ [] → ⊥) →
     installs O r members ≡ message_to_each O r.id (Install r.joined r.log) members
 installs-some O r [] some = absurd (some refl)

@@ -13,7 +13,7 @@ pub taken-places : {S C O : Type 0} (rules : Rules S C O) (r : ReplicaState S C)
     taken rules r log ≡ Some (with_places r log)
 taken-places rules r log low = rw (le-ltb r.log.base log.base low) refl
 
--- one whose base is, and whose snapshot stands for a machine
+-- one whose base is, and whose snapshot thaws
 pub taken-reads : {S C O : Type 0} (rules : Rules S C O) (r : ReplicaState S C) (log : Log C) (machine : S) → r.log.base < log.base →
     rules.thawed log.snapshot ≡ Some machine → taken rules r log ≡ Some (with_snapshot r log machine)
 taken-reads rules r log machine over e = rw (lt-ltb r.log.base log.base over) (ap (read_into r log) e)

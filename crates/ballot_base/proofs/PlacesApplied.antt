@@ -27,7 +27,7 @@ place_applied rules s0 log from place base rest x s s' kept rising below b r rea
     ∙ ap (rules.after (replay_from rules s0 (part log from place))) (read_kept log place base rest x b r read)
     ∙ sym (replay_part-more rules s0 log from place x kept rising below)
 
--- its outputs stand behind those of the places before
+-- its outputs come after those of the places before
 pub place_given : {S C O : Type 0} (rules : Rules S C O) (s0 : S) (log : Log C) (from place base : ℕ) (rest : List C) (x : C) (s : S)
     (given none : List O) (start mid new : List (Effect C O)) →
     log.base ≤ from → from ≤ place → place < places log → base ≡ log.base → rest ≡ log.rest → x ≡ get_or rest (place - base) x →

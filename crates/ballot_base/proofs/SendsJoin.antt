@@ -1,4 +1,4 @@
--- SendsJoin.antt: messages sent one after the other are one send.
+-- SendsJoin.antt: messages sent one after another are one send.
 use Rattle.std.proofs.Common.{◌≡◌, ℕ, ◌+◌, ◌<◌, Bool, true, false, ◌&&◌, cond, List, [], ◌∷◌, ◌++◌, length, get_or, map, take, refl, ap, sym, ◌∙◌, subst, append_assoc}
 use Rattle.std.proofs.lemmas.Bool.{and_from}
 use Rattle.std.specs.List.{flat_map}
@@ -35,7 +35,7 @@ append_nothing : {X : Type 0} (xs ys : List X) → xs ++ ys ≡ [] → (xs ≡ [
 append_nothing [] ys e = (refl, e)
 append_nothing (x ∷ xs) ys e = cc
 
--- a send behind a send
+-- a send after a send
 pub Sends-then : {C O : Type 0} {old mid new xs ys : List (Effect C O)} {first second : Bool} →
     Sends old mid xs first → Sends mid new ys second → Sends old new (xs ++ ys) (first && second)
 Sends-then {old = old} {mid = mid} {xs = xs} {ys = ys} {first = first} {second = second} p q =

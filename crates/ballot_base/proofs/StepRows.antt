@@ -1,4 +1,4 @@
--- StepRows.antt: what each row of the protocol gives where its condition holds, and where it does not.
+-- StepRows.antt: what each row of the protocol gives if its condition holds, and if it does not.
 use Rattle.std.proofs.Common.{◌≡◌, ℕ, ◌<◌, ◌≤◌, true, false, List, [], ◌∷◌, ◌++◌, min, refl, ap, ◌∙◌, ◌⊎◌, inl, inr, arith}
 use Rattle.std.proofs.lemmas.Bool.{lt-ltb, le-ltb, cases_lt}
 use Rattle.machine.specs.Machine.{Rules}

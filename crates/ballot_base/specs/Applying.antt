@@ -1,4 +1,4 @@
--- Applying.antt: places of a log that are applied, and what they give.
+-- Applying.antt: applied places of a log, and their outputs.
 use Rattle.std.specs.Prelude.{ℕ, ◌+◌, List, [], ◌∷◌, ◌++◌, map}
 use Rattle.machine.specs.Machine.{Rules, replay_from}
 use Rattle.ballot_base.specs.Logs.{part}
@@ -6,14 +6,15 @@ use Rattle.ballot_base.specs.declared.message.Effect.{Effect}
 use Rattle.ballot_base.specs.declared.message.Effect.TheVariants.{Out}
 use Rattle.ballot_base.specs.Replica.{ReplicaState}
 
--- the outputs of commands that are done one after the other from a state, each with its place
+-- the outputs of commands that are done one after another from a state, each with its place
 abbrev pub outputs_from : {S C O : Type 0} → Rules S C O → S → ℕ → List C → List (Effect C O)
 outputs_from rules s place [] = []
 outputs_from rules s place (command ∷ commands) =
     map (Out place) (rules.gives s command)
     ++ outputs_from rules (rules.after s command) (place + 1) commands
 
--- what the places below `held` that are not applied yet give, and the replica once they are applied
+-- the outputs of the places below `held` that are not yet applied, and the replica once they are
+-- applied
 abbrev pub outputs_to : {S C O : Type 0} → Rules S C O → ReplicaState S C → ℕ → List (Effect C O)
 outputs_to rules r held =
     outputs_from rules r.machine r.committed (part r.log r.committed held)

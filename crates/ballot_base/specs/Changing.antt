@@ -13,7 +13,7 @@ use Rattle.ballot_base.specs.Taking.{taken}
 use Rattle.ballot_base.specs.Serving.{most_places, added}
 use Rattle.ballot_base.specs.Replica.{ReplicaState, is_fetching, is_installing, others, progress_at}
 
--- a new primary asks the earlier ballot's members, itself included where it is one, for their logs
+-- a new primary asks the earlier ballot's members, including itself if it is one, for their logs
 unfoldable pub on_new_ballot : {S C : Type 0} (O : Type 0) →
     ReplicaState S C → ℕ → List ℕ → ℕ → List ℕ → Outcome S C O
 on_new_ballot O r ballot members previous previous_members =
@@ -32,7 +32,7 @@ on_new_ballot O r ballot members previous previous_members =
     }
     else nothing_done O r
 
--- Join(ballot, previous): whoever joins leaves all lower ballots, and sends its log
+-- Join(ballot, previous): the replica leaves all lower ballots, and sends its log
 unfoldable pub on_join : {S C : Type 0} (O : Type 0) → ReplicaState S C → ℕ → ℕ → ℕ → Outcome S C O
 on_join O r from ballot previous =
     if nat_le r.joined ballot && nat_le previous r.held_in
@@ -42,14 +42,14 @@ on_join O r from ballot previous =
     }
     else nothing_done O r
 
--- the log goes to the members that lack it; with none, the master may activate the ballot
+-- the log is sent to the members that lack it; if there is none, the master may activate the ballot
 abbrev pub installs : {S C : Type 0} (O : Type 0) → ReplicaState S C → List ℕ → List (Effect C O)
 installs O r [] = message_to O r.id (Activate r.joined) master ∷ []
 installs O r (member ∷ members) =
     message_to_each O r.id (Install r.joined r.log) (member ∷ members)
 
--- State(ballot, log): the first log that comes is taken, unless it lacks an applied place; all
--- other members lack it then, and are sent the log as it was taken
+-- State(ballot, log): the first log that comes is taken, unless it lacks an applied place; then all
+-- other members lack it, and are sent the log as it was taken
 abbrev pub waits_for : {S C : Type 0} → ReplicaState S C → ℕ → ℕ → Bool
 waits_for r ballot held = r.joined == ballot && (is_fetching r.role && nat_le r.committed held)
 
@@ -104,7 +104,7 @@ abbrev pub activates : {S C : Type 0} (O : Type 0) → ReplicaState S C → List
 activates O r [] = message_to O r.id (Activate r.joined) master ∷ []
 activates O r (member ∷ members) = []
 
--- Installed(ballot, ..): the sender lacks the log no more
+-- Installed(ballot, ..): the sender no longer lacks the log
 unfoldable pub on_installed : {S C : Type 0} (O : Type 0) → ReplicaState S C → ℕ → ℕ → Outcome S C O
 on_installed O r from ballot =
     let fewer = record r { lacking = others from r.lacking } in
@@ -113,8 +113,8 @@ on_installed O r from ballot =
     then record { state = fewer; effects = activates O fewer fewer.lacking }
     else nothing_done O r
 
--- Activated(ballot), where no member lacks the log: its places are applied, their outputs dropped,
--- and the start of the ballot is added behind them
+-- Activated(ballot), if no member lacks the log: its places are applied, their outputs dropped, and
+-- the start of the ballot is appended
 unfoldable pub on_activated : {S C O : Type 0} → Rules S C O → ReplicaState S C → ℕ → Outcome S C O
 on_activated {O = O} rules r ballot =
     let active = record (applied_to rules r (places r.log)) {
@@ -133,7 +133,7 @@ on_superseded O r ballot =
     then record { state = record r { role = Backup }; effects = [] }
     else nothing_done O r
 
--- a new primary says again what it waits for
+-- a new primary repeats what it waits for
 abbrev pub on_tick_fetching : {S C : Type 0} (O : Type 0) → ReplicaState S C → Outcome S C O
 on_tick_fetching O r =
     record {

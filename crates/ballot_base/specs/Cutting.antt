@@ -3,11 +3,12 @@ use Rattle.std.specs.Prelude.{◌-◌, Bool, not, drop, ◌&&◌, nat_lt}
 use Rattle.machine.specs.Machine.{Rules}
 use Rattle.ballot_base.specs.Replica.{ReplicaState}
 
--- there is something to cut where the replica runs and what is applied is over its base
+-- there is something to cut if the replica runs and what is applied is above its base
 abbrev pub can_cut : {S C : Type 0} → ReplicaState S C → Bool
 can_cut r = not r.stopped && nat_lt r.log.base r.committed
 
--- the snapshot is the frozen machine, and the places below what is applied are dropped. Nothing is sent
+-- the snapshot is the frozen machine, and the places below what is applied are dropped. Nothing is
+-- sent
 abbrev pub cut : {S C O : Type 0} → Rules S C O → ReplicaState S C → ReplicaState S C
 cut rules r =
     record r {

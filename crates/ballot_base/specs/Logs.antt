@@ -1,4 +1,4 @@
--- Logs.antt: a log of which a snapshot stands for the places below its base.
+-- Logs.antt: a log with a snapshot in place of the places below its base.
 use Rattle.std.specs.Prelude.{ℕ, ◌+◌, ◌-◌, List, [], ◌∷◌, ◌++◌, length, take, drop, slice_get, Option, None, nat_lt, if◌then◌else◌}
 
 -- the bytes of the machine as it is at the base (none at base 0), and the commands from there on
@@ -23,7 +23,7 @@ command_at log place = if nat_lt place log.base then None else slice_get log.res
 abbrev pub part : {C : Type 0} → Log C → ℕ → ℕ → List C
 part log from to = drop (from - log.base) (take (to - log.base) log.rest)
 
--- with a command at its end, and without its last one
+-- with a command appended, and without its last one
 abbrev pub pushed : {C : Type 0} → Log C → C → Log C
 pushed log command = record log { rest = log.rest ++ command ∷ [] }
 

@@ -1,4 +1,4 @@
--- Losses.antt: a step in which memory was wanting, and how such steps are counted.
+-- Losses.antt: a step in which memory ran out, and how such steps are counted.
 use Rattle.std.specs.Prelude.{ℕ, ◌+◌, ◌-◌, ◌^◌, ◌≡◌, ◌⊎◌, true, List, [], ◌∷◌, ◌++◌, min}
 use Rattle.machine.specs.Machine.{Rules}
 use Rattle.ballot_base.specs.declared.message.Message.{Message}
@@ -7,15 +7,15 @@ use Rattle.ballot_base.specs.declared.message.Effect.TheVariants.{To}
 use Rattle.ballot_base.specs.Replica.{ReplicaState, CountedReplica}
 use Rattle.ballot_base.specs.Sending.{Outcome}
 
--- the first list is the second with some messages missing; no output is
+-- the first list is the second with some messages missing; no output is missing
 pub data Thinned {C O : Type 0} : List (Effect C O) → List (Effect C O) → Type 0 where
   none : Thinned [] []
   keeps : {e : Effect C O} {xs ys : List (Effect C O)} → Thinned xs ys → Thinned (e ∷ xs) (e ∷ ys)
   loses : {receiver : ℕ} {m : Message C} {xs ys : List (Effect C O)} →
       Thinned xs ys → Thinned xs (To receiver m ∷ ys)
 
--- a replica that found no memory while it applied: its fields stay as before the call, and its
--- machine, which may have done a part, is shown no more
+-- a replica that ran out of memory while it applied: its fields stay as before the call, and its
+-- machine, which may have done a part, is no longer shown
 abbrev pub halted : {S C O : Type 0} → Rules S C O → ReplicaState S C → ReplicaState S C
 halted rules r = record r { stopped = true; machine = rules.opening }
 
@@ -26,7 +26,7 @@ Loses rules old outcome new given =
     ((new ≡ outcome.state) × Thinned given outcome.effects)
     ⊎ (((new ≡ old) × (given ≡ [])) ⊎ ((new ≡ halted rules old) × (given ≡ [])))
 
--- the count of losses stays at its greatest number
+-- the count of losses saturates at its greatest number
 abbrev pub one_more : ℕ → ℕ
 one_more losses = min (losses + 1) (2 ^ 64 - 1)
 
@@ -47,14 +47,14 @@ pub record Done {S C O : Type 0} (old : CountedReplica S C) (outcome : Outcome S
   pub counted : ((given ≡ outcome.effects) × (new.losses ≡ old.losses))
       ⊎ (new.losses ≡ one_more old.losses)
 
--- a step in which nothing is handed out, nothing added to the log and nothing applied
+-- a step that sends nothing, adds nothing to the log and applies nothing
 pub record IsQuiet {S C O : Type 0} (old : ReplicaState S C) (outcome : Outcome S C O) :
     Type 0 where
   pub nothing_sent : outcome.effects ≡ []
   pub same_log : outcome.state.log ≡ old.log
   pub same_committed : outcome.state.committed ≡ old.committed
 
--- a call's effects were appended behind what was there, and they are those of the step
+-- a call's effects were appended to what was there, and they are those of the step
 pub record Stepped {S C O : Type 0} (rules : Rules S C O) (old : CountedReplica S C)
     (outcome : Outcome S C O) (new : CountedReplica S C) (before behind : List (Effect C O)) : Type 0 where
   pub given : List (Effect C O)

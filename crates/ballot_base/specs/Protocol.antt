@@ -11,7 +11,7 @@ use Rattle.ballot_base.specs.Serving.{proposed, on_append, on_held, on_commit, o
 use Rattle.ballot_base.specs.Changing.{on_new_ballot, on_join, on_state, on_install, on_installed, on_activated, on_superseded, on_tick_fetching, on_tick_installing}
 use Rattle.ballot_base.specs.Replica.{ReplicaState}
 
--- what a replica takes in at one step
+-- the input of a replica in one step
 pub data Input (C : Type 0) : Type 0 where
   Receives : Message C → Input C
   Proposes : C → Input C

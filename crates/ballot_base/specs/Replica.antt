@@ -10,18 +10,19 @@ use Rattle.ballot_base.specs.declared.status.Status.{Status}
 use Rattle.std.specs.List.{list_any}
 
 -- what one node keeps: its log, and a machine that has applied some places. In a group the machine
--- is the replay of the first `committed` places; a lone replica may be handed any log
+-- is the replay of the first `committed` places; a replica outside a group may be sent any log
 pub record ReplicaState (S C : Type 0) : Type 0 where
   pub id : ℕ
   -- the ballot that it joined, and the one in which its log was last installed; 0 before the first
   pub joined : ℕ
   pub held_in : ℕ
   pub log : Log C
-  -- how many places are applied, and the machine then; once stopped it is shown as it opens
+  -- how many places are applied, and the machine then; once stopped it is shown in its opening
+  -- state
   pub committed : ℕ
   pub machine : S
   pub role : Role
-  -- of the ballot that it leads: members, the earlier ballot and its members, which other members
+  -- for the ballot that it leads: members, the earlier ballot and its members, which other members
   -- lack the log that is being installed, and what each is known to hold
   pub members : List ℕ
   pub previous : ℕ
@@ -30,12 +31,12 @@ pub record ReplicaState (S C : Type 0) : Type 0 where
   pub progress : List Progress
   pub stopped : Bool
 
--- a replica with the number of its calls in which memory was wanting, up to 2^64 - 1
+-- a replica with the number of its calls in which memory ran out, up to 2^64 - 1
 pub record CountedReplica (S C : Type 0) : Type 0 where
   pub state : ReplicaState S C
   pub losses : ℕ
 
--- whether a role is that of the active primary, and so for the others
+-- whether a role is that of the active primary, and the same for the other roles
 abbrev pub is_active : Role → Bool
 is_active Backup = false
 is_active Fetching = false
@@ -60,7 +61,7 @@ is_installing Fetching = false
 is_installing Installing = true
 is_installing Active = false
 
--- the members other than one node, in their order
+-- the members other than one node, in order
 abbrev pub others : ℕ → List ℕ → List ℕ
 others id members = filter (λ member. not (member == id)) members
 
@@ -88,7 +89,8 @@ opening_member {C = C} rules id config =
       stopped = false;
     }
 
--- how a node opens: the primary of ballot 1 is active at once, with progress 0 for each other member
+-- how a node opens: the primary of ballot 1 is active at once, with progress 0 for each other
+-- member
 abbrev pub opening : {S C O : Type 0} → Rules S C O → ℕ → Config → ReplicaState S C
 opening rules id config =
     if id == config.primary

@@ -1,5 +1,5 @@
 -- Serving.antt: the rows of the protocol inside a ballot: Append, Held, Commit, proposals, ticks.
--- Receivers are taken in rising order. A message that no row's condition covers changes nothing.
+-- Receivers are in rising order. A message that no row's condition covers changes nothing.
 use Rattle.std.specs.Prelude.{ℕ, Bool, ◌^◌, List, [], ◌∷◌, ◌++◌, map, min, max, Option, Some, None, ◌==◌, ◌&&◌, nat_lt, nat_le, if◌then◌else◌}
 use Rattle.std.specs.List.{flat_map}
 use Rattle.machine.specs.Machine.{Rules}
@@ -11,7 +11,7 @@ use Rattle.ballot_base.specs.Logs.{Log, command_at, places, pushed}
 use Rattle.ballot_base.specs.Sending.{Outcome, nothing_done, message_to, message_to_followed, sent_first}
 use Rattle.ballot_base.specs.Replica.{ReplicaState, is_active, is_backup}
 
--- the least of a length and all progress
+-- the smallest of a length and all progress
 abbrev pub least : ℕ → List Progress → ℕ
 least held [] = held
 least held (reached ∷ progress) = least (min held reached.held) progress
@@ -24,8 +24,8 @@ raised_progress member held reached =
 abbrev pub raised : ℕ → ℕ → List Progress → List Progress
 raised member held progress = map (raised_progress member held) progress
 
--- places below `held` that are not applied yet are applied, their outputs given, and the other
--- members hear of it
+-- places below `held` that are not yet applied are applied, their outputs returned, and the other
+-- members sent a Commit
 unfoldable pub commit_at : {S C O : Type 0} → Rules S C O → ReplicaState S C → ℕ → Outcome S C O
 commit_at {O = O} rules r held =
     if nat_lt r.committed held
@@ -39,11 +39,11 @@ commit_at {O = O} rules r held =
 unfoldable pub commit : {S C O : Type 0} → Rules S C O → ReplicaState S C → Outcome S C O
 commit rules r = commit_at rules r (least (places r.log) r.progress)
 
--- how many places a log can have
+-- the most places of a log
 abbrev pub most_places : ℕ
 most_places = 2 ^ 40
 
--- a command is added behind the log and sent to the other members; what all hold is committed
+-- a command is appended to the log and sent to the other members; what all hold is committed
 unfoldable pub added : {S C O : Type 0} → Rules S C O → ReplicaState S C → C → Outcome S C O
 added {O = O} rules r command =
     sent_first
@@ -64,7 +64,7 @@ follows r ballot = (r.joined == ballot && r.held_in == ballot) && is_backup r.ro
 abbrev pub leads : {S C : Type 0} → ReplicaState S C → ℕ → Bool
 leads r ballot = r.joined == ballot && is_active r.role
 
--- a log that takes a command where its place is the next one
+-- the log with a command appended, if the command's place is the next one
 abbrev pub extended : {C : Type 0} → ℕ → C → Log C → Log C
 extended place command log = if place == places log then pushed log command else log
 
@@ -88,7 +88,7 @@ on_held {O = O} rules r from ballot held =
     then commit rules (record r { progress = raised from held r.progress })
     else nothing_done O r
 
--- Commit(ballot, held): the outputs are the primary's to give, and a backup drops them
+-- Commit(ballot, held): only the primary returns the outputs, a backup drops them
 unfoldable pub on_commit : {S C O : Type 0} → Rules S C O → ReplicaState S C → ℕ → ℕ → Outcome S C O
 on_commit {O = O} rules r ballot held =
     if follows r ballot && nat_le held (places r.log)
@@ -106,7 +106,7 @@ abbrev pub appends_behind : {C : Type 0} (O : Type 0) →
 appends_behind O id ballot log progress =
     flat_map (λ reached. append_at O id ballot reached (command_at log reached.held)) progress
 
--- an active primary says again what the other members lack, and what is committed
+-- an active primary repeats what the other members lack, and what is committed
 unfoldable pub on_tick_active : {S C : Type 0} (O : Type 0) → ReplicaState S C → Outcome S C O
 on_tick_active O r =
     record {

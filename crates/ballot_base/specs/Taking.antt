@@ -4,12 +4,12 @@ use Rattle.machine.specs.Machine.{Rules}
 use Rattle.ballot_base.specs.Logs.{Log}
 use Rattle.ballot_base.specs.Replica.{ReplicaState}
 
--- a log whose base is not over the replica's gives its places from the replica's base on
+-- from a log whose base is not above the replica's, the places from the replica's base on are taken
 abbrev pub with_places : {S C : Type 0} → ReplicaState S C → Log C → ReplicaState S C
 with_places r log = record r { log = record r.log { rest = drop (r.log.base - log.base) log.rest } }
 
--- else the log is taken whole. Where its base is over what is applied, the machine for which the
--- snapshot stands is taken, and the places below the base count as applied
+-- any other log is taken whole. If its base is above what is applied, the machine of the snapshot
+-- is taken, and the places below the base count as applied
 abbrev pub with_snapshot : {S C : Type 0} → ReplicaState S C → Log C → S → ReplicaState S C
 with_snapshot r log machine =
     record r {
@@ -23,7 +23,7 @@ abbrev pub read_into : {S C : Type 0} →
 read_into r log None = None
 read_into r log (Some machine) = Some (with_snapshot r log machine)
 
--- the replica once it has taken a log; none where a snapshot had to be read that stands for no machine
+-- the replica once it has taken a log; none if a snapshot had to be read that does not thaw
 abbrev pub taken : {S C O : Type 0} →
     Rules S C O → ReplicaState S C → Log C → Option (ReplicaState S C)
 taken rules r log =

@@ -1,4 +1,4 @@
--- Unread.antt: messages whose snapshot has to be read and stands for no machine. They count as lost.
+-- Unread.antt: messages whose snapshot has to be read and does not thaw. They count as lost.
 use Rattle.std.specs.Prelude.{Bool, true, false, Option, Some, None, ◌&&◌, nat_lt}
 use Rattle.machine.specs.Machine.{Rules}
 use Rattle.ballot_base.specs.declared.message.Body.{Body}
@@ -7,7 +7,7 @@ use Rattle.ballot_base.specs.Changing.{waits_for, lacks}
 use Rattle.ballot_base.specs.Logs.{Log, places}
 use Rattle.ballot_base.specs.Replica.{ReplicaState}
 
--- the snapshot of a log that is to be taken has to be read, and stands for no machine
+-- the snapshot of a log that is to be taken has to be read, and does not thaw
 abbrev pub stands_for_none : {S : Type 0} → Option S → Bool
 stands_for_none None = true
 stands_for_none (Some machine) = false

@@ -1,4 +1,4 @@
-// Commands that are done by the machine, place by place.
+// Commands that the machine does, place by place.
 
 ghost use Rattle.std.specs.Prelude.{◌≡◌, ◌≤◌, ◌++◌, map, OnOk, OnErr};
 ghost use Rattle.machine.specs.Machine.{replay_from};
@@ -10,7 +10,7 @@ use crate::{Effect, Log};
 use machine::{Halted, Machine};
 use std::alloc::Global;
 
-/// Appends the outputs of one place. On an error some of them may stand behind `out`.
+/// Appends the outputs of one place. On an error some of them may have been appended to `out`.
 fn put_out<C: Drop, O: Drop>(
     place: u64,
     given: Vec<O>,
@@ -50,7 +50,7 @@ pub fn apply_dropping<M: Machine>(
 }
 
 /// Applies the places from one length of the log up to another, and appends their outputs. On an
-/// error the machine is somewhere in between, and some outputs may stand behind `out`.
+/// error the machine is somewhere in between, and some outputs may have been appended to `out`.
 pub fn apply_places<M: Machine>(
     alloc: Global,
     machine: &mut M,

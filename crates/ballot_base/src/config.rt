@@ -1,4 +1,4 @@
-// Who is in a ballot.
+// The members and the primary of a ballot.
 
 ghost use Rattle.std.specs.Prelude.{◌≡◌, [], IfOk, length};
 ghost use Rattle.ballot_base.specs.LawfulConfig.{is_lawful};
@@ -22,7 +22,7 @@ impl Model for Members {
 }
 
 impl Members {
-    /// No number. It takes no memory.
+    /// Returns an empty list. Takes no memory.
     pub fn new(alloc: Global) -> Members
         ensures { result ≡ [] }
     {
@@ -31,7 +31,7 @@ impl Members {
         }
     }
 
-    /// A copy of the numbers. The only error is want of memory.
+    /// Returns a copy of the numbers. The only error is that memory ran out.
     pub fn from_slice(alloc: Global, numbers: &[u8]) -> Result<Members, Memory>
         ensures { IfOk result (λ members. members ≡ numbers.now) }
     {
@@ -39,7 +39,7 @@ impl Members {
         Ok(Members { numbers })
     }
 
-    /// The numbers.
+    /// Returns the numbers.
     pub fn as_slice(&self) -> &[u8]
         ensures { result.now ≡ self.now }
     {
@@ -57,7 +57,7 @@ pub struct Config {
 }
 
 impl Config {
-    /// Whether these may be the members and the primary of a ballot.
+    /// Says whether these may be the members and the primary of a ballot.
     pub fn is_lawful(&self) -> bool
         ensures { result ≡ is_lawful self.now.members self.now.primary }
     {

@@ -6,7 +6,7 @@ use crate::Log;
 use machine::{Machine, Memory};
 use std::alloc::Global;
 
-/// A copy of a log. The only error is want of memory.
+/// Returns a copy of a log. The only error is that memory ran out.
 pub fn copy_log<M: Machine>(alloc: Global, log: &Log<M::Command>) -> Result<Log<M::Command>, Memory>
     ensures { IfOk result (λ copied. copied ≡ log.now) }
 {
@@ -15,7 +15,7 @@ pub fn copy_log<M: Machine>(alloc: Global, log: &Log<M::Command>) -> Result<Log<
     Ok(Log::from_parts(log.base(), snapshot, rest))
 }
 
-/// A copy of some commands. The only error is want of memory.
+/// Returns a copy of some commands. The only error is that memory ran out.
 fn copy_commands<M: Machine>(
     alloc: Global,
     commands: &[M::Command],

@@ -1,4 +1,4 @@
-// The other members, and what a primary knows of them.
+// The other members, and what a primary knows about them.
 
 ghost use Rattle.std.specs.Prelude.{◌≡◌, IfOk};
 ghost use Rattle.ballot_base.specs.Replica.{others, progress_at};
@@ -8,7 +8,7 @@ use crate::Progress;
 use machine::Memory;
 use std::alloc::Global;
 
-/// The members other than `id`.
+/// Returns the members other than `id`.
 pub fn others_of(alloc: Global, id: u8, members: &[u8]) -> Result<Vec<u8>, Memory>
     ensures { IfOk result (λ them. them.items ≡ others id members.now) }
 {
@@ -21,14 +21,14 @@ pub fn others_of(alloc: Global, id: u8, members: &[u8]) -> Result<Vec<u8>, Memor
     Ok(them)
 }
 
-/// Takes a member out of a list.
+/// Removes a member from a list.
 pub fn forget(member: u8, members: &mut Vec<u8>)
     ensures { members.new.items ≡ others member members.old.items }
 {
     members.retain(|other| *other != member);
 }
 
-/// A progress of `held` places for each member other than `id`.
+/// Returns a progress of `held` places for each member other than `id`.
 pub fn progress_of_others(
     alloc: Global,
     held: u64,
@@ -49,7 +49,7 @@ pub fn progress_of_others(
     Ok(progress)
 }
 
-/// A member's progress becomes the greater of it and what the member now holds.
+/// Raises a member's progress to the greater of it and what the member now holds.
 pub fn raise(member: u8, held: u64, progress: &mut [Progress])
     ensures { progress.new ≡ raised member held progress.old }
 {
@@ -58,7 +58,7 @@ pub fn raise(member: u8, held: u64, progress: &mut [Progress])
     }
 }
 
-/// The progress of any member, raised where it is that of the one that now holds more.
+/// Returns the progress of any member, raised if it is that of the one that now holds more.
 fn raised_progress(member: u8, held: u64, reached: Progress) -> Progress
     ensures { result ≡ raised_progress member held reached }
 {
@@ -71,7 +71,7 @@ fn raised_progress(member: u8, held: u64, reached: Progress) -> Progress
     }
 }
 
-/// How many places all will hold once a member's progress is raised.
+/// Returns how many places all will hold once a member's progress is raised.
 pub fn least_raised(length: u64, member: u8, held: u64, progress: &[Progress]) -> u64
     ensures { result ≡ least length (raised member held progress.now) }
 {
@@ -82,7 +82,7 @@ pub fn least_raised(length: u64, member: u8, held: u64, progress: &[Progress]) -
     least
 }
 
-/// How many places all hold: the least of a length and all progress.
+/// Returns how many places all hold: the smallest of a length and all progress.
 pub fn least_held(held: u64, progress: &[Progress]) -> u64
     ensures { result ≡ least held progress.now }
 {

@@ -1,4 +1,4 @@
-//! What replicas say to each other, what a call of theirs hands out, the parts of a replica that need no
+//! The messages between replicas, the effects of their calls, the parts of a replica that need no
 //! role, and the protocol's step as definitions that the replica above is proved to follow.
 #![tactic(auto)]
 

@@ -7,7 +7,7 @@ use machine::Memory;
 use std::alloc::Global;
 use std::marker::Model;
 
-/// Commands from a place on, the base, and the frozen machine that stands for the places below it.
+/// Commands from a place on, the base, and the frozen machine in place of the places below it.
 /// Places count from 0. At base 0 there is no snapshot.
 #[derive(Drop)]
 pub struct Log<C> {
@@ -29,7 +29,7 @@ impl<C> Model for Log<C> {
 }
 
 impl<C: Drop> Log<C> {
-    /// A log with no place.
+    /// Returns a log with no place.
     pub fn new(alloc: Global) -> Self
         ensures { result ≡ empty_log C }
     {
@@ -40,7 +40,7 @@ impl<C: Drop> Log<C> {
         }
     }
 
-    /// The log of these parts. Its places are below 2^64.
+    /// Returns the log with these parts. Its places are below 2^64.
     pub fn from_parts(base: u64, snapshot: Vec<u8>, rest: Vec<C>) -> Self
         requires { base + length rest.items < 2 ^ 64 }
         ensures { result ≡ record { base = base; snapshot = snapshot.items; rest = rest.items } }
@@ -52,7 +52,7 @@ impl<C: Drop> Log<C> {
         }
     }
 
-    /// The place from which on the commands are kept. All places are below 2^64.
+    /// Returns the place from which on the commands are kept. All places are below 2^64.
     pub fn base(&self) -> u64
         ensures base { result ≡ self.now.base }
         ensures fits { places self.now < 2 ^ 64 }
@@ -60,15 +60,15 @@ impl<C: Drop> Log<C> {
         self.base
     }
 
-    /// The frozen machine as it is at the base.
+    /// Returns the frozen machine at the base.
     pub fn snapshot(&self) -> &[u8]
         ensures { result.now ≡ self.now.snapshot }
     {
         self.snapshot.as_slice()
     }
 
-    /// Returns an empty vector with room for as many bytes as the snapshot has, and an eighth more.
-    /// Where there is no memory for that, it has no room yet.
+    /// Returns an empty vector with capacity for as many bytes as the snapshot has, and an eighth
+    /// more. If there is no memory for it, it has no capacity yet.
     pub fn room(&self, alloc: Global) -> Vec<u8>
         ensures { result.items ≡ [] }
     {
@@ -79,22 +79,21 @@ impl<C: Drop> Log<C> {
         }
     }
 
-    /// The commands from the base on.
+    /// Returns the commands from the base on.
     pub fn rest(&self) -> &[C]
         ensures { result.now ≡ self.now.rest }
     {
         self.rest.as_slice()
     }
 
-    /// How many places it has, counted from 0.
+    /// Returns how many places it has, counted from 0.
     pub fn places(&self) -> u64
         ensures { result ≡ places self.now }
     {
         self.base + self.rest.len() as u64
     }
 
-    /// Adds a command. Where there is no memory, or no place is left below 2^64, the log stays as it
-    /// was.
+    /// Appends a command. If memory runs out, or no place is left below 2^64, the log is unchanged.
     pub fn push(&mut self, command: C) -> Result<(), Memory>
         ensures ok { OnOk result (self.new ≡ pushed self.old command) }
         ensures err { OnErr result (self.new ≡ self.old) }
@@ -113,7 +112,7 @@ impl<C: Drop> Log<C> {
         self.rest.pop();
     }
 
-    /// Drops the commands below a place, for which this snapshot stands from now on.
+    /// Drops the commands below a place; this snapshot replaces them.
     pub fn cut(&mut self, base: u64, snapshot: Vec<u8>)
         requires above { self.old.base ≤ base }
         requires within { base ≤ places self.old }
@@ -128,7 +127,7 @@ impl<C: Drop> Log<C> {
         self.snapshot = snapshot;
     }
 
-    /// Takes the commands of another log in place of its own, from its own base on.
+    /// Replaces the commands from its own base on by those of another log.
     pub fn take_rest(&mut self, other: Log<C>)
         requires above { other.base ≤ self.old.base }
         requires within { self.old.base ≤ places other }
@@ -140,7 +139,7 @@ impl<C: Drop> Log<C> {
     }
 }
 
-/// Drops the first items. Nothing is moved where all are dropped, which is the usual case.
+/// Drops the first items. Nothing is moved if all are dropped, which is the usual case.
 fn drop_front<C: Drop>(items: &mut Vec<C>, count: usize)
     requires { count ≤ length items.old.items }
     ensures { items.new.items ≡ drop count items.old.items }

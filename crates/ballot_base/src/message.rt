@@ -1,24 +1,25 @@
-// What replicas and the master say to each other.
+// The messages between replicas and the master.
 
 use crate::config::Members;
 use crate::log::Log;
 
-/// What one node says to another. Node 0 is the master.
+/// A message from one node to another. Node 0 is the master.
 #[derive(Drop)]
 pub struct Message<C> {
     /// The sender.
     pub from: u8,
-    /// What it says.
+    /// Its content.
     pub body: Body<C>,
 }
 
-/// The kinds of message. The first number of each is the ballot that it speaks of.
+/// The kinds of message. The first number of each is the ballot that it is about.
 #[derive(Drop)]
 pub enum Body<C> {
     /// The master assigns a ballot: its members, the ballot that was active then, and the members
     /// of that one.
     NewBallot(u64, Members, u64, Members),
-    /// Leave all lower ballots and send your log; the earlier ballot that is asked for.
+    /// Leave all lower ballots and send your log; the second number is the earlier ballot whose log
+    /// is asked for.
     Join(u64, u64),
     /// The sender's log.
     State(u64, Log<C>),
@@ -30,7 +31,7 @@ pub enum Body<C> {
     Activate(u64),
     /// The ballot is active.
     Activated(u64),
-    /// The ballot was put out.
+    /// The ballot was superseded.
     Superseded(u64),
     /// The command at a place.
     Append(u64, u64, C),
@@ -40,7 +41,7 @@ pub enum Body<C> {
     Commit(u64, u64),
 }
 
-/// What a call of a replica hands out.
+/// An effect of a replica's call.
 #[derive(Drop)]
 pub enum Effect<C, O> {
     /// A message to a node.

@@ -1,4 +1,4 @@
-// Messages that a call hands out. One that finds no memory is lost.
+// Messages that a call sends. A message for which there is no memory is lost.
 
 ghost use Rattle.std.specs.Prelude.{◌≡◌, [], ◌∷◌, IfOk};
 ghost use Rattle.ballot_base.specs.Logs.{command_at};
@@ -11,10 +11,10 @@ use crate::{Body, Effect, Log, Message, Progress};
 use machine::{Machine, Memory};
 use std::alloc::Global;
 
-/// The number by which the master is named.
+/// The number of the master as a node.
 pub const MASTER: u8 = 0;
 
-/// Appends a message to a node. Whether it found memory is the result.
+/// Appends a message to a node. Returns whether there was memory for it.
 pub fn send<C: Drop, O: Drop>(
     out: &mut Vec<Effect<C, O>>,
     receiver: u8,
@@ -25,8 +25,8 @@ pub fn send<C: Drop, O: Drop>(
     out.push(Effect::To(receiver, message)).is_ok()
 }
 
-/// Sends a message whose body was made, if there was memory for that. Whether there was, and for the
-/// message too, is the result.
+/// Sends a message whose body was made, if there was memory for that. Returns whether there was,
+/// and for the message too.
 fn send_made<C: Drop, O: Drop>(
     out: &mut Vec<Effect<C, O>>,
     from: u8,
@@ -59,7 +59,7 @@ fn send_append<M: Machine>(
     send_made(out, from, receiver, made)
 }
 
-/// What carries a copy of the command at a place.
+/// Returns an Append with a copy of the command at a place.
 fn append_of<M: Machine>(
     alloc: Global,
     ballot: u64,
@@ -92,7 +92,7 @@ pub fn send_appends<M: Machine>(
     whole
 }
 
-/// Sends the place at its progress to each node whose progress is below the length of the log.
+/// Sends to each node whose progress is below the length of the log the command at its progress.
 pub fn send_behind<M: Machine>(
     alloc: Global,
     from: u8,
@@ -143,7 +143,7 @@ fn send_at_reached<M: Machine>(
     }
 }
 
-/// Tells each node with a progress how many places are committed.
+/// Sends to each node with a progress how many places are committed.
 pub fn send_commits<C: Drop, O: Drop>(
     from: u8,
     ballot: u64,
@@ -199,7 +199,7 @@ pub fn send_state<M: Machine>(
     send_made(out, from, receiver, made)
 }
 
-/// What carries a copy of a log to the primary that asked for it.
+/// Returns a State with a copy of a log, for the primary that asked for it.
 fn state_of<M: Machine>(
     alloc: Global,
     ballot: u64,
@@ -210,7 +210,7 @@ fn state_of<M: Machine>(
     Ok(Body::State(ballot, copy_log::<M>(alloc, log)?))
 }
 
-/// What carries a copy of a log to a member.
+/// Returns an Install with a copy of a log, for a member.
 fn install_of<M: Machine>(
     alloc: Global,
     ballot: u64,
@@ -221,7 +221,7 @@ fn install_of<M: Machine>(
     Ok(Body::Install(ballot, copy_log::<M>(alloc, log)?))
 }
 
-/// Hands a copy of a log to each of some members.
+/// Sends a copy of a log to each of some members.
 pub fn send_installs<M: Machine>(
     alloc: Global,
     from: u8,

@@ -17,7 +17,7 @@ pub enum Role {
 }
 
 impl Role {
-    /// Whether this is the active primary.
+    /// Says whether this is the active primary.
     pub fn is_active(self) -> bool
         ensures { result ≡ is_active self }
     {
@@ -27,7 +27,7 @@ impl Role {
         }
     }
 
-    /// Whether this is a new primary that asks for a log.
+    /// Says whether this is a new primary that asks for a log.
     pub fn is_fetching(self) -> bool
         ensures { result ≡ is_fetching self }
     {
@@ -37,7 +37,7 @@ impl Role {
         }
     }
 
-    /// Whether this is a new primary that hands its log to the members.
+    /// Says whether this is a new primary that hands its log to the members.
     pub fn is_installing(self) -> bool
         ensures { result ≡ is_installing self }
     {
@@ -47,7 +47,7 @@ impl Role {
         }
     }
 
-    /// Whether this is a backup.
+    /// Says whether this is a backup.
     pub fn is_backup(self) -> bool
         ensures { result ≡ is_backup self }
     {
@@ -58,7 +58,7 @@ impl Role {
     }
 }
 
-/// What an active primary knows of another member.
+/// What an active primary knows about another member.
 #[derive(Clone, Copy, Debug, PartialEq, Eq)]
 pub struct Progress {
     /// The member.
@@ -78,6 +78,6 @@ pub struct Status {
     pub held: u64,
     /// How many of them are applied.
     pub committed: u64,
-    /// Whether it stopped for want of memory.
+    /// Whether it stopped because memory ran out.
     pub stopped: bool,
 }

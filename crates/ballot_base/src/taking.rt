@@ -1,4 +1,4 @@
-// Commands that come from elsewhere into a log, and the count of what was lost.
+// Commands from elsewhere that are added to a log, and the count of losses.
 
 ghost use Rattle.std.specs.Prelude.{◌≡◌, if◌then◌else◌};
 ghost use Rattle.std.specs.Bool.{OnTrue, OnFalse};
@@ -8,8 +8,8 @@ ghost use Rattle.ballot_base.specs.Serving.{extended};
 
 use crate::Log;
 
-/// Takes a command where its place is the next one of the log. Whether memory was found, where it
-/// was needed, is the result; where not, the log stays.
+/// Appends a command if its place is the next one of the log. Returns whether there was memory, if
+/// it was needed; if there was none, the log is unchanged.
 pub fn take_in<C: Drop>(log: &mut Log<C>, place: u64, command: C) -> bool
     ensures taken { OnTrue result (log.new ≡ extended place command log.old) }
     ensures lost { OnFalse result ((log.new ≡ log.old) × (place ≡ places log.old)) }
@@ -23,7 +23,7 @@ pub fn take_in<C: Drop>(log: &mut Log<C>, place: u64, command: C) -> bool
     }
 }
 
-/// The count of losses behind a call that was whole, or in which memory was wanting.
+/// Returns the count of losses after a call that was whole, or in which memory ran out.
 pub fn counted(losses: u64, whole: bool) -> u64
     ensures { result ≡ (if whole then losses else one_more losses) }
 {

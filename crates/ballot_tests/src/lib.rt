@@ -1,5 +1,5 @@
-//! Tests of crate `ballot` through its public calls: that the calls succeed while there is memory, and
-//! what a replica hands out then, on worked rows.
+//! Tests of crate `ballot` through its public calls: that the calls succeed while there is memory,
+//! and what a replica returns then, as worked examples.
 #![tactic(auto)]
 
 #[cfg(test)]

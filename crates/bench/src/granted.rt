@@ -32,7 +32,7 @@ fn measure_over(rt: &HostRuntime, index: &mut ListIndex, clients: u32) -> Result
     Ok(())
 }
 
-// Sets the filters of so many clients: the time that it took.
+// Sets the filters of this many clients. Returns the time that it took.
 fn fill(rt: &HostRuntime, index: &mut ListIndex, clients: u32) -> Result<u128> {
     let start = rt.process_cpu_time()?;
     for number in 0..clients {
@@ -74,7 +74,7 @@ fn grant(rt: &HostRuntime, index: &ListIndex, clients: u32) -> Result<u128> {
     time_grants(rt, index, &topic, clients)
 }
 
-// The time of a grant, which has a row of each client.
+// Returns the time of a grant, which has a row of each client.
 fn time_grants(
     rt: &HostRuntime,
     index: &ListIndex,

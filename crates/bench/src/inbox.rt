@@ -96,7 +96,7 @@ fn pour<J: Naming, R: Wait>(rt: &R, mut lane: Lane<u64, J>, each: u64) {
     }
 }
 
-// Whether so many numbers come of each lane, from 0 on and with none left out.
+// Says whether this many numbers come from each lane, from 0 on and with none left out.
 fn come_in_order<J: Naming, R: Wait>(rt: &R, receiver: &mut Receiver<u64, J>, each: u64) -> bool {
     let mut next = [0u64; MOST_LANES as usize];
     let mut missing = receiver.lanes();

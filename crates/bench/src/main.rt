@@ -33,7 +33,7 @@ fn main(rt: HostRuntime) -> Result<()> {
     let mut words = env::args(&rt)?;
     words.next();
     match words.next() {
-        // It starts threads, which `main` alone may do with the runtime itself.
+        // It starts threads, which only `main` may do with the runtime itself.
         Some(name) if name.as_str() == "inbox" => inbox::run(&rt, rt.alloc()),
         Some(name) => run(&rt, name.as_str()),
         None => list(&rt, &NAMES),

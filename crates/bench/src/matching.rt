@@ -8,13 +8,13 @@ use topics::{Filter, TopicName, matches};
 
 const ROUNDS: u32 = 62_500;
 
-/// Copies of the topic, gone through in turn, so that no answer is known before.
+/// Copies of the topic, used in turn, so that no answer is known before.
 const COPIES: u32 = 16;
 
 /// A level of seven bytes.
 const LEVEL: &str = "kitchen";
 
-/// Prints the time of a match whose levels are all compared, and of one by `+` alone.
+/// Prints the time of a match whose levels are all compared, and of one only with `+`.
 pub fn run(rt: &HostRuntime) -> Result<()> {
     for count in &[1, 2, 4, 8, 16, 32] {
         measure(rt, "same", LEVEL, *count)?;
@@ -23,7 +23,7 @@ pub fn run(rt: &HostRuntime) -> Result<()> {
     Ok(())
 }
 
-// Of a filter of so many levels that are all this one.
+// Measures a filter of this many levels, all equal to this one.
 fn measure(rt: &HostRuntime, name: &str, level: &str, count: u32) -> Result<()> {
     let filter_text = repeated(rt.alloc(), level, count)?;
     measure_filter(rt, name, filter_text.as_str(), count)

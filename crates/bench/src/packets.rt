@@ -12,7 +12,8 @@ use std::time::CpuClock;
 /// How often each is measured; the least time counts.
 const ROUNDS: u32 = 20;
 
-/// Prints the figures of 100,000 packets of 100 bytes, and of 100 packets with a payload of 256 KiB.
+/// Prints the figures of 100,000 packets of 100 bytes, and of 100 packets with a payload of 256
+/// KiB.
 pub fn run(rt: &HostRuntime) -> Result<()> {
     measure(rt, 100_000, 83)?;
     measure(rt, 100, 262_144)

@@ -7,13 +7,13 @@ use packet::{Delivery, Packet, Payload, Publish, encode};
 use std::alloc::Global;
 use topics::TopicName;
 
-/// Appends as many equal packets at QoS 0, whose topic has 13 bytes.
+/// Appends this many equal packets at QoS 0, whose topic has 13 bytes.
 pub fn append(alloc: Global, count: u32, payload_len: usize, out: &mut Vec<u8>) -> Result<()> {
     let packet = Packet::Publish(publication(alloc, payload_len)?);
     encode_all(&packet, count, out)
 }
 
-/// A PUBLISH at QoS 0, whose topic has 13 bytes.
+/// Returns a PUBLISH at QoS 0, whose topic has 13 bytes.
 pub fn publication(alloc: Global, payload_len: usize) -> Result<Publish> {
     Ok(Publish {
         topic: TopicName::new(alloc, "house/kitchen")?,

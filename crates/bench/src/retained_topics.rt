@@ -59,7 +59,7 @@ fn put_text(alloc: Global, store: &mut RetainedStore, text: &str) -> Result<()> 
     Ok(())
 }
 
-// The time in which what matches a filter is found, and how much that is.
+// Returns the time in which what matches a filter is found, and how much that is.
 fn find(rt: &HostRuntime, store: &RetainedStore, text: &str, rounds: u32) -> Result<(u128, usize)> {
     let filter = Filter::new(rt.alloc(), text)?;
     time_finds(rt, store, &filter, rounds)

@@ -1,4 +1,4 @@
-// The index as a tree beside the one as a list: a grant, a set and a clear, over many clients with
+// The tree index compared with the list index: a grant, a set and a clear, over many clients with
 // 64 filters each. In processor time.
 
 use anyhow::{Result, ensure};
@@ -19,7 +19,7 @@ const CHANGES: u32 = 1_000;
 enum Shape {
     /// Each client's, by `+` at one level.
     One,
-    /// Each client's, by `#` alone.
+    /// Each client's, only by `#`.
     All,
     /// That of ten clients.
     Ten,
@@ -112,7 +112,7 @@ fn print_grant<I: SubIndex>(rt: &HostRuntime, index: &I, rounds: u32) -> Result<
     Ok(())
 }
 
-// The rows of a grant, and the nanoseconds that one took.
+// Returns the rows of a grant, and the nanoseconds that one took.
 fn time_grants<I: SubIndex>(
     rt: &HostRuntime,
     index: &I,

@@ -1,4 +1,5 @@
-// Entries that go through a session's window: started by `fill`, each finished by its PUBACK (MQTT 4.3.2, 4.6).
+// Entries that go through a session's window: started by `fill`, each finished by its PUBACK (MQTT
+// 4.3.2, 4.6).
 
 use anyhow::Result;
 use bench_base::nanos_each;

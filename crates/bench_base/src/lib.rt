@@ -1,5 +1,5 @@
-//! What the benchmarks share: the list of their names, the processor's clock and the time of a round, and what the process holds
-//! of memory.
+//! What the benchmarks share: the list of their names, the processor's clock and the time of a
+//! round, and what the process holds for memory.
 #![tactic(auto)]
 
 use anyhow::Result;
@@ -20,12 +20,13 @@ pub fn time_since<R: CpuClock>(rt: &R, start: Duration) -> Result<Duration> {
     Ok(rt.process_cpu_time()?.saturating_sub(start))
 }
 
-/// Returns the nanoseconds of processor time since a moment that each of so many rounds took.
+/// Returns how many nanoseconds of processor time each of this many rounds took since `start`.
 pub fn nanos_each<R: CpuClock>(rt: &R, start: Duration, rounds: u32) -> Result<u128> {
     Ok(time_since(rt, start)?.as_nanos() / u128::from(rounds.max(1)))
 }
 
-/// Prints what the process holds of memory and the most it ever held, as Linux tells it, each line with this text before it.
+/// Prints how much memory the process holds, and the most that it ever held, as Linux reports it,
+/// each line with this text before it.
 pub fn print_memory<R: Files + Print + AllocGlobal>(rt: &R, before: &str) -> Result<()> {
     let status = fs::read_to_string(rt, "/proc/self/status")?;
     print_lines(rt, before, status.as_str())

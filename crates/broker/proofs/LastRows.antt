@@ -1,4 +1,4 @@
--- LastRows.antt: a key behind the last of rising ones comes last.
+-- LastRows.antt: a key after the last of rising ones comes last.
 use Rattle.std.proofs.Common.{◌≡◌, ℕ, Bool, true, false, Ok, ◌-◌, ◌+◌, suc, Option, Some, None, List, [], ◌∷◌, ◌++◌, length, refl, sym, ap, ◌∙◌, slice_get, arith}
 use Rattle.std.specs.declared.cmp.Ordering.{Ordering}
 use Rattle.std.specs.declared.cmp.Ordering.TheVariants.{Less, Equal, Greater}
@@ -17,7 +17,7 @@ less Less e = refl
 less Equal e = absurd (cc)
 less Greater e = absurd (cc)
 
--- reading goes on where the test is true
+-- reading continues if the test is true
 pub kept_where : (test : Bool) → {done : Unit {0}} → keep test ≡ Ok done → test ≡ true
 kept_where true e = refl
 kept_where false e = absurd (cc)
@@ -39,7 +39,7 @@ module _ {X : Type 0} where
       let b = longer rows row in
       omega (arith, a, b, e)
 
-  -- a key behind the last is behind all
+  -- a key after the last is after all
   behind_all : (key : List ℕ) (rows : List (List ℕ × X)) → IsStrictlySortedBy by_bytes (keys_of rows) → is_behind (last_of rows) key ≡ true →
       AllByRecursion (λ (row : List ℕ × X). by_bytes row.0 key ≡ Less) rows
   unfolding IsStrictlySortedBy
@@ -66,7 +66,7 @@ module _ {X : Type 0} where
       let e : length (row ∷ next ∷ rows) - 1 ≡ suc (length (next ∷ rows) - 1) = omega arith in
       last_is rows next (Some row) ∙ ap (λ n. slice_get (row ∷ next ∷ rows) n) (sym e)
 
-  -- the last of rows that are not empty stands at its place
+  -- the last of rows that are not empty is at its place
   pub last_at : (rows : List (List ℕ × X)) (last : List ℕ × X) → slice_get rows (length rows - 1) ≡ Some last → last_of rows ≡ Some last
   last_at [] last e = absurd (cc)
   last_at (first ∷ rows) last e = last_is rows first None ∙ e

@@ -1,4 +1,5 @@
--- OwnersOfLast.antt: a row behind the others, whose connection is none of theirs, becomes its connection's owner.
+-- OwnersOfLast.antt: a row after the others, whose connection is none of theirs, becomes its
+-- connection's owner.
 use Rattle.std.proofs.Common.{◌≡◌, Bool, true, false, not, ◌&&◌, Option, Some, None, [], ◌∷◌, ◌++◌, refl, sym, ap, ◌∙◌, if◌then◌else◌}
 use Rattle.std.specs.Prelude.{option_map, is_some}
 use Rattle.broker_base.specs.broker_model.Connection.{ConnectionName, same_connection}
@@ -15,7 +16,7 @@ use Rattle.broker_form.specs.Form.{is_behind, is_taken, row_follows}
 abbrev Row : Type 0
 Row = Client × ClientSession
 
--- the last row, where it is on the connection
+-- the last row, if it is on the connection
 abbrev last_on : ConnectionName → Row → Option Client
 last_on y one = if any_connection (same_connection y) one.1.connection then Some one.0 else None
 
@@ -43,7 +44,7 @@ found y (row ∷ front) one =
       | false ↦ found y front one
     ]
 
--- a connection that is not taken is nobody's
+-- a connection that is not taken has no client
 nobodys : (front : Sessions) (x : ConnectionName) → is_some (owner_in x front) ≡ false → owners_in front x ≡ None
 nobodys front x free = by (owner_in x front) free
   where
@@ -77,7 +78,7 @@ owners_of_last front c kept y free = found y front (c, kept) ∙ by kept.connect
         mine x free (same_connection y x) refl
         ∙ ap (λ b. if b then Some c else owners_in front y) (same_turned y x)
 
--- what may stand behind the others is behind the last, and its connection is none of theirs
+-- what may come after the others is after the last, and its connection is none of theirs
 pub may_stand : (front : Sessions) (one : Row) → row_follows front one ≡ true →
     (is_behind (last_of front) one.0 ≡ true) × (is_taken front one.1.connection ≡ false)
 may_stand front one e = by (is_behind (last_of front) one.0) (is_taken front one.1.connection) e

@@ -1,4 +1,4 @@
--- StandsForLists.antt: command by command a state stands for the list of those that were done.
+-- StandsForLists.antt: command by command a state corresponds to the list of those that were done.
 use Rattle.std.proofs.Common.{◌≡◌, ◌∙◌, ap, sym, refl, Bool, true, false, if◌then◌else◌, List, [], ◌∷◌, ◌++◌}
 use Rattle.std.specs.Prelude.{ℕ}
 use Rattle.broker_base.specs.broker_model.Place.{Past, Limits}

@@ -1,4 +1,4 @@
--- Writing.antt: what stands in the state of a broker can be written.
+-- Writing.antt: what is in the state of a broker can be written.
 use Rattle.std.proofs.Common.{◌∷◌, []}
 use Rattle.std.specs.List.{AllByRecursion}
 use Rattle.broker_base.specs.retained.Retained.{RetainedTopics}

@@ -1,4 +1,4 @@
--- Words of private calls.
+-- Definitions of private calls.
 use Rattle.std.specs.Prelude.{◌≡◌, ℕ, ◌<◌, length, List, [], ◌∷◌, Option, None, bytes_eq}
 use Rattle.std.specs.Map.{update_all}
 use Rattle.std.specs.List.{AllByRecursion}

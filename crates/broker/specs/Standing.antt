@@ -1,4 +1,4 @@
--- What a broker does at a command, and which list of commands its state stands for.
+-- What a command does to a broker, and which list of commands its state corresponds to.
 use Rattle.std.specs.Prelude.{◌≡◌, ℕ, List, [], ◌∷◌, ◌++◌, Some}
 use Rattle.broker_tables.specs.machine.Machine.{Rules}
 use Rattle.broker_base.specs.broker_model.Answers.{answers_of}
@@ -19,8 +19,8 @@ after state command = (step usual_limits 64 state command).0
 abbrev pub answers : State → Command → List Output
 answers state command = (step usual_limits 64 state command).1
 
--- the rules of the broker's machine: it begins with the window of 64, then goes step by step, and is
--- frozen to form 2
+-- the rules of the broker's machine: it begins with the window of 64, then goes step by step, and
+-- is frozen to form 2
 abbrev pub broker_rules : Rules State Command Output
 broker_rules =
     record {
@@ -32,24 +32,24 @@ broker_rules =
       thawed = thawed;
     }
 
--- the state is the one that this list of commands means, where the window was this one at first
+-- the state is the one that this list of commands means, if the window was this one at first
 abbrev pub StandsFor : ℕ → State → List Command → Type 0
 StandsFor first state commands = state ≡ state_of (limits_from first) (past_of (limits_from first) commands)
 
--- a broker that begins stands for no command, with the window of 64
+-- a new broker's state is that of no command, with the window of 64
 abbrev pub BeginsEmpty : Type 0
 BeginsEmpty = StandsFor 64 (empty_state 64) []
 
--- after one more command the state stands for the list with that command, and its answers are those that the list
--- means
+-- after one more command the state corresponds to the list with that command, and its answers are
+-- those that the list means
 abbrev pub GoesOnStanding : Type 0
 GoesOnStanding =
     (first : ℕ) → (state : State) → (commands : List Command) → (command : Command) → StandsFor first state commands →
     StandsFor first (after state command) (commands ++ command ∷ [])
     × (answers state command ≡ answers_of (limits_from first) (past_of (limits_from first) commands) command)
 
--- what such a state was frozen to in form 1, before any Start, is read as a state that stands for the same list with
--- the window of 16 at first
+-- what such a state was frozen to in form 1, before any Start, is read as a state that corresponds
+-- to the same list with the window of 16 at first
 abbrev pub GoesOnFromFormOne : Type 0
 GoesOnFromFormOne =
     (state : State) → (commands : List Command) → IsUsualState state → state.window ≡ 16 → StandsFor 16 state commands →

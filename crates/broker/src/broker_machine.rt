@@ -11,8 +11,8 @@ use std::alloc::Global;
 use std::marker::Model;
 use topics::MalformedKind;
 
-/// A broker behind some list of commands. A contract sees its state: the window, the sessions by
-/// client, and what is retained.
+/// A broker after some list of commands. Its value in contracts is its state: the window, the
+/// sessions by client, and what is retained.
 #[derive(Drop)]
 pub struct BrokerMachine {
     tables: Tables,
@@ -30,8 +30,8 @@ impl Model for BrokerMachine {
     ghost invariant = { λ machine. IsUsualState (state_in machine.tables) × IsTied machine.tables };
 }
 
-// It begins empty, and does a command as the step of a state with the limits of this broker says. It
-// is frozen to form 2, and thawed from form 1 too.
+// It begins empty, and does a command as the step of a state with the limits of this broker says.
+// It is frozen to form 2, and thawed from form 1 too.
 impl Machine for BrokerMachine {
     ghost use Rattle.broker_base.specs.broker_model.Logged.{IsBrokerCommand};
     ghost use Rattle.broker_form.specs.FormLaws.{IsUsualState};

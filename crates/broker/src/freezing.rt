@@ -21,7 +21,7 @@ use topics::TopicName;
 // The number of the form.
 const FORM: u8 = 2;
 
-// Appends the bytes of the tables. Where there is no memory nothing is changed.
+// Appends the bytes of the tables. If there is no memory nothing is changed.
 pub(crate) fn freeze_tables(tables: &Tables, bytes: &mut Vec<u8>) -> Result<(), AllocError>
     requires { IsBrokerState usual_limits (state_in tables.now) }
     ensures ok { OnOk result (bytes.new.items ≡ bytes.old.items ++ frozen (state_in tables.now)) }
@@ -39,7 +39,7 @@ pub(crate) fn freeze_tables(tables: &Tables, bytes: &mut Vec<u8>) -> Result<(), 
     written
 }
 
-// Appends the bytes of the tables, some of them where there is no memory for all.
+// Appends the bytes of the tables, some of them if there is no memory for all.
 fn write_tables(tables: &Tables, bytes: &mut Vec<u8>) -> Result<(), AllocError>
     requires { IsBrokerState usual_limits (state_in tables.now) }
     ensures { OnOk result (bytes.new.items ≡ bytes.old.items ++ frozen (state_in tables.now)) }

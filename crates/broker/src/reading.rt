@@ -1,5 +1,5 @@
-// The rows of a frozen broker, read from the front of the bytes that are left. All that is not of the
-// form stops the reading; after an error the reader is not to be used.
+// Reads the rows of a frozen broker from the front of the bytes that are left. Bytes that are not
+// of the form stop the reading; the reader is not to be used after an error.
 
 ghost use Rattle.std.specs.Prelude.{◌≡◌, true, Ok, IfOk};
 ghost use Rattle.packet.specs.ClientId.{is_client};
@@ -21,12 +21,13 @@ use topics::{MalformedKind, TopicName};
 /// The most bytes of a body, this broker's own limit.
 const LONGEST_BODY: usize = 1_048_572;
 
-/// Memory was wanting.
+/// Memory ran out.
 pub(crate) const OUT_OF_MEMORY: Stop = Stop::Malformed(MalformedKind::Memory);
 
 // ---- the window
 
-// The number of the form, and the window: form 1 has the narrow one, and form 2 names its own.
+// Reads the number of the form, and the window: form 1 has the narrow one, and form 2 names its
+// own.
 #[tactic(auto, unfolding(broker_form::specs::Form::head_at))]
 pub(crate) fn read_head(reader: &mut Reader) -> Result<Window, Stop>
     ensures { Reads (λ x. x) result reader.new (head_at reader.old) }
@@ -39,7 +40,7 @@ pub(crate) fn read_head(reader: &mut Reader) -> Result<Window, Stop>
     read_window(reader)
 }
 
-// The window, one that there is.
+// Reads the window, one of the two.
 #[tactic(auto, unfolding(broker_form::specs::Form::size_at))]
 fn read_window(reader: &mut Reader) -> Result<Window, Stop>
     ensures { Reads (λ x. x) result reader.new (size_at reader.old) }
@@ -52,8 +53,8 @@ fn read_window(reader: &mut Reader) -> Result<Window, Stop>
 
 // ---- a client's session
 
-// A client with its session. A clean session has a connection, and no more of a session is in flight
-// than the window allows.
+// Reads a client with its session. A clean session has a connection, and no more of a session is in
+// flight than the window allows.
 #[tactic(auto, unfolding(broker_form::specs::Form::row_at))]
 pub(crate) fn read_row(
     alloc: Global,
@@ -83,7 +84,7 @@ fn read_client(alloc: Global, reader: &mut Reader) -> Result<ClientId, Stop>
     client_of(alloc, text)
 }
 
-// The Client Identifier of a text.
+// Returns the Client Identifier of a text.
 fn client_of(alloc: Global, text: &str) -> Result<ClientId, Stop>
     ensures test { Gives (λ client. tt) result (keep (is_client text.now)) }
     ensures value { IfOk result (λ client. client ≡ text.now) }
@@ -98,7 +99,7 @@ fn client_of(alloc: Global, text: &str) -> Result<ClientId, Stop>
     }
 }
 
-// Whether there is a connection, and which.
+// Reads whether there is a connection, and which.
 #[tactic(auto, unfolding(broker_form::specs::Form::connection_at))]
 fn read_connection(reader: &mut Reader) -> Result<Option<ConnectionId>, Stop>
     ensures { Reads (λ x. x) result reader.new (connection_at reader.old) }
@@ -110,7 +111,7 @@ fn read_connection(reader: &mut Reader) -> Result<Option<ConnectionId>, Stop>
     }
 }
 
-// The name of a connection.
+// Reads the name of a connection.
 #[tactic(auto, unfolding(broker_form::specs::Form::name_at))]
 fn read_name(reader: &mut Reader) -> Result<Option<ConnectionId>, Stop>
     ensures { Reads (λ x. x) result reader.new (name_at reader.old) }
@@ -123,7 +124,7 @@ fn read_name(reader: &mut Reader) -> Result<Option<ConnectionId>, Stop>
     }
 }
 
-// A number of eight bytes, the high one first.
+// Reads a number of eight bytes, the high one first.
 #[tactic(auto, unfolding(broker_form::specs::Form::wide_number_at))]
 fn read_wide_number(reader: &mut Reader) -> Result<u64, Stop>
     ensures { Reads (λ x. x) result reader.new (wide_number_at reader.old) }
@@ -136,7 +137,7 @@ fn read_wide_number(reader: &mut Reader) -> Result<u64, Stop>
 
 // ---- a retained publication
 
-// A topic with what is retained of it.
+// Reads a topic with what is retained of it.
 #[tactic(auto, unfolding(broker_form::specs::Form::retained_at))]
 pub(crate) fn read_topic(
     alloc: Global,
@@ -156,7 +157,8 @@ pub(crate) fn read_topic(
     })
 }
 
-// What is retained of a publication: it has a payload, and its PUBLISH is within the limit of a packet.
+// Returns what is retained of a publication: it has a payload, and its PUBLISH is within the limit
+// of a packet.
 fn retainable(publication: Publication) -> Result<(TopicName, RetainedPublication), Stop>
     requires { publication.retain ≡ true }
     ensures { Gives (λ x. x) result

@@ -19,8 +19,8 @@ use session_form::keep;
 use std::alloc::{AllocError, Global};
 use std::collections::BTreeMap;
 
-// Sessions by client, and the client of each of their connections, by which a connection that is
-// another's is found without a walk over the sessions.
+// Sessions by client, and the client of each of their connections, by which a connection that
+// another session has is found without a walk over the sessions.
 #[derive(Drop)]
 pub(crate) struct Rows {
     pub(crate) sessions: BTreeMap<ClientId, ClientRow>,
@@ -28,7 +28,8 @@ pub(crate) struct Rows {
 }
 
 impl Rows {
-    // As many sessions as their count says: clients rise, and no connection is another's.
+    // Reads as many sessions as their count says: the clients rise, and no connection is used
+    // twice.
     #[tactic(auto, unfolding(session_form::specs::Counted::counted_at))]
     pub(crate) fn read(alloc: Global, window: Window, reader: &mut Reader) -> Result<Rows, Stop>
         ensures exact { Reads (λ rows. rows.sessions.entries) result reader.new
@@ -50,7 +51,7 @@ impl Rows {
         }
     }
 
-    // One more, which may stand behind the others.
+    // Adds one more session, which may come after the others.
     fn add(&mut self, client: ClientId, row: ClientRow) -> Result<(), Stop>
         requires { AreOwned self.old }
         ensures adds { Adds row_follows self.old.sessions.entries (client, row) result self.new.sessions.entries }
@@ -63,7 +64,7 @@ impl Rows {
         }
     }
 
-    // Whether a client may stand behind the others.
+    // Says whether a client may come after the others.
     fn may_follow(&self, client: &ClientId, row: &ClientRow) -> bool
         requires { AreOwned self.now }
         ensures { result ≡ row_follows self.now.sessions.entries (client.now, row.now) }
@@ -71,7 +72,7 @@ impl Rows {
         self.is_behind(client) && !self.is_taken(row.connection)
     }
 
-    // Whether the client is behind the last.
+    // Says whether the client is after the last.
     fn is_behind(&self, client: &ClientId) -> bool
         ensures { result ≡ is_behind (last_of self.now.sessions.entries) client.now }
     {
@@ -81,7 +82,7 @@ impl Rows {
         }
     }
 
-    // Whether the connection is that of one of them.
+    // Says whether one of them has the connection.
     fn is_taken(&self, connection: Option<ConnectionId>) -> bool
         requires { AreOwned self.now }
         ensures { result ≡ is_taken self.now.sessions.entries connection }
@@ -106,7 +107,7 @@ impl Rows {
     }
 }
 
-// So many sessions.
+// Reads this many sessions.
 fn read_rows(alloc: Global, window: Window, count: u16, reader: &mut Reader) -> Result<Rows, Stop>
     ensures exact { Reads (λ rows. rows.sessions.entries) result reader.new
         (items_behind row_follows (row_at window) count [] reader.old) }
@@ -120,7 +121,7 @@ fn read_rows(alloc: Global, window: Window, count: u16, reader: &mut Reader) -> 
     Ok(rows)
 }
 
-// A connection that there may be becomes the client's.
+// Gives a connection, if there is one, to the client.
 fn own(
     owners: &mut BTreeMap<ConnectionId, ClientId>,
     connection: Option<ConnectionId>,

@@ -1,4 +1,4 @@
-// The tables that frozen bytes stand for.
+// Reading the tables of a frozen broker.
 
 ghost use Rattle.std.specs.Prelude.{◌≡◌, ◌<◌, ◌≤◌, [], length, IfOk};
 ghost use Rattle.std.specs.BTreeMap.{get};
@@ -29,10 +29,11 @@ use std::alloc::{AllocError, Global};
 use std::collections::BTreeMap;
 use topics::{Filter, TopicName};
 
-/// The most topics of which a publication is retained.
+/// The most topics with a retained publication.
 const MAX_TOPICS: usize = 16_384;
 
-// The tables of the broker that bytes stand for. All that is not of the form stops the reading.
+// Returns the tables of the broker that these bytes are frozen from. Bytes that are not of the form
+// stop the reading.
 pub(crate) fn thawed_tables(alloc: Global, bytes: &[u8]) -> Result<Tables, Stop>
     ensures exact { Gives state_in result (broker_at bytes.now) }
     ensures tied { IfOk result IsTied }
@@ -50,7 +51,7 @@ pub(crate) fn thawed_tables(alloc: Global, bytes: &[u8]) -> Result<Tables, Stop>
     })
 }
 
-// What is in the bytes, in turn.
+// Reads the parts of the bytes, one after another.
 #[tactic(auto, unfolding(broker_form::specs::Form::broker_at))]
 fn read_broker(alloc: Global, bytes: &[u8]) -> Result<(Window, Rows, RetainedStore), Stop>
     ensures exact { Gives state_read result (broker_at bytes.now) }
@@ -66,7 +67,7 @@ fn read_broker(alloc: Global, bytes: &[u8]) -> Result<(Window, Rows, RetainedSto
 
 // ---- what is retained
 
-// As many topics as their count says, in rising order.
+// Reads as many topics as their count says, in rising order.
 #[tactic(auto, unfolding(session_form::specs::Counted::counted_at))]
 fn read_retained(alloc: Global, reader: &mut Reader) -> Result<RetainedStore, Stop>
     ensures { Reads (λ x. x) result reader.new
@@ -77,7 +78,7 @@ fn read_retained(alloc: Global, reader: &mut Reader) -> Result<RetainedStore, St
     read_topics(alloc, count, reader)
 }
 
-// So many topics.
+// Reads this many topics.
 fn read_topics(alloc: Global, count: u16, reader: &mut Reader) -> Result<RetainedStore, Stop>
     requires { count ≤ 16384 }
     ensures { Reads (λ x. x) result reader.new
@@ -91,7 +92,7 @@ fn read_topics(alloc: Global, count: u16, reader: &mut Reader) -> Result<Retaine
     Ok(retained)
 }
 
-// One more topic, which is behind the last.
+// Adds one more topic, which is after the last.
 fn add_topic(
     retained: &mut RetainedStore,
     topic: TopicName,
@@ -107,7 +108,7 @@ fn add_topic(
     }
 }
 
-// Whether the topic is behind the last.
+// Says whether the topic is after the last.
 fn is_behind(retained: &RetainedStore, topic: &TopicName) -> bool
     ensures test { result ≡ is_behind (last_of retained.now) topic.now }
     ensures rising { IsRising retained.now }
@@ -120,7 +121,7 @@ fn is_behind(retained: &RetainedStore, topic: &TopicName) -> bool
 
 // ---- the index of subscriptions
 
-// The tree of a list of each session's subscriptions.
+// Returns the tree of a list of each session's subscriptions.
 fn index_of(
     alloc: Global,
     sessions: &BTreeMap<ClientId, ClientRow>,
@@ -134,7 +135,7 @@ fn index_of(
     TreeIndex::of_list(alloc, list)
 }
 
-// A session's subscriptions by the bytes of their filters.
+// Returns a session's subscriptions by the bytes of their filters.
 fn filters_of(alloc: Global, session: &Session) -> Result<BTreeMap<Filter, QoS>, AllocError>
     ensures { IfOk result (λ filters. get (slice_cmp nat_cmp) filters ≡ last_held session.now.subscriptions) }
 {
@@ -143,7 +144,7 @@ fn filters_of(alloc: Global, session: &Session) -> Result<BTreeMap<Filter, QoS>,
     Ok(filters)
 }
 
-// A session's subscriptions, in their order.
+// Returns a session's subscriptions, in order.
 fn held_of(alloc: Global, session: &Session) -> Result<Vec<(Filter, QoS)>, AllocError>
     ensures { IfOk result (λ held. held.items ≡ session.now.subscriptions) }
 {

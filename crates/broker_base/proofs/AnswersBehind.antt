@@ -1,4 +1,4 @@
--- What is sent behind a client's answer, as what is kept of its session says.
+-- What is sent after a client's answer, as what is kept of its session says.
 use Rattle.std.proofs.Common.{◌≡◌, ℕ, ◌<◌, suc, Bool, false, ◌==◌, Option, Some, None, List, [], ◌∷◌, ◌++◌, length, map, refl, ap, ap₂, ◌∙◌, sym, arith}
 use Rattle.session_base.specs.packet.declared.packet.Packet.{Packet}
 use Rattle.session_base.specs.Sending.{fill_sends}
@@ -37,7 +37,7 @@ nothing_started x n (Entry.Started made p id start ∷ es) h = rw (earlier start
 nothing_started x n (Entry.Released made p id start release ∷ es) h = nothing_started x n es h
 nothing_started x n (Entry.Finished made p id start release finish ∷ es) h = nothing_started x n es h
 
--- what starts behind a client's answer, by its connection
+-- what starts after a client's answer, by its connection
 started_behind : (x : ConnectionName) (w n : ℕ) (command : Command) (mark : Mark) (c : Client) (connection : Option ConnectionName) (es : List Entry) → Sound n es →
     all_started x n (started w n connection (answered_by command mark n c es ++ map (Entry.Waits n) []))
     ≡ map (Send x) (while_connected connection (fill_sends w (answered_flights command mark c (flights_below n es)) (waiting_of es)))
@@ -58,7 +58,7 @@ started_behind x w n command mark c connection es s =
         (λ test. same_ids (suc n) (answered_by command mark n c es) t.below test ∙ ap (count test) (sym (append_none (busy_ids (answered_by command mark n c es)))))
         ∙ ap₂ (λ fs ps. map (Send x) (fill_sends w fs ps)) (flights_answered command mark n c es s) (waiting_answered command mark n c es)
 
--- the same of the session, if there is one
+-- the same for the session, if there is one
 abbrev pub fills_behind : ℕ → Command → Mark → Client → Option ClientSession → List Packet
 fills_behind w command mark c (Some kept) = while_connected kept.connection (fill_sends w (answered_flights command mark c kept.state.queue.in_flight) kept.state.queue.waiting)
 fills_behind w command mark c None = []

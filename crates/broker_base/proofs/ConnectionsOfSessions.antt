@@ -13,7 +13,7 @@ use Rattle.broker_base.specs.State.{Sessions, keyed, put_session}
 use Rattle.broker_base.specs.Step.{touches, session_after, sessions_left}
 use Rattle.broker_base.specs.StateLaws.{IsNobodys, AreApart}
 
--- ---- connections of nobody
+-- ---- connections without a client
 
 turned : (i j : ℕ) → (i == j) ≡ (j == i)
 turned i j = grind arith

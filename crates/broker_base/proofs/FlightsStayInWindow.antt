@@ -1,4 +1,5 @@
--- A step keeps no more of a session's entries in flight than the window allows, where the window does not shrink.
+-- A step keeps no more of a session's entries in flight than the window allows, if the window does
+-- not shrink.
 use Rattle.std.proofs.Common.{ℕ, ◌≤◌, suc, Bool, true, false, not, ◌&&◌, ◌||◌, if◌then◌else◌, Option, Some, None, List, [], ◌∷◌, length, filter, arith}
 use Rattle.session_base.specs.packet.declared.packet.Packet.TheVariants as packets
 use Rattle.broker_model.specs.retained.Retained.{RetainedTopics}

@@ -1,4 +1,4 @@
--- Where none of the sessions opens a connection, a connection stays that of one session at most.
+-- If none of the sessions opens a connection, a connection stays that of one session at most.
 use Rattle.std.proofs.Common.{◌≡◌, ℕ, Some, None, [], ◌∷◌, ◌∙◌, sym}
 use Rattle.broker_model.specs.retained.Retained.{RetainedTopics}
 use Rattle.broker_model.specs.Connection.{ConnectionName}
@@ -9,7 +9,7 @@ use Rattle.broker_base.specs.Step.{session_after, sessions_left}
 use Rattle.broker_base.specs.StateLaws.{IsNobodys, AreApart}
 use Rattle.broker_base.proofs.ConnectionsOfSessions.{not_after, nobodys_keyed, old_after, apart_keyed}
 
--- ---- where none of these opens a connection
+-- ---- if none of these opens a connection
 
 abbrev pub NoneOpens : Place → Sessions → Type 0
 NoneOpens place (row ∷ rows) = (accepts place.command place.mark row.0 ≡ None) × NoneOpens place rows

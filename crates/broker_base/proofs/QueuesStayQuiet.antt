@@ -1,5 +1,5 @@
--- A step leaves each connected client's queue quiet: it is filled where entries may start, and else nothing makes it
--- less quiet.
+-- A step leaves each connected client's queue quiet: it is filled when entries may start, and
+-- otherwise nothing makes it less quiet.
 use Rattle.std.proofs.Common.{◌≡◌, ℕ, Bool, true, false, not, ◌&&◌, ◌||◌, inl, inr, if◌then◌else◌, Option, Some, None, List, [], ◌∷◌, refl, ap, ◌∙◌, sym, subst}
 use Rattle.std.proofs.lemmas.Bool.{or_parts}
 use Rattle.session_base.specs.packet.declared.packet.Packet.TheVariants as packets
@@ -76,7 +76,7 @@ quiet_only : (w : ℕ) (b : Bool) (kept : ClientSession) → HasQuietQueue w kep
 quiet_only w true kept h = h
 quiet_only w false kept h = tt
 
--- where its connection stays, the window does, and so does what was quiet
+-- if its connection stays, the window stays, and what was quiet stays quiet
 quiet_same : (v w : ℕ) (place : Place) (c : Client) (kept : ClientSession) → (is_start place.command ≡ false → w ≡ v) → HasQuietQueue v kept →
     (x : ConnectionName) → only_if (not (ends_any place c kept.connection)) kept.connection ≡ Some x → QuietNow w kept.state.queue
 quiet_same v w place c kept window quiet x e = by (ends_any place c kept.connection) refl e quiet

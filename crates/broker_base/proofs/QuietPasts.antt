@@ -1,5 +1,5 @@
--- In every past a connected client's queue is quiet: nothing waits, or the window is full. A client with a
--- connection has a session. What a place makes of the entries of a session that goes on.
+-- In every past a connected client's queue is quiet: nothing waits, or the window is full. A client
+-- with a connection has a session. What a place does to the entries of a session that continues.
 use Rattle.std.proofs.Common.{◌≡◌, ℕ, ◌+◌, ◌≤◌, suc, Bool, true, false, not, ◌&&◌, ◌||◌, ◌⊎◌, inl, inr, nat_lt, if◌then◌else◌, Option, Some, None, List, [], ◌∷◌, ◌++◌, length, map, refl, ap, ◌∙◌, sym, arith}
 use Rattle.std.proofs.lemmas.List.{length-map}
 use Rattle.session_base.specs.declared.publication.Publication.{Publication}
@@ -98,7 +98,7 @@ no_connection [] c e = refl
 no_connection (place ∷ past) c e =
     no_session (accepts place.command place.mark c) (expels place.command c) (any_connection (ends place.command place.mark) (current_connection past c)) (session_of past c) (current_connection past c) (no_connection past c) e
 
--- ---- the entries of a session that goes on
+-- ---- the entries of a session that continues
 
 goes_on : (clean over : Bool) → over ≡ false → only_if (not (clean && over)) (Some clean) ≡ Some clean
 goes_on true over e = ap (λ b. only_if (not b) (Some true)) e

@@ -1,4 +1,4 @@
--- The step of the state that a past stands for; and so, command by command, of every list.
+-- The step of the state that a past corresponds to; and so, command by command, of every list.
 use Rattle.std.proofs.Common.{◌≡◌, ℕ, Bool, true, false, if◌then◌else◌, Option, Some, None, List, [], ◌∷◌, length, refl, ap, ap₂, ◌∙◌, sym}
 use Rattle.broker_model.specs.Place.{Mark, Place, Past, Limits}
 use Rattle.broker_model.specs.Past.{current_connection, session_of}

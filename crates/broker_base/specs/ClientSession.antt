@@ -1,4 +1,5 @@
--- What a broker keeps of one client's session, and what a past says that it is (MQTT 3.1.2.4, 4.1, 4.4).
+-- What a broker keeps for one client's session, and what a past says that it is (MQTT 3.1.2.4, 4.1,
+-- 4.4).
 use Rattle.std.specs.Prelude.{ℕ, Bool, List, [], ◌∷◌, ◌++◌, length, map, Option, option_map}
 use Rattle.session_base.specs.Session.{SessionState}
 use Rattle.session_base.specs.declared.awaits.Awaits.TheVariants as waits_for
@@ -12,7 +13,8 @@ use Rattle.broker_model.specs.Entries.{Entry}
 use Rattle.broker_model.specs.Readings.{released_below, waiting_of}
 use Rattle.broker_model.specs.Times.{entries_of}
 
--- a client's session: its CleanSession flag, the connection on which the client is served, and what stands in it
+-- a client's session: its CleanSession flag, the connection on which the client is served, and its
+-- contents
 pub record ClientSession : Type 0 where
   pub clean : Bool
   pub connection : Option ConnectionName
@@ -28,8 +30,8 @@ sent_flights [] = []
 abbrev pub released_flight : ℕ → Flight
 released_flight id = (id, waits_for.Pubcomp)
 
--- what is in flight of these entries: the released ones by the place of their release, of those below n, then
--- the sent ones
+-- what is in flight of these entries: first the released ones, those released below place n, in the
+-- order of release; then the sent ones
 abbrev pub flights_below : ℕ → List Entry → List Flight
 flights_below n entries = map released_flight (released_below n entries) ++ sent_flights entries
 
@@ -37,7 +39,7 @@ flights_below n entries = map released_flight (released_below n entries) ++ sent
 abbrev pub queue_of : ℕ → List Entry → Queue
 queue_of n entries = record { in_flight = flights_below n entries; waiting = waiting_of entries }
 
--- what a past says of a client's session, if it has one
+-- the session of a client that a past leads to, if it has one
 abbrev pub client_session : Limits → Past → Client → Option ClientSession
 client_session limits past c =
     option_map

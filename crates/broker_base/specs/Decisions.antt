@@ -1,4 +1,4 @@
--- What becomes of a command, as the state decides (MQTT 3.1.4, 3.8.4, 4.3.3, 4.8).
+-- The mark of a command, decided from the state (MQTT 3.1.4, 3.8.4, 4.3.3, 4.8).
 use Rattle.std.specs.Prelude.{Bool, false, not, ◌&&◌, ◌||◌, ◌==◌, nat_lt, nat_le, if◌then◌else◌, length, Option, Some, None, is_some, is_none, option_map}
 use Rattle.std.specs.List.{list_any}
 use Rattle.session_base.specs.packet.declared.delivery.Delivery.{Delivery}
@@ -18,28 +18,29 @@ use Rattle.broker_base.specs.State.{State, session_in, owner_in}
 use Rattle.broker_model.specs.declared.command.Command.{Command}
 use Rattle.broker_model.specs.declared.command.Command.TheVariants as commands
 
--- whether a session would have to queue the publication and is full
+-- whether a session would have to queue the publication but is full
 abbrev pub has_no_room_for : Limits → Publication → Client × ClientSession → Bool
 has_no_room_for limits p row =
     is_queued_at (option_map (lower_qos p.qos) (granted_qos p.topic row.1.state.subscriptions))
     && (room limits.entries row.1.state.queue == 0)
 
--- whether a publication is to be retained on a topic more than the limit
+-- whether a publication would be retained on one topic more than the limit
 abbrev pub is_one_topic_over : Limits → RetainedTopics → Publication → Bool
 is_one_topic_over limits content p =
     p.retain && not (is_empty p.payload) && is_none (publication_on p.topic content) && nat_le limits.retained (length content)
 
--- a publication is refused whole where one session has no room for it, or where it cannot be retained
+-- a publication is refused as a whole if one session has no room for it, or if it cannot be
+-- retained
 abbrev pub refuses : Limits → State → Publication → Bool
 refuses limits state p =
     list_any (has_no_room_for limits p) state.sessions || is_one_topic_over limits state.retained p
 
--- whether a delivery is another try of one that the session took
+-- whether a delivery repeats one that the session took
 abbrev pub is_again : ClientSession → Delivery → Bool
 is_again kept (deliveries.ExactlyOnce dup id) = has_id id kept.state.received
 is_again kept _ = false
 
--- a packet on the current connection of this session
+-- the mark of a packet on the current connection of this session
 abbrev pub owned_mark : Limits → State → Client × ClientSession → Packet → Mark
 owned_mark limits state owner (packets.Publish p) =
     if is_again owner.1 p.delivery then Mark.Repeat owner.0 else
@@ -54,18 +55,19 @@ owned_mark limits state owner packets.Pingresp = Mark.Leaves owner.0
 owned_mark limits state owner packets.Disconnect = Mark.Leaves owner.0
 owned_mark limits state owner _ = Mark.Handled owner.0
 
--- a packet counts on a current connection alone
+-- a packet counts only on a current connection
 abbrev pub packet_mark_in : Limits → State → Packet → Option (Client × ClientSession) → Mark
 packet_mark_in limits state packet (Some owner) = owned_mark limits state owner packet
 packet_mark_in limits state packet None = Mark.NoPart
 
--- a Connect on a current connection is a violation; any other is accepted where a session is kept or may begin
+-- a Connect on a current connection is a violation; any other is accepted if its client has a
+-- session or one may begin
 abbrev pub connect_mark_in : Limits → State → Client → Option (Client × ClientSession) → Mark
 connect_mark_in limits state c (Some owner) = Mark.Leaves owner.0
 connect_mark_in limits state c None =
     if is_some (session_in c state.sessions) || nat_lt (length state.sessions) limits.sessions then Mark.Accepted else Mark.Full
 
--- what becomes of a command in this state
+-- the mark of a command in this state
 abbrev pub mark_in : Limits → State → Command → Mark
 mark_in limits state (commands.Packet x packet) = packet_mark_in limits state packet (owner_in x state.sessions)
 mark_in limits state (commands.Connect x c clean) = connect_mark_in limits state c (owner_in x state.sessions)

@@ -1,4 +1,5 @@
--- What one more command makes of a client's session (MQTT 3.1.2.4, 3.1.4, 3.3.5, 3.8.4, 4.3, 4.4, 4.6).
+-- How one more command changes a client's session (MQTT 3.1.2.4, 3.1.4, 3.3.5, 3.8.4, 4.3, 4.4,
+-- 4.6).
 use Rattle.std.specs.Prelude.{ℕ, Bool, not, ◌&&◌, ◌||◌, if◌then◌else◌, List, [], Option, Some, None, option_map}
 use Rattle.session_base.specs.packet.declared.packet.Packet.TheVariants as packets
 use Rattle.broker_model.specs.retained.Retained.{RetainedTopics}
@@ -25,12 +26,12 @@ copies_with (commands.Packet x (packets.Subscribe s)) (Mark.Granted d which) con
     if same_client d c then copies_for_all content (granted_of s.filters which) else []
 copies_with _ _ content c held = []
 
--- a queue is filled while there is a connection
+-- a queue is filled only while there is a connection
 abbrev pub filled_on : Option ConnectionName → ℕ → List Flight → List Publication → Queue
 filled_on (Some x) window flights waiting = fill window flights waiting
 filled_on None window flights waiting = record { in_flight = flights; waiting = waiting }
 
--- what a client's answer leaves of its queue: what may start behind PUBACK and PUBCOMP starts (MQTT 4.6)
+-- the queue after a client's answer: after PUBACK and PUBCOMP, what may start starts (MQTT 4.6)
 abbrev pub answered_queue : ℕ → Command → Mark → Client → Option ConnectionName → Queue → Queue
 answered_queue window (commands.Packet x (packets.Puback id)) (Mark.Handled d) c connection queue =
     if same_client d c then filled_on connection window (on_puback id queue.in_flight) queue.waiting else queue
@@ -40,12 +41,13 @@ answered_queue window (commands.Packet x (packets.Pubcomp id)) (Mark.Handled d) 
     if same_client d c then filled_on connection window (on_pubcomp id queue.in_flight) queue.waiting else queue
 answered_queue window _ _ c connection queue = queue
 
--- what copies leave of it: with a connection, what may start behind each of them starts
+-- the queue after copies are added: with a connection, what may start starts after each copy
 abbrev pub copied_queue : ℕ → Option ConnectionName → List Publication → Queue → Queue
 copied_queue window (Some x) copies queue = copies_left window copies queue
 copied_queue window None copies queue = copies_waiting copies queue
 
--- a session goes on behind a command that is no accepted Connect of its client, with this connection or none
+-- the session after a command that is no accepted Connect of its client, with this connection or
+-- none
 abbrev pub kept_on : ℕ → Place → RetainedTopics → Client → Option ConnectionName → ClientSession → ClientSession
 kept_on window place content c connection old =
     record {
@@ -60,11 +62,11 @@ kept_on window place content c connection old =
       };
     }
 
--- a session begins on a connection, with nothing in it
+-- a session that begins on a connection, empty
 abbrev pub kept_anew : ConnectionName × Bool → ClientSession
 kept_anew opened = record { clean = opened.1; connection = Some opened.0; state = empty_session }
 
--- a session goes on, on a new connection, and what may start starts
+-- a session that continues on a new connection; what may start starts
 abbrev pub kept_resumed : ℕ → ConnectionName × Bool → ClientSession → ClientSession
 kept_resumed window opened old =
     record {
@@ -77,26 +79,28 @@ kept_resumed window opened old =
       };
     }
 
--- an accepted Connect of the client: a session that is not clean goes on where the Connect is not clean
+-- the session after an accepted Connect of the client: a session that is not clean continues if the
+-- Connect is not clean
 abbrev pub kept_connected : ℕ → ConnectionName × Bool → Option ClientSession → ClientSession
 kept_connected window opened None = kept_anew opened
 kept_connected window opened (Some old) =
     if opened.1 || old.clean then kept_anew opened else kept_resumed window opened old
 
--- any other command: the connection may end, and a clean session with it; an Expel of the client ends both
+-- the session after any other command: its connection may end, and a clean session with it; an
+-- Expel of the client ends both
 abbrev pub kept_later : ℕ → Place → RetainedTopics → Client → Option ClientSession → Option ClientSession
 kept_later window place content c None = None
 kept_later window place content c (Some old) =
     only_if (not (expels place.command c || (old.clean && ends_any place c old.connection)))
     (Some (kept_on window place content c (only_if (not (ends_any place c old.connection)) old.connection) old))
 
--- by what the command opens for the client
+-- the session after a command, by the connection that the command opens for the client, if any
 abbrev pub kept_by : ℕ → Place → RetainedTopics → Client → Option (ConnectionName × Bool) → Option ClientSession → Option ClientSession
 kept_by window place content c (Some opened) old = Some (kept_connected window opened old)
 kept_by window place content c None old = kept_later window place content c old
 
--- what is kept of the client's session after a place, with this window from then on and this content of the
--- retained publications before it
+-- the client's session after a place, with this window from then on, and these retained
+-- publications before it
 abbrev pub kept_after : ℕ → Place → RetainedTopics → Client → Option ClientSession → Option ClientSession
 kept_after window place content c old =
     kept_by window place content c (accepts place.command place.mark c) old

@@ -1,4 +1,4 @@
--- What a broker keeps of all its clients, and what a past says that it is (MQTT 4.1).
+-- What a broker keeps for all its clients, and what a past says that it is (MQTT 4.1).
 use Rattle.std.specs.Prelude.{ℕ, if◌then◌else◌, List, [], ◌∷◌, Option, Some, None}
 use Rattle.std.specs.BTreeMap.{insert_entry, is_at}
 use Rattle.std.specs.Map.{lookup}
@@ -11,23 +11,24 @@ use Rattle.broker_model.specs.Retained.{retained_publications}
 use Rattle.broker_model.specs.Times.{window_at}
 use Rattle.broker_base.specs.ClientSession.{ClientSession, client_session}
 
--- the sessions, by the bytes of their clients, each client once
+-- the sessions, ordered by the bytes of their clients, each client once
 abbrev pub Sessions : Type 0
 Sessions = List (Client × ClientSession)
 
--- how many entries of a session may be under way at once, the sessions, and what is retained
+-- how many entries of a session may be in flight at once, the sessions, and the retained
+-- publications
 pub record State : Type 0 where
   pub window : ℕ
   pub sessions : Sessions
   pub retained : RetainedTopics
 
--- a broker that began empty, with this window
+-- a broker that begins empty, with this window
 abbrev pub empty_state : ℕ → State
 empty_state window = record { window = window; sessions = []; retained = [] }
 
 -- ---- rows
 
--- one more row in front, if the client has a session
+-- adds one row in front, if the client has a session
 abbrev pub keyed : Client → Option ClientSession → Sessions → Sessions
 keyed c (Some kept) rows = (c, kept) ∷ rows
 keyed c None rows = rows
@@ -41,16 +42,16 @@ table session [] = []
 abbrev pub session_in : Client → Sessions → Option ClientSession
 session_in c rows = lookup (is_at (by_bytes c)) rows
 
--- a client's session in the place of the one that it had, or in its place by bytes
+-- sets a client's session: it replaces the old one, or is inserted at its place by bytes
 abbrev pub put_session : Client → ClientSession → Sessions → Sessions
 put_session c kept rows = insert_entry by_bytes rows c kept
 
--- the session whose current connection x is, with its client
+-- the session whose current connection is x, with its client
 abbrev pub owner_in : ConnectionName → Sessions → Option (Client × ClientSession)
 owner_in x (row ∷ rows) = if any_connection (same_connection x) row.1.connection then Some row else owner_in x rows
 owner_in x [] = None
 
--- ---- what a past stands for
+-- ---- the state after a past
 
 abbrev pub state_of : Limits → Past → State
 state_of limits past =

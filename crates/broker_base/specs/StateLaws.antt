@@ -1,5 +1,5 @@
--- What the sessions of a state meet, and a step keeps: a client once, a connection of one session at most, and
--- what stands in each session.
+-- What the sessions of a state satisfy and a step preserves: each client occurs once, a connection
+-- belongs to at most one session, and each session is sound.
 use Rattle.std.specs.Prelude.{◌≡◌, ℕ, ◌≤◌, ◌⊎◌, true, false, List, [], ◌∷◌, length, Some, None, is_some}
 use Rattle.std.specs.List.{AllByRecursion}
 use Rattle.std.specs.List.Sorted.{IsStrictlySortedBy}
@@ -20,8 +20,8 @@ use Rattle.broker_model.specs.declared.command.Command.{Command}
 
 -- ---- one session
 
--- Each filter stands once, received identifiers rise, those in flight are distinct, the released entries come first,
--- and a clean session has a connection (MQTT 2.3.1, 3.1.2.4, 3.8.4, 4.4).
+-- Each filter occurs once, received identifiers rise, those in flight are distinct, released
+-- entries come first, and a clean session has a connection (MQTT 2.3.1, 3.1.2.4, 3.8.4, 4.4).
 pub record IsSoundSession (kept : ClientSession) : Type 0 where
   pub filters : AreFiltersApart kept.state.subscriptions
   pub received : IsStrictlySortedBy nat_cmp kept.state.received
@@ -29,7 +29,7 @@ pub record IsSoundSession (kept : ClientSession) : Type 0 where
   pub released_first : IsReleasedFirst kept.state.queue.in_flight
   pub served : kept.clean ≡ true → is_some kept.connection ≡ true
 
--- a connected client's queue has nothing waiting, or its window is full
+-- if a client is connected, nothing waits in its queue or its window is full
 abbrev pub HasQuietQueue : ℕ → ClientSession → Type 0
 HasQuietQueue window kept =
     (kept.connection ≡ None) ⊎ IsQuietQueue window kept.state.queue.in_flight kept.state.queue.waiting
@@ -49,16 +49,16 @@ AllQuiet window rows = AllByRecursion (λ row. HasQuietQueue window row.1) rows
 abbrev pub AllInWindow : ℕ → Sessions → Type 0
 AllInWindow window rows = AllByRecursion (λ row. FitsWindow window row.1) rows
 
--- the sessions come by the bytes of their clients, each client once
+-- the sessions are ordered by the bytes of their clients, each client once
 abbrev pub AreByClient : Sessions → Type 0
 AreByClient rows = IsStrictlySortedBy by_bytes (keys_of rows)
 
--- x is the connection of none of these
+-- x is not the connection of any of these
 abbrev pub IsNobodys : ConnectionName → Sessions → Type 0
 IsNobodys x (row ∷ rows) = (any_connection (same_connection x) row.1.connection ≡ false) × IsNobodys x rows
 IsNobodys x [] = Unit {0}
 
--- a connection is that of one session at most
+-- a connection belongs to at most one session
 abbrev pub AreApart : Sessions → Type 0
 AreApart (row ∷ rows) =
     ((x : ConnectionName) → row.1.connection ≡ Some x → IsNobodys x rows) × AreApart rows
@@ -66,33 +66,33 @@ AreApart [] = Unit {0}
 
 -- ---- the state
 
--- what the sessions of a broker meet
+-- what the sessions of a broker satisfy
 pub record IsSound (state : State) : Type 0 where
   pub by_client : AreByClient state.sessions
   pub apart : AreApart state.sessions
   pub sessions : AllSound state.sessions
 
--- a step keeps it
+-- a step preserves it
 abbrev pub StaysSound : Type 0
 StaysSound =
     (limits : Limits) → (later : ℕ) → (state : State) → (command : Command) → IsSound state →
     IsSound (step limits later state command).0
 
--- and a step leaves the queues quiet where they were
+-- and a step keeps the queues quiet if they were
 abbrev pub StaysQuiet : Type 0
 StaysQuiet =
     (limits : Limits) → (later : ℕ) → (state : State) → (command : Command) → IsSound state →
     AllQuiet state.window state.sessions →
     AllQuiet (step limits later state command).0.window (step limits later state command).0.sessions
 
--- a step leaves no more in flight than the window allows, where that does not shrink
+-- a step leaves no more in flight than the window allows, if the window does not shrink
 abbrev pub StaysInWindow : Type 0
 StaysInWindow =
     (limits : Limits) → (later : ℕ) → (state : State) → (command : Command) → state.window ≤ later → IsSound state →
     AllInWindow state.window state.sessions →
     AllInWindow (step limits later state command).0.window (step limits later state command).0.sessions
 
--- so the state of every list of commands meets both
+-- so the state of every list of commands satisfies both
 abbrev pub ListsAreSound : Type 0
 ListsAreSound =
     (limits : Limits) → (later : ℕ) → (window : ℕ) → (commands : List Command) →

@@ -1,4 +1,5 @@
--- The broker's step: the state and the answers after one more command (MQTT 3.1.4, 3.3.1.3, 4.1, 4.3, 4.4).
+-- The broker's step: the state and the answers after one more command (MQTT 3.1.4, 3.3.1.3, 4.1,
+-- 4.3, 4.4).
 use Rattle.std.specs.Prelude.{◌≡◌, ℕ, Bool, false, ◌||◌, if◌then◌else◌, List, [], ◌∷◌, Option, Some, is_some}
 use Rattle.session_base.specs.packet.declared.packet.Packet.TheVariants as packets
 use Rattle.broker_model.specs.retained.Retained.{RetainedTopics}
@@ -16,8 +17,8 @@ use Rattle.broker_model.specs.declared.command.Command.{Command}
 use Rattle.broker_model.specs.declared.command.Command.TheVariants as commands
 use Rattle.broker_model.specs.declared.command.Output.{Output}
 
--- Whether a command is about this client's session with these subscriptions, apart from the end of its
--- connection: its client sent it, or a taken publication matches one of them.
+-- Whether a command concerns this client's session with these subscriptions, apart from the end of
+-- its connection: its client sent it, or it is a taken publication that matches one of them.
 abbrev pub is_about : Command → Mark → Client → List HeldFilter → Bool
 is_about (commands.Connect x d clean) Mark.Accepted c held = same_client d c
 is_about (commands.Packet x (packets.Publish p)) (Mark.Taken d) c held =
@@ -26,30 +27,30 @@ is_about command (Mark.Granted d which) c held = same_client d c
 is_about command (Mark.Handled d) c held = same_client d c
 is_about _ _ c held = false
 
--- whether a place touches a client's session; every other stays as it is
+-- whether a place touches a client's session; every other session stays as it is
 abbrev pub touches : Place → Client → ClientSession → Bool
 touches place c kept =
     ends_any place c kept.connection || is_about place.command place.mark c kept.state.subscriptions
 
--- a session after a place, if it is left
+-- a session after a place, if it still exists
 abbrev pub session_after : ℕ → Place → RetainedTopics → Client → ClientSession → Option ClientSession
 session_after window place content c kept =
     if touches place c kept then kept_after window place content c (Some kept) else Some kept
 
--- the sessions that were there before it
+-- the sessions from before a place that still exist after it
 abbrev pub sessions_left : ℕ → Place → RetainedTopics → Sessions → Sessions
 sessions_left window place content (row ∷ rows) =
     keyed row.0 (session_after window place content row.0 row.1) (sessions_left window place content rows)
 sessions_left window place content [] = []
 
--- and with that of the client of an accepted Connect
+-- the same, together with that of the client of an accepted Connect
 abbrev pub sessions_with : ℕ → Place → RetainedTopics → Sessions → Command → Mark → Sessions
 sessions_with window place content rows (commands.Connect x c clean) Mark.Accepted =
     put_session c (kept_connected window (x, clean) (session_in c rows))
     (sessions_left window place content rows)
 sessions_with window place content rows command mark = sessions_left window place content rows
 
--- the window after a command: this one from a Start on
+-- the window after a command: from a Start on it is this one
 abbrev pub window_after : ℕ → Command → ℕ → ℕ
 window_after later command window = if is_start command then later else window
 
@@ -64,7 +65,7 @@ step_at window place state = (
   answers_by_state window place state place.command place.mark,
 )
 
--- one more command, where the window from a Start on is `later`
+-- one more command; from a Start on the window is `later`
 abbrev pub step : Limits → ℕ → State → Command → State × List Output
 step limits later state command = step_at (window_after later command state.window) (place_in limits state command) state
 
@@ -79,7 +80,7 @@ steps_from limits later state (command ∷ commands) =
     (step limits later state command).1 ∷ steps_from limits later (step limits later state command).0 commands
 steps_from limits later state [] = []
 
--- the window of these limits changes at a Start alone, and is `later` from the first one on
+-- the window of these limits changes only at a Start, and is `later` from the first Start on
 abbrev pub IsWindow : Limits → ℕ → Type 0
 IsWindow limits later =
     (place : Place) → (past : Past) → limits.window (place ∷ past) ≡ window_after later place.command (limits.window past)

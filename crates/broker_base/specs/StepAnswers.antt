@@ -1,4 +1,5 @@
--- What the broker answers to a command, from the state before it (MQTT 3.1.4, 3.2, 3.3.4, 3.8.4, 4.3, 4.4).
+-- What the broker answers to a command, from the state before it (MQTT 3.1.4, 3.2, 3.3.4, 3.8.4,
+-- 4.3, 4.4).
 use Rattle.std.specs.Prelude.{ℕ, Bool, not, ◌||◌, if◌then◌else◌, List, [], ◌∷◌, ◌++◌, map, flat_map, Option, Some, None, option_map}
 use Rattle.session_base.specs.packet.declared.packet.Packet.{Packet}
 use Rattle.session_base.specs.packet.declared.packet.Packet.TheVariants as packets
@@ -22,13 +23,13 @@ abbrev pub sent_on : Option ConnectionName → List Packet → List Output
 sent_on (Some x) packets = map (Send x) packets
 sent_on None packets = []
 
--- what a session's client is sent of the copies that a place makes for it
+-- what a session's client is sent for the copies that a place makes for it
 abbrev pub copies_answered : ℕ → Place → RetainedTopics → Client × ClientSession → List Output
 copies_answered window place content row =
     sent_on row.1.connection
     (copies_sent window (copies_with place.command place.mark content row.0 row.1.state.subscriptions) row.1.state.queue)
 
--- the same of a client's session, if it has one
+-- the same for a client's session, if it has one
 abbrev pub copies_to : ℕ → Place → RetainedTopics → Client → Option ClientSession → List Output
 copies_to window place content c (Some kept) = copies_answered window place content (c, kept)
 copies_to window place content c None = []
@@ -38,7 +39,8 @@ abbrev pub while_connected : Option ConnectionName → List Packet → List Pack
 while_connected (Some x) packets = packets
 while_connected None packets = []
 
--- what a client's packet makes its session send on x: what starts behind a PUBACK or PUBCOMP, and PUBREL behind PUBREC
+-- what a client's packet makes its session send on x: what starts after a PUBACK or PUBCOMP, and
+-- PUBREL after PUBREC
 abbrev pub handled_sends : ℕ → Packet → ClientSession → List Packet
 handled_sends window (packets.Puback id) kept =
     while_connected kept.connection (fill_sends window (on_puback id kept.state.queue.in_flight) kept.state.queue.waiting)
@@ -47,7 +49,7 @@ handled_sends window (packets.Pubcomp id) kept =
 handled_sends window (packets.Pubrec id) kept = pubrec_sends id (on_pubrec id kept.state.queue.in_flight)
 handled_sends window _ kept = []
 
--- of a client's session, if it has one
+-- the same for a client's session, if it has one
 abbrev pub handled_of : ℕ → Packet → Option ClientSession → List Packet
 handled_of window packet (Some kept) = handled_sends window packet kept
 handled_of window packet None = []
@@ -72,12 +74,13 @@ packet_answers_in window place state x packet (Mark.Leaves c) = Close x ∷ []
 packet_answers_in window place state x packet (Mark.Refused c) = Close x ∷ []
 packet_answers_in window place state x packet _ = []
 
--- the connection of a session that there may be
+-- the connection of a session, if there is one
 abbrev pub connection_of : Option ClientSession → Option ConnectionName
 connection_of (Some kept) = kept.connection
 connection_of None = None
 
--- what a client that comes back is sent: what is in flight, then what starts; nothing where its session begins
+-- what a client that comes back is sent: what is in flight, then what starts; nothing if its
+-- session begins
 abbrev pub resumed : ℕ → Bool → Option ClientSession → List Packet
 resumed window clean (Some kept) =
     if clean || kept.clean then []

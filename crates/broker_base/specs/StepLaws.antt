@@ -1,4 +1,5 @@
--- Laws of the step: one command at a time it gives what the definitions say of the whole list of commands.
+-- Laws of the step: one command at a time, it gives what the definitions say for the whole list of
+-- commands.
 use Rattle.std.specs.Prelude.{◌≡◌, ℕ, false, List, [], ◌∷◌, Some, None}
 use Rattle.broker_model.specs.Place.{Client, Place, Past, Limits}
 use Rattle.broker_model.specs.Past.{accepts}
@@ -14,7 +15,7 @@ use Rattle.broker_base.specs.Decisions.{mark_in}
 use Rattle.broker_base.specs.Step.{touches, step, state_from, steps_from, IsWindow}
 use Rattle.broker_model.specs.declared.command.Command.{Command}
 
--- after one more place, whatever its mark, what is kept of each client's session is the step of what was kept
+-- after one more place, whatever its mark, each client's session is the step of what it was before
 abbrev pub StepsEachSession : Type 0
 StepsEachSession =
     (limits : Limits) → (later : ℕ) → IsWindow limits later → (place : Place) → (past : Past) → (c : Client) →
@@ -29,7 +30,7 @@ OthersStay =
     client_session limits past c ≡ Some kept → touches place c kept ≡ false →
     client_session limits (place ∷ past) c ≡ Some kept
 
--- a client that has no session gets one by an accepted Connect alone
+-- a client that has no session gets one only by an accepted Connect
 abbrev pub NoneBegins : Type 0
 NoneBegins =
     (limits : Limits) → (place : Place) → (past : Past) → (c : Client) →
@@ -42,28 +43,29 @@ FindsEachSession =
     (limits : Limits) → (past : Past) → (c : Client) →
     session_in c (state_of limits past).sessions ≡ client_session limits past c
 
--- the state decides what becomes of a command as the past does
+-- the state decides the mark of a command as the past does
 abbrev pub DecidesAsThePast : Type 0
 DecidesAsThePast =
     (limits : Limits) → (past : Past) → (command : Command) →
     mark_in limits (state_of limits past) command ≡ mark_of limits past command
 
--- the step of the state that a past stands for is the state that it stands for with one more place, and the
--- answers at that place
+-- the step on the state of a past gives the state of the past with one more place, and the answers
+-- at that place
 abbrev pub StepStandsFor : Type 0
 StepStandsFor =
     (limits : Limits) → (later : ℕ) → IsWindow limits later → (past : Past) → (command : Command) →
     step limits later (state_of limits past) command
     ≡ (state_of limits (place_of limits past command ∷ past), answers_of limits past command)
 
--- step by step, from the empty state, a list of commands gives the state that it stands for, and its answers
+-- step by step, from the empty state, a list of commands gives the state of the list, and its
+-- answers
 abbrev pub ListStandsFor : Type 0
 ListStandsFor =
     (limits : Limits) → (later : ℕ) → IsWindow limits later → (commands : List Command) →
     (state_from limits later (empty_state (limits.window [])) commands ≡ state_of limits (past_of limits commands))
     × (steps_from limits later (empty_state (limits.window [])) commands ≡ answers_from limits [] commands)
 
--- so it is for this broker
+-- the same for this broker
 abbrev pub UsualListStandsFor : Type 0
 UsualListStandsFor =
     (commands : List Command) →

@@ -1,4 +1,4 @@
--- Worked rows, computed by the step: full queues, identifiers and the window.
+-- Worked examples, computed by the step: full queues, identifiers and the window.
 use Rattle.std.specs.Prelude.{◌≡◌, ℕ, true, false, List, [], ◌∷◌, ◌++◌, Some, codes}
 use Rattle.session_base.specs.packet.declared.qos.QoS.TheVariants as levels
 use Rattle.session_base.specs.packet.declared.delivery.Delivery.TheVariants as deliveries
@@ -17,8 +17,8 @@ use Rattle.broker_model.specs.declared.command.Command.TheVariants as commands
 use Rattle.broker_model.specs.declared.command.Output.{Output}
 use Rattle.broker_model.specs.declared.command.Output.TheVariants.{Close}
 
--- the steps from the empty state, whose window is this one at first and the later one from a Start on, give these
--- answers to the next commands
+-- the steps from the empty state, whose window is this one at first and the later one from a Start
+-- on, give these answers to the next commands
 abbrev pub StepsGive : Limits → ℕ → ℕ → List Command → List Command → List (List Output) → Type 0
 StepsGive limits first later earlier next answers =
     steps_from limits later (state_from limits later (empty_state first) earlier) next ≡ answers
@@ -31,7 +31,8 @@ StepsRefuseAndGoOn =
     ∷ (sends 4 (packets.Pubrec 2) ∷ sends 3 (publish (deliveries.ExactlyOnce false 1) false (codes "y")) ∷ [])
     ∷ (sends 4 (packets.Pubrec 3) ∷ sends 3 (publish (deliveries.ExactlyOnce false 2) false (codes "z")) ∷ []) ∷ [])
 
--- the 17th publication goes out with the identifier that PUBACK frees, and comes last on the next connection
+-- the 17th publication is sent with the identifier that PUBACK frees, and comes last on the next
+-- connection
 abbrev pub StepsKeepTheOrder : Type 0
 StepsKeepTheOrder =
     StepsGive (small 100 16) 16 16 (routed 17) (gets 1 (packets.Puback 5) ∷ connect 3 b ∷ [])
@@ -39,14 +40,15 @@ StepsKeepTheOrder =
     ∷ (Close (nth 1) ∷ sends 3 (connack true)
     ∷ delivered 3 true (numbers 4 1 ++ numbers 11 6 ++ 5 ∷ [])) ∷ [])
 
--- a broker whose window was 16 at first sends 16, and 64 once a new ballot has begun
+-- a broker whose first window was 16 sends 16, and 64 once a new ballot has begun
 abbrev pub StepsWidenTheWindow : Type 0
 StepsWidenTheWindow =
     StepsGive usual_limits 16 64 seventy (connect 3 b ∷ commands.Start 2 ∷ connect 4 b ∷ [])
     ((sends 3 (connack true) ∷ delivered 3 false (numbers 16 1)) ∷ []
     ∷ (sends 4 (connack true) ∷ delivered 4 true (numbers 16 1) ++ delivered 4 false (numbers 48 17)) ∷ [])
 
--- ---- a state in which a connected client's queue is not quiet: one publication waits, and nothing is in flight
+-- ---- a state in which a connected client's queue is not quiet: one publication waits, and nothing
+-- is in flight
 
 abbrev pub waits_o : Publication
 waits_o = record { retain = false; qos = levels.AtLeastOnce; topic = codes "t/1"; payload = codes "o" }
@@ -70,7 +72,8 @@ serves_b queue =
 abbrev pub o_waits : State
 o_waits = serves_b (record { in_flight = []; waiting = waits_o ∷ [] })
 
--- PINGREQ, PUBREC, PUBREL and UNSUBSCRIBE start nothing, so no entry starts whose PUBLISH nobody gets
+-- PINGREQ, PUBREC, PUBREL and UNSUBSCRIBE start nothing, so no entry starts whose PUBLISH no client
+-- gets
 abbrev pub OthersStartNothing : Type 0
 OthersStartNothing =
     (step usual_limits 64 o_waits (gets 1 packets.Pingreq) ≡ (o_waits, sends 1 packets.Pingresp ∷ []))
@@ -78,7 +81,7 @@ OthersStartNothing =
     × (step usual_limits 64 o_waits (gets 1 (packets.Pubrel 7)) ≡ (o_waits, sends 1 (packets.Pubcomp 7) ∷ []))
     × (step usual_limits 64 o_waits (gets 1 (unsubscribe 3)) ≡ (o_waits, sends 1 (packets.Unsuback 3) ∷ []))
 
--- PUBACK and PUBCOMP, whatever they answer, are followed by the start of what waits, and it is sent (MQTT 4.6)
+-- after PUBACK and PUBCOMP, whatever they answer, what waits starts and is sent (MQTT 4.6)
 abbrev pub o_started : State
 o_started = serves_b (record { in_flight = (1, waits_for.Puback waits_o) ∷ []; waiting = [] })
 

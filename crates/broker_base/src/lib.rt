@@ -1,5 +1,5 @@
-//! The step that adds one command to what a broker keeps, on records and lists: behind every list of
-//! commands its state and its answers are those that the list stands for.
+//! The step of a broker on one more command, on records and lists: after every list of commands its
+//! state and its answers are those of the list.
 #![tactic(auto)]
 
 mod step_laws;

@@ -14,44 +14,44 @@ ghost use Rattle.broker_base.specs.StepLaws.{
 ghost use Rattle.broker_base.specs.StateLaws.{StaysSound, StaysQuiet, StaysInWindow, ListsAreSound};
 ghost use Rattle.broker_base.specs.StepRows.{StepsRefuseAndGoOn, StepsKeepTheOrder, StepsWidenTheWindow, OthersStartNothing, AnswersStartWhatWaits};
 
-/// One more command, whatever becomes of it, changes what is kept of each client's session as the
-/// step of one session says.
+/// One more command, whatever its mark, changes each client's session as the step of one session
+/// says.
 pub fn session_step()
     ensures { StepsEachSession }
 {}
 
-/// A command leaves as it is each session that it does not touch, and begins none but that of the
+/// A command does not change a session that it does not touch, and begins none except that of the
 /// client of an accepted Connect.
 pub fn others_stay()
     ensures stays { OthersStay }
     ensures none_begins { NoneBegins }
 {}
 
-/// The state that a past stands for has each session under its client, and decides what becomes of
-/// a command as the past does.
+/// The state of a past has each session under its client, and decides the mark of a command as the
+/// past does.
 pub fn decisions_stand_for()
     ensures sessions { FindsEachSession }
     ensures marks { DecidesAsThePast }
 {}
 
-/// One step of the state that a past stands for gives the state that it stands for with the command
-/// added, and the answers to the command.
+/// One step of the state of a past gives the state of the past with the command added, and the
+/// answers to the command.
 pub fn step_stands_for()
     ensures { StepStandsFor }
 {}
 
-/// A list of commands, taken step by step from the empty state, gives the state that it stands for,
-/// and its answers.
+/// A list of commands, taken step by step from the empty state, gives the state of the list, and
+/// its answers.
 pub fn list_stands_for()
     ensures every { ListStandsFor }
     ensures usual { UsualListStandsFor }
     ensures growing { GrowingListStandsFor }
 {}
 
-/// A step keeps the sessions by the bytes of their clients, each connection that of one session at
-/// most, and each session in its form: filters and identifiers apart, released entries first, a clean
-/// one connected; it leaves each connected client's queue with nothing waiting or a full window, and
-/// no more in flight than the window allows, where that does not shrink.
+/// A step keeps the sessions ordered by the bytes of their clients, each connection in at most one
+/// session, and each session in its form: filters and identifiers distinct, released entries first,
+/// a clean one connected. In each connected client's queue nothing waits or the window is full, and
+/// no more is in flight than the window allows, if that does not shrink.
 pub fn states_stay_sound()
     ensures step { StaysSound }
     ensures quiet { StaysQuiet }
@@ -59,16 +59,16 @@ pub fn states_stay_sound()
     ensures lists { ListsAreSound }
 {}
 
-/// Three worked rows, computed step by step: a full queue, the order on a later connection, and a
-/// window that grows.
+/// Three worked examples, computed step by step: a full queue, the order on a later connection, and
+/// a window that grows.
 pub fn rows_step_by_step()
     ensures full_queue { StepsRefuseAndGoOn }
     ensures order { StepsKeepTheOrder }
     ensures window { StepsWidenTheWindow }
 {}
 
-/// Entries start at a Connect, behind PUBACK and PUBCOMP, and behind each copy that is queued, also
-/// in a state that was read whose queue could have started before.
+/// Entries start at a Connect, after PUBACK and PUBCOMP, and after each copy that is queued; also
+/// in a state that was read from bytes whose queue could have started before.
 pub fn entries_start_where_they_are_sent()
     ensures others { OthersStartNothing }
     ensures answers { AnswersStartWhatWaits }

@@ -1,4 +1,4 @@
-// A broker with the clients that talk to it, each of which answers what it gets at once.
+// A broker with its clients, each of which answers at once what it gets.
 
 use anyhow::{Result, anyhow};
 use broker::BrokerMachine;
@@ -24,7 +24,7 @@ pub struct Clients {
 }
 
 impl Clients {
-    /// A broker that begins in ballot 1.
+    /// Returns a broker that begins in ballot 1.
     pub fn new(alloc: Global) -> Result<Clients> {
         let mut clients = Clients {
             broker: BrokerMachine::fresh(alloc)?,
@@ -70,7 +70,8 @@ impl Clients {
         self.subscribe(count, wanted)
     }
 
-    /// A client publishes under identifier 1, and all clients answer what comes of it until nothing is under way.
+    /// A client publishes under identifier 1, and all clients answer the result of it until nothing
+    /// is in transit.
     pub fn publish(&mut self, count: u64, topic: &TopicName, qos: QoS, retain: bool) -> Result<()> {
         let publish = publication(self.alloc, topic, qos, retain)?;
         self.send(count, Packet::Publish(publish))
@@ -99,7 +100,7 @@ impl Clients {
         }
     }
 
-    // Does a command alone, and keeps what the clients answer.
+    // Does one command, and keeps what the clients answer.
     fn take(&mut self, command: &Command) -> Result<bool> {
         let mut given = Vec::new(self.alloc);
         self.broker.apply(command, &mut given)?;
@@ -134,7 +135,7 @@ fn publication(alloc: Global, topic: &TopicName, qos: QoS, retain: bool) -> Resu
     })
 }
 
-/// The name of a connection of ballot 1.
+/// Returns the name of a connection of ballot 1.
 fn name_of(count: u64) -> Result<ConnectionId> {
     ConnectionId::new(1, count).ok_or_else(|| anyhow!("no connection has the number {count}"))
 }
@@ -147,7 +148,7 @@ fn delivery_at(qos: QoS) -> Delivery {
     }
 }
 
-// What a client answers to a packet (MQTT 4.3).
+// Returns what a client answers to a packet (MQTT 4.3).
 fn answer_to(packet: &Packet) -> Option<Packet> {
     match packet {
         Packet::Publish(publish) => match publish.delivery {

@@ -1,4 +1,4 @@
-// Sessions that stand beside what is measured.
+// Sessions that exist in addition to what is measured.
 
 use crate::clients::Clients;
 use anyhow::Result;
@@ -51,7 +51,8 @@ fn visit(clients: &mut Clients, alloc: Global, session: u32, filters: Filters) -
     clients.lose(count)
 }
 
-/// Returns as many filters, which the sessions share, or of which all but the first are a session's own.
+/// Returns this many filters, which the sessions share, or of which all but the first are a
+/// session's own.
 pub fn wanted(alloc: Global, filters: u32, owner: Option<u32>) -> Result<Vec<Subscription>> {
     let mut wanted = Vec::new(alloc);
     put_all(alloc, filters, owner, &mut wanted)?;

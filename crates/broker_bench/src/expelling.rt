@@ -1,4 +1,4 @@
-// A session that has as much as it may have is expelled, beside as many others as there may be.
+// A full session is expelled, while there are as many others as there may be.
 
 use crate::clients::Clients;
 use crate::crowd::{self, Filters};
@@ -8,13 +8,13 @@ use packet::QoS;
 use std::time::CpuClock;
 use topics::TopicName;
 
-/// How many sessions stand beside it. One more is its publisher's.
+/// How many other sessions there are. One more is the publisher's.
 const BESIDE: u32 = 4_094;
 
 /// How many publications wait in its queue.
 const WAITING: u32 = 4_096;
 
-/// Prints the time in which the session is gone.
+/// Prints how long it takes to end the session.
 pub fn run(rt: &HostRuntime) -> Result<()> {
     let mut clients = Clients::new(rt.alloc())?;
     measure(rt, &mut clients)

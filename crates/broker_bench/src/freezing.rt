@@ -11,7 +11,7 @@ use std::alloc::Global;
 use std::time::CpuClock;
 use topics::TopicName;
 
-/// How many sessions there are beside the publisher's: at most one less than a broker has.
+/// How many sessions there are besides the publisher's: at most one less than a broker has.
 const SESSIONS: [u32; 4] = [0, 100, 1_000, 4_095];
 
 /// How many publications wait for each session.
@@ -20,7 +20,7 @@ const WAITING: [u32; 2] = [0, 100];
 /// Whose filters the sessions have.
 const KINDS: [Filters; 2] = [Filters::Shared, Filters::Own];
 
-/// A broker's sessions beside the publisher's.
+/// A broker's sessions besides the publisher's.
 #[derive(Clone, Copy)]
 struct Crowd {
     sessions: u32,
@@ -89,7 +89,7 @@ fn measure(rt: &HostRuntime, clients: &Clients, of: Crowd, bytes: &mut Vec<u8>) 
     Ok(())
 }
 
-// Returns the time of reading alone: what was read is dropped after the clock is.
+// Returns the time of reading alone: the clock is read before what was read is dropped.
 fn thaw(rt: &HostRuntime, bytes: &[u8]) -> Result<u128> {
     let start = rt.process_cpu_time()?;
     let read = BrokerMachine::thaw(rt.alloc(), bytes)?;

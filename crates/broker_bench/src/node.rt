@@ -1,4 +1,5 @@
-// Publications through one node, each with all handshakes, as bytes: items by themselves, and with what is handed over.
+// Publications through one node, each with all handshakes, as bytes: items by themselves, and with
+// what is handed over.
 
 use crate::traffic::{Part, Traffic, connect, packets_of, subscribe};
 use anyhow::{Result, anyhow, ensure};
@@ -12,8 +13,8 @@ use world_base::{Item, NodeCore, Piece, Port};
 /// How many publications a figure rests on.
 const PUBLICATIONS: u32 = 61_440;
 
-/// Prints the time of a publication at each QoS, with 12 and 60 connections of which every other one publishes to the one
-/// after it, in pieces of one packet and of 64.
+/// Prints the time of a publication at each QoS, with 12 and 60 connections of which every other
+/// one publishes to the one after it, in pieces of one packet and of 64.
 pub fn run(rt: &HostRuntime) -> Result<()> {
     for connections in &[12, 60] {
         for qos in &[QoS::AtMostOnce, QoS::AtLeastOnce, QoS::ExactlyOnce] {
@@ -25,7 +26,8 @@ pub fn run(rt: &HostRuntime) -> Result<()> {
     Ok(())
 }
 
-// The same traffic with nothing handed over, and with all. What is large is lent below, so that no way out has to drop it.
+// The same traffic with nothing handed over, and with all. What is large is lent below, so that no
+// way out has to drop it.
 fn compare(rt: &HostRuntime, connections: u64, qos: QoS, packets: u8) -> Result<()> {
     let traffic = Traffic::new(rt.alloc(), connections, qos, packets)?;
     compare_with(rt, connections, qos, packets, &traffic)
@@ -38,7 +40,8 @@ fn compare_with(
     packets: u8,
     traffic: &Traffic,
 ) -> Result<()> {
-    // Each packet becomes a place of the log: the CONNECTs, the SUBSCRIBEs, and those of all publications.
+    // Each packet becomes a place of the log: the CONNECTs, the SUBSCRIBEs, and those of all
+    // publications.
     let places = u64::from(PUBLICATIONS)
         .saturating_mul(packets_of(qos))
         .saturating_add(connections)
@@ -52,7 +55,7 @@ fn compare_with(
     Ok(())
 }
 
-// The time of a publication with a node of its own.
+// Returns the time of a publication with a node of its own.
 fn measure(
     rt: &HostRuntime,
     connections: u64,
@@ -126,7 +129,8 @@ fn step(alloc: Global, node: &mut NodeCore, item: Item) {
     node.step(item, &mut effects);
 }
 
-// Brings the bytes of a part, and takes what is put out for its client and for the one beside it.
+// Brings the bytes of a part, and takes what is sent to its client and to the other client of the
+// pair.
 fn take(
     alloc: Global,
     node: &mut NodeCore,

@@ -14,11 +14,12 @@ const ROUNDS: u32 = 100_000;
 /// The connection of the publisher; those of the subscribers follow.
 const PUBLISHER: u64 = 1;
 
-/// How many sessions stand beside: with the publisher's and the subscriber's as many as there may be.
+/// How many other sessions there are: with the publisher's and the subscriber's, as many as there
+/// may be.
 const BESIDE: u32 = 4_094;
 
 /// Prints the time of a publication at each QoS: to one subscriber, to ten, and to one with many
-/// sessions beside it.
+/// other sessions.
 pub fn run(rt: &HostRuntime) -> Result<()> {
     for qos in &[QoS::AtMostOnce, QoS::AtLeastOnce, QoS::ExactlyOnce] {
         measure(rt, *qos, 1, 0)?;

@@ -10,7 +10,8 @@ use topics::TopicName;
 /// How many publications wait.
 const WAITING: u32 = 4_000;
 
-/// Prints the time for each publication that is put into the queue, and that leaves it with its handshake.
+/// Prints the time for each publication that is put into the queue, and that leaves it with its
+/// handshake.
 pub fn run(rt: &HostRuntime) -> Result<()> {
     for qos in &[QoS::AtLeastOnce, QoS::ExactlyOnce] {
         with_new_clients(rt, *qos)?;

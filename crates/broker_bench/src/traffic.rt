@@ -10,7 +10,7 @@ const PAYLOAD: [u8; 64] = [7; 64];
 /// What every CONNECT holds after its length: protocol, level, no flags, no keep alive.
 const PROTOCOL: [u8; 10] = [0x00, 0x04, 0x4D, 0x51, 0x54, 0x54, 0x04, 0x00, 0x00, 0x00];
 
-/// Bytes that come on a port, whose client talks with that of another port.
+/// Bytes that come on a port, whose client exchanges publications with that of another port.
 #[derive(Drop)]
 pub struct Part {
     pub port: u64,
@@ -26,7 +26,7 @@ pub struct Traffic {
 }
 
 impl Traffic {
-    /// Each second of so many clients gets a piece of so many publications.
+    /// Every second one of this many clients gets a piece of this many publications.
     pub fn new(alloc: Global, connections: u64, qos: QoS, packets: u8) -> Result<Traffic> {
         let mut parts = Vec::new(alloc);
         put_rounds(alloc, connections / 2, qos, packets, &mut parts)?;
@@ -38,7 +38,7 @@ impl Traffic {
         })
     }
 
-    /// How many publications a round has.
+    /// Returns how many publications a round has.
     pub fn publications(&self) -> u32 {
         self.publications
     }
@@ -61,7 +61,8 @@ fn put_rounds(
 /// How many publications of a session a broker sends before it waits for an answer.
 const WINDOW: u8 = 64;
 
-/// What a subscriber answers to a PUBLISH in turn, and what its publisher says after its own: the first bytes (MQTT 4.3).
+/// Returns what a subscriber answers to a PUBLISH in turn, and what its publisher says after its
+/// own: the first bytes (MQTT 4.3).
 fn answers(qos: QoS) -> (&'static [u8], &'static [u8]) {
     match qos {
         QoS::AtMostOnce => (&[], &[]),
@@ -70,7 +71,7 @@ fn answers(qos: QoS) -> (&'static [u8], &'static [u8]) {
     }
 }
 
-/// How many packets come in for a publication, from its publisher and its subscriber.
+/// Returns how many packets come in for a publication, from its publisher and its subscriber.
 pub fn packets_of(qos: QoS) -> u64 {
     let (subscriber, publisher) = answers(qos);
     let answers = subscriber.len().saturating_add(publisher.len());
@@ -106,8 +107,8 @@ fn put_publishes(
     Ok(())
 }
 
-// Packets with an identifier and no more, in pieces: so many times each of these kinds in turn, with identifiers that
-// begin anew after the greatest.
+// Packets with an identifier and no more, in pieces: this many times each of these kinds in turn,
+// with identifiers that begin again at 1 after the greatest.
 fn say(
     alloc: Global,
     ports: (u64, u64),
@@ -184,7 +185,7 @@ fn put_body(alloc: Global, port: u64, qos: QoS, id: u8, body: &mut Vec<u8>) -> R
     Ok(())
 }
 
-/// The CONNECT of the client by a port.
+/// Returns the CONNECT of the client by a port.
 pub fn connect(alloc: Global, port: u64) -> Result<Part> {
     let mut body = Vec::new(alloc);
     put_client(alloc, port, &mut body)?;
@@ -201,7 +202,7 @@ fn put_client(alloc: Global, port: u64, body: &mut Vec<u8>) -> Result<()> {
     put_text(client.as_str(), body)
 }
 
-/// A SUBSCRIBE at QoS 2 to what the client by the port before publishes.
+/// Returns a SUBSCRIBE at QoS 2 to what the client by the port before publishes.
 pub fn subscribe(alloc: Global, port: u64) -> Result<Part> {
     let other = port.saturating_sub(1);
     let mut body = Vec::new(alloc);

@@ -131,7 +131,7 @@ few_sessions limits later state command sorted few =
 
 -- ---- retained publications
 
--- what is retained is in its range, in its order, and within the limit
+-- what is retained is in its range, in order, and within the limit
 pub record AreRetained (limits : Limits) (content : RetainedTopics) : Type 0 where
   pub rising : IsRising content
   pub few : length content ≤ limits.retained

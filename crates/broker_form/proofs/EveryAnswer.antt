@@ -31,7 +31,7 @@ use Rattle.broker_form.proofs.States.{found_in_range, stays_in_range}
 
 -- ---- packets
 
--- what holds of every answer to a packet with the mark that it has
+-- what holds for every answer to a packet with the mark that it has
 abbrev Answered : ℕ → State → ConnectionName → Packet → Mark → Type 0
 Answered w state x packet mark =
     AllSpelled (packet_answers_in w (record { command = commands.Packet x packet; mark = mark }) state x packet mark)

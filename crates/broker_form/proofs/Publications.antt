@@ -42,7 +42,7 @@ marked r s levels.AtMostOnce topic payload h = h
 marked r s levels.AtLeastOnce topic payload h = h
 marked r s levels.ExactlyOnce topic payload h = h
 
--- at QoS 0, where it can be sent at another
+-- at QoS 0, if it can be sent at another
 at_most_once : (r : Bool) (qos : QoS) (topic payload : List ℕ) → CanBeSent (made r qos topic payload) → CanBeSent (made r levels.AtMostOnce topic payload)
 at_most_once r levels.AtMostOnce topic payload h = h
 at_most_once r levels.AtLeastOnce topic payload h = ((h.0.0, tt), tt, shorter topic payload h.2)

@@ -1,4 +1,5 @@
--- In rows by client with connections apart, each may stand where it stands, and the other way round.
+-- In rows by client whose connections are distinct, each row may be where it is, and the other way
+-- round.
 use Rattle.std.proofs.Common.{◌≡◌, ℕ, Bool, true, false, not, ◌&&◌, if◌then◌else◌, Option, Some, None, List, [], ◌∷◌, ◌++◌, refl, sym, ap, ◌∙◌}
 use Rattle.std.specs.Prelude.{is_some}
 use Rattle.std.specs.declared.cmp.Ordering.{Ordering}
@@ -36,7 +37,7 @@ less_of Greater e = absurd (cc)
 
 -- ---- keys
 
--- each key comes behind the last one before it
+-- each key comes after the last one before it
 abbrev pub Behind : {X : Type 0} → Table X → Table X → Type 0
 Behind front [] = Unit {0}
 Behind front (row ∷ rows) = (is_behind (last_of front) row.0 ≡ true) × Behind (front ++ row ∷ []) rows

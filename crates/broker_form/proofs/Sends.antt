@@ -36,14 +36,14 @@ fills_are_packets w n fs (p ∷ ps) m h k few =
     by true more = (spelled false (started_flight fs p).0 p (free_is_id fs p (omega (arith, few, m))) k.0.1, more)
     by false more = tt
 
--- what is sent anew
+-- what is sent again
 pub resends_are_packets : (fs : List Flight) → AllByRecursion IsInFlight fs → AllPackets (resend fs)
 resends_are_packets [] h = tt
 resends_are_packets ((id, waits_for.Puback p) ∷ fs) h = (spelled true id p h.0.0 h.0.2, resends_are_packets fs h.1)
 resends_are_packets ((id, waits_for.Pubrec p) ∷ fs) h = (spelled true id p h.0.0 h.0.2, resends_are_packets fs h.1)
 resends_are_packets ((id, waits_for.Pubcomp) ∷ fs) h = ((h.0, tt, omega arith), resends_are_packets fs h.1)
 
--- PUBREL behind PUBREC
+-- PUBREL after PUBREC
 pub pubrels_are_packets : (id : ℕ) (fs : List Flight) → IsId id → AllPackets (pubrec_sends id fs)
 pubrels_are_packets id fs h = by (list_any (λ flight. awaits_pubcomp id flight) fs)
   where
@@ -56,7 +56,7 @@ not_answered levels.AtMostOnce e = refl
 not_answered levels.AtLeastOnce e = absurd (cc)
 not_answered levels.ExactlyOnce e = absurd (cc)
 
--- copies, and what starts behind each
+-- copies, and what starts after each
 pub copies_are_packets : (w n : ℕ) (copies : List Publication) (q : Queue) → n + length (queued copies) < 2 ^ 16 → AllByRecursion CanBeSent copies →
     IsQueue n q → AllPackets (copies_sent w copies q)
 copies_are_packets w n [] q m k h = tt

@@ -1,4 +1,4 @@
--- A place leaves a session in its range, where there is room in it for what the place makes.
+-- A place leaves a session in its range, if there is room in it for what the place makes.
 use Rattle.std.proofs.Common.{◌≡◌, ℕ, ◌+◌, ◌≤◌, ◌<◌, ◌^◌, Bool, true, false, not, ◌&&◌, ◌||◌, if◌then◌else◌, Option, Some, None, List, length, refl, subst, arith}
 use Rattle.std.specs.Prelude.{IsTrue}
 use Rattle.std.specs.List.{AllByRecursion}
@@ -67,7 +67,7 @@ copied w n None copies q m k h = waiting_in_range n copies q k h
 exact : (limit : ℕ) (q : Queue) → IsQueue limit q → IsQueue (length q.in_flight + length q.waiting) q
 exact limit q h = record { in_flight = h.in_flight; waiting = h.waiting; few = omega arith }
 
--- ---- a session that goes on
+-- ---- a session that continues
 
 goes_on : (w : ℕ) (limits : Limits) (place : Place) (content : RetainedTopics) (c : Client) (connection : Option ConnectionName) (old : ClientSession) →
     limits.entries < 2 ^ 16 → IsBrokerCommand place.command → AllByRecursion IsRetained content → IsNamed connection →

@@ -1,5 +1,5 @@
--- The bytes to which a broker is frozen, form 2, and the broker that bytes of form 1 or 2 stand for. Numbers are
--- big-endian, a text has its length in two bytes before it.
+-- The bytes to which a broker is frozen, form 2, and the broker that is thawed from bytes of form 1
+-- or 2. Numbers are big-endian, a text has its length in two bytes before it.
 use Rattle.std.specs.Prelude.{ℕ, true, false, not, ◌&&◌, ◌||◌, ◌==◌, Bool, nat_lt, nat_le, if◌then◌else◌, List, [], ◌∷◌, ◌++◌, length, Option, Some, None, is_some, Result, Ok, Err}
 use Rattle.std.specs.Int.{w64, to_be_bytes, from_be_bytes}
 use Rattle.std.specs.Ordering.{is_lt}
@@ -102,9 +102,9 @@ retained_at bytes = do
   row ← retainable (topic.0, record { qos = qos.0; payload = payload.0 })
   Ok (row, payload.1)
 
--- ---- which may stand behind which
+-- ---- the order of rows
 
--- the key comes behind the last row's, if there is one
+-- the key comes after the last row's, if there is one
 abbrev pub is_behind : {X : Type 0} → Option (List ℕ × X) → List ℕ → Bool
 is_behind (Some last) key = is_lt (by_bytes last.0 key)
 is_behind None key = true
@@ -114,7 +114,7 @@ abbrev pub is_taken : Sessions → Option ConnectionName → Bool
 is_taken rows (Some x) = is_some (owner_in x rows)
 is_taken rows None = false
 
--- clients rise, and no connection is another's
+-- clients rise, and no connection is used twice
 abbrev pub row_follows : Sessions → Client × ClientSession → Bool
 row_follows front row = is_behind (last_of front) row.0 && not (is_taken front row.1.connection)
 
@@ -155,6 +155,6 @@ abbrev pub found : {A : Type 0} → Result A Stop → Option A
 found (Ok a) = Some a
 found (Err stop) = None
 
--- the broker that bytes stand for, if any
+-- the broker that is thawed from bytes, if any
 abbrev pub thawed : List ℕ → Option State
 thawed bytes = found (broker_at bytes)

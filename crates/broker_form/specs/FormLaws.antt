@@ -1,4 +1,5 @@
--- What a broker is frozen to is thawed as that broker; what is thawed is in its ranges, and is frozen as it stood.
+-- A frozen broker is thawed as that broker; what is thawed is in its ranges, and is frozen to the
+-- same bytes.
 use Rattle.std.specs.Prelude.{◌≡◌, ℕ, ◌⊎◌, List, Some, IfOk}
 use Rattle.session_form.specs.FormLaws.{AreBytes}
 use Rattle.broker_model.specs.Commands.{usual_limits}
@@ -8,7 +9,8 @@ use Rattle.broker_base.specs.StateLaws.{AllInWindow}
 use Rattle.broker_form.specs.InRange.{IsBrokerState}
 use Rattle.broker_form.specs.Form.{frozen, frozen_before, broker_at, thawed}
 
--- a state of this broker: its window is 16 or 64, and no more of a session is in flight than it allows
+-- a state of this broker: its window is 16 or 64, and no more of a session is in flight than it
+-- allows
 abbrev pub IsUsualState : State → Type 0
 IsUsualState state =
     IsBrokerState usual_limits state × IsWindowSize state.window × AllInWindow state.window state.sessions
@@ -16,7 +18,7 @@ IsUsualState state =
 abbrev pub FrozenIsThawed : Type 0
 FrozenIsThawed = (state : State) → IsUsualState state → thawed (frozen state) ≡ Some state
 
--- the same of form 1, where the window is 16
+-- the same for form 1, if the window is 16
 abbrev pub FrozenBeforeIsThawed : Type 0
 FrozenBeforeIsThawed =
     (state : State) → IsUsualState state → state.window ≡ 16 → thawed (frozen_before state) ≡ Some state
@@ -24,7 +26,8 @@ FrozenBeforeIsThawed =
 abbrev pub ThawedIsInRange : Type 0
 ThawedIsInRange = (bytes : List ℕ) → AreBytes bytes → IfOk (broker_at bytes) IsUsualState
 
--- bytes from which a broker is thawed are those to which it is frozen, in form 2, or in form 1 with the window of 16
+-- bytes from which a broker is thawed are those to which it is frozen, in form 2, or in form 1 with
+-- the window of 16
 abbrev pub ThawedIsFrozen : Type 0
 ThawedIsFrozen =
     (bytes : List ℕ) → (state : State) → AreBytes bytes → thawed bytes ≡ Some state →

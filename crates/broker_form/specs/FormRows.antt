@@ -1,5 +1,5 @@
--- Worked rows of the forms: the broker without sessions, and with the session of client `a`, which is not clean, on
--- connection 1 of ballot 1.
+-- Worked examples of the forms: the broker without sessions, and with the session of client `a`,
+-- which is not clean, on connection 1 of ballot 1.
 use Rattle.std.specs.Prelude.{◌≡◌, ℕ, false, List, [], ◌∷◌, Option, Some, None}
 use Rattle.session_base.specs.Session.{empty_session}
 use Rattle.broker_model.specs.Commands.{usual_limits}
@@ -26,7 +26,7 @@ content_of_a =
     0 ∷ 1 ∷ 0 ∷ 1 ∷ 0x61 ∷ 0 ∷ 1 ∷ 0 ∷ 0 ∷ 0 ∷ 0 ∷ 0 ∷ 0 ∷ 0 ∷ 1 ∷ 0 ∷ 0 ∷ 0 ∷ 0 ∷ 0 ∷ 0 ∷ 0 ∷ 1
     ∷ 0 ∷ 0 ∷ 0 ∷ 0 ∷ 0 ∷ 0 ∷ 0 ∷ 0 ∷ 0 ∷ []
 
--- a broker that begins is frozen to form 2, with the window of 64
+-- a new broker is frozen to form 2, with the window of 64
 abbrev pub FreshIsFrozen : Type 0
 FreshIsFrozen = frozen (empty_state 64) ≡ 0x02 ∷ 0x40 ∷ no_content
 
@@ -34,7 +34,8 @@ abbrev pub OneSessionIsFrozen : Type 0
 OneSessionIsFrozen =
     frozen (session_of_a 64 (Some (record { ballot = 1; count = 1 }))) ≡ 0x02 ∷ 0x40 ∷ content_of_a
 
--- form 1 is read with the window of 16; so it is frozen to form 2, and with the window of 64 after a Start
+-- form 1 is read with the window of 16, and frozen to form 2 with that window, or with the window
+-- of 64 after a Start
 abbrev pub FormOneIsRead : Type 0
 FormOneIsRead =
     (thawed (0x01 ∷ no_content) ≡ Some (empty_state 16))

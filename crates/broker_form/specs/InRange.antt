@@ -1,5 +1,5 @@
--- What stands in every state of a broker, whatever its commands were: no more than the limits allow, and each
--- number, text and publication in its range (MQTT 1.5.3, 2.3.1, 3.3, 4.7).
+-- What holds in every state of a broker, whatever its commands were: no more than the limits allow,
+-- and each number, text and publication in its range (MQTT 1.5.3, 2.3.1, 3.3, 4.7).
 use Rattle.std.specs.Prelude.{ℕ, ◌≤◌, IsTrue, true, List, length, Option, Some, None}
 use Rattle.std.specs.List.{AllByRecursion}
 use Rattle.packet_base.specs.Spelling.{IsId}

@@ -1,4 +1,5 @@
--- Laws: a command of the log keeps a state in its ranges, and everything that the broker sends can be spelled.
+-- Laws: a command of the log keeps a state in its ranges, and everything that the broker sends can
+-- be spelled.
 use Rattle.std.specs.Prelude.{ℕ, ◌<◌, ◌^◌, List}
 use Rattle.std.specs.List.{AllByRecursion}
 use Rattle.packet.specs.Spelling.{IsPacket}
@@ -12,7 +13,7 @@ use Rattle.broker_base.specs.State.{State, empty_state}
 use Rattle.broker_base.specs.Step.{step, state_from, steps_from}
 use Rattle.broker_form.specs.InRange.{IsBrokerState}
 
--- a step keeps a state in its ranges, where a queue holds fewer entries than there are identifiers
+-- a step keeps a state in its ranges, if a queue holds fewer entries than there are identifiers
 abbrev pub StaysInRange : Type 0
 StaysInRange =
     (limits : Limits) → (later : ℕ) → (state : State) → (command : Command) → limits.entries < 2 ^ 16 → IsBrokerCommand command →
@@ -23,13 +24,13 @@ abbrev pub CanBeSpelled : Output → Type 0
 CanBeSpelled (Send x packet) = IsPacket packet
 CanBeSpelled (Close x) = Unit {0}
 
--- so has every answer to a command
+-- every answer to a command has one
 abbrev pub AnswersAreSpelled : Type 0
 AnswersAreSpelled =
     (limits : Limits) → (later : ℕ) → (state : State) → (command : Command) → limits.entries < 2 ^ 16 → IsBrokerCommand command →
     IsBrokerState limits state → AllByRecursion CanBeSpelled (step limits later state command).1
 
--- so it is with this broker's limits behind every list of commands of a log
+-- the same holds for this broker's limits after every list of commands of a log
 abbrev pub ListsAreInRange : Type 0
 ListsAreInRange =
     (window : ℕ) → (commands : List Command) → AllByRecursion IsBrokerCommand commands →

@@ -1,5 +1,5 @@
-//! The broker as bytes: which are refused, and that a broker goes on from its own. Tests alone
-//! stand here.
+//! The broker as bytes: which bytes are refused, and that a broker continues from its own bytes. It
+//! has only tests.
 #![tactic(auto)]
 
 #[cfg(test)]

@@ -1,4 +1,4 @@
-// What no clause says: which bytes stand for no broker, and that calls do not give up.
+// What no clause says: which bytes are no frozen broker, and that calls do not give up.
 
 mod giving;
 mod memory;

@@ -1,4 +1,4 @@
--- While a session lasts its entries only grow: each goes on, in order, and new ones come behind.
+-- While a session lasts its entries only grow: each continues, in order, and new ones come after.
 use Rattle.std.proofs.Common.{◌≡◌, ℕ, Bool, true, false, not, ◌&&◌, ◌==◌, nat_lt, if◌then◌else◌, List, [], ◌∷◌, ◌++◌, length, map, Option, Some, None, inl, inr, refl, ap}
 use Rattle.std.specs.Prelude.{is_some}
 use Rattle.std.specs.List.{AllByRecursion}

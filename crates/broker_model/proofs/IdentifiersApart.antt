@@ -1,4 +1,4 @@
--- In a session's entries what waits stands last, and no two that are under way have one identifier.
+-- In a session's entries what waits is last, and no two that are in flight have one identifier.
 use Rattle.std.proofs.Common.{◌≡◌, ℕ, Bool, true, false, ◌||◌, ◌==◌, nat_lt, if◌then◌else◌, List, [], ◌∷◌, ◌++◌, length, map, Option, Some, None, inl, inr, refl, ◌∙◌, ap, arith}
 use Rattle.std.specs.List.{AllByRecursion}
 use Rattle.broker_model.specs.Connection.{ConnectionName}
@@ -14,7 +14,8 @@ use Rattle.broker_model.specs.IdentifierLaws.{IdentifiersAreDistinct, IsWaiting,
 use Rattle.broker_model.proofs.EntriesGrow.{Answered, Answering, answers-by}
 use Rattle.broker_model.proofs.LeastFree.{least-is-free}
 
--- behind earlier entries that have these identifiers: none of them is used again, and behind one that waits all wait
+-- after earlier entries that have these identifiers: none of them is used again, and after one that
+-- waits all wait
 abbrev pub Apart : List ℕ → List Entry → Type 0
 Apart busy (Entry.Waits made p ∷ es) = AllByRecursion IsWaiting es
 Apart busy (Entry.Started made p id start ∷ es) = (has_id id busy ≡ false) × Apart (id ∷ busy) es

@@ -1,4 +1,4 @@
--- While the window never shrinks, the identifiers of what is under way are 1 to the window.
+-- While the window never shrinks, the identifiers of what is in flight are 1 to the window.
 use Rattle.std.proofs.Common.{◌≡◌, ℕ, ◌≤◌, ◌<◌, Bool, true, false, nat_lt, if◌then◌else◌, List, [], ◌∷◌, ◌++◌, length, map, Option, Some, None, inl, inr, refl, arith}
 use Rattle.std.specs.List.{AllByRecursion}
 use Rattle.broker_model.specs.Connection.{ConnectionName}
@@ -13,7 +13,7 @@ use Rattle.broker_model.specs.IdentifierLaws.{IsInWindow, IdentifiersAreInTheWin
 use Rattle.broker_model.proofs.EntriesGrow.{Answered, Answering, answers-by}
 use Rattle.broker_model.proofs.LeastFree.{least-in-reach}
 
--- the identifiers under way are in the window
+-- the identifiers in flight are in the window
 abbrev pub Fits : ℕ → List Entry → Type 0
 Fits w es = AllByRecursion (IsInWindow w) (busy_ids es)
 

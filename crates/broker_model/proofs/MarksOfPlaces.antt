@@ -23,7 +23,7 @@ marked_below : (limits : Limits) (later below : Past) (place : Place) → AreMar
 marked_below limits [] below place m = m.0
 marked_below limits (next ∷ later) below place m = marked_below limits later below place m.1
 
--- so does one that stands in it
+-- the same for one that is in it
 pub mark_is : (limits : Limits) (past : Past) (place : Place) (below : Past) → AreMarked limits past → StandsAt past place below → place.mark ≡ mark_of limits below place.command
 mark_is limits past place below m s = marked_below limits s.later below place (subst (AreMarked limits) s.is m)
 

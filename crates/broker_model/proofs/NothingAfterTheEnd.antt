@@ -77,7 +77,7 @@ accepted_is (commands.Connect y d flag) Mark.Accepted c x clean e =
     (d, ap₂ (λ z b. commands.Connect z d b) (ap (λ (r : ConnectionName × Bool). r.0) same) (ap (λ (r : ConnectionName × Bool). r.1) same), same_is d c t.0)
 accepted_is _ _ c x clean e = cc
 
--- ---- a session goes on
+-- ---- a session continues
 
 start_has_session : (past : Past) (c : Client) (n : ℕ) → session_start past c ≡ Some n → is_some (session_of past c) ≡ true
 unfolding session_start session_of
@@ -111,7 +111,7 @@ start_stays place below c n e none over =
     ∙ ap (λ b. only_if b (session_start below c)) (start_has_session below c n e)
     ∙ e
 
--- while the connection is kept, behind its Connect
+-- while the connection is kept, after its Connect
 kept_starts : (later : Past) (opened : Place) (earlier : Past) (c : Client) (x : ConnectionName) (clean : Bool) (n : ℕ) → accepts opened.command opened.mark c ≡ Some (x, clean)
     → AllByRecursion (Keeps c x) later → session_start (opened ∷ earlier) c ≡ Some n → session_start (later ++ opened ∷ earlier) c ≡ Some n
 kept_starts [] opened earlier c x clean n a kept e = e

@@ -1,4 +1,4 @@
--- An entry waits only where its client has no connection, or the window is full of the earlier ones.
+-- An entry waits only if its client has no connection, or the window is full of the earlier ones.
 use Rattle.std.proofs.Common.{◌≡◌, ℕ, suc, ◌≤◌, ◌+◌, Bool, true, false, nat_lt, if◌then◌else◌, List, [], ◌∷◌, ◌++◌, length, filter, Option, Some, None, ◌⊎◌, inl, inr, refl, arith}
 use Rattle.broker_model.specs.Connection.{ConnectionName}
 use Rattle.broker_model.specs.Place.{Client, Past, Limits}
@@ -9,7 +9,7 @@ use Rattle.session_base.specs.Identifiers.{least_free}
 use Rattle.broker_model.specs.Times.{entries_of, window_at, start_all, started}
 use Rattle.broker_model.specs.EntryLaws.{NothingWaitsInVain}
 
--- with so many unfinished entries before these, each that waits has a full window before it
+-- with this many unfinished entries before these, each that waits has a full window before it
 abbrev pub IsFull : ℕ → ℕ → List Entry → Type 0
 IsFull w k [] = Unit {0}
 IsFull w k (Entry.Waits made p ∷ es) = (w ≤ k) × IsFull w (suc k) es

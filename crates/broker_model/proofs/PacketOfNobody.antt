@@ -1,4 +1,5 @@
--- A packet of a connection that is nobody's current one: nothing changes, and nothing is given.
+-- A packet on a connection that is no client's current one: nothing changes, and there is no
+-- output.
 use Rattle.std.proofs.Common.{◌≡◌, ℕ, ◌≤◌, Bool, true, false, not, ◌&&◌, nat_lt, if◌then◌else◌, List, [], ◌∷◌, length, Option, Some, None, ◌⊎◌, inl, inr, refl, sym, ◌∙◌, ap, arith, append-nil}
 use Rattle.session_base.specs.Subscriptions.{HeldFilter}
 use Rattle.retained.specs.packet.declared.packet.Packet.{Packet}

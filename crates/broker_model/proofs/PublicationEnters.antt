@@ -17,7 +17,7 @@ use Rattle.broker_model.specs.Times.{entries_of, window_at, started}
 use Rattle.broker_model.specs.EntryLaws.{taken, PublicationEnters}
 use Rattle.broker_model.proofs.EntersOnce.{times, times-started, times-more, none-yet, made-below, count}
 
--- ---- where there is no session there is no filter
+-- ---- if there is no session there is no filter
 
 -- a taken publication ends no connection
 ends_none : (x : ConnectionName) (p : Publish) (d c : Client) (current : Option ConnectionName) → ends_any (taken x p d) c current ≡ false
@@ -51,7 +51,7 @@ unfolding session_of
 gone_before past x p d c e =
     no_session (ends_any (taken x p d) c (current_connection past c)) (session_of past c) (ends_none x p d c (current_connection past c)) e
 
--- ---- where there is one
+-- ---- if there is one
 
 pub same_number : (n : ℕ) → (n == n) ≡ true
 same_number n = grind arith

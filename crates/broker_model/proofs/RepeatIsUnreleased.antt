@@ -1,4 +1,4 @@
--- A PUBLISH at QoS 2 is a repeat exactly where the last word on its identifier is a taken PUBLISH.
+-- A PUBLISH at QoS 2 is a repeat exactly if the last word on its identifier is a taken PUBLISH.
 use Rattle.std.proofs.Common.{◌≡◌, ℕ, Bool, true, false, not, ◌&&◌, ◌||◌, ◌==◌, if◌then◌else◌, List, [], ◌∷◌, Option, Some, None, refl, ◌∙◌, ap}
 use Rattle.retained.specs.packet.declared.delivery.Delivery.{Delivery}
 use Rattle.retained.specs.packet.declared.delivery.Delivery.TheVariants as deliveries

@@ -1,5 +1,5 @@
--- What the entries of every past meet: places below the number of the place, those that wait behind all others,
--- and each identifier in use at most once.
+-- What the entries of every past meet: places below the number of the place, those that wait after
+-- all others, and each identifier in use at most once.
 use Rattle.std.proofs.Common.{ℕ, ◌<◌, ◌≤◌, suc, Bool, true, false, not, ◌&&◌, ◌==◌, if◌then◌else◌, Some, None, List, [], ◌∷◌, map, arith}
 use Rattle.session_base.specs.Publication.{is_acknowledged}
 use Rattle.broker_model.specs.Entries.{Entry}
@@ -21,7 +21,7 @@ AllWait [] = Unit {0}
 AllWait (Entry.Waits made p ∷ es) = AllWait es
 AllWait (_ ∷ es) = ⊥
 
--- behind one that waits all wait
+-- after one that waits all wait
 abbrev pub InOrder : List Entry → Type 0
 InOrder [] = Unit {0}
 InOrder (Entry.Waits made p ∷ es) = AllWait es

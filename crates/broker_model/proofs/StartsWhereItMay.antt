@@ -92,7 +92,8 @@ started-before limits (place ∷ past) c =
 
 -- ---- what starts at place n
 
--- behind entries with these identifiers under way, each that starts at n has room and the least free identifier
+-- after entries with these identifiers in flight, each that starts at n has room and the least free
+-- identifier
 pub record Rightly (w id : ℕ) (busy : List ℕ) : Type 0 where
   pub room : length busy < w
   pub free : has_id id busy ≡ false

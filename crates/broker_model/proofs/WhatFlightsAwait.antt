@@ -13,7 +13,7 @@ pub filter_out : {A : Type 0} (test : A → Bool) (x : A) (xs : List A) (b : Boo
 filter_out test x xs true e = rw e refl
 filter_out test x xs false e = rw e refl
 
--- a filter behind a map
+-- a filter after a map
 pub filter_map_is : {A B : Type 0} (f : A → B) (p : B → Bool) (q : A → Bool) → ((x : A) → p (f x) ≡ q x) → (xs : List A) → filter p (map f xs) ≡ map f (filter q xs)
 filter_map_is f p q h [] = refl
 filter_map_is f p q h (x ∷ xs) =

@@ -1,4 +1,4 @@
--- What readers may want to know of the answers: to whom they go.
+-- What readers may want to know about the answers: to whom they go.
 use Rattle.std.specs.Prelude.{◌≡◌, Bool, true, false, Option, Some, None, ◌⊎◌}
 use Rattle.std.specs.List.{AllByRecursion}
 use Rattle.retained.specs.packet.declared.packet.Packet.TheVariants as packets
@@ -24,19 +24,21 @@ named_in (commands.Lost x) = Some x
 named_in (commands.Start ballot) = None
 named_in (commands.Expel c) = None
 
--- a PUBLISH or a Close, which a client may get for another's command
+-- a PUBLISH or a Close, which a client may get because of another client's command
 abbrev pub is_unasked : Output → Bool
 is_unasked (Send x (packets.Publish p)) = true
 is_unasked (Close x) = true
 is_unasked _ = false
 
--- it goes to the connection that the command names, or it is unasked, to a client's current connection
+-- it goes to the connection that the command names, or it is unasked, to a client's current
+-- connection
 abbrev pub IsAddressed : Past → Command → Output → Type 0
 IsAddressed past command answer =
     (named_in command ≡ Some (goes_to answer))
     ⊎ (((c : Client) × (current_connection past c ≡ Some (goes_to answer))) × (is_unasked answer ≡ true))
 
--- each answer does, so CONNACK, PUBACK, PUBREC, PUBREL, PUBCOMP, SUBACK and UNSUBACK go to who asked
+-- each answer is addressed in this way: CONNACK, PUBACK, PUBREC, PUBREL, PUBCOMP, SUBACK and
+-- UNSUBACK go to the client that asked
 abbrev pub AnswersAreAddressed : Type 0
 AnswersAreAddressed =
     (limits : Limits) (past : Past) (command : Command)

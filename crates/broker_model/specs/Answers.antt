@@ -1,4 +1,5 @@
--- What the broker answers to a command, in order (MQTT 3.1.4, 3.2, 3.3.4, 3.8.4, 3.10.4, 3.12.4, 4.3).
+-- What the broker answers to a command, in order (MQTT 3.1.4, 3.2, 3.3.4, 3.8.4, 3.10.4, 3.12.4,
+-- 4.3).
 use Rattle.std.specs.Prelude.{suc, Bool, not, if◌then◌else◌, List, [], ◌∷◌, ◌++◌, length, flat_map, Option, Some, None}
 use Rattle.retained.specs.packet.RefusalCode.TheVariants as refusals
 use Rattle.retained.specs.packet.declared.connack.Connack.TheVariants as connacks
@@ -32,7 +33,7 @@ closed None = []
 abbrev pub welcome : ConnectionName → Bool → Output
 welcome x present = Send x (packets.Connack (connacks.Accepted present))
 
--- the answer to one that would begin a session too many (MQTT 3.2.2.3)
+-- the answer to a Connect that would begin one session too many (MQTT 3.2.2.3)
 abbrev pub turned_away : ConnectionName → Output
 turned_away x = Send x (packets.Connack (connacks.Refused refusals.ServerUnavailable))
 
@@ -80,7 +81,8 @@ connect_answers limits place past x c Mark.Accepted =
 connect_answers limits place past x c Mark.Full = turned_away x ∷ Close x ∷ []
 connect_answers limits place past x c _ = Close x ∷ []
 
--- the answers to a command, by its mark: a Lost and a Start have none, and an expelled client's connection is closed
+-- the answers to a command, by its mark: a Lost and a Start have none, and an expelled client's
+-- connection is closed
 abbrev pub answers_by : Limits → Place → Past → Command → Mark → List Output
 answers_by limits place past (commands.Packet x packet) mark = packet_answers limits place past x packet mark
 answers_by limits place past (commands.Connect x c clean) mark = connect_answers limits place past x c mark

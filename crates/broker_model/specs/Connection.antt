@@ -6,7 +6,7 @@ pub record ConnectionName : Type 0 where
   pub ballot : ℕ
   pub count : ℕ
 
--- ballots are 1 to 2^32, the connections of one are numbered 1 to 2^40
+-- ballots are 1 to 2^32, and the connections of a ballot are numbered 1 to 2^40
 abbrev pub is_connection_name : ConnectionName → Bool
 is_connection_name name =
     (nat_lt 0 name.ballot && nat_le name.ballot (2 ^ 32)) && (nat_lt 0 name.count && nat_le name.count (2 ^ 40))
@@ -14,6 +14,6 @@ is_connection_name name =
 abbrev pub IsConnectionName : ConnectionName → Type 0
 IsConnectionName name = is_connection_name name ≡ true
 
--- whether two names are one
+-- whether two names are equal
 abbrev pub same_connection : ConnectionName → ConnectionName → Bool
 same_connection x y = (x.ballot == y.ballot) && (x.count == y.count)

@@ -1,4 +1,5 @@
--- What readers may want to know of a session that has ended: its connections get nothing more (MQTT 3.1.2.4, 4.1).
+-- What readers may want to know about a session that has ended: its connections get nothing more
+-- (MQTT 3.1.2.4, 4.1).
 use Rattle.std.specs.Prelude.{◌≡◌, ◌≤◌, ◌+◌, ℕ, Bool, false, if◌then◌else◌, List, [], ◌∷◌, ◌++◌, Some}
 use Rattle.retained.specs.packet.declared.packet.Packet.{Packet}
 use Rattle.retained.specs.lists.Lists.{In}
@@ -11,7 +12,7 @@ use Rattle.broker_model.specs.declared.command.Command.{Command}
 use Rattle.broker_model.specs.declared.command.Command.TheVariants as commands
 use Rattle.broker_model.specs.declared.command.Output.TheVariants.{Send}
 
--- a place of a past, and what stands below it
+-- a place of a past, and the places below it
 pub record StandsAt (past : Past) (place : Place) (below : Past) : Type 0 where
   pub later : Past
   pub is : past ≡ later ++ place ∷ below
@@ -21,13 +22,13 @@ abbrev pub is_connect_of : ConnectionName → Command → Bool
 is_connect_of x (commands.Connect y c clean) = same_connection x y
 is_connect_of x _ = false
 
--- how many of these there are
+-- how many of these a past has
 abbrev pub connects_of : ConnectionName → Past → ℕ
 connects_of x (place ∷ past) = (if is_connect_of x place.command then 1 else 0) + connects_of x past
 connects_of x [] = 0
 
--- A connection with one Connect, which was accepted and stands in a session of its client, is sent packets at places
--- of that session alone: no packet for a place outside of it.
+-- A connection with one Connect, which was accepted and lies in a session of its client, is sent
+-- packets only at places of that session: no packet at a place outside of it.
 abbrev pub EndsWithTheSession : Limits → Past → Type 0
 EndsWithTheSession limits past =
     (place opened : Place) (below earlier : Past) (x : ConnectionName) (packet : Packet) (c : Client) (clean : Bool) (start : ℕ)
@@ -36,6 +37,6 @@ EndsWithTheSession limits past =
     → session_start (opened ∷ earlier) c ≡ Some start
     → session_start (place ∷ below) c ≡ Some start
 
--- so it is of every list of commands
+-- the same holds for every list of commands
 abbrev pub NothingAfterTheEnd : Type 0
 NothingAfterTheEnd = (limits : Limits) (commands : List Command) → EndsWithTheSession limits (past_of limits commands)

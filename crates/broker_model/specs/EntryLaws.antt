@@ -1,4 +1,5 @@
--- What readers may want to know of a session's entries: what waits, what starts, identifiers, and how the list grows.
+-- What readers may want to know about a session's entries: what waits, what starts, identifiers,
+-- and how the list grows.
 use Rattle.std.specs.Prelude.{◌≡◌, ◌≤◌, ℕ, ◌+◌, if◌then◌else◌, true, false, List, [], ◌∷◌, ◌++◌, length, filter, Some, None, is_some, ◌⊎◌}
 use Rattle.std.specs.List.{AllByRecursion}
 use Rattle.retained.specs.packet.declared.publish.Publish.{Publish}
@@ -17,7 +18,8 @@ use Rattle.broker_model.specs.declared.command.Command.TheVariants as commands
 
 -- ---- what waits
 
--- an entry waits only where its client has no connection, or the window is full of the earlier ones (MQTT 4.6)
+-- an entry waits only if its client has no connection, or the window is full of earlier entries
+-- (MQTT 4.6)
 abbrev pub NothingWaitsInVain : Type 0
 NothingWaitsInVain =
     (limits : Limits) (past : Past) (c : Client) (before behind : List Entry) (made : ℕ) (p : Publication)
@@ -26,8 +28,9 @@ NothingWaitsInVain =
 
 -- ---- how the list grows
 
--- One place later, at place n: an entry that waited waits or started here; one that started goes on, is released
--- or finished here; a finished one stays. Identifier, publication and times stay as they were.
+-- One place later, at place n: an entry that waited still waits or starts here; one that started
+-- stays so, is released or is finished here; a finished one stays. Identifier, publication and
+-- times stay as they were.
 abbrev pub GoesOn : ℕ → Entry → Entry → Type 0
 GoesOn n (Entry.Waits made p) later =
     (later ≡ Entry.Waits made p) ⊎ ((id : ℕ) × (later ≡ Entry.Started made p id n))
@@ -44,13 +47,14 @@ IsMadeAt n (Entry.Waits made p) = made ≡ n
 IsMadeAt n (Entry.Started made p id start) = (made ≡ n) × (start ≡ n)
 IsMadeAt n _ = ⊥
 
--- the earlier entries go on in their order, and those behind them are made at place n
+-- the earlier entries change in this way and keep their order, and those after them are made at
+-- place n
 abbrev pub GrowsTo : ℕ → List Entry → List Entry → Type 0
 GrowsTo n (entry ∷ entries) (later ∷ others) = GoesOn n entry later × GrowsTo n entries others
 GrowsTo n (entry ∷ entries) [] = ⊥
 GrowsTo n [] others = AllByRecursion (IsMadeAt n) others
 
--- while a session lasts its entries only grow, and none un-starts
+-- while a session lasts its entries only grow, and an entry that has started stays started
 abbrev pub EntriesOnlyGrow : Type 0
 EntriesOnlyGrow =
     (limits : Limits) (place : Place) (past : Past) (c : Client)
@@ -61,7 +65,8 @@ EntriesOnlyGrow =
 abbrev pub taken : ConnectionName → Publish → Client → Place
 taken x p d = record { command = commands.Packet x (packets.Publish p); mark = Mark.Taken d }
 
--- a taken PUBLISH gives a session one entry where its effective QoS is 1 or 2, and else none (MQTT 3.3.5)
+-- a taken PUBLISH gives a session one entry if its effective QoS is 1 or 2, and otherwise none
+-- (MQTT 3.3.5)
 abbrev pub TakenPublishAddsOne : Type 0
 TakenPublishAddsOne =
     (limits : Limits) (past : Past) (x : ConnectionName) (p : Publish) (d c : Client)
@@ -69,7 +74,8 @@ TakenPublishAddsOne =
     → length (entries_of limits (taken x p d ∷ past) c)
     ≡ length (entries_of limits past c) + (if is_queued_at (effective_qos past c (publication_of p)) then 1 else 0)
 
--- at the place where it is taken, a publication enters exactly the sessions with an effective QoS of 1 or 2, once (MQTT 3.3.5)
+-- at the place where it is taken, a publication enters exactly the sessions with an effective QoS
+-- of 1 or 2, once (MQTT 3.3.5)
 abbrev pub PublicationEnters : Type 0
 PublicationEnters =
     (limits : Limits) (past : Past) (x : ConnectionName) (p : Publish) (d c : Client)

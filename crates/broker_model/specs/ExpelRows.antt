@@ -1,4 +1,5 @@
--- Worked rows: a client is expelled, and what was kept for it is gone (MQTT 3.1.2.4, 4.1).
+-- Worked examples: a client is expelled, and all that was kept for it is removed (MQTT 3.1.2.4,
+-- 4.1).
 use Rattle.std.specs.Prelude.{◌≡◌, true, false, List, [], ◌∷◌, ◌++◌, codes, Some, None}
 use Rattle.retained.specs.packet.declared.qos.QoS.TheVariants as levels
 use Rattle.retained.specs.packet.declared.delivery.Delivery.TheVariants as deliveries
@@ -18,8 +19,8 @@ abbrev pub x_is_under_way : List Command
 x_is_under_way =
     subscribed_at levels.ExactlyOnce ++ gets 2 (publish (deliveries.ExactlyOnce false 1) false (codes "x")) ∷ []
 
--- b's connection is closed, once; what a publishes then is for nobody; b comes back to a session that begins, and
--- what it answers names no entry
+-- b's connection is closed, once; what a publishes then reaches no client; b comes back and a new
+-- session begins, and its answers match no entry
 abbrev pub ExpelledOnce : Type 0
 ExpelledOnce =
     Gives usual_limits x_is_under_way
@@ -35,7 +36,7 @@ NothingIsLeft =
     (current_connection past b ≡ None) × (session_of past b ≡ None) × (entries_of usual_limits past b ≡ [])
     × (session_of past a ≡ Some false) × (current_connection past a ≡ Some (nth 2))
 
--- the identifiers that were received are gone too, so the same publication is taken once more
+-- the identifiers that were received are removed too, so the same publication is taken once more
 abbrev pub IdentifiersAreGone : Type 0
 IdentifiersAreGone =
     let past = past_of usual_limits (x_is_under_way ++ commands.Expel a ∷ connect 4 a ∷ []) in
@@ -44,7 +45,7 @@ IdentifiersAreGone =
     (gets 4 (publish (deliveries.ExactlyOnce true 1) false (codes "x")) ∷ [])
     ((sends 4 (packets.Pubrec 1) ∷ sends 1 (publish (deliveries.ExactlyOnce false 2) false (codes "x")) ∷ []) ∷ [])
 
--- a session ends with or without a connection, clean or not, and one of another client does not
+-- a session ends with or without a connection, clean or not; a session of another client does not
 abbrev pub ExpelEnds : Type 0
 ExpelEnds =
     Ends [] (commands.Expel a) false × Ends (connect 1 a ∷ []) (commands.Expel a) true

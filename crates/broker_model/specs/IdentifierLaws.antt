@@ -1,4 +1,4 @@
--- What readers may want to know of the identifiers of a session's entries (MQTT 2.3.1, 4.6).
+-- What readers may want to know about the identifiers of a session's entries (MQTT 2.3.1, 4.6).
 use Rattle.std.specs.Prelude.{◌≤◌, ℕ, List, [], ◌∷◌}
 use Rattle.std.specs.List.{AllByRecursion}
 use Rattle.broker_model.specs.Place.{Client, Place, Past, Limits}
@@ -8,7 +8,7 @@ use Rattle.broker_model.specs.Times.{entries_of, window_at}
 use Rattle.broker_model.specs.Commands.{usual_limits}
 use Rattle.retained.specs.lists.Lists.{IsDistinct}
 
--- no two entries of a session that are under way have one identifier (MQTT 2.3.1)
+-- no two entries of a session that are in flight have the same identifier (MQTT 2.3.1)
 abbrev pub IdentifiersAreDistinct : Type 0
 IdentifiersAreDistinct = (limits : Limits) (past : Past) (c : Client) → IsDistinct (busy_ids (entries_of limits past c))
 
@@ -20,7 +20,7 @@ NeverShrinks limits = (place : Place) (past : Past) → window_at limits past �
 abbrev pub IsInWindow : ℕ → ℕ → Type 0
 IsInWindow window id = (1 ≤ id) × (id ≤ window)
 
--- while the window never shrinks, the identifiers of what is under way are 1 to the window
+-- if the window never shrinks, the identifiers of what is in flight are 1 to the window
 abbrev pub IdentifiersAreInTheWindow : Type 0
 IdentifiersAreInTheWindow =
     (limits : Limits) → NeverShrinks limits → (past : Past) (c : Client)
@@ -36,12 +36,12 @@ abbrev pub IsWaiting : Entry → Type 0
 IsWaiting (Entry.Waits made p) = Unit {0}
 IsWaiting _ = ⊥
 
--- behind one that waits, all wait
+-- after an entry that waits, all wait
 abbrev pub WaitsLast : List Entry → Type 0
 WaitsLast (Entry.Waits made p ∷ entries) = AllByRecursion IsWaiting entries
 WaitsLast (_ ∷ entries) = WaitsLast entries
 WaitsLast [] = Unit {0}
 
--- entries start in their order (MQTT 4.6)
+-- entries start in order (MQTT 4.6)
 abbrev pub StartedComeFirst : Type 0
 StartedComeFirst = (limits : Limits) (past : Past) (c : Client) → WaitsLast (entries_of limits past c)

@@ -1,4 +1,5 @@
--- What readers may want to know of the definitions: connections, received identifiers and subscriptions.
+-- What readers may want to know about the definitions: connections, received identifiers and
+-- subscriptions.
 use Rattle.std.specs.Prelude.{◌≡◌, ◌↔◌, ℕ, Bool, true, false, ◌&&◌, ◌==◌, if◌then◌else◌, List, [], ◌∷◌, ◌++◌, bytes_eq, Option, Some, None, option_map}
 use Rattle.std.specs.List.{AllByRecursion, list_any}
 use Rattle.retained.specs.packet.declared.qos.QoS.{QoS}
@@ -32,7 +33,8 @@ pub record WasOpened (past : Past) (c : Client) (x : ConnectionName) : Type 0 wh
   pub opened : accepts place.command place.mark c ≡ Some (x, clean)
   pub kept : AllByRecursion (Keeps c x) later
 
--- a client is served on the connection of its last accepted Connect, unless that was ended since (MQTT 3.1.4)
+-- a client is served on the connection of its last accepted Connect, unless that was ended since
+-- (MQTT 3.1.4)
 abbrev pub CurrentIsLastAccepted : Type 0
 CurrentIsLastAccepted =
     (past : Past) (c : Client) (x : ConnectionName) → (current_connection past c ≡ Some x) ↔ WasOpened past c x
@@ -44,7 +46,8 @@ abbrev pub brings : ℕ → Delivery → Bool
 brings id (deliveries.ExactlyOnce dup i) = id == i
 brings id _ = false
 
--- what a command says of an identifier: a taken PUBLISH at QoS 2 of the client, a PUBREL of it, or nothing
+-- what a command does to an identifier: a taken PUBLISH at QoS 2 of the client, a PUBREL of it, or
+-- nothing
 abbrev pub says_of : Command → Mark → Client → ℕ → Option Bool
 says_of (commands.Packet x (packets.Publish p)) (Mark.Taken d) c id =
     if same_client d c && brings id p.delivery then Some true else None
@@ -52,41 +55,42 @@ says_of (commands.Packet x (packets.Pubrel i)) (Mark.Handled d) c id =
     if same_client d c && (id == i) then Some false else None
 says_of _ _ c id = None
 
--- the newer word, if there is one
+-- the newer value, if there is one
 abbrev pub newest : {A : Type 0} → Option A → A → A
 newest (Some word) older = word
 newest None older = older
 
--- whether, of the session's taken PUBLISHes at QoS 2 with this identifier and its PUBRELs, the last is a PUBLISH
+-- whether the last of the session's taken PUBLISHes at QoS 2 with this identifier, and of its
+-- PUBRELs, is a PUBLISH
 unfoldable pub ends_in_publish : Past → Client → ℕ → Bool
 ends_in_publish [] c id = false
 ends_in_publish (place ∷ past) c id =
     in_session (session_of (place ∷ past) c) (begins place past c) false
     (newest (says_of place.command place.mark c id) (ends_in_publish past c id))
 
--- a PUBLISH at QoS 2 is a repeat exactly where the last of these is a PUBLISH (MQTT 4.3.3)
+-- a PUBLISH at QoS 2 is a repeat exactly if the last of these is a PUBLISH (MQTT 4.3.3)
 abbrev pub RepeatIsUnreleased : Type 0
 RepeatIsUnreleased =
     (past : Past) (c : Client) (id : ℕ) → has_id id (received_of past c) ≡ ends_in_publish past c id
 
 -- ---- subscriptions
 
--- the QoS at which a filter stands in a session's list
+-- the QoS of a filter in a session's list
 abbrev pub qos_asked : List ℕ → List HeldFilter → Option QoS
 qos_asked f (held ∷ more) = if bytes_eq f held.0 then Some held.1 else qos_asked f more
 qos_asked f [] = None
 
--- the first of two, else the second
+-- the first of two options, or else the second
 abbrev pub either : {A : Type 0} → Option A → Option A → Option A
 either (Some word) other = Some word
 either None other = other
 
--- the QoS of a filter's last place in a SUBSCRIBE
+-- the QoS of the last occurrence of a filter in a SUBSCRIBE
 abbrev pub last_qos : List ℕ → List Subscription → Option QoS
 last_qos f (s ∷ more) = either (last_qos f more) (if bytes_eq f s.filter then Some s.qos else None)
 last_qos f [] = None
 
--- what a command says of a filter of the client: granted at a QoS, given up, or nothing
+-- what a command does to a filter of the client: granted at a QoS, removed, or nothing
 abbrev pub word_on : Command → Mark → Client → List ℕ → Option (Option QoS)
 word_on (commands.Packet x (packets.Subscribe s)) (Mark.Granted d which) c f =
     if same_client d c then option_map (λ qos. Some qos) (last_qos f (granted_of s.filters which)) else None
@@ -94,7 +98,7 @@ word_on (commands.Packet x (packets.Unsubscribe u)) (Mark.Handled d) c f =
     if same_client d c && list_any (bytes_eq f) u.filters then Some None else None
 word_on _ _ c f = None
 
--- the QoS of a filter's last granting in the session, none where it was given up since
+-- the QoS of a filter's last granting in the session, none if it was removed since
 unfoldable pub last_granting : Past → Client → List ℕ → Option QoS
 last_granting [] c f = None
 last_granting (place ∷ past) c f =

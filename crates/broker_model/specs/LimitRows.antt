@@ -1,4 +1,5 @@
--- Worked rows: the limits of a broker, and what is answered where one is met (MQTT 3.1.4, 3.2.2.3, 3.9.3, 4.8).
+-- Worked examples: the limits of a broker, and what is answered when one is reached (MQTT 3.1.4,
+-- 3.2.2.3, 3.9.3, 4.8).
 use Rattle.std.specs.Prelude.{◌≡◌, ℕ, true, false, List, [], ◌∷◌, ◌++◌, codes}
 use Rattle.retained.specs.packet.RefusalCode.TheVariants as refusals
 use Rattle.retained.specs.packet.declared.connack.Connack.TheVariants as connacks
@@ -14,8 +15,8 @@ use Rattle.broker_model.specs.declared.command.Command.{Command}
 use Rattle.broker_model.specs.declared.command.Command.TheVariants as commands
 use Rattle.broker_model.specs.declared.command.Output.TheVariants.{Close}
 
--- 4,096 sessions, 64 subscriptions and 4,096 unfinished entries of each, 16,384 retained topics, whatever the window,
--- which is 64 in a fresh broker
+-- 4,096 sessions, 64 subscriptions and 4,096 unfinished entries of each, 16,384 retained topics,
+-- for any window; the window is 64 in a new broker
 abbrev pub LimitsAre : Type 0
 LimitsAre =
     ((window : Past → ℕ) → (limits_with window).sessions ≡ 4096)
@@ -41,7 +42,8 @@ abbrev pub four_sessions : List Command
 four_sessions =
     connect 1 a ∷ connect 2 b ∷ connect 3 (codes "c") ∷ commands.Connect (nth 4) (codes "d") true ∷ []
 
--- a fifth gets CONNACK 3 and is closed; one that has a session is let in; and a fifth is, once the clean one is over
+-- a fifth gets CONNACK 3 and is closed; a client that has a session is accepted; and a fifth is,
+-- once the clean session is over
 abbrev pub FifthSessionIsRefused : Type 0
 FifthSessionIsRefused =
     Gives (small 3 16) four_sessions
@@ -55,7 +57,8 @@ four_filters =
     connect 1 b
     ∷ gets 1 (asks 1 (asked_at levels.AtLeastOnce (codes "f/1" ∷ codes "f/2" ∷ codes "f/3" ∷ codes "f/4" ∷ []))) ∷ connect 2 a ∷ []
 
--- a fifth filter is answered 0x80 and is not set; an identical one is replaced, and is granted with the rest
+-- a fifth filter is answered 0x80 and is not set; an identical one is replaced, and is granted with
+-- the rest
 abbrev pub FifthFilterIsRefused : Type 0
 FifthFilterIsRefused =
     Gives (small 3 16) four_filters
@@ -71,7 +74,8 @@ FifthFilterIsRefused =
 abbrev pub four_topics : List Command
 four_topics = connect 2 a ∷ published_on levels.AtLeastOnce (codes "t/1" ∷ codes "t/2" ∷ codes "t/3" ∷ codes "t/4" ∷ [])
 
--- a fifth is refused with its connection; one that is there is replaced, and an empty payload makes room
+-- a fifth is refused and its connection closed; an existing one is replaced, and an empty payload
+-- makes room
 abbrev pub FifthTopicIsRefused : Type 0
 FifthTopicIsRefused =
     Gives (small 3 16) four_topics
@@ -106,7 +110,7 @@ RoomIsLessWhatEarlierFiltersNeed =
 
 -- ---- connections
 
--- a Connect on a connection that serves a client closes it, and ends it; nobody's session begins (MQTT 3.1.0)
+-- a Connect on a connection that serves a client closes and ends it; no session begins (MQTT 3.1.0)
 abbrev pub ConnectOnACurrentConnection : Type 0
 ConnectOnACurrentConnection =
     Gives usual_limits (connect 1 a ∷ []) (connect 1 b ∷ gets 1 packets.Pingreq ∷ connect 2 b ∷ connect 3 a ∷ [])

@@ -1,4 +1,4 @@
--- What becomes of a command, as the places below it decide (MQTT 3.1.4, 3.8.4, 4.3.3, 4.8).
+-- The mark of a command, decided by the places below it (MQTT 3.1.4, 3.8.4, 4.3.3, 4.8).
 use Rattle.std.specs.Prelude.{ℕ, ◌-◌, Bool, true, false, not, ◌&&◌, ◌||◌, ◌==◌, nat_lt, nat_le, if◌then◌else◌, List, [], ◌∷◌, length, Option, Some, None, is_some}
 use Rattle.std.specs.List.{list_any}
 use Rattle.retained.specs.packet.declared.qos.QoS.{QoS}
@@ -22,31 +22,33 @@ use Rattle.broker_model.specs.declared.command.Command.TheVariants as commands
 
 -- ---- publications
 
--- whether this QoS is there, and is 1 or 2
+-- whether there is a QoS, and it is 1 or 2
 abbrev pub is_queued_at : Option QoS → Bool
 is_queued_at (Some qos) = is_answered qos
 is_queued_at None = false
 
--- whether a client's session would have to queue the publication and is full
+-- whether a client's session would have to queue the publication but is full
 abbrev pub lacks_room : Limits → Past → Publication → Client → Bool
 lacks_room limits past p c = is_queued_at (effective_qos past c p) && (room_of limits past c == 0)
 
--- a publication is refused whole where one session has no room for it, or where it cannot be retained
+-- a publication is refused as a whole if one session has no room for it, or if it cannot be
+-- retained
 abbrev pub is_refused : Limits → Past → Publication → Bool
 is_refused limits past p = list_any (lacks_room limits past p) (clients past) || is_retained_over limits past p
 
 -- ---- filters of a SUBSCRIBE
 
--- whether one more filter would be a subscription too many: an identical one is only replaced
+-- whether one more filter would be one subscription too many: an identical one is only replaced
 abbrev pub is_one_too_many : Limits → List HeldFilter → Subscription → Bool
 is_one_too_many limits held new =
     not (is_held new.filter held) && nat_le limits.subscriptions (length held)
 
--- how many entries it makes: the retained publications that it is sent at QoS 1 or 2
+-- how many entries it makes: the retained publications that it brings at QoS 1 or 2
 abbrev pub entries_for : RetainedTopics → Subscription → ℕ
 entries_for content new = length (queued (copies_for content new))
 
--- which filters are granted, in turn, with the subscriptions held so far and the room left
+-- which filters are granted, one after another, with the subscriptions held so far and the room
+-- left
 abbrev pub grants : Limits → RetainedTopics → List HeldFilter → ℕ → List Subscription → List Bool
 grants limits content held room (new ∷ more) =
     if is_one_too_many limits held new || nat_lt room (entries_for content new)
@@ -56,8 +58,8 @@ grants limits content held room [] = []
 
 -- ---- marks
 
--- A packet of a client's current connection. PUBLISH is another try of one that was taken, or refused, or
--- taken. What only a server sends, and a second CONNECT, are violations (MQTT 3.1.0, 4.8).
+-- The mark of a packet of a client's current connection. A PUBLISH is a repeat, or refused, or
+-- taken. Packets that only a server sends, and a second CONNECT, are violations (MQTT 3.1.0, 4.8).
 abbrev pub packet_mark : Limits → Past → Client → Packet → Mark
 packet_mark limits past c (packets.Publish p) =
     if is_repeat past c p.delivery then Mark.Repeat c else
@@ -72,19 +74,19 @@ packet_mark limits past c packets.Pingresp = Mark.Leaves c
 packet_mark limits past c packets.Disconnect = Mark.Leaves c
 packet_mark limits past c _ = Mark.Handled c
 
--- a packet counts on a current connection alone
+-- a packet counts only on a current connection
 abbrev pub packet_mark_of : Limits → Past → Packet → Option Client → Mark
 packet_mark_of limits past packet (Some owner) = packet_mark limits past owner packet
 packet_mark_of limits past packet None = Mark.NoPart
 
--- A Connect on a current connection is a violation. Any other is accepted where its client has a session or
--- one more may begin.
+-- A Connect on a current connection is a violation. Any other is accepted if its client has a
+-- session or one more may begin.
 abbrev pub connect_mark : Limits → Past → Client → Option Client → Mark
 connect_mark limits past c (Some owner) = Mark.Leaves owner
 connect_mark limits past c None =
     if is_some (session_of past c) || nat_lt (length (clients past)) limits.sessions then Mark.Accepted else Mark.Full
 
--- what becomes of a command after these places
+-- the mark of a command after these places
 abbrev pub mark_of : Limits → Past → Command → Mark
 mark_of limits past (commands.Packet x packet) = packet_mark_of limits past packet (owner_of past x)
 mark_of limits past (commands.Connect x c clean) = connect_mark limits past c (owner_of past x)

@@ -1,4 +1,4 @@
--- More worked rows: full queues, violations, identifiers and the window.
+-- More worked examples: full queues, violations, identifiers and the window.
 use Rattle.std.specs.Prelude.{◌≡◌, ℕ, Bool, true, false, List, [], ◌∷◌, ◌++◌, map, codes}
 use Rattle.retained.specs.packet.declared.qos.QoS.TheVariants as levels
 use Rattle.retained.specs.packet.declared.delivery.Delivery.TheVariants as deliveries
@@ -12,7 +12,7 @@ use Rattle.broker_model.specs.declared.command.Command.{Command}
 use Rattle.broker_model.specs.declared.command.Command.TheVariants as commands
 use Rattle.broker_model.specs.declared.command.Output.TheVariants.{Close}
 
--- ---- a full queue, where a session holds three entries
+-- ---- a full queue: a session holds three entries
 
 -- b is offline and holds two entries
 abbrev pub held_two : List Command
@@ -53,7 +53,8 @@ FullQueueKeepsTheOrder =
 
 -- ---- pings, unsubscribing, violations
 
--- PINGRESP, and UNSUBACK with or without such a subscription (MQTT 3.10.4, 3.12.4)
+-- PINGREQ is answered by PINGRESP, and UNSUBSCRIBE by UNSUBACK with or without such a subscription
+-- (MQTT 3.10.4, 3.12.4)
 abbrev pub PingAndUnsubscribe : Type 0
 PingAndUnsubscribe =
     Gives usual_limits (subscribed_at levels.ExactlyOnce)
@@ -61,7 +62,7 @@ PingAndUnsubscribe =
     ((sends 1 packets.Pingresp ∷ []) ∷ (sends 1 (packets.Unsuback 3) ∷ [])
     ∷ (sends 1 (packets.Unsuback 3) ∷ []) ∷ [])
 
--- a packet closes b's connection, and what comes behind it is nothing
+-- a packet closes b's connection, and what comes after it has no effect
 abbrev pub Closes : Packet → Type 0
 Closes packet =
     Gives usual_limits (subscribed_at levels.ExactlyOnce) (gets 1 packet ∷ gets 1 packets.Pingreq ∷ [])
@@ -76,12 +77,12 @@ ViolationsClose =
 
 -- ---- identifiers and the window
 
--- b has subscribed at QoS 1, and a has sent so many publications
+-- b has subscribed at QoS 1, and a has sent this many publications
 abbrev pub routed : ℕ → List Command
 routed many = subscribed_at levels.AtLeastOnce ++ publications many
 
--- with a window of 16 the 17th publication waits, goes out with the identifier that PUBACK frees, and comes last
--- when b connects again (MQTT 4.4, 4.6)
+-- with a window of 16 the 17th publication waits, is sent with the identifier that PUBACK frees,
+-- and comes last when b connects again (MQTT 4.4, 4.6)
 abbrev pub PubackFreesItsIdentifier : Type 0
 PubackFreesItsIdentifier =
     Gives (limits_from 16) (routed 17) (gets 1 (packets.Puback 5) ∷ connect 3 b ∷ [])
@@ -89,7 +90,7 @@ PubackFreesItsIdentifier =
     ∷ (Close (nth 1) ∷ sends 3 (connack true)
     ∷ delivered 3 true (numbers 4 1 ++ numbers 11 6 ++ 5 ∷ [])) ∷ [])
 
--- with the usual window of 64 all 17 go out at once, and PUBACK starts nothing
+-- with the usual window of 64 all 17 are sent at once, and PUBACK starts nothing
 abbrev pub WideWindowSendsAll : Type 0
 WideWindowSendsAll =
     Gives usual_limits (routed 17) (gets 1 (packets.Puback 5) ∷ connect 3 b ∷ [])
@@ -105,7 +106,7 @@ WindowOf64 =
     Gives usual_limits seventy (connect 3 b ∷ gets 3 (packets.Puback 1) ∷ [])
     ((sends 3 (connack true) ∷ delivered 3 false (numbers 64 1)) ∷ delivered 3 false (1 ∷ []) ∷ [])
 
--- a broker whose window was 16 at first sends 16, and 64 once a new ballot has begun
+-- a broker whose first window was 16 sends 16, and 64 once a new ballot has begun
 abbrev pub WindowGrowsAtStart : Type 0
 WindowGrowsAtStart =
     Gives (limits_from 16) seventy (connect 3 b ∷ commands.Start 2 ∷ connect 4 b ∷ [])

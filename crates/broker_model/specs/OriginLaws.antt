@@ -1,11 +1,12 @@
--- What readers may want to know of the origin of a session's entries (MQTT 3.3.1.3, 3.3.5).
+-- What readers may want to know about the origin of a session's entries (MQTT 3.3.1.3, 3.3.5).
 use Rattle.std.specs.Prelude.{◌≤◌, ℕ, not, ◌&&◌, ◌==◌, Bool, length, filter}
 use Rattle.broker_model.specs.Place.{Client, Past, Limits}
 use Rattle.broker_model.specs.Entries.{Entry}
 use Rattle.broker_model.specs.Readings.{made_of, publication_in}
 use Rattle.broker_model.specs.Times.{entries_of}
 
--- whether an entry is of the publication that was taken at place n: a copy of what was retained has RETAIN 1
+-- whether an entry is of the publication that was taken at place n: a copy of a retained
+-- publication has RETAIN 1
 abbrev pub is_from_publish : ℕ → Entry → Bool
 is_from_publish n entry = (made_of entry == n) && not (publication_in entry).retain
 

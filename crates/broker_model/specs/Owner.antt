@@ -7,12 +7,12 @@ use Rattle.broker_model.specs.Past.{any_connection, current_connection, session_
 use Rattle.broker_model.specs.declared.command.Command.{Command}
 use Rattle.broker_model.specs.declared.command.Command.TheVariants as commands
 
--- a client among others, each once, by bytes
+-- inserts a client into a list, each client once, ordered by bytes
 abbrev pub insert_client : Client → List Client → List Client
 insert_client c (d ∷ others) = match_ordering (by_bytes c d) (c ∷ d ∷ others) (d ∷ others) (d ∷ insert_client c others)
 insert_client c [] = c ∷ []
 
--- one more, where the command is an accepted Connect
+-- adds the client, if the command is its accepted Connect
 abbrev pub named_by : Command → Mark → List Client → List Client
 named_by (commands.Connect x c clean) Mark.Accepted others = insert_client c others
 named_by _ _ others = others
@@ -26,7 +26,7 @@ named (place ∷ past) = named_by place.command place.mark (named past)
 abbrev pub clients : Past → List Client
 clients past = filter (λ c. is_some (session_of past c)) (named past)
 
--- the first client of which the test holds
+-- the first client for which the test holds
 abbrev pub first_client : (Client → Bool) → List Client → Option Client
 first_client test (c ∷ others) = if test c then Some c else first_client test others
 first_client test [] = None

@@ -1,5 +1,5 @@
--- What a list of commands says of connections and sessions (MQTT 3.1.2.4, 3.1.4, 3.14.4, 4.1).
--- Every question is asked of a past, so what holds at a place is answered by the places below it.
+-- What a list of commands says about connections and sessions (MQTT 3.1.2.4, 3.1.4, 3.14.4, 4.1).
+-- Every question is about a past, so what holds at a place is decided by the places below it.
 use Rattle.std.specs.Prelude.{◌≡◌, ℕ, ◌-◌, suc, Bool, true, false, ◌&&◌, ◌||◌, not, if◌then◌else◌, [], ◌∷◌, length, drop, Option, Some, None, is_some}
 use Rattle.broker_model.specs.Connection.{ConnectionName, same_connection}
 use Rattle.broker_model.specs.Place.{Client, same_client, Mark, Place, Past, only_if}
@@ -19,7 +19,7 @@ is_leaving (Mark.Leaves c) = true
 is_leaving (Mark.Refused c) = true
 is_leaving _ = false
 
--- Whether a command ends the connection x: a DISCONNECT, a violation or a refused PUBLISH on it, a
+-- Whether a command ends connection x: a DISCONNECT, a violation or a refused PUBLISH on it, a
 -- further Connect on it, its loss, or a new ballot.
 abbrev pub ends : Command → Mark → ConnectionName → Bool
 ends (commands.Packet y packet) mark x = same_connection y x && is_leaving mark
@@ -33,7 +33,7 @@ abbrev pub expels : Command → Client → Bool
 expels (commands.Expel d) c = same_client d c
 expels _ c = false
 
--- whether there is a connection of which the test holds
+-- whether there is a connection for which the test holds
 abbrev pub any_connection : (ConnectionName → Bool) → Option ConnectionName → Bool
 any_connection test (Some x) = test x
 any_connection test None = false
@@ -42,7 +42,7 @@ any_connection test None = false
 abbrev pub ends_any : Place → Client → Option ConnectionName → Bool
 ends_any place c connection = expels place.command c || any_connection (ends place.command place.mark) connection
 
--- the new connection, else the old one unless it is over
+-- the new connection, or else the old one unless it has ended
 abbrev pub newest_connection : Option (ConnectionName × Bool) → Bool → Option ConnectionName → Option ConnectionName
 newest_connection (Some opened) over old = Some opened.0
 newest_connection None over old = only_if (not over) old
@@ -56,8 +56,8 @@ current_connection (place ∷ past) c =
 
 -- ---- sessions
 
--- A session and its CleanSession flag: an accepted Connect leaves one with its own flag, an Expel of its client
--- leaves none, and a clean one is over with its connection.
+-- The session, as its CleanSession flag: an accepted Connect leaves one with its own flag, an Expel
+-- of its client leaves none, and a clean one ends with its connection.
 abbrev pub newest_session : Option (ConnectionName × Bool) → Bool → Bool → Option Bool → Option Bool
 newest_session (Some opened) expelled over old = Some opened.1
 newest_session None expelled over (Some clean) = only_if (not (expelled || (clean && over))) (Some clean)
@@ -70,12 +70,13 @@ session_of (place ∷ past) c =
     newest_session (accepts place.command place.mark c) (expels place.command c)
     (ends_any place c (current_connection past c)) (session_of past c)
 
--- whether an accepted Connect with this flag begins a session: it is clean, finds none, or finds a clean one
+-- whether an accepted Connect with this flag begins a session: it is clean, finds none, or finds a
+-- clean one
 abbrev pub begins_session : Bool → Option Bool → Bool
 begins_session clean None = true
 begins_session clean (Some old) = clean || old
 
--- whether a Connect, accepted or not, begins a session in place of this one
+-- whether a Connect, if it was accepted, begins a session in place of this one
 abbrev pub is_beginning : Option (ConnectionName × Bool) → Option Bool → Bool
 is_beginning (Some opened) old = begins_session opened.1 old
 is_beginning None old = false
@@ -89,7 +90,8 @@ abbrev pub ends_session : Place → Past → Client → Bool
 ends_session place past c =
     is_some (session_of past c) && (begins place past c || not (is_some (session_of (place ∷ past) c)))
 
--- What a session keeps, from what it kept below: nothing where there is none, and afresh where one begins.
+-- The value that a session keeps, from the value below: nothing if there is no session, and the
+-- initial value if one begins.
 abbrev pub in_session : {A : Type 0} → Option Bool → Bool → A → A → A
 in_session (Some clean) false fresh kept = kept
 in_session (Some clean) true fresh kept = fresh
@@ -106,6 +108,7 @@ session_start (place ∷ past) c =
 abbrev pub below : ℕ → Past → Past
 below n past = drop (length past - n) past
 
--- place n stands in the session of this client that began at this place; the place that ends it is outside
+-- place n lies in the session of this client that began at this place; the place that ends it is
+-- outside
 abbrev pub StandsIn : Past → ℕ → Client → ℕ → Type 0
 StandsIn past n c start = session_start (below (suc n) past) c ≡ Some start

@@ -1,5 +1,5 @@
--- Worked rows: at which QoS a publication is delivered and retained, with which identifier, and with which DUP flag
--- (MQTT 3.3.1, 3.3.5, 3.8.4, 4.3, 4.4).
+-- Worked examples: at which QoS a publication is delivered and retained, with which identifier, and
+-- with which DUP flag (MQTT 3.3.1, 3.3.5, 3.8.4, 4.3, 4.4).
 use Rattle.std.specs.Prelude.{ℕ, Bool, true, false, List, [], ◌∷◌, ◌++◌, codes}
 use Rattle.retained.specs.packet.declared.qos.QoS.{QoS}
 use Rattle.retained.specs.packet.declared.qos.QoS.TheVariants as levels
@@ -23,7 +23,8 @@ Delivers granted sent answers =
 abbrev pub to_b : Delivery → Output
 to_b delivery = sends 1 (publish delivery false (codes "x"))
 
--- what is sent is answered by its own QoS and identifier; what is delivered has the lower of both
+-- what is sent is answered by its own QoS and identifier; what is delivered has the lower of the
+-- two QoS
 abbrev pub LowerQosIsDelivered : Type 0
 LowerQosIsDelivered =
     Delivers levels.AtMostOnce deliveries.AtMostOnce (to_b deliveries.AtMostOnce ∷ [])
@@ -38,7 +39,7 @@ LowerQosIsDelivered =
 
 -- ---- what is retained (MQTT 3.3.1.3)
 
--- a sends these; then b subscribes to t/# at this QoS, and is sent this behind SUBACK
+-- a sends these; then b subscribes to t/# at this QoS, and is sent this after SUBACK
 abbrev pub Retains : List Command → QoS → List Output → Type 0
 Retains sent asked answers =
     Gives usual_limits (connect 2 a ∷ sent ++ connect 1 b ∷ []) (gets 1 (subscribe 3 asked) ∷ [])
@@ -52,7 +53,7 @@ sent_by_a delivery retain payload = gets 2 (publish delivery retain payload)
 abbrev pub retained_to_b : Delivery → List ℕ → List Output
 retained_to_b delivery payload = sends 1 (publish delivery true payload) ∷ []
 
--- it keeps its own QoS, 0 included, and comes at the lower of that and the one that is asked for
+-- it keeps its own QoS, 0 included, and is sent at the lower of that and the QoS that is asked for
 abbrev pub RetainedAtTheLowerQos : Type 0
 RetainedAtTheLowerQos =
     Retains (sent_by_a (deliveries.ExactlyOnce false 1) true (codes "x") ∷ []) levels.AtLeastOnce
@@ -64,7 +65,7 @@ RetainedAtTheLowerQos =
     × Retains (sent_by_a (deliveries.ExactlyOnce false 1) true (codes "x") ∷ []) levels.AtMostOnce
     (retained_to_b deliveries.AtMostOnce (codes "x"))
 
--- the last one with RETAIN 1 is, one with RETAIN 0 is not, and an empty payload removes it
+-- the last one with RETAIN 1 is retained, one with RETAIN 0 is not, and an empty payload removes it
 abbrev pub LastIsRetained : Type 0
 LastIsRetained =
     Retains (sent_by_a deliveries.AtMostOnce false (codes "x") ∷ []) levels.AtMostOnce []
@@ -75,9 +76,10 @@ LastIsRetained =
     × Retains (sent_by_a deliveries.AtMostOnce true (codes "x") ∷ sent_by_a deliveries.AtMostOnce true [] ∷ [])
     levels.AtMostOnce []
 
--- ---- sent again (MQTT 3.3.1.1, 4.4)
+-- ---- resending (MQTT 3.3.1.1, 4.4)
 
--- b does not answer x at QoS 2 and comes back, then releases it and comes back: PUBLISH with DUP 1, then PUBREL
+-- b does not answer x at QoS 2 and comes back, then releases it and comes back: PUBLISH with DUP 1,
+-- then PUBREL
 abbrev pub ExactlyOnceIsSentAgain : Type 0
 ExactlyOnceIsSentAgain =
     Gives usual_limits (subscribed_at levels.ExactlyOnce)
@@ -90,7 +92,8 @@ ExactlyOnceIsSentAgain =
 
 -- ---- the order of the answers
 
--- a and b have subscribed; a publishes: its PUBACK comes first, then the copies by the clients' bytes
+-- a and b have subscribed; a publishes: its PUBACK comes first, then the copies in the order of the
+-- clients' bytes
 abbrev pub CopiesComeByClient : Type 0
 CopiesComeByClient =
     Gives usual_limits (subscribed_at levels.AtMostOnce ++ gets 2 (subscribe 4 levels.AtLeastOnce) ∷ [])

@@ -1,4 +1,4 @@
--- A packet of a connection that is nobody's current one: nothing changes, and nothing is given.
+-- A packet on a connection that is no client's current one changes nothing and is not answered.
 use Rattle.std.specs.Prelude.{◌≡◌, ℕ, false, [], ◌∷◌, None}
 use Rattle.retained.specs.packet.declared.packet.Packet.{Packet}
 use Rattle.broker_model.specs.Connection.{ConnectionName}
@@ -13,13 +13,13 @@ use Rattle.broker_model.specs.Commands.{place_of, is_start, usual_limits, limits
 use Rattle.broker_model.specs.Answers.{answers_of}
 use Rattle.broker_model.specs.declared.command.Command.TheVariants as commands
 
--- the window changes at a new ballot alone
+-- the window changes only at a new ballot
 abbrev pub IsSteady : Limits → Type 0
 IsSteady limits =
     (place : Place) (past : Past) → is_start place.command ≡ false
     → window_at limits (place ∷ past) ≡ window_at limits past
 
--- a place leaves all that is kept of a client as it was
+-- a place changes nothing that is kept for a client
 pub record LeavesAsIs (limits : Limits) (place : Place) (past : Past) (c : Client) : Type 0 where
   pub connection : current_connection (place ∷ past) c ≡ current_connection past c
   pub session : session_of (place ∷ past) c ≡ session_of past c
@@ -31,7 +31,7 @@ pub record LeavesAsIs (limits : Limits) (place : Place) (past : Past) (c : Clien
 abbrev pub packet_place : Limits → Past → ConnectionName → Packet → Place
 packet_place limits past x packet = place_of limits past (commands.Packet x packet)
 
--- a packet of a connection that is not current changes nothing and gives nothing (MQTT 3.1.4)
+-- a packet on a connection that is not current changes nothing and is not answered (MQTT 3.1.4)
 abbrev pub PacketOfNobodyIsNothing : Type 0
 PacketOfNobodyIsNothing =
     (limits : Limits) (past : Past) (x : ConnectionName) (packet : Packet)
@@ -40,6 +40,6 @@ PacketOfNobodyIsNothing =
     × (retained_publications (packet_place limits past x packet ∷ past) ≡ retained_publications past)
     × (answers_of limits past (commands.Packet x packet) ≡ [])
 
--- the window of this broker is such a one, and so is one that grows at a new ballot
+-- the window of this broker is such a window, and so is one that grows at a new ballot
 abbrev pub WindowIsSteady : Type 0
 WindowIsSteady = IsSteady usual_limits × ((first : ℕ) → IsSteady (limits_from first))

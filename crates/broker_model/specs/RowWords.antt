@@ -1,4 +1,4 @@
--- Words for the worked rows: clients, connections, packets, and what is answered.
+-- Definitions for the worked examples: clients, connections, packets, and answers.
 use Rattle.std.specs.Prelude.{◌≡◌, ℕ, zero, suc, Bool, true, false, List, [], ◌∷◌, map, codes}
 use Rattle.retained.specs.packet.declared.qos.QoS.{QoS}
 use Rattle.retained.specs.packet.declared.delivery.Delivery.{Delivery}
@@ -18,7 +18,7 @@ use Rattle.broker_model.specs.declared.command.Command.TheVariants as commands
 use Rattle.broker_model.specs.declared.command.Output.{Output}
 use Rattle.broker_model.specs.declared.command.Output.TheVariants.{Send}
 
--- after the earlier commands, each of the next ones is answered so
+-- after the earlier commands, the next ones are answered in this way
 abbrev pub Gives : Limits → List Command → List Command → List (List Output) → Type 0
 Gives limits earlier next answers = answers_from limits (past_of limits earlier) next ≡ answers
 
@@ -41,7 +41,7 @@ connect n c = commands.Connect (nth n) c false
 abbrev pub gets : ℕ → Packet → Command
 gets n packet = commands.Packet (nth n) packet
 
--- a packet goes out on the nth connection
+-- a packet is sent on the nth connection
 abbrev pub sends : ℕ → Packet → Output
 sends n packet = Send (nth n) packet
 
@@ -65,7 +65,7 @@ suback id qos = packets.Suback (record { id = id; codes = answers.Granted qos �
 abbrev pub unsubscribe : ℕ → Packet
 unsubscribe id = packets.Unsubscribe (record { id = id; filters = codes "t/#" ∷ [] })
 
--- so many numbers, from this one on
+-- this many numbers, from this one on
 abbrev pub numbers : ℕ → ℕ → List ℕ
 numbers zero first = []
 numbers (suc many) first = first ∷ numbers many (suc first)
@@ -74,15 +74,15 @@ numbers (suc many) first = first ∷ numbers many (suc first)
 abbrev pub subscribed_at : QoS → List Command
 subscribed_at qos = connect 1 b ∷ gets 1 (subscribe 1 qos) ∷ connect 2 a ∷ []
 
--- a sends so many publications at QoS 1 on connection 2, with the payload o
+-- a sends this many publications at QoS 1 on connection 2, with the payload o
 abbrev pub publications : ℕ → List Command
 publications many = map (λ id. gets 2 (publish (deliveries.AtLeastOnce false id) false (codes "o"))) (numbers many 1)
 
--- what b is sent of them on the nth connection, with these identifiers
+-- what b is sent for them on the nth connection, with these identifiers
 abbrev pub delivered : ℕ → Bool → List ℕ → List Output
 delivered n dup = map (λ id. sends n (publish (deliveries.AtLeastOnce dup id) false (codes "o")))
 
--- limits of a row: so many unfinished entries of a session, so many under way at once
+-- limits of a row: this many unfinished entries of a session, this many in flight at once
 abbrev pub small : ℕ → ℕ → Limits
 small entries window =
     record { sessions = 4; subscriptions = 4; entries = entries; retained = 4; window = λ past. window }
@@ -92,7 +92,7 @@ abbrev pub publish_on : List ℕ → Delivery → Bool → List ℕ → Packet
 publish_on topic delivery retain payload =
     packets.Publish (record { topic = topic; delivery = delivery; retain = retain; payload = payload })
 
--- filters, all asked for at this QoS
+-- filters, all requested at this QoS
 abbrev pub asked_at : QoS → List (List ℕ) → List Subscription
 asked_at qos = map (λ filter. record { filter = filter; qos = qos })
 

@@ -1,4 +1,5 @@
--- Worked rows: lists of commands, and the answers that the standard and this broker's profile give.
+-- Worked examples: lists of commands, and the answers that the standard and this broker's profile
+-- give.
 use Rattle.std.specs.Prelude.{true, false, List, [], ◌∷◌, ◌++◌, codes}
 use Rattle.retained.specs.packet.declared.qos.QoS.TheVariants as levels
 use Rattle.retained.specs.packet.declared.delivery.Delivery.TheVariants as deliveries
@@ -13,12 +14,13 @@ use Rattle.broker_model.specs.declared.command.Output.TheVariants.{Close}
 abbrev pub ConnectIsAnswered : Type 0
 ConnectIsAnswered = Gives usual_limits [] (connect 1 a ∷ []) ((sends 1 (connack false) ∷ []) ∷ [])
 
--- the same client on a second connection: the first is closed, and its session is present (MQTT 3.1.4)
+-- the same client on a second connection: the first is closed, and its session is present (MQTT
+-- 3.1.4)
 abbrev pub SecondConnectionTakesOver : Type 0
 SecondConnectionTakesOver =
     Gives usual_limits (connect 1 a ∷ []) (connect 2 a ∷ []) ((Close (nth 1) ∷ sends 2 (connack true) ∷ []) ∷ [])
 
--- and packets of the first one are nothing any more
+-- and packets of the first connection have no effect any more
 abbrev pub OlderConnectionIsSilent : Type 0
 OlderConnectionIsSilent =
     Gives usual_limits (connect 1 a ∷ connect 2 a ∷ []) (gets 1 packets.Pingreq ∷ gets 2 packets.Pingreq ∷ [])
@@ -61,8 +63,8 @@ PubrelTwice =
     Gives usual_limits published_x (gets 2 (packets.Pubrel 1) ∷ gets 2 (packets.Pubrel 1) ∷ [])
     ((sends 2 (packets.Pubcomp 1) ∷ []) ∷ (sends 2 (packets.Pubcomp 1) ∷ []) ∷ [])
 
--- a publication with RETAIN 1 comes with RETAIN 0 to who subscribed before, and with RETAIN 1 to who
--- subscribes after (MQTT 3.3.1.3)
+-- a publication with RETAIN 1 is sent with RETAIN 0 to those who subscribed before, and with RETAIN
+-- 1 to those who subscribe after (MQTT 3.3.1.3)
 abbrev pub RetainedAtSubscribe : Type 0
 RetainedAtSubscribe =
     Gives usual_limits (subscribed_at levels.ExactlyOnce)

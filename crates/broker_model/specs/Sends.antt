@@ -1,4 +1,4 @@
--- What a session's client is sent of its entries (MQTT 3.3.1.1, 4.3, 4.4).
+-- What a session's client is sent for its entries (MQTT 3.3.1.1, 4.3, 4.4).
 use Rattle.std.specs.Prelude.{ℕ, Bool, true, false, ◌==◌, if◌then◌else◌, List, [], ◌∷◌, ◌++◌, length, map, take, drop, flat_map, Option, Some, None}
 use Rattle.retained.specs.packet.declared.packet.Packet.TheVariants as packets
 use Rattle.broker_model.specs.Connection.{ConnectionName}
@@ -25,20 +25,20 @@ sent_first x n _ = []
 abbrev pub all_started : ConnectionName → ℕ → List Entry → List Output
 all_started x n = flat_map (sent_first x n)
 
--- one that started below place n, and is not answered, is sent again with DUP 1 (MQTT 4.4)
+-- an entry that started below place n, and is not answered, is sent again with DUP 1 (MQTT 4.4)
 abbrev pub sent_again : ConnectionName → ℕ → Entry → List Output
 sent_again x n (Entry.Started made p id start) = if start == n then [] else publish x true id p ∷ []
 sent_again x n _ = []
 
--- To a client that comes back at place n: PUBREL for what is released and not finished, by the place of the
--- release; then what was sent before, in order; then what starts now (MQTT 4.4).
+-- What a client that comes back at place n is sent: PUBREL for what is released and not finished,
+-- in the order of release; then what was sent before, in order; then what starts now (MQTT 4.4).
 abbrev pub resent : ConnectionName → ℕ → List Entry → List Output
 resent x n entries =
     map (λ id. Send x (packets.Pubrel id)) (released_below n entries)
     ++ flat_map (sent_again x n) entries ++ all_started x n entries
 
--- What a connection is sent of the copies that place n made, in their order: each of QoS 0 at once, and each
--- other where its entry starts here. The entries are those that the place made, in their order.
+-- What a connection is sent for the copies that place n made, in order: each copy at QoS 0 at once,
+-- and each other if its entry starts here. The entries are those that the place made, in order.
 abbrev pub handed : ConnectionName → ℕ → List Publication → List Entry → List Output
 handed x n (p ∷ copies) entries =
     if is_answered p.qos
@@ -51,7 +51,7 @@ abbrev pub handed_to : Option ConnectionName → ℕ → List Publication → Li
 handed_to (Some x) n copies entries = handed x n copies entries
 handed_to None n copies entries = []
 
--- what a client is sent of the copies that a place makes for its session
+-- what a client is sent for the copies that a place makes for its session
 abbrev pub deliveries_to : Limits → Place → Past → Client → List Output
 deliveries_to limits place past c =
     handed_to (current_connection past c) (length past) (copies_at place past c)

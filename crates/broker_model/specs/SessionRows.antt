@@ -1,5 +1,5 @@
--- Worked rows: where a session begins and ends, and the places at which an entry is made, starts, is released and
--- finishes (MQTT 3.1.2.4, 4.1, 4.3).
+-- Worked examples: where a session begins and ends, and the places at which an entry is made,
+-- starts, is released and finishes (MQTT 3.1.2.4, 4.1, 4.3).
 use Rattle.std.specs.Prelude.{◌≡◌, ℕ, Bool, true, false, List, [], ◌∷◌, ◌++◌, map, codes, Option, Some, None}
 use Rattle.retained.specs.packet.declared.qos.QoS.TheVariants as levels
 use Rattle.retained.specs.packet.declared.delivery.Delivery.TheVariants as deliveries
@@ -27,8 +27,8 @@ connect_clean n c = commands.Connect (nth n) c true
 abbrev pub Began : List Command → Option ℕ → Type 0
 Began commands start = session_start (past_of usual_limits commands) a ≡ start
 
--- One that is not clean stays when its connection is lost, and another Connect finds it; a clean Connect begins one
--- at its own place, which is over with its connection, also at a Start.
+-- A session that is not clean stays when its connection is lost, and another Connect finds it; a
+-- clean Connect begins one at its own place, which ends with its connection, also at a Start.
 abbrev pub SessionsBegin : Type 0
 SessionsBegin =
     Began [] None × Began (connect 1 a ∷ []) (Some 0) × Began (connect 1 b ∷ connect 2 a ∷ []) (Some 1)
@@ -61,8 +61,9 @@ PlacesStandInSessions =
 
 -- ---- entries
 
--- b subscribes at place 1; a publishes x at QoS 1 at place 3 and y, retained, at QoS 2 at place 4; b subscribes
--- again at place 5, answers x, answers y in two steps, and not the copy of what is retained
+-- b subscribes at place 1; a publishes x at QoS 1 at place 3 and y, retained, at QoS 2 at place 4;
+-- b subscribes again at place 5, answers x, answers y in two steps, and does not answer the copy of
+-- the retained one
 abbrev pub three_entries : List Command
 three_entries =
     subscribed_at levels.ExactlyOnce
@@ -87,8 +88,8 @@ EntriesHaveTheirPlaces =
 abbrev pub IsNewAfter : List Command → Command → Bool → Type 0
 IsNewAfter earlier next new = is_new next (mark_of usual_limits (past_of usual_limits earlier) next) ≡ new
 
--- a QoS 2 PUBLISH brings a new publication unless it is a repeat or of no current connection; one at QoS 1 is taken
--- each time, and is none
+-- a QoS 2 PUBLISH brings a new publication unless it is a repeat or on no current connection; one
+-- at QoS 1 is taken each time, and is not counted as new
 abbrev pub NewOnce : Type 0
 NewOnce =
     IsNewAfter (connect 2 a ∷ []) (gets 2 (publish (deliveries.ExactlyOnce true 1) false (codes "x"))) true

@@ -1,4 +1,4 @@
--- What readers may want to know of the start of an entry (MQTT 2.3.1, 4.6).
+-- What readers may want to know about the start of an entry (MQTT 2.3.1, 4.6).
 use Rattle.std.specs.Prelude.{◌≡◌, ◌≤◌, ◌<◌, ℕ, true, false, List, ◌∷◌, ◌++◌, length, is_some}
 use Rattle.broker_model.specs.Place.{Client, Place, Past, Limits}
 use Rattle.broker_model.specs.Past.{current_connection}
@@ -8,14 +8,15 @@ use Rattle.broker_model.specs.Entries.{Entry}
 use Rattle.broker_model.specs.Readings.{busy_ids}
 use Rattle.broker_model.specs.Times.{entries_of, window_at}
 
--- an identifier may be taken behind these entries: fewer than the window are under way, none of them has it, and
--- each smaller one is taken
+-- an identifier may be used after these entries: fewer than the window are in flight, none of them
+-- has it, and each smaller one is in use
 pub record MayStart (window id : ℕ) (before : List Entry) : Type 0 where
   pub room : length (busy_ids before) < window
   pub free : has_id id (busy_ids before) ≡ false
   pub least : (j : ℕ) → 1 ≤ j → j < id → has_id j (busy_ids before) ≡ true
 
--- an entry that starts at a place has a connection there, room in the window, and the least free identifier
+-- an entry that starts at a place has a connection there, room in the window, and the least free
+-- identifier
 abbrev pub StartsWhereItMay : Type 0
 StartsWhereItMay =
     (limits : Limits) (place : Place) (past : Past) (c : Client) (before behind : List Entry) (made : ℕ)

@@ -1,4 +1,4 @@
--- What readers may want to know of the places that take a publication (MQTT 3.3.5, 4.3.3).
+-- What readers may want to know about the places that take a publication (MQTT 3.3.5, 4.3.3).
 use Rattle.std.specs.Prelude.{◌≡◌, Bool, true, false, List, [], ◌∷◌, length, filter, map, Option, Some}
 use Rattle.retained.specs.packet.declared.qos.QoS.{QoS}
 use Rattle.retained.specs.packet.declared.qos.QoS.TheVariants as levels
@@ -17,12 +17,13 @@ use Rattle.broker_model.specs.EndingLaws.{StandsAt}
 use Rattle.broker_model.specs.declared.command.Command.{Command}
 use Rattle.broker_model.specs.declared.command.Command.TheVariants as commands
 
--- whether a publication is taken, at whatever QoS
+-- whether a publication is taken, at any QoS
 abbrev pub takes_publication : Command → Mark → Bool
 takes_publication (commands.Packet x (packets.Publish p)) (Mark.Taken c) = true
 takes_publication _ _ = false
 
--- a publication as a session gets it at this QoS, where it is queued: its topic and payload, and RETAIN 0 (MQTT 3.3.1.3)
+-- a publication as a session gets it at this QoS, if it is queued: its topic and payload, and
+-- RETAIN 0 (MQTT 3.3.1.3)
 abbrev pub queued_at : Publication → Option QoS → List Publication
 queued_at p (Some levels.AtLeastOnce) = record { retain = false; qos = levels.AtLeastOnce; topic = p.topic; payload = p.payload } ∷ []
 queued_at p (Some levels.ExactlyOnce) = record { retain = false; qos = levels.ExactlyOnce; topic = p.topic; payload = p.payload } ∷ []
@@ -35,7 +36,7 @@ EntersAsPublished =
     → map publication_in (filter (is_from_publish (length past)) (entries_of limits (taken x p d ∷ past) c))
     ≡ queued_at (publication_of p) (effective_qos past c (publication_of p))
 
--- from a place that takes none, as a repeat or a refused one, no session has an entry of a publication
+-- no session has an entry from a place that takes no publication, such as a repeat or a refused one
 abbrev pub EntersWhereTaken : Type 0
 EntersWhereTaken =
     (limits : Limits) (past : Past) (place : Place) (below : Past) (c : Client) → StandsAt past place below

@@ -42,9 +42,9 @@ answered_by _ _ n c entries = entries
 
 -- ---- what starts
 
--- Goes along the entries with the identifiers of the earlier unfinished ones. One that waits starts where fewer
--- than the window are unfinished before it, with the least identifier that none of them has; else no later one
--- starts (MQTT 4.6).
+-- Goes along the entries with the identifiers of the earlier unfinished ones. An entry that waits
+-- starts if fewer than the window are unfinished before it, with the least identifier that none of
+-- them has; otherwise no later one starts (MQTT 4.6).
 abbrev pub start_all : ℕ → ℕ → List ℕ → List Entry → List Entry
 start_all window n busy (Entry.Waits made p ∷ entries) =
     if nat_lt (length busy) window
@@ -65,12 +65,12 @@ started window n None entries = entries
 
 -- ---- the entries
 
--- how many entries of a session may be under way at once, after these places
+-- how many entries of a session may be in flight at once, after these places
 abbrev pub window_at : Limits → Past → ℕ
 window_at limits past = limits.window past
 
--- The entries of a client's session, in the order in which they were made. A place first does what the client's
--- answer does, then adds the entries that it makes, and then starts what may start.
+-- The entries of a client's session, in the order in which they were made. A place first applies
+-- the client's answer, then adds the entries that it makes, and then starts what may start.
 unfoldable pub entries_of : Limits → Past → Client → List Entry
 entries_of limits [] c = []
 entries_of limits (place ∷ past) c =

@@ -1,4 +1,4 @@
--- The windows that there are: how many entries of a session are in flight at most (MQTT 4.6).
+-- The possible windows: how many entries of a session are in flight at most (MQTT 4.6).
 use Rattle.std.specs.Prelude.{ℕ, ◌==◌, ◌||◌, Bool, IsTrue, if◌then◌else◌, Option, Some, None}
 
 -- 16 as in form 1, or 64

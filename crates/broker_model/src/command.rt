@@ -1,4 +1,4 @@
-// What the replicated log of the broker holds, and what the broker gives for it.
+// The commands of the broker's replicated log, and the outputs for them.
 
 ghost use Rattle.std.specs.Prelude.{◌≡◌, IfOk};
 ghost use Rattle.broker_model.specs.Logged.{IsBrokerCommand};
@@ -13,18 +13,19 @@ use std::alloc::AllocError;
 pub enum Command {
     /// A client opens a connection by a CONNECT; the flag is CleanSession (MQTT 3.1.2.4).
     Connect(ConnectionId, ClientId, bool),
-    /// A packet came on a connection, behind the CONNECT that is the first one.
+    /// A packet arrived on a connection, after the CONNECT that is its first packet.
     Packet(ConnectionId, SizedPacket),
     /// A connection was lost: closed by the client without a DISCONNECT, or by its node.
     Lost(ConnectionId),
-    /// A new ballot begins: the connections of earlier ones are gone.
+    /// A new ballot begins: the connections of earlier ballots have ended.
     Start(u64),
-    /// An administrator ends the session of this client, if there is one, and its connection with it.
+    /// An administrator ends the session of this client, if there is one, and its connection with
+    /// it.
     Expel(ClientId),
 }
 
 impl Command {
-    /// A command equal to this one.
+    /// Returns a command equal to this one.
     pub fn copy(&self) -> Result<Command, AllocError>
         ensures { IfOk result (λ copy. copy ≡ self.now) }
     {
@@ -39,7 +40,8 @@ impl Command {
         })
     }
 
-    /// Tells a proof that what a command in hand holds is in its ranges; it does nothing else.
+    /// Ensures, for a proof, that the parts of this command are in their ranges; it does nothing
+    /// else.
     pub fn known(&self)
         ensures { IsBrokerCommand self.now }
     {
@@ -63,11 +65,11 @@ impl Command {
     }
 }
 
-/// What the broker gives for a command.
+/// An output of the broker for a command.
 #[derive(Debug, PartialEq, Eq, Drop)]
 pub enum Output {
     /// The packet goes to the client of this connection.
     Send(ConnectionId, Packet),
-    /// The connection is closed, behind what was sent on it before.
+    /// The connection is closed, after what was sent on it before.
     Close(ConnectionId),
 }

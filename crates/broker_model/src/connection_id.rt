@@ -9,9 +9,9 @@ pub const MAX_BALLOT: u64 = 0x1_0000_0000;
 /// The greatest number of a connection in its ballot.
 pub const MAX_COUNT: u64 = 0x100_0000_0000;
 
-/// The name of a Network Connection: the ballot in which its node accepted it, and its number
-/// among the connections of that ballot. No two connections of a run have the same name. Ordered by
-/// ballot, then by number.
+/// The name of a Network Connection: the ballot in which its node accepted it, and its number among
+/// the connections of that ballot. No two connections of a run have the same name. Names are
+/// ordered by ballot, then by number.
 #[derive(Clone, Copy, Debug, PartialEq, Eq, PartialOrd, Ord)]
 pub struct ConnectionId {
     ballot: u64,
@@ -31,7 +31,7 @@ impl std::marker::Model for ConnectionId {
 }
 
 impl ConnectionId {
-    /// The connection with this number in this ballot, or none where one of them is out of its
+    /// Returns the connection with this number in this ballot, or none if one of them is out of
     /// range: 1 to 2^32 for the ballot, 1 to 2^40 for the number.
     pub fn new(ballot: u64, count: u64) -> Option<ConnectionId>
         ensures named { IfSome result (λ name. name ≡ record { ballot = ballot; count = count }) }
@@ -43,7 +43,7 @@ impl ConnectionId {
         Some(ConnectionId { ballot, count })
     }
 
-    /// The ballot, 1 to 2^32.
+    /// Returns the ballot, 1 to 2^32.
     pub fn ballot(self) -> u64
         ensures value { result ≡ self.ballot }
         ensures valid { IsConnectionName self }
@@ -51,7 +51,7 @@ impl ConnectionId {
         self.ballot
     }
 
-    /// The number in the ballot, 1 to 2^40.
+    /// Returns the number in the ballot, 1 to 2^40.
     pub fn count(self) -> u64
         ensures value { result ≡ self.count }
         ensures valid { IsConnectionName self }

@@ -1,4 +1,4 @@
-// Worked rows of the definitions, each the contract of a function that does nothing.
+// Worked examples of the definitions, each the contract of a function that does nothing.
 
 ghost use Rattle.broker_model.specs.Rows.{ConnectIsAnswered, SecondConnectionTakesOver, OlderConnectionIsSilent, SubscribeIsGranted, PublishReachesTheSubscriber, RepeatBeforePubrel, DupAfterPubrel, PubrelTwice, RetainedAtSubscribe, TwoFiltersOnePublication};
 ghost use Rattle.broker_model.specs.MoreRows.{FullQueueRefuses, FullQueueGoesOn, FullQueueKeepsTheOrder, PingAndUnsubscribe, ViolationsClose, PubackFreesItsIdentifier, WideWindowSendsAll, WindowOf64, WindowGrowsAtStart};
@@ -28,8 +28,8 @@ pub fn publish_reaches_the_subscriber()
     ensures { PublishReachesTheSubscriber }
 {}
 
-/// The same PUBLISH again is a repeat until PUBREL, and then not, whatever its DUP flag says
-/// (MQTT 3.3.1.1, 4.3.3).
+/// The same PUBLISH is a repeat until PUBREL, and not after it, whatever its DUP flag says (MQTT
+/// 3.3.1.1, 4.3.3).
 pub fn a_repeat_before_pubrel()
     ensures repeat { RepeatBeforePubrel }
     ensures other { DupAfterPubrel }
@@ -40,7 +40,7 @@ pub fn pubrel_twice()
     ensures { PubrelTwice }
 {}
 
-/// A retained publication comes to a later subscriber with RETAIN 1 (MQTT 3.3.1.3).
+/// A retained publication is sent to a later subscriber with RETAIN 1 (MQTT 3.3.1.3).
 pub fn retained_at_subscribe()
     ensures { RetainedAtSubscribe }
 {}
@@ -50,8 +50,8 @@ pub fn two_filters_one_publication()
     ensures { TwoFiltersOnePublication }
 {}
 
-/// A publication that one session has no room for is refused with its connection, so that the
-/// publisher's later ones cannot pass it.
+/// A publication for which one session has no room is refused and its connection closed, so that
+/// the publisher's later ones cannot pass it.
 pub fn a_full_queue_keeps_the_order()
     ensures refuses { FullQueueRefuses }
     ensures goes_on { FullQueueGoesOn }
@@ -65,14 +65,14 @@ pub fn ping_unsubscribe_and_violations()
     ensures closed { ViolationsClose }
 {}
 
-/// With a window of 16, PUBACK sends the 17th publication with the identifier that it freed, and that
-/// one stays after the others (MQTT 4.4, 4.6).
+/// With a window of 16, PUBACK sends the 17th publication with the identifier that it freed, and
+/// that one stays after the others (MQTT 4.4, 4.6).
 pub fn puback_frees_its_identifier()
     ensures { PubackFreesItsIdentifier }
 {}
 
-/// With a window of 64, as many entries of a session are under way at once; with one that grows
-/// from 16 at a new ballot, from the first ballot on that begins.
+/// With a window of 64, 64 entries of a session are in flight at once; with a window that grows
+/// from 16 at a new ballot, this is so from the first ballot on that begins.
 pub fn window_of_64()
     ensures wide { WideWindowSendsAll }
     ensures seventy { WindowOf64 }
@@ -80,7 +80,7 @@ pub fn window_of_64()
 {}
 
 /// A broker holds 4,096 sessions, 64 subscriptions and 4,096 unfinished entries of each, and 16,384
-/// retained topics; and one more of each is refused (MQTT 3.2.2.3, 3.9.3). A connection's name is a
+/// retained topics; one more of each is refused (MQTT 3.2.2.3, 3.9.3). A connection's name is a
 /// ballot of 1 to 2^32 and a number of 1 to 2^40.
 pub fn limits_are_met()
     ensures numbers { LimitsAre }
@@ -91,15 +91,15 @@ pub fn limits_are_met()
     ensures room { RoomIsLessWhatEarlierFiltersNeed }
 {}
 
-/// A publication is answered by its own QoS and identifier, and delivered at the lower of its QoS and
-/// the granted one, to each client in turn (MQTT 3.3.5, 3.8.4).
+/// A publication is answered by its own QoS and identifier, and delivered at the lower of its QoS
+/// and the granted one, to each client in turn (MQTT 3.3.5, 3.8.4).
 pub fn lower_qos_is_delivered()
     ensures lower { LowerQosIsDelivered }
     ensures order { CopiesComeByClient }
 {}
 
-/// The last publication with RETAIN 1 is retained at its own QoS, and comes at the lower of that and
-/// the one that is asked for (MQTT 3.3.1.3).
+/// The last publication with RETAIN 1 is retained at its own QoS, and is sent at the lower of that
+/// and the QoS that is asked for (MQTT 3.3.1.3).
 pub fn last_publication_is_retained()
     ensures qos { RetainedAtTheLowerQos }
     ensures last { LastIsRetained }
@@ -111,16 +111,16 @@ pub fn exactly_once_is_sent_again()
     ensures { ExactlyOnceIsSentAgain }
 {}
 
-/// A session begins at an accepted Connect that finds none, or is clean, or finds a clean one, and a
-/// clean one ends with its connection (MQTT 3.1.2.4).
+/// A session begins at an accepted Connect that finds none, or is clean, or finds a clean one, and
+/// a clean one ends with its connection (MQTT 3.1.2.4).
 pub fn sessions_begin_and_end()
     ensures begin { SessionsBegin }
     ensures end { SessionsEnd }
     ensures places { PlacesStandInSessions }
 {}
 
-/// An expelled client's connection is closed, and its session is gone with all that was kept in it: the client
-/// finds none when it comes back (MQTT 3.1.2.4, 4.1).
+/// An expelled client's connection is closed, and its session is removed with all that was kept in
+/// it: the client finds none when it comes back (MQTT 3.1.2.4, 4.1).
 pub fn an_expelled_session_is_gone()
     ensures once { ExpelledOnce }
     ensures nothing { NothingIsLeft }
@@ -128,8 +128,8 @@ pub fn an_expelled_session_is_gone()
     ensures ends { ExpelEnds }
 {}
 
-/// Which connection counts: the last accepted one of a client, and no other, also where it sends a
-/// second CONNECT (MQTT 3.1.0, 3.1.4).
+/// Only the last accepted connection of a client counts, also if the client sends a second CONNECT
+/// (MQTT 3.1.0, 3.1.4).
 pub fn last_connection_is_live()
     ensures live { LastConnectionIsLive }
     ensures violation { ConnectOnACurrentConnection }

@@ -10,8 +10,8 @@ use std::error::Error;
 use std::fmt;
 use std::marker::Model;
 
-/// A packet that can be written down, as what a log holds has to be: its body has at most 1,048,572
-/// bytes and none of its lists is empty. A contract sees the packet.
+/// A packet that can be written down, as a packet in a log has to be: its body has at most
+/// 1,048,572 bytes and none of its lists is empty. Its value in contracts is the packet.
 #[derive(Debug, Drop)]
 pub struct SizedPacket {
     packet: Packet,
@@ -38,7 +38,7 @@ pub enum Unspellable {
 }
 
 impl Unspellable {
-    /// The number of this refusal, the same in every program and document of this broker.
+    /// Returns the number of this refusal, the same in every program and document of this broker.
     pub fn number(self) -> u8
         ensures { result ≡ unspellable_number self }
     {
@@ -61,8 +61,8 @@ impl fmt::Display for Unspellable {
 impl Error for Unspellable {}
 
 impl SizedPacket {
-    /// This packet, where it can be written down. `TooLarge` comes exactly where its body has more
-    /// than 1,048,572 bytes, `Shape` where only a list of it is empty.
+    /// Returns this packet, if it can be written down. `TooLarge` comes exactly if its body has
+    /// more than 1,048,572 bytes, `Shape` if only a list of it is empty.
     pub fn new(packet: Packet) -> Result<SizedPacket, Unspellable>
         ensures value { IfOk result (λ sized. sized ≡ packet) }
         ensures ok { IsOk result ↔ IsSized packet }
@@ -77,7 +77,7 @@ impl SizedPacket {
         Ok(SizedPacket { packet })
     }
 
-    /// The packet.
+    /// Returns the packet.
     pub fn packet(&self) -> &Packet
         ensures value { result.now ≡ self.now }
         ensures sized { IsSized self.now }
@@ -85,7 +85,7 @@ impl SizedPacket {
         &self.packet
     }
 
-    /// A packet equal to this one.
+    /// Returns a packet equal to this one.
     pub fn copy(&self) -> Result<SizedPacket, AllocError>
         ensures { IfOk result (λ copy. copy ≡ self.now) }
     {

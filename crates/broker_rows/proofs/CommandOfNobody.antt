@@ -1,4 +1,4 @@
--- A command on a connection of nobody leaves every row, but for an accepted Connect.
+-- A command on a connection without a client leaves every row, except an accepted Connect.
 use Rattle.std.proofs.Common.{◌≡◌, ℕ, Bool, true, false, ◌||◌, nat_lt, if◌then◌else◌, List, [], ◌∷◌, length, Some, None, refl, ap, ap₂, ◌∙◌, sym, subst}
 use Rattle.std.specs.Prelude.{is_some}
 use Rattle.broker_model.specs.session_base.Subscriptions.{HeldFilter}
@@ -17,7 +17,7 @@ use Rattle.broker_rows.proofs.OneRow.{left_untouched}
 use Rattle.broker_rows.proofs.OneCommand.{ends_none, spares}
 use Rattle.broker_rows.proofs.CommandOfOwner.{only_left}
 
--- a connection without an owner is nobody's
+-- a connection without an owner has no client
 pub nobody_owns : (x : ConnectionName) (rows : Sessions) → owner_in x rows ≡ None → IsNobodys x rows
 nobody_owns x [] e = tt
 nobody_owns x (row ∷ rows) e = by (any_connection (same_connection x) row.1.connection) refl (λ later. nobody_owns x rows later) e
@@ -27,7 +27,7 @@ nobody_owns x (row ∷ rows) e = by (any_connection (same_connection x) row.1.co
     by true on later f = absurd (cc)
     by false off later f = (off, later f)
 
--- a command without a part is about nobody
+-- a command without a part is about no client
 about_nobody : (command : Command) (mark : Mark) (c : Client) (held : List HeldFilter) → IsIdle mark → is_about command mark c held ≡ false
 about_nobody (commands.Connect x d clean) Mark.Accepted c held idle = absurd idle
 about_nobody (commands.Packet x (packets.Publish p)) (Mark.Taken d) c held idle = absurd idle
@@ -35,7 +35,7 @@ about_nobody command (Mark.Granted d which) c held idle = absurd idle
 about_nobody command (Mark.Handled d) c held idle = absurd idle
 about_nobody _ _ c held idle = refl
 
--- nor does it touch anybody's row
+-- nor does it touch any client's row
 none_touched : (command : Command) (mark : Mark) (x : ConnectionName) (rows : Sessions) → comes_on command ≡ Some x → IsIdle mark → IsNobodys x rows →
     Untouched (record { command = command; mark = mark }) rows
 none_touched command mark x [] on idle nobodys = tt
@@ -49,7 +49,7 @@ full_mark : (b : Bool) → is_accepted (if b then Mark.Accepted else Mark.Full) 
 full_mark true e = absurd (cc)
 full_mark false e = tt
 
--- the mark of any command of nobody that is not an accepted Connect
+-- the mark of any command without a client that is not an accepted Connect
 nobodys_mark : (limits : Limits) (state : State) (command : Command) (x : ConnectionName) → comes_on command ≡ Some x → owner_in x state.sessions ≡ None →
     is_accepted (mark_in limits state command) ≡ false → IsIdle (mark_in limits state command)
 nobodys_mark limits state (commands.Packet y packet) x on none e =

@@ -1,4 +1,4 @@
--- A command of a connection's owner, but for a taken PUBLISH, leaves every row but the owner's.
+-- A command of a connection's owner, except a taken PUBLISH, leaves every row but the owner's.
 use Rattle.std.proofs.Common.{◌≡◌, ℕ, false, Some, refl, ◌∙◌}
 use Rattle.broker_model.specs.retained.Retained.{RetainedTopics}
 use Rattle.broker_base.specs.Connection.{ConnectionName}

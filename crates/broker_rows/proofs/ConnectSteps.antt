@@ -1,4 +1,4 @@
--- The step at a Connect on a connection of nobody.
+-- The step of a Connect on a connection without a client.
 use Rattle.std.proofs.Common.{◌≡◌, ℕ, Bool, true, false, ◌||◌, if◌then◌else◌, List, [], ◌∷◌, ◌++◌, Option, Some, None, refl, ap, ap₂, ◌∙◌}
 use Rattle.std.specs.Prelude.{not, map, option_map, is_some, nat_lt, length}
 use Rattle.std.specs.BTreeMap.{insert_entry}
@@ -88,7 +88,7 @@ beginning_step limits later state x c clean sound none admitted begins =
     accepted_step limits later state x c clean (kept_anew (x, clean)) (closed (connection_of (session_in c state.sessions)) ++ welcome x false ∷ [])
     sound none admitted h.0 h.1
 
--- a session that goes on
+-- a session that continues
 pub resuming_step : ResumingStep
 resuming_step limits later state x c kept sound none found lasting =
     accepted_step limits later state x c false (kept_resumed state.window (x, false) kept)

@@ -48,7 +48,7 @@ expel_only c (row ∷ rows) by_client = by (same_client c row.0) refl (expel_onl
     by true same later = inl (same, none_behind c rows (subst (λ (d : Client). ComesBefore d rows) (sym (same_is c row.0 same)) by_client.0))
     by false other later = inr (other, spares_other c row.0 row.1 other, later)
 
--- or none, where the client has none
+-- or none, if the client has none
 none_there : (c : Client) (rows : Sessions) → session_in c rows ≡ None → Untouched (at_expel c) rows
 none_there c [] none = tt
 none_there c (row ∷ rows) none = by (same_client c row.0) refl none (none_there c rows)

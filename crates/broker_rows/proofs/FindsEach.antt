@@ -14,7 +14,7 @@ abbrev pub Finds : (Client → Option ClientSession) → Sessions → Type 0
 Finds look (row ∷ rows) = (look row.0 ≡ Some row.1) × Finds look rows
 Finds look [] = Unit {0}
 
--- also behind one more row, of an earlier client
+-- also after one more row, of an earlier client
 finds_behind : (first : Client × ClientSession) (all rows : Sessions) → ComesBefore first.0 rows → Finds (λ c. session_in c all) rows → Finds (λ c. session_in c (first ∷ all)) rows
 finds_behind first all [] before finds = tt
 finds_behind first all (row ∷ rows) before finds = (

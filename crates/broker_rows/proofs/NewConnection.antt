@@ -1,4 +1,5 @@
--- An accepted Connect on a connection of nobody writes its client's row, and leaves every other.
+-- An accepted Connect on a connection without a client writes its client's row, and leaves every
+-- other.
 use Rattle.std.proofs.Common.{◌≡◌, ℕ, Bool, ◌||◌, [], ◌∷◌, Option, Some, None, refl, ap, ap₂, ◌∙◌, sym, subst}
 use Rattle.std.specs.declared.cmp.Ordering.{Ordering}
 use Rattle.std.specs.declared.cmp.Ordering.TheVariants.{Less, Equal, Greater}
@@ -22,7 +23,7 @@ use Rattle.broker_rows.proofs.OneCommand.{ends_none}
 abbrev pub accepted : ConnectionName → Client → Bool → Place
 accepted x c clean = record { command = commands.Connect x c clean; mark = Mark.Accepted }
 
--- the rows behind the client's are not touched
+-- the rows after the client's are not touched
 others_untouched : (x : ConnectionName) (c : Client) (clean : Bool) (rows : Sessions) → ComesBefore c rows → IsNobodys x rows → Untouched (accepted x c clean) rows
 others_untouched x c clean [] before nobodys = tt
 others_untouched x c clean (row ∷ rows) before nobodys = (

@@ -1,4 +1,4 @@
--- The step at a packet of nobody's connection, and at its loss, leaves the state.
+-- The step at a packet of a connection without a client, and at its loss, leaves the state.
 use Rattle.std.proofs.Common.{◌≡◌, [], refl, ap, ap₂, ◌∙◌}
 use Rattle.subs.specs.packet.declared.packet.Packet.{Packet}
 use Rattle.subs.specs.packet.declared.packet.Packet.TheVariants as packets

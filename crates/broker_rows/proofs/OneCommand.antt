@@ -1,4 +1,5 @@
--- A command of a connection's owner, but for a taken PUBLISH, is of that connection and client alone.
+-- A command of a connection's owner, except a taken PUBLISH, concerns only that connection and
+-- client.
 use Rattle.std.proofs.Common.{◌≡◌, Bool, true, false, ◌&&◌, ◌||◌, if◌then◌else◌, List, Option, Some, None, refl, ap, ap₂, ◌∙◌, sym, subst}
 use Rattle.broker_model.specs.session_base.Subscriptions.{HeldFilter}
 use Rattle.subs.specs.packet.declared.publish.Publish.{Publish}
@@ -27,7 +28,7 @@ ends_on (commands.Lost y) mark x z on off = let same : y ≡ x = cc in ap (λ n.
 ends_on (commands.Start ballot) mark x z on off = absurd (cc)
 ends_on (commands.Expel c) mark x z on off = absurd (cc)
 
--- and expels nobody
+-- and expels no client
 pub spares : (command : Command) (x : ConnectionName) (c : Client) → comes_on command ≡ Some x → expels command c ≡ false
 spares (commands.Packet y packet) x c on = refl
 spares (commands.Connect y d clean) x c on = refl
@@ -93,7 +94,7 @@ owners_mark limits state (commands.Lost y) x owner on found e = tt
 owners_mark limits state (commands.Start ballot) x owner on found e = absurd (cc)
 owners_mark limits state (commands.Expel c) x owner on found e = absurd (cc)
 
--- a command of an owner is of its connection and client alone
+-- a command of an owner concerns only its connection and client
 pub ones_owned : (limits : Limits) (state : State) (command : Command) (x : ConnectionName) (owner : Client × ClientSession) → comes_on command ≡ Some x →
     owner_in x state.sessions ≡ Some owner → is_taken (mark_in limits state command) ≡ false → IsOnes (place_in limits state command) x owner.0
 ones_owned limits state command x owner on found e =

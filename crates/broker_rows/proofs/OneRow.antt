@@ -8,7 +8,7 @@ use Rattle.broker_base.specs.Step.{session_after, sessions_left}
 use Rattle.broker_base.proofs.ClientsInOrder.{same_is}
 use Rattle.broker_rows.specs.Touched.{Untouched, TouchesOnly, written}
 
--- where nothing is touched, every row stays
+-- if nothing is touched, every row stays
 pub left_untouched : (w : ℕ) (place : Place) (content : RetainedTopics) (rows : Sessions) → Untouched place rows → sessions_left w place content rows ≡ rows
 left_untouched w place content [] u = refl
 left_untouched w place content (row ∷ rows) u = rw u.0 (ap (λ rest. row ∷ rest) (left_untouched w place content rows u.1))
@@ -18,7 +18,7 @@ pub written_here : (d : Client) (o : Option ClientSession) (row : Client × Clie
 written_here d None row rows same = rw same refl
 written_here d (Some kept) row rows same = rw same refl
 
--- what is written behind the first row
+-- what is written after the first row
 pub written_behind : (d : Client) (o : Option ClientSession) (row : Client × ClientSession) (rows : Sessions) → same_client d row.0 ≡ false → row ∷ written d o rows ≡ written d o (row ∷ rows)
 written_behind d None row rows other = rw other refl
 written_behind d (Some kept) row rows other = rw other refl

@@ -9,7 +9,7 @@ use Rattle.broker_base.specs.StateLaws.{AreByClient}
 use Rattle.broker_rows.specs.Owners.{Owners, owners_in, row_in}
 use Rattle.broker_rows.proofs.OwnersRow.{owner_found}
 
--- two look-ups, where the map is that of the sessions
+-- two look-ups, if the map is that of the sessions
 pub owner_by_map : (owners : Owners) (x : ConnectionName) (sessions : Sessions) → AreByClient sessions → owners ≡ owners_in sessions →
     owner_in x sessions ≡ row_in sessions (owners x)
 owner_by_map owners x sessions by_client is = by (owner_in x sessions) refl ∙ ap (λ (o : Owners). row_in sessions (o x)) (sym is)

@@ -36,9 +36,9 @@ pub on_is : (x : ConnectionName) (connection : Option ConnectionName) → any_co
 on_is x None e = absurd (cc)
 on_is x (Some y) e = ap Some (sym (connection_is x y e))
 
--- ---- rows behind a row
+-- ---- rows after a row
 
--- no row behind the owner's is touched
+-- no row after the owner's is touched
 pub none_behind : (place : Place) (x : ConnectionName) (d : Client) (rows : Sessions) → IsOnes place x d → ComesBefore d rows → IsNobodys x rows → Untouched place rows
 none_behind place x d [] ones before nobodys = tt
 none_behind place x d (row ∷ rows) ones before nobodys =
@@ -70,7 +70,7 @@ owner_found x owner (row ∷ rows) by_client found = by (any_connection (same_co
         ap (λ o. if is_eq o then Some row.1 else session_in owner.0 rows) (less_turned row.0 owner.0 (before_owner row.0 x owner rows by_client.0 e))
         ∙ later e
 
--- and it alone is touched
+-- and only it is changed
 pub owner_only : (place : Place) (x : ConnectionName) (owner : Client × ClientSession) (rows : Sessions) → IsOnes place x owner.0 → AreByClient rows → AreApart rows →
     owner_in x rows ≡ Some owner → TouchesOnly place owner.0 rows
 unfolding IsStrictlySortedBy

@@ -1,4 +1,5 @@
--- The step at a packet of a served client, where its connection goes on, and at one of nobody.
+-- The step at a packet of a served client, if its connection continues, and at one without a
+-- client.
 use Rattle.std.proofs.Common.{◌≡◌, ℕ, if◌then◌else◌, [], ◌∷◌, Option, Some, refl, ap, ap₂, ◌∙◌}
 use Rattle.std.specs.Prelude.{map}
 use Rattle.subs.specs.packet.declared.packet.Packet.{Packet}
@@ -23,7 +24,7 @@ use Rattle.broker_rows.specs.PacketLaws.{handled_state, HandledStep, subscribed_
 use Rattle.broker_rows.proofs.ServedStep.{served_on, served_found, written_same, served_step}
 use Rattle.broker_rows.proofs.ServedGoesOn.{packet_at, handled_is, subscribe_is, repeat_is}
 
--- a session is written over by itself
+-- a session is replaced by an equal one
 same_session : (state : State) (x : ConnectionName) (c : Client) (kept : ClientSession) → IsServed state x c kept → with_session c (Some kept) state ≡ state
 same_session state x c kept served =
     ap (λ sessions. record { window = state.window; sessions = sessions; retained = state.retained })

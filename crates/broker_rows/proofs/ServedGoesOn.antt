@@ -1,4 +1,4 @@
--- What a packet makes of its sender's session, where the connection goes on.
+-- What a packet does to its sender's session, if the connection continues.
 use Rattle.std.proofs.Common.{◌≡◌, ℕ, Bool, true, false, not, ◌&&◌, ◌||◌, if◌then◌else◌, List, [], Option, Some, None, refl, ap, ◌∙◌, sym}
 use Rattle.subs.specs.packet.declared.subscribe.Subscribe.{Subscribe}
 use Rattle.subs.specs.packet.declared.publish.Publish.{Publish}

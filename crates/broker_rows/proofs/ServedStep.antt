@@ -46,7 +46,7 @@ served_found state x c kept served = owner_found x (c, kept) state.sessions serv
 pub on_its_connection : IsOnItsConnection
 on_its_connection state x c kept served = (served_on state x c kept served, served_found state x c kept served)
 
--- a session is written over by itself
+-- a session is replaced by an equal one
 pub written_same : (d : Client) (kept : ClientSession) (rows : Sessions) → session_in d rows ≡ Some kept → written d (Some kept) rows ≡ rows
 written_same d kept [] found = refl
 written_same d kept (row ∷ rows) found = by (same_client d row.0) found (λ e. written_same d kept rows e)
@@ -63,7 +63,7 @@ pub retained_same : (command : Command) (mark : Mark) (content : RetainedTopics)
 retained_same (commands.Packet x (packets.Publish p)) (Mark.Taken c) content e = absurd (cc)
 retained_same _ _ content e = refl
 
--- with the mark, and what that makes of the client's session
+-- with the mark, and what that does to the client's session
 pub served_step : (limits : Limits) (later : ℕ) (state : State) (command : Command) (x : ConnectionName) (c : Client) (kept : ClientSession) (mark : Mark) (after : Option ClientSession)
     (answers : List Output) → IsServed state x c kept → comes_on command ≡ Some x → window_after later command state.window ≡ state.window →
     mark_in limits state command ≡ mark → is_taken mark ≡ false →

@@ -62,7 +62,7 @@ by_clean false later = refl
 abbrev off : ClientSession → List HeldFilter → List ℕ → Queue → ClientSession
 off kept held ids queue = record { clean = kept.clean; connection = None; state = record { subscriptions = held; received = ids; queue = queue } }
 
--- a session goes on without its connection as it was
+-- a session continues without its connection as it was
 kept_off : (w : ℕ) (place : Place) (content : RetainedTopics) (c : Client) (kept : ClientSession) → IsParting place.mark →
     kept_on w place content c None kept ≡ record { clean = kept.clean; connection = None; state = kept.state }
 kept_off w place content c kept parting =

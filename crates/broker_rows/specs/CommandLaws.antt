@@ -1,4 +1,4 @@
--- A command touches one row at most, but for a taken publication, an accepted Connect and a Start
+-- A command touches one row at most, except a taken publication, an accepted Connect and a Start
 -- (MQTT 3.1.4).
 use Rattle.std.specs.Prelude.{◌≡◌, ℕ, false, Some, None}
 use Rattle.broker_base.specs.Connection.{ConnectionName}
@@ -12,8 +12,8 @@ use Rattle.broker_base.specs.Command.{Command}
 use Rattle.broker_rows.specs.Touched.{written, comes_on, is_taken, is_accepted}
 use Rattle.broker_rows.specs.Owners.{Owners, owners_in, row_in}
 
--- a command on a client's current connection, other than a PUBLISH that is taken, changes that
--- client's row alone
+-- a command on a client's current connection, other than a PUBLISH that is taken, changes only that
+-- client's row
 abbrev pub OneRowIsWritten : Type 0
 OneRowIsWritten =
     (limits : Limits) → (later : ℕ) → (state : State) → (command : Command) → (x : ConnectionName) →
@@ -26,8 +26,8 @@ OneRowIsWritten =
     (session_after (window_after later command state.window) (place_in limits state command) state.retained owner.0 owner.1)
     state.sessions
 
--- a command on a connection that is nobody's, other than an accepted Connect, leaves all rows as
--- they are
+-- a command on a connection that is no client's current one, other than an accepted Connect,
+-- changes no row
 abbrev pub NobodyChangesNothing : Type 0
 NobodyChangesNothing =
     (limits : Limits) → (later : ℕ) → (state : State) → (command : Command) → (x : ConnectionName) →

@@ -1,5 +1,6 @@
--- What a Connect on nobody's connection does: the client's session begins or goes on, and no other
--- is touched; and what a Start leaves (MQTT 3.1.2.4, 3.1.4, 3.2.2, 4.4).
+-- What a Connect does on a connection that is no client's current one: the client's session begins
+-- or continues, and no other is touched; and what a Start changes (MQTT 3.1.2.4, 3.1.4, 3.2.2,
+-- 4.4).
 use Rattle.std.specs.Prelude.{◌≡◌, ℕ, Bool, true, false, ◌||◌, nat_lt, length, [], ◌∷◌, ◌++◌, map, Some, None, is_some, option_map}
 use Rattle.std.specs.BTreeMap.{insert_entry}
 use Rattle.broker_model.specs.session_base.Sending.{fill_sends, resend}
@@ -28,8 +29,8 @@ abbrev pub begins_in : State → Client → Bool → Bool
 begins_in state c clean =
     begins_session clean (option_map (λ (kept : ClientSession). kept.clean) (session_in c state.sessions))
 
--- A Connect that is clean, that finds no session or that finds a clean one, begins one with nothing
--- in it; the connection that the client had is closed (MQTT 3.1.2.4, 3.1.4).
+-- A Connect that is clean, that finds no session, or that finds a clean one, begins an empty
+-- session; the connection that the client had is closed (MQTT 3.1.2.4, 3.1.4).
 abbrev pub BeginningStep : Type 0
 BeginningStep =
     (limits : Limits) → (later : ℕ) → (state : State) → (x : ConnectionName) → (c : Client) →
@@ -46,8 +47,8 @@ BeginningStep =
       closed (connection_of (session_in c state.sessions)) ++ welcome x false ∷ [],
     )
 
--- Any other goes on with the session that it finds: what is in flight is sent again in its order,
--- and what may start then starts (MQTT 4.4).
+-- Any other continues with the session that it finds: what is in flight is sent again in order, and
+-- what may start then starts (MQTT 4.4).
 abbrev pub ResumingStep : Type 0
 ResumingStep =
     (limits : Limits) → (later : ℕ) → (state : State) → (x : ConnectionName) → (c : Client) →
@@ -63,7 +64,7 @@ ResumingStep =
           (resend kept.state.queue.in_flight ++ fill_sends state.window kept.state.queue.in_flight kept.state.queue.waiting),
     )
 
--- one that would begin a session too many is turned away (MQTT 3.2.2.3)
+-- one that would begin a session too many is refused (MQTT 3.2.2.3)
 abbrev pub FullStep : Type 0
 FullStep =
     (limits : Limits) → (later : ℕ) → (state : State) → (x : ConnectionName) → (c : Client) →
@@ -71,7 +72,7 @@ FullStep =
     owner_in x state.sessions ≡ None → is_admitted limits state c ≡ false →
     step limits later state (commands.Connect x c clean) ≡ (state, turned_away x ∷ Close x ∷ [])
 
--- where the client has a session, the insertion of one writes it
+-- if the client has a session, the insertion of one writes it
 abbrev pub InsertionWrites : Type 0
 InsertionWrites =
     (c : Client) → (old new : ClientSession) → (sessions : Sessions) → AreByClient sessions →
@@ -80,7 +81,7 @@ InsertionWrites =
 
 -- ---- a Start
 
--- each session without its connection: the clean ones go
+-- each session without its connection; the clean ones end
 abbrev pub all_left_off : Sessions → Sessions
 all_left_off (row ∷ rows) = keyed row.0 (left_off row.1) (all_left_off rows)
 all_left_off [] = []

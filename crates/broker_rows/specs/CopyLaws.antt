@@ -15,7 +15,8 @@ use Rattle.broker_base.specs.Entries.{copies_for, copies_for_all, queued}
 use Rattle.broker_base.specs.Marks.{is_one_too_many, entries_for, grants}
 use Rattle.broker_rows.specs.PacketLaws.{subscribed_to}
 
--- copies that come in two parts leave what all of them leave, and send the same
+-- copies that come in two parts lead to the same session as all at once, and the same packets are
+-- sent
 abbrev pub CopiesJoin : Type 0
 CopiesJoin =
     (window : ℕ) → (copies more : List Publication) → (queue : Queue) →
@@ -29,7 +30,7 @@ CopiesTakeRoom =
     (window limit : ℕ) → (copies : List Publication) → (queue : Queue) →
     room limit (copies_left window copies queue) ≡ room limit queue - length (queued copies)
 
--- so where there is room for all of them, each finds some when its turn comes
+-- so if there is room for all of them, each finds room when its turn comes
 abbrev pub CopiesFindRoom : Type 0
 CopiesFindRoom =
     (window limit : ℕ) → (before : List Publication) → (p : Publication) →
@@ -40,21 +41,21 @@ CopiesFindRoom =
 
 -- ---- filter by filter
 
--- whether a filter is granted, where the session is this one: it is not one too many, and there is
--- room for its copies
+-- whether a filter is granted to this session: it is not one too many, and there is room for its
+-- copies
 abbrev pub is_granted_in : Limits → RetainedTopics → SessionState → Subscription → Bool
 is_granted_in limits content held new =
     not
     (is_one_too_many limits held.subscriptions new
     || nat_lt (room limits.entries held.queue) (entries_for content new))
 
--- the session behind one filter
+-- the session after one filter
 abbrev pub subscribed_by : Limits → ℕ → RetainedTopics → SessionState → Subscription → SessionState
 subscribed_by limits window content held new =
     if is_granted_in limits content held new then subscribed_to window content (new ∷ []) held
     else held
 
--- the packets that it is sent behind one filter
+-- the packets that it is sent after one filter
 abbrev pub sent_by : Limits → ℕ → RetainedTopics → SessionState → Subscription → List Packet
 sent_by limits window content held new =
     if is_granted_in limits content held new then copies_sent window (copies_for content new) held.queue
@@ -67,7 +68,7 @@ granted_in_turn limits window content held (new ∷ more) =
     ∷ granted_in_turn limits window content (subscribed_by limits window content held new) more
 granted_in_turn limits window content held [] = []
 
--- the session behind all of them
+-- the session after all of them
 abbrev pub subscribed_in_turn : Limits → ℕ → RetainedTopics → SessionState → List Subscription → SessionState
 subscribed_in_turn limits window content held (new ∷ more) =
     subscribed_in_turn limits window content (subscribed_by limits window content held new) more

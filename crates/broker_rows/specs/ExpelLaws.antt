@@ -1,4 +1,4 @@
--- An Expel: the client's session goes, whatever it is, and its connection is closed.
+-- An Expel: the client's session ends, clean or not, and its connection is closed.
 use Rattle.std.specs.Prelude.{◌≡◌, ℕ, [], Some, None}
 use Rattle.subs.specs.Content.{without_client}
 use Rattle.broker_base.specs.Connection.{ConnectionName}
@@ -14,14 +14,14 @@ use Rattle.broker_rows.specs.Served.{with_session}
 use Rattle.broker_rows.specs.Owners.{owners_in, without_owner}
 use Rattle.broker_rows.specs.Indexed.{content_in}
 
--- the session with all that it kept is gone, and its connection, if it has one, is closed
+-- the session with all that it kept is removed, and its connection, if it has one, is closed
 abbrev pub ExpelStep : Type 0
 ExpelStep =
     (limits : Limits) → (later : ℕ) → (state : State) → (c : Client) → (kept : ClientSession) →
     IsSound state → session_in c state.sessions ≡ Some kept →
     step limits later state (commands.Expel c) ≡ (with_session c None state, closed kept.connection)
 
--- without a session nothing changes, and nothing is answered
+-- without a session nothing changes, and there is no output
 abbrev pub NobodysExpelStep : Type 0
 NobodysExpelStep =
     (limits : Limits) → (later : ℕ) → (state : State) → (c : Client) →

@@ -1,4 +1,4 @@
--- How an index of the sessions' subscriptions follows a step: what it is to be told, where it held
+-- How an index of the sessions' subscriptions follows a step: how it has to change, if it contained
 -- them before (MQTT 3.1.2.4, 3.8.4, 3.10.4).
 use Rattle.std.specs.Prelude.{◌≡◌, ℕ, Bool, if◌then◌else◌, List, Some}
 use Rattle.std.specs.BTreeMap.{insert_entry}
@@ -19,7 +19,7 @@ use Rattle.broker_rows.specs.ConnectLaws.{all_left_off}
 use Rattle.broker_rows.specs.Published.{changed, received_on, all_delivered}
 use Rattle.broker_rows.specs.Indexed.{content_in, all_set, all_cleared, all_dropped, clean_clients, all_told}
 
--- nothing, where a session is written with the subscriptions that it had
+-- nothing changes if a session is written with the subscriptions that it had
 abbrev pub WritingKeepsContent : Type 0
 WritingKeepsContent =
     (c : Client) → (old new : ClientSession) → (rows : Sessions) → AreByClient rows →
@@ -45,7 +45,7 @@ UnsubscribingClears =
     new.state.subscriptions ≡ without_filters filters old.state.subscriptions →
     content_in (written c (Some new) rows) ≡ all_cleared c filters (content_in rows)
 
--- where a connection ends, the client of a clean session is dropped (MQTT 3.1.2.4)
+-- if a connection ends, the client of a clean session is dropped (MQTT 3.1.2.4)
 abbrev pub LeavingDropsTheClean : Type 0
 LeavingDropsTheClean =
     (c : Client) → (kept : ClientSession) → (rows : Sessions) → AreByClient rows →
@@ -53,7 +53,7 @@ LeavingDropsTheClean =
     content_in (written c (left_off kept) rows)
     ≡ (if kept.clean then without_client (content_in rows) c else content_in rows)
 
--- where a session begins, what the client had before is dropped (MQTT 3.1.2.4)
+-- if a session begins, what the client had before is dropped (MQTT 3.1.2.4)
 abbrev pub BeginningDrops : Type 0
 BeginningDrops =
     (c : Client) → (opened : ConnectionName × Bool) → (rows : Sessions) → AreByClient rows →
@@ -66,7 +66,7 @@ StartDropsTheClean =
     (rows : Sessions) → AreByClient rows →
     content_in (all_left_off rows) ≡ all_dropped (clean_clients rows) (content_in rows)
 
--- nothing, where a publication is noted and delivered
+-- nothing changes if a publication is noted and delivered
 abbrev pub PublishingKeepsContent : Type 0
 PublishingKeepsContent =
     (window : ℕ) → (p : Publication) → (granted : List Row) → (c : Client) → (delivery : Delivery) →
@@ -74,7 +74,7 @@ PublishingKeepsContent =
     content_in (all_delivered window p granted (changed c (received_on delivery) rows))
     ≡ content_in rows
 
--- an index that is made anew is told of each session's filters
+-- an index that is rebuilt gets each session's filters
 abbrev pub IndexMadeAnew : Type 0
 IndexMadeAnew =
     (rows : Sessions) → AreByClient rows → AllSound rows → content_in rows ≡ all_told rows no_subscriptions

@@ -8,12 +8,12 @@ use Rattle.broker_base.specs.ClientSession.{ClientSession}
 use Rattle.broker_base.specs.State.{Sessions, session_in}
 use Rattle.subs.specs.Content.{Content, with_row, without_row, without_client}
 
--- the QoS at which this very filter is subscribed
+-- the QoS at which exactly this filter is subscribed
 abbrev pub qos_at : List ℕ → List HeldFilter → Option QoS
 qos_at filter (held ∷ others) = if bytes_eq filter held.0 then Some held.1 else qos_at filter others
 qos_at filter [] = None
 
--- the subscription of this filter in a session that there may be
+-- the subscription of this filter in a session, if there is one
 abbrev pub subscribed_in : List ℕ → Option ClientSession → Option QoS
 subscribed_in filter (Some kept) = qos_at filter kept.state.subscriptions
 subscribed_in filter None = None
@@ -22,14 +22,14 @@ subscribed_in filter None = None
 abbrev pub content_in : Sessions → Content
 content_in sessions client filter = subscribed_in filter (session_in client sessions)
 
--- ---- what an index is told of one client
+-- ---- how an index changes for one client
 
 -- these filters are subscribed, one by one (MQTT 3.8.4)
 abbrev pub all_set : List ℕ → List HeldFilter → Content → Content
 all_set client (held ∷ more) content = all_set client more (with_row content client held.0 held.1)
 all_set client [] content = content
 
--- these filters are given up, one by one (MQTT 3.10.4)
+-- these filters are unsubscribed, one by one (MQTT 3.10.4)
 abbrev pub all_cleared : List ℕ → List (List ℕ) → Content → Content
 all_cleared client (filter ∷ more) content = all_cleared client more (without_row content client filter)
 all_cleared client [] content = content

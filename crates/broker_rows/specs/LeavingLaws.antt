@@ -1,5 +1,5 @@
--- What ends a served client's connection (MQTT 3.1.0, 3.14.4, 4.8): its session is left without
--- one, and a clean session is over (MQTT 3.1.2.4).
+-- What ends a served client's connection (MQTT 3.1.0, 3.14.4, 4.8): its session stays without one,
+-- and a clean session ends (MQTT 3.1.2.4).
 use Rattle.std.specs.Prelude.{◌≡◌, ℕ, true, Bool, [], ◌∷◌, None}
 use Rattle.subs.specs.packet.declared.packet.Packet.{Packet}
 use Rattle.broker_base.specs.Connection.{ConnectionName}
@@ -23,7 +23,7 @@ LeavingStep =
     step limits later state (commands.Packet x packet)
     ≡ (with_session c (left_off kept) state, Close x ∷ [])
 
--- so does a further Connect on it, of whatever client
+-- a further Connect on it, of any client, closes it too
 abbrev pub FurtherConnectStep : Type 0
 FurtherConnectStep =
     (limits : Limits) → (later : ℕ) → (state : State) → (x : ConnectionName) → (c : Client) →
@@ -40,7 +40,7 @@ LostStep =
     IsServed state x c kept →
     step limits later state (commands.Lost x) ≡ (with_session c (left_off kept) state, [])
 
--- the loss of nobody's connection changes nothing
+-- the loss of a connection that is no client's current one changes nothing
 abbrev pub NobodysLossStep : Type 0
 NobodysLossStep =
     (limits : Limits) → (later : ℕ) → (state : State) → (x : ConnectionName) →

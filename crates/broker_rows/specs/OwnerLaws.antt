@@ -1,5 +1,5 @@
--- How the map from connections to clients follows a step: what is to be done to it, where it held
--- what the sessions say.
+-- How the map from connections to clients follows a step: how it has to change, if it contained the
+-- sessions' connections before.
 use Rattle.std.specs.Prelude.{◌≡◌, ℕ, List, Some, None}
 use Rattle.std.specs.BTreeMap.{insert_entry}
 use Rattle.subs.specs.packet.declared.delivery.Delivery.{Delivery}
@@ -17,14 +17,14 @@ use Rattle.broker_rows.specs.ConnectLaws.{all_left_off}
 use Rattle.broker_rows.specs.Published.{changed, received_on, all_delivered}
 use Rattle.broker_rows.specs.Owners.{owners_in, with_owner, without_owner, no_owners, all_owned}
 
--- nothing, where a session is written with the connection that it had
+-- nothing changes if a session is written with the connection that it had
 abbrev pub WritingKeepsOwners : Type 0
 WritingKeepsOwners =
     (c : Client) → (old new : ClientSession) → (rows : Sessions) → session_in c rows ≡ Some old →
     new.connection ≡ old.connection → (y : ConnectionName) →
     owners_in (written c (Some new) rows) y ≡ owners_in rows y
 
--- where a served client's connection ends, it is removed
+-- if a served client's connection ends, it is removed
 abbrev pub LeavingRemovesTheOwner : Type 0
 LeavingRemovesTheOwner =
     (state : State) → (x : ConnectionName) → (c : Client) → (kept : ClientSession) →
@@ -33,8 +33,8 @@ LeavingRemovesTheOwner =
     owners_in (written c (left_off kept) state.sessions) y
     ≡ without_owner (Some x) (owners_in state.sessions) y
 
--- where a session is inserted on a connection of nobody, that one is the client's, and the one that
--- it had is removed
+-- if a session is inserted on a connection that is no client's current one, it becomes the
+-- client's, and the client's old one is removed
 abbrev pub ConnectingSetsTheOwner : Type 0
 ConnectingSetsTheOwner =
     (state : State) → (x : ConnectionName) → (c : Client) → (new : ClientSession) → IsSound state →
@@ -42,7 +42,7 @@ ConnectingSetsTheOwner =
     owners_in (insert_entry by_bytes state.sessions c new) y
     ≡ with_owner x c (without_owner (connection_of (session_in c state.sessions)) (owners_in state.sessions)) y
 
--- the same where a session goes on
+-- the same if a session continues
 abbrev pub ResumingSetsTheOwner : Type 0
 ResumingSetsTheOwner =
     (state : State) → (x : ConnectionName) → (c : Client) → (old new : ClientSession) →
@@ -57,7 +57,7 @@ ResumingSetsTheOwner =
 abbrev pub StartRemovesTheOwners : Type 0
 StartRemovesTheOwners = (rows : Sessions) → (y : ConnectionName) → owners_in (all_left_off rows) y ≡ None
 
--- nothing, where a publication is noted and delivered
+-- nothing changes if a publication is noted and delivered
 abbrev pub PublishingKeepsOwners : Type 0
 PublishingKeepsOwners =
     (window : ℕ) → (p : Publication) → (granted : List Row) → (c : Client) → (delivery : Delivery) →
@@ -66,7 +66,7 @@ PublishingKeepsOwners =
     owners_in (all_delivered window p granted (changed c (received_on delivery) rows)) y
     ≡ owners_in rows y
 
--- a map that is made anew is told of each session's connection
+-- a map that is rebuilt gets each session's connection
 abbrev pub OwnersMadeAnew : Type 0
 OwnersMadeAnew =
     (rows : Sessions) → AreApart rows → (y : ConnectionName) → owners_in rows y ≡ all_owned rows no_owners y

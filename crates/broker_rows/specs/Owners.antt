@@ -1,4 +1,4 @@
--- Whose current connection each connection is, as a map keeps it.
+-- Which client has each connection as its current one, as a map keeps it.
 use Rattle.std.specs.Prelude.{if◌then◌else◌, [], ◌∷◌, Option, Some, None, option_map}
 use Rattle.broker_base.specs.Connection.{ConnectionName, same_connection}
 use Rattle.broker_base.specs.Place.{Client}
@@ -13,7 +13,7 @@ Owners = ConnectionName → Option Client
 abbrev pub owners_in : Sessions → Owners
 owners_in sessions x = option_map (λ (row : Client × ClientSession). row.0) (owner_in x sessions)
 
--- the session of a client that there may be, with the client
+-- the session of a client, if there is one, with the client
 abbrev pub row_in : Sessions → Option Client → Option (Client × ClientSession)
 row_in sessions (Some c) = option_map (λ (kept : ClientSession). (c, kept)) (session_in c sessions)
 row_in sessions None = None
@@ -22,16 +22,16 @@ row_in sessions None = None
 abbrev pub with_owner : ConnectionName → Client → Owners → Owners
 with_owner x c owners y = if same_connection x y then Some c else owners y
 
--- a connection that there may be is nobody's any more
+-- removes a connection, if there is one, from the map
 abbrev pub without_owner : Option ConnectionName → Owners → Owners
 without_owner (Some x) owners y = if same_connection x y then None else owners y
 without_owner None owners y = owners y
 
--- no connection is anybody's
+-- no connection has a client
 abbrev pub no_owners : Owners
 no_owners y = None
 
--- a connection that there may be becomes the client's
+-- a connection, if there is one, becomes the client's
 abbrev pub owned_by : Option ConnectionName → Client → Owners → Owners
 owned_by (Some x) c owners = with_owner x c owners
 owned_by None c owners = owners

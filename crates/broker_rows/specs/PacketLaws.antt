@@ -1,5 +1,5 @@
--- What a packet of a served client does where its connection goes on: one session is written, and
--- its client alone is answered (MQTT 3.8.4, 3.10.4, 3.12.4, 4.3, 4.6).
+-- What a packet of a served client does if its connection stays open: one session is written, and
+-- only its client is answered (MQTT 3.8.4, 3.10.4, 3.12.4, 4.3, 4.6).
 use Rattle.std.specs.Prelude.{◌≡◌, ℕ, Bool, true, List, [], ◌∷◌, map, Some, None}
 use Rattle.subs.specs.packet.declared.subscribe.Subscription.{Subscription}
 use Rattle.subs.specs.packet.declared.subscribe.Subscribe.{Subscribe}
@@ -29,9 +29,9 @@ use Rattle.broker_rows.specs.Served.{IsServed, with_session, holding}
 
 -- ---- the packets that are handled
 
--- What a packet makes of its sender's session, with this window: PUBACK and PUBCOMP finish an
--- entry, and what may start then starts; PUBREC releases one; PUBREL takes away an identifier that
--- came in; UNSUBSCRIBE gives up filters.
+-- What a packet does to its sender's session, with this window: PUBACK and PUBCOMP finish an entry,
+-- and what may start then starts; PUBREC releases one; PUBREL removes an identifier that was
+-- received; UNSUBSCRIBE removes filters.
 abbrev pub handled_state : ℕ → Packet → SessionState → SessionState
 handled_state window (packets.Puback id) held =
     with_queue (filled window (with_flights (on_puback id held.queue.in_flight) held.queue)) held
@@ -44,7 +44,7 @@ handled_state window (packets.Unsubscribe u) held =
     with_filters (without_filters u.filters held.subscriptions) held
 handled_state window _ held = held
 
--- a packet that is handled writes that to its sender's session, and is answered to its sender alone
+-- a packet that is handled writes that to its sender's session, and only its sender is answered
 abbrev pub HandledStep : Type 0
 HandledStep =
     (limits : Limits) → (later : ℕ) → (state : State) → (x : ConnectionName) → (c : Client) →
@@ -66,8 +66,8 @@ subscribed_to window content granted held =
     with_filters (with_subscriptions (map as_held granted) held.subscriptions)
     (with_queue (copies_left window (copies_for_all content granted) held.queue) held)
 
--- the packets that answer a SUBSCRIBE of whose filters these are granted: SUBACK, then those copies
--- (MQTT 3.8.4)
+-- the packets that answer a SUBSCRIBE if these of its filters are granted: SUBACK, then those
+-- copies (MQTT 3.8.4)
 abbrev pub subscribe_answers : ℕ → RetainedTopics → Subscribe → List Bool → SessionState → List Packet
 subscribe_answers window content s which held =
     packets.Suback (record { id = s.id; codes = codes_of s.filters which })
@@ -101,7 +101,7 @@ PingreqStep =
     step limits later state (commands.Packet x packets.Pingreq)
     ≡ (state, Send x packets.Pingresp ∷ [])
 
--- another try of a PUBLISH that was taken is answered once more (MQTT 4.3.3)
+-- a repeat of a PUBLISH that was taken is answered once more (MQTT 4.3.3)
 abbrev pub RepeatStep : Type 0
 RepeatStep =
     (limits : Limits) → (later : ℕ) → (state : State) → (x : ConnectionName) → (c : Client) →
@@ -110,7 +110,7 @@ RepeatStep =
     step limits later state (commands.Packet x (packets.Publish p))
     ≡ (state, acknowledged x p.delivery)
 
--- a packet on nobody's connection changes nothing, and has no answer
+-- a packet on a connection that is no client's current one changes nothing, and has no answer
 abbrev pub NobodysPacketStep : Type 0
 NobodysPacketStep =
     (limits : Limits) → (later : ℕ) → (state : State) → (x : ConnectionName) → (packet : Packet) →

@@ -1,4 +1,4 @@
--- A taken publication asks the rows that an index grants, and no others (MQTT 3.3.5).
+-- A taken publication depends on the rows that an index grants, and on no others (MQTT 3.3.5).
 use Rattle.std.specs.Prelude.{◌≡◌, ℕ, List, flat_map}
 use Rattle.std.specs.List.{list_any}
 use Rattle.subs.specs.packet.declared.publish.Publish.{Publish}
@@ -17,7 +17,7 @@ use Rattle.broker_base.specs.StepAnswers.{copies_answered}
 use Rattle.broker_rows.specs.Indexed.{content_in}
 use Rattle.broker_rows.specs.Published.{granted_rows, is_full_at, copy_answered}
 
--- the rows that an index grants, where it holds the sessions' subscriptions, are the sessions that
+-- the rows that an index grants, if it holds the sessions' subscriptions, are the sessions that
 -- match
 abbrev pub GrantedRowsMatch : Type 0
 GrantedRowsMatch =
@@ -26,14 +26,14 @@ GrantedRowsMatch =
     content ≡ content_in sessions → IsGranted content topic rows →
     rows ≡ granted_rows topic sessions
 
--- a session lacks room for a publication exactly where a granted one does
+-- a session lacks room for a publication exactly if a granted one does
 abbrev pub RoomIsOfGrantedRows : Type 0
 RoomIsOfGrantedRows =
     (limits : Limits) → (p : Publication) → (rows : Sessions) → AreByClient rows →
     list_any (has_no_room_for limits p) rows
     ≡ list_any (λ row. is_full_at limits p row.1 (session_in row.0 rows)) (granted_rows p.topic rows)
 
--- what all sessions are sent of it is what the granted ones are, in their order
+-- what all sessions are sent of it is what the granted ones are, in order
 abbrev pub AnswersAreOfGrantedRows : Type 0
 AnswersAreOfGrantedRows =
     (window : ℕ) → (x : ConnectionName) → (p : Publish) → (d : Client) →

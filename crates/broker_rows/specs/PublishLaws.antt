@@ -1,5 +1,6 @@
--- What a PUBLISH of a served client does that is no repeat: it is refused whole, or it is taken,
--- and the granted rows alone are touched, each of them once (MQTT 3.3.1.3, 3.3.4, 3.3.5, 4.3).
+-- What a PUBLISH of a served client does, if it is no repeat: it is refused as a whole, or it is
+-- taken, and only the granted rows are touched, each of them once (MQTT 3.3.1.3, 3.3.4, 3.3.5,
+-- 4.3).
 use Rattle.std.specs.Prelude.{◌≡◌, ℕ, Bool, false, true, ◌||◌, List, [], ◌∷◌, ◌++◌, Some, None}
 use Rattle.std.specs.List.{list_any}
 use Rattle.subs.specs.packet.declared.publish.Publish.{Publish}
@@ -30,7 +31,7 @@ is_refused_in limits state p =
     (granted_rows p.topic state.sessions)
     || is_one_topic_over limits state.retained p
 
--- a publication that is refused closes its publisher's connection, and nobody gets it (MQTT 4.8)
+-- a publication that is refused closes its publisher's connection, and no client gets it (MQTT 4.8)
 abbrev pub RefusedStep : Type 0
 RefusedStep =
     (limits : Limits) → (later : ℕ) → (state : State) → (x : ConnectionName) → (c : Client) →
@@ -40,9 +41,9 @@ RefusedStep =
     step limits later state (commands.Packet x (packets.Publish p))
     ≡ (with_session c (left_off kept) state, Close x ∷ [])
 
--- A publication that is taken is retained, its publisher's session takes note of it, and each
--- granted session gets its copy; its publisher is answered first (MQTT 3.3.4), then each granted
--- client in turn.
+-- A publication that is taken is retained, its publisher's session notes it, and each granted
+-- session gets its copy; its publisher is answered first (MQTT 3.3.4), then each granted client,
+-- one after another.
 abbrev pub TakenStep : Type 0
 TakenStep =
     (limits : Limits) → (later : ℕ) → (state : State) → (x : ConnectionName) → (c : Client) →
@@ -63,14 +64,14 @@ TakenStep =
 
 -- ---- room
 
--- each granted row's session has room when its turn comes
+-- each granted row's session still has room when its copy is queued
 abbrev pub HaveRoomInTurn : Limits → ℕ → Publication → List Row → Sessions → Type 0
 HaveRoomInTurn limits window p (row ∷ granted) rows =
     (is_full_at limits p row.1 (session_in row.0 rows) ≡ false)
     × HaveRoomInTurn limits window p granted (changed row.0 (delivered_on window p row.1) rows)
 HaveRoomInTurn limits window p [] rows = Unit {0}
 
--- so it is where none is full before: no copy of a taken publication finds its queue full
+-- that holds if none is full before: no copy of a taken publication finds its queue full
 abbrev pub RoomLastsToItsTurn : Type 0
 RoomLastsToItsTurn =
     (limits : Limits) → (window : ℕ) → (p : Publication) → (c : Client) → (delivery : Delivery) →
@@ -81,7 +82,8 @@ RoomLastsToItsTurn =
 
 -- ---- one session changed
 
--- it is written where it is found, and stays where it is none or the change leaves it
+-- it is written in its place if it is found; nothing changes if there is none or the change leaves
+-- it as it is
 abbrev pub ChangeIsOfOneRow : Type 0
 ChangeIsOfOneRow =
     (d : Client) → (change : ClientSession → ClientSession) → (rows : Sessions) →

@@ -44,7 +44,7 @@ delivered_on window p qos kept =
     (with_queue
     (copied_queue window kept.connection (copy_of p (Some (lower_qos p.qos qos))) kept.state.queue) kept.state) kept
 
--- each granted row's session in turn
+-- each granted row's session, one after another
 abbrev pub all_delivered : ℕ → Publication → List Row → Sessions → Sessions
 all_delivered window p granted sessions =
     fold (λ rows row. changed row.0 (delivered_on window p row.1) rows) sessions granted

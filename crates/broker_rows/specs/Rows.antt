@@ -1,6 +1,6 @@
--- Three clients' sessions, and what the words of the laws say of them, computed: a is clean and
--- served on connection 1, b is away and holds t/# at QoS 1, and c is clean, served on connection 2
--- and holds t/1 at QoS 2.
+-- Three clients' sessions, and what the definitions of the laws say about them, computed: a is
+-- clean and served on connection 1, b is offline and holds t/# at QoS 1, and c is clean, served on
+-- connection 2 and holds t/1 at QoS 2.
 use Rattle.std.specs.Prelude.{◌≡◌, ℕ, Bool, true, false, List, [], ◌∷◌, Option, Some, None, codes}
 use Rattle.subs.specs.packet.declared.qos.QoS.{QoS}
 use Rattle.subs.specs.packet.declared.qos.QoS.TheVariants as levels
@@ -79,7 +79,7 @@ OneIsAnswered =
 
 -- ---- the maps
 
--- connection 1 is a's until it ends, and c's where c connects on it
+-- connection 1 is a's until it ends, and c's if c connects on it
 abbrev pub EachOwnsItsConnection : Type 0
 EachOwnsItsConnection =
     (owners_in three (nth 1) ≡ Some a) × (owners_in three (nth 2) ≡ Some c)
@@ -100,7 +100,7 @@ EachHoldsItsFilters =
     × (all_dropped (clean_clients three) (content_in three) c (codes "t/1") ≡ None)
     × (all_dropped (clean_clients three) (content_in three) b (codes "t/#") ≡ Some levels.AtLeastOnce)
 
--- a Start leaves b's session alone
+-- a Start leaves only b's session
 abbrev pub OneIsLeftByAStart : Type 0
 OneIsLeftByAStart =
     (all_left_off three ≡ row b false None of_b [] empty_queue ∷ []) × (clean_clients three ≡ a ∷ c ∷ [])

@@ -1,17 +1,17 @@
-// Laws of a Connect on nobody's connection, and of a Start. The calls do nothing; their contracts
-// are the laws.
+// Laws of a Connect on a connection that is no client's current one, and of a Start. The calls do
+// nothing; their contracts are the laws.
 
 ghost use Rattle.broker_rows.specs.ConnectLaws.{BeginningStep, ResumingStep, FullStep, InsertionWrites, StartStep};
 
-/// A Connect that is accepted inserts its client's session, which begins with nothing in it or goes
-/// on, and leaves every other (MQTT 3.1.2.4, 3.1.4, 4.4).
+/// A Connect that is accepted inserts its client's session, which begins with nothing in it or
+/// continues, and leaves every other (MQTT 3.1.2.4, 3.1.4, 4.4).
 pub fn connect_steps()
     ensures begins { BeginningStep }
     ensures resumes { ResumingStep }
 {}
 
-/// A Connect that would begin a session too many is turned away, and changes nothing (MQTT
-/// 3.2.2.3).
+/// A Connect that would begin a session too many is answered with CONNACK 3 and a Close, and
+/// changes nothing (MQTT 3.2.2.3).
 pub fn full_connect_steps()
     ensures { FullStep }
 {}

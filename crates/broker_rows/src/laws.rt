@@ -9,7 +9,8 @@ pub fn one_row_is_written()
     ensures { OneRowIsWritten }
 {}
 
-/// A command on a connection that is nobody's leaves all rows, unless it is an accepted Connect.
+/// A command on a connection that is no client's current one changes no row, unless it is an
+/// accepted Connect.
 pub fn nobody_changes_nothing()
     ensures { NobodyChangesNothing }
 {}
@@ -24,13 +25,12 @@ pub fn granted_rows_match()
     ensures { GrantedRowsMatch }
 {}
 
-/// Room for a publication is wanting exactly where it is in a granted row.
+/// Some session lacks room for a publication exactly if a granted row's session does.
 pub fn room_is_of_granted_rows()
     ensures { RoomIsOfGrantedRows }
 {}
 
-/// What all clients are sent of a publication is what those of the granted rows are, in their
-/// order.
+/// What all clients are sent of a publication is what those of the granted rows are, in order.
 pub fn answers_are_of_granted_rows()
     ensures { AnswersAreOfGrantedRows }
 {}

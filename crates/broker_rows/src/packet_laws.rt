@@ -11,8 +11,8 @@ pub fn served_session_is_found()
     ensures { IsOnItsConnection }
 {}
 
-/// PUBACK, PUBREC, PUBREL, PUBCOMP, UNSUBSCRIBE and PINGREQ write their sender's session alone, and
-/// are answered to it alone (MQTT 3.10.4, 3.12.4, 4.3, 4.6); PINGREQ leaves it as it was.
+/// PUBACK, PUBREC, PUBREL, PUBCOMP, UNSUBSCRIBE and PINGREQ write only their sender's session, and
+/// only the sender is answered (MQTT 3.10.4, 3.12.4, 4.3, 4.6); PINGREQ does not change it.
 pub fn handled_packet_steps()
     ensures handled { HandledStep }
     ensures pingreq { PingreqStep }
@@ -38,7 +38,8 @@ pub fn leaving_steps()
     ensures lost { LostStep }
 {}
 
-/// A packet on nobody's connection changes nothing and has no answer, and so does the loss of one.
+/// A packet on a connection that is no client's current one changes nothing and has no answer; the
+/// same holds for the loss of one.
 pub fn nobodys_steps()
     ensures packet { NobodysPacketStep }
     ensures lost { NobodysLossStep }

@@ -8,19 +8,20 @@ pub fn refused_publication_steps()
     ensures { RefusedStep }
 {}
 
-/// Any other is taken: it is retained, its publisher's session takes note of its identifier, and
-/// each granted session in turn gets its copy and what that sends (MQTT 3.3.4, 3.3.5, 4.3).
+/// Any other is taken: it is retained, its publisher's session notes its identifier, and each
+/// granted session, one after another, gets its copy and sends what that starts (MQTT 3.3.4, 3.3.5,
+/// 4.3).
 pub fn taken_publication_steps()
     ensures { TakenStep }
 {}
 
-/// Where no granted row's session is full for it, none is when its turn comes: no copy of a taken
+/// If no granted row's session is full for it, none is when its copy is queued: no copy of a taken
 /// publication finds its queue full.
 pub fn room_lasts_to_its_turn()
     ensures { RoomLastsToItsTurn }
 {}
 
-/// To change one session in its place is to write it where it is found.
+/// To change one session in its place is to write it at its place, if it is found.
 pub fn change_is_of_one_row()
     ensures { ChangeIsOfOneRow }
 {}

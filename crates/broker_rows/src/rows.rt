@@ -1,5 +1,5 @@
-// Worked rows: three clients' sessions, and what the words of the laws say of them. The calls do
-// nothing.
+// Worked examples: three clients' sessions, and what the definitions of the laws say about them.
+// The calls do nothing.
 
 ghost use Rattle.broker_rows.specs.Rows.{
   TwoAreGranted,

@@ -21,7 +21,7 @@ pub stepped_is : (tables : Tables) (command : Command) → stepped tables comman
 unfolding stepped
 stepped_is tables command = refl
 
--- what holds where nothing was refused
+-- what holds if nothing was refused
 pub at_ok : {T E P : Type 0} (r : Result T E) → is_err r ≡ false → OnOk r P → P
 at_ok (Ok done) e p = p
 at_ok (Err fault) e p = absurd (cc)

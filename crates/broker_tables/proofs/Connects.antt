@@ -37,7 +37,7 @@ takes_over : (tables : Tables) (x : ConnectionName) (c : Client) (left : Option 
 takes_over tables x c left q tied =
     ap (λ owners. with_owner x c (without_owner left owners) q) (λ i y. tied.owners y i)
 
--- ---- on a connection of somebody
+-- ---- on a connection of a client
 
 pub further_of : (tables : Tables) (x : ConnectionName) (c : Client) (kept : ClientSession) (named : Client) (clean : Bool) →
     IsServed (state_in tables) x c kept →
@@ -47,7 +47,7 @@ further_of tables x c kept named clean served =
     further_connect_step usual_limits 64 (state_in tables) x c kept served named clean
     ∙ ap (λ s. (s, outputs.Close x ∷ [])) (sym (ap (λ q. q.0) (loss_step tables x c kept served)))
 
--- ---- on a connection of nobody
+-- ---- on a connection without a client
 
 module _ (tables : Tables) (x : ConnectionName) (c : Client) (clean : Bool) (step : IsInStep tables) (none : owners_in tables.sessions.entries x ≡ None) where
   -- a session begins
@@ -80,7 +80,7 @@ module _ (tables : Tables) (x : ConnectionName) (c : Client) (clean : Bool) (ste
   unfolding stepped
   full_of full = full_step usual_limits 64 (state_in tables) x c clean (is_nobodys tables x none) full
 
-  -- a session goes on
+  -- a session continues
   resuming_by : (session : Option ClientSession) → session_in c tables.sessions.entries ≡ session → goes_on clean session ≡ true →
       stepped tables (commands.Connect x c clean)
       ≡ (

@@ -29,7 +29,7 @@ pub nobody_expelled : (tables : Tables) (c : Client) → session_in c tables.ses
 unfolding stepped
 nobody_expelled tables c none = nobodys_expel_step usual_limits 64 (state_in tables) c none
 
--- the map of connections without one that there may be
+-- the map of connections without one, if there is one
 abbrev pub IsWithoutAny : Tables → Option ConnectionName → Tables → Type 0
 IsWithoutAny tables left after = (q : ConnectionName) → owners_at after.owners.entries q ≡ without_owner left (owners_at tables.owners.entries) q
 

@@ -39,7 +39,7 @@ has_session tables x c step owned =
     by (Some kept) e = refl
     by None e = absurd (cc)
 
--- nobody owns it
+-- no client owns it
 pub is_nobodys : (tables : Tables) (x : ConnectionName) →
     owners_in tables.sessions.entries x ≡ None → owner_in x tables.sessions.entries ≡ None
 is_nobodys tables x owned = by (owner_in x tables.sessions.entries) owned

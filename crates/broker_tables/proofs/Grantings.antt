@@ -48,7 +48,7 @@ subscribe_of tables x c kept s served =
           ∷ map (outputs.Send x) (turn.2 i),
     ))
 
--- the ties behind it
+-- the ties after it
 pub ties_of_subscribe : (tables after : Tables) (c : Client) (kept new : ClientSession) (s : Subscribe) → IsInStep tables →
     session_in c tables.sessions.entries ≡ Some kept → new.connection ≡ kept.connection →
     new.state ≡ subscribed_in_turn usual_limits tables.window tables.retained kept.state s.filters →

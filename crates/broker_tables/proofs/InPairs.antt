@@ -1,4 +1,5 @@
--- InPairs.antt: a walk over the filters of a SUBSCRIBE and what becomes of each ends with the shorter of the two.
+-- InPairs.antt: a walk over the filters of a SUBSCRIBE and what happens to each ends with the
+-- shorter of the two.
 use Rattle.std.proofs.Common.{◌≡◌, ◌⊎◌, inl, inr, refl, Bool, List, [], ◌∷◌}
 use Rattle.packet.specs.declared.subscribe.Subscription.{Subscription}
 use Rattle.broker_model.specs.Answers.{codes_of}

@@ -36,13 +36,13 @@ pub loss_step : (tables : Tables) (x : ConnectionName) (c : Client) (kept : Clie
 unfolding stepped
 loss_step tables x c kept served = lost_step usual_limits 64 (state_in tables) x c kept served
 
--- of nobody
+-- of no client
 pub nobodys_loss : (tables : Tables) (x : ConnectionName) → owners_in tables.sessions.entries x ≡ None →
     stepped tables (commands.Lost x) ≡ (state_in tables, [])
 unfolding stepped
 nobodys_loss tables x none = nobodys_loss_step usual_limits 64 (state_in tables) x (is_nobodys tables x none)
 
--- the ties behind it
+-- the ties after it
 pub ties_behind : (tables after : Tables) (x : ConnectionName) (c : Client) (kept : ClientSession) → IsServed (state_in tables) x c kept →
     IsTied tables → IsWithout tables x after → after.sessions.entries ≡ written c (left_off kept) tables.sessions.entries →
     content_of after.index ≡ (cond kept.clean (without_client (content_of tables.index) c) (content_of tables.index)) → IsTied after

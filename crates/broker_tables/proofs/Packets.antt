@@ -1,4 +1,5 @@
--- Packets.antt: the steps at packets that are nobody's, at PINGREQ, and at what is a violation, by the tables.
+-- Packets.antt: the steps at packets on a connection without a client, at PINGREQ, and at what is a
+-- violation, by the tables.
 use Rattle.std.proofs.Common.{◌≡◌, ◌∙◌, ap, sym, refl, Some, None, [], ◌∷◌, true, false, Option}
 use Rattle.std.specs.Prelude.{option_map}
 use Rattle.packet.specs.declared.packet.Packet.{Packet}
@@ -31,7 +32,7 @@ pub nobodys_of : (tables : Tables) (x : ConnectionName) (packet : Packet) → ow
 unfolding stepped
 nobodys_of tables x packet none = nobodys_packet_step usual_limits 64 (state_in tables) x packet (is_nobodys tables x none)
 
--- the client of a connection that is somebody's
+-- the client of a connection that has one
 owned : {A : Type 0} (tables : Tables) (x : ConnectionName) (c : Client) → owners_in tables.sessions.entries x ≡ Some c →
     ((d : Client) (kept : ClientSession) → owner_in x tables.sessions.entries ≡ Some (d, kept) → A) → A
 owned {A} tables x c is go = by (owner_in x tables.sessions.entries) refl
@@ -69,7 +70,7 @@ violation_of tables x c packet step is wrong =
     leaving_step usual_limits 64 (state_in tables) x d kept served packet (leaves tables (d, kept) packet wrong)
     ∙ ap (λ s. (s, outputs.Close x ∷ [])) (sym (ap (λ q. q.0) (loss_step tables x d kept served))))
 
--- what is none of the others is a PINGREQ
+-- a packet that is none of the others is a PINGREQ
 pub only_pingreq : (packet : Packet) → is_handshake packet ≡ false → is_violation packet ≡ false →
     ((p : Publish) → packet ≡ packets.Publish p → ⊥) → ((s : Subscribe) → packet ≡ packets.Subscribe s → ⊥) →
     ((u : Unsubscribe) → packet ≡ packets.Unsubscribe u → ⊥) → packet ≡ packets.Pingreq

@@ -46,7 +46,7 @@ module _ (tables : Tables) (x : ConnectionName) (c : Client) (kept : ClientSessi
       refused_step usual_limits 64 (state_in tables) x c kept served p new refused
       ∙ ap (λ s. (s, outputs.Close x ∷ [])) (sym (ap (λ q. q.0) (loss_step tables x c kept served)))
 
-  -- the sessions behind one that is taken
+  -- the sessions after one that is taken
   abbrev pub sessions_behind : List Row → Tables → Type 0
   sessions_behind granted after =
       after.sessions.entries ≡ all_delivered tables.window (publication_of p) granted (changed c (received_on p.delivery) tables.sessions.entries)
@@ -90,7 +90,7 @@ module _ (tables : Tables) (x : ConnectionName) (c : Client) (kept : ClientSessi
       (list_any (λ (row : Row). is_full_at usual_limits (publication_of p) row.1 (session_in row.0 tables.sessions.entries)) (granted_rows p.topic tables.sessions.entries))
       (is_one_topic_over usual_limits tables.retained (publication_of p)) taken).0))
 
--- the ties behind it
+-- the ties after it
 pub ties_of_taken : (tables after : Tables) (c : Client) (p : Publish) (granted : List Row) → IsTied tables →
     after.sessions.entries ≡ all_delivered tables.window (publication_of p) granted (changed c (received_on p.delivery) tables.sessions.entries) →
     after.owners.entries ≡ tables.owners.entries → content_of after.index ≡ content_of tables.index → IsTied after

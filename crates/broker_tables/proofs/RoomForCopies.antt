@@ -1,4 +1,4 @@
--- Copies that find room one after the other.
+-- Copies that find room one after another.
 use native.Mathlib.Omega.{arith}
 use Rattle.std.proofs.Common.{◌≡◌, ◌≤◌, ◌+◌, ◌-◌, ◌==◌, ◌&&◌, if◌then◌else◌, ℕ, zero, suc, Bool, true, false, List, [], ◌∷◌, ◌++◌, length, refl, ap, sym, ◌∙◌, append_assoc}
 use Rattle.packet.specs.declared.packet.Packet.{Packet}
@@ -9,7 +9,7 @@ use Rattle.broker_model.specs.session_base.Sending.{copies_sent}
 use Rattle.broker_model.specs.Entries.{queued}
 use Rattle.broker_rows.proofs.publications.CopiesInParts.{copies_join, copies_take_room}
 
--- where a copy would be queued and the queue is not full, there is room
+-- if a copy would be queued and the queue is not full, there is room
 pub room_where_not_full : (would : Bool) (places : ℕ) → (would && (places == 0)) ≡ false → would ≡ true → 1 ≤ places
 room_where_not_full true zero e h = absurd (cc)
 room_where_not_full true (suc places) e h = omega arith

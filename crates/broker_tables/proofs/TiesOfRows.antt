@@ -1,4 +1,4 @@
--- TiesOfRows.antt: the tables stay tied where the maps follow the sessions.
+-- TiesOfRows.antt: the tables stay tied if the maps follow the sessions.
 use Rattle.std.proofs.Common.{◌≡◌, Some, ap, ◌∙◌, sym}
 use Rattle.std.specs.BTreeMap.{is_at}
 use Rattle.std.specs.Map.{lookup, set_value}

@@ -33,7 +33,7 @@ unfolding stepped
 unsubscribe_of tables x c kept u served =
     handled_step usual_limits 64 (state_in tables) x c kept served (packets.Unsubscribe u) refl
 
--- the ties behind it
+-- the ties after it
 pub ties_of_unsubscribe : (tables after : Tables) (c : Client) (kept new : ClientSession) (u : Unsubscribe) → IsInStep tables →
     session_in c tables.sessions.entries ≡ Some kept → new.connection ≡ kept.connection →
     new.state.subscriptions ≡ without_filters u.filters kept.state.subscriptions →

@@ -1,4 +1,4 @@
--- Which Connect goes on with a session, and what its client is sent (MQTT 3.1.2.4, 4.4).
+-- Which Connect continues with a session, and what its client is sent (MQTT 3.1.2.4, 4.4).
 use Rattle.std.specs.Prelude.{ℕ, Bool, false, not, ◌&&◌, List, [], ◌++◌, Option, Some, None, ◌≡◌}
 use Rattle.packet.specs.declared.packet.Packet.{Packet}
 use Rattle.broker_model.specs.session_base.Sending.{fill_sends, resend}
@@ -11,7 +11,7 @@ use Rattle.broker_tables.specs.Tables.{owners_at}
 use Rattle.broker_rows.specs.broker_base.ClientSession.{ClientSession}
 use Rattle.broker_rows.specs.broker_base.State.{State, session_in}
 
--- neither the session that there is nor the Connect is clean
+-- there is a session, and neither it nor the Connect is clean
 abbrev pub goes_on : Bool → Option ClientSession → Bool
 goes_on clean (Some kept) = not clean && not kept.clean
 goes_on clean None = false
@@ -19,13 +19,13 @@ goes_on clean None = false
 abbrev pub goes_on_in : State → Client → Bool → Bool
 goes_on_in state c clean = goes_on clean (session_in c state.sessions)
 
--- what a client whose session goes on is sent of it (MQTT 4.4)
+-- what a client whose session continues is sent of it (MQTT 4.4)
 abbrev pub sent_to_resumed : ℕ → Option ClientSession → List Packet
 sent_to_resumed window (Some kept) =
     resend kept.state.queue.in_flight ++ fill_sends window kept.state.queue.in_flight kept.state.queue.waiting
 sent_to_resumed window None = []
 
--- the connection becomes the client's, and the one that it had is nobody's
+-- the connection becomes the client's, and the client's old one has no client any more
 abbrev pub TakesOver : Tables → ConnectionName → Client → Tables → Type 0
 TakesOver tables x c after =
     (q : ConnectionName) →

@@ -1,4 +1,4 @@
--- Words of private calls: the steps of handshakes, and copies of publications.
+-- Definitions of private calls: the steps of handshakes, and copies of publications.
 use Rattle.std.specs.Prelude.{◌≡◌, ℕ, Bool, true, false, List, [], ◌∷◌}
 use Rattle.packet.specs.declared.qos.QoS.{QoS}
 use Rattle.packet.specs.declared.packet.Packet.{Packet}
@@ -19,7 +19,8 @@ is_handshake (packets.Pubrel id) = true
 is_handshake (packets.Pubcomp id) = true
 is_handshake _ = false
 
--- whether it ends its connection: DISCONNECT, and what a client may not send (MQTT 3.1.0, 3.14.4, 4.8)
+-- whether it ends its connection: DISCONNECT, and what a client may not send (MQTT 3.1.0, 3.14.4,
+-- 4.8)
 abbrev pub is_violation : Packet → Bool
 is_violation (packets.Connect connect) = true
 is_violation (packets.Connack connack) = true
@@ -37,18 +38,18 @@ handshake_sends window (packets.Pubrel id) held = packets.Pubcomp id ∷ []
 handshake_sends window (packets.Pubcomp id) held = fill_sends window (on_pubcomp id held.queue.in_flight) held.queue.waiting
 handshake_sends window _ held = []
 
--- the copy of a publication for who is granted it at this QoS (MQTT 3.3.1.3, 3.3.5)
+-- the copy of a publication for a client that is granted it at this QoS (MQTT 3.3.1.3, 3.3.5)
 abbrev pub lowered : Publication → QoS → Publication
 lowered p qos = record { retain = false; qos = lower_qos p.qos qos; topic = p.topic; payload = p.payload }
 
--- all but the sessions is as it was
+-- all except the sessions is as it was
 pub record HasOthersOf (tables after : Tables) : Type 0 where
   pub window : after.window ≡ tables.window
   pub owners : after.owners.entries ≡ tables.owners.entries
   pub index : content_of after.index ≡ content_of tables.index
   pub retained : after.retained ≡ tables.retained
 
--- all but the map of connections is as it was
+-- all except the map of connections is as it was
 pub record HasOthersThanOwners (tables after : Tables) : Type 0 where
   pub window : after.window ≡ tables.window
   pub sessions : after.sessions.entries ≡ tables.sessions.entries

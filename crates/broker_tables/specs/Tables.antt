@@ -1,4 +1,4 @@
--- The tables of a broker: the state that they show, and what ties them to each other.
+-- The tables of a broker: the state that they represent, and how they correspond to each other.
 use Rattle.std.specs.Prelude.{◌≡◌, List}
 use Rattle.std.specs.declared.cmp.Ordering.{Ordering}
 use Rattle.std.specs.Ordering.{nat_cmp, ordering_then}
@@ -29,7 +29,8 @@ owners_at entries x = lookup (is_at (by_connection x)) entries
 abbrev pub state_in : Tables → State
 state_in tables = record { window = tables.window; sessions = tables.sessions.entries; retained = tables.retained }
 
--- the map of connections holds those of the sessions, and the index the subscriptions of the sessions
+-- the map of connections holds those of the sessions, and the index the subscriptions of the
+-- sessions
 pub record IsTied (tables : Tables) : Type 0 where
   pub owners :
       (x : ConnectionName) → owners_at tables.owners.entries x ≡ owners_in tables.sessions.entries x
@@ -40,6 +41,6 @@ pub record IsInStep (tables : Tables) : Type 0 where
   pub sound : IsSound (state_in tables)
   pub tied : IsTied tables
 
--- the state behind a command, and its answers
+-- the state after a command, and its answers
 unfoldable pub stepped : Tables → Command → State × List Output
 stepped tables command = step usual_limits 64 (state_in tables) command

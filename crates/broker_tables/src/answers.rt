@@ -1,5 +1,5 @@
-// The steps of handshakes: PUBACK, PUBREC, PUBREL and PUBCOMP (MQTT 3.4 to 3.7). Each changes its
-// sender's session alone, and answers it.
+// The steps of handshakes: PUBACK, PUBREC, PUBREL and PUBCOMP (MQTT 3.4 to 3.7). Each changes only
+// its sender's session, and answers it.
 
 ghost use Rattle.std.specs.Prelude.{◌≡◌, ◌++◌, OnOk, Some, true};
 ghost use Rattle.broker_model.specs.declared.command.Command.TheVariants as commands;

@@ -16,7 +16,7 @@ pub struct ClientRow {
     pub clean: bool,
     /// The connection on which the client is served.
     pub connection: Option<ConnectionId>,
-    /// What stands in the session.
+    /// What is in the session.
     pub state: Session,
 }
 
@@ -29,7 +29,7 @@ impl Model for ClientRow {
 }
 
 impl ClientRow {
-    /// A session that begins on a connection, with nothing in it.
+    /// Returns a session that begins on a connection, with nothing in it.
     pub fn new(alloc: Global, connection: ConnectionId, clean: bool) -> ClientRow
         ensures { result ≡ kept_anew (connection, clean) }
     {

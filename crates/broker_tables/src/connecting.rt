@@ -27,19 +27,20 @@ use machine::Halted;
 use packet::{ClientId, Connack, Packet, RefusalCode};
 use std::collections::BTreeMap;
 
-// What becomes of a Connect on a connection of nobody.
+// What a Connect does on a connection that is no client's current one.
 #[derive(Clone, Copy, Debug, PartialEq, Eq)]
 pub(crate) enum Admission {
     // A session begins.
     Begins,
-    // The client's session goes on.
+    // The client's session continues.
     GoesOn,
     // There are too many sessions.
     TurnedAway,
 }
 
 impl Tables {
-    /// Does a Connect. On a connection that is somebody's it is a violation (MQTT 3.1.0).
+    /// Does a Connect. On a connection that is a client's current one it is a violation (MQTT
+    /// 3.1.0).
     pub(crate) fn connect(
         &mut self,
         connection: ConnectionId,
@@ -67,8 +68,9 @@ impl Tables {
         Ok(())
     }
 
-    // A session goes on where it is there and neither it nor the Connect is clean. Any other begins,
-    // if the client has one or there is a place for one more (MQTT 3.1.2.4).
+    // Says what an accepted Connect does. A session continues if it exists and neither it nor the
+    // Connect is clean. Otherwise one begins, if the client has one or there is a place for one
+    // more (MQTT 3.1.2.4).
     fn admission(&self, client: &ClientId, clean: bool) -> Admission
         ensures goes_on { result ≡ GoesOn → goes_on_in (state_in self.now) client.now clean ≡ true }
         ensures begins { result ≡ Begins → begins_in (state_in self.now) client.now clean ≡ true }
@@ -94,7 +96,7 @@ impl Tables {
         }
     }
 
-    // A session begins, with nothing in it; another of the client is over (MQTT 3.1.2.4).
+    // Begins an empty session; an old one of the client ends (MQTT 3.1.2.4).
     fn begin(
         &mut self,
         connection: ConnectionId,
@@ -120,7 +122,7 @@ impl Tables {
         Ok(())
     }
 
-    // The client is served on this connection from now on, and hears whether a session goes on
+    // Serves the client on this connection from now on, and tells it whether a session continues
     // (MQTT 3.2.2.2). The connection that it had is closed (MQTT 3.1.4).
     fn welcome(
         &mut self,
@@ -142,7 +144,7 @@ impl Tables {
         take_over(&mut self.owners, left, connection, client)
     }
 
-    /// The connection on which a client is served, if it is.
+    /// Returns the connection on which a client is served, if it is.
     pub(crate) fn connection_of(&self, client: &ClientId) -> Option<ConnectionId>
         ensures { result ≡ connection_of (session_in client.now self.now.sessions.entries) }
     {
@@ -152,7 +154,7 @@ impl Tables {
         }
     }
 
-    // A session goes on, on a new connection: what is in flight is sent again, then what may start
+    // Continues a session on a new connection: what is in flight is sent again, then what may start
     // starts (MQTT 4.4).
     fn resume(
         &mut self,
@@ -178,7 +180,8 @@ impl Tables {
 }
 
 impl Tables {
-    // The client's session goes on, on this connection, and the client is sent what it is sent of it.
+    // Continues the client's session on this connection, and sends the client what it is to be sent
+    // of it.
     fn go_on(
         &mut self,
         connection: ConnectionId,
@@ -205,7 +208,7 @@ impl Tables {
 }
 
 impl ClientRow {
-    // A session that is not clean goes on, on this connection.
+    // Continues a session that is not clean on this connection.
     fn come_back(
         &mut self,
         connection: ConnectionId,
@@ -225,7 +228,7 @@ impl ClientRow {
     }
 }
 
-// A connection becomes the client's, and the one that it had is nobody's.
+// Gives a connection to the client, and takes its old one from it.
 fn take_over(
     owners: &mut BTreeMap<ConnectionId, ClientId>,
     left: Option<ConnectionId>,
@@ -242,7 +245,7 @@ fn take_over(
     Ok(())
 }
 
-/// A connection that there may be is nobody's.
+/// Takes a connection, if there is one, from its client.
 pub(crate) fn release(owners: &mut BTreeMap<ConnectionId, ClientId>, left: Option<ConnectionId>)
     ensures { (q : ConnectionName) →
         owners_at owners.new.entries q ≡ without_owner left (owners_at owners.old.entries) q }
@@ -252,8 +255,8 @@ pub(crate) fn release(owners: &mut BTreeMap<ConnectionId, ClientId>, left: Optio
     }
 }
 
-// The connection that the client had is closed (MQTT 3.1.4), and the Connect is answered: whether a
-// session goes on (MQTT 3.2.2.2).
+// Closes the connection that the client had (MQTT 3.1.4), and answers the Connect: whether a
+// session continues (MQTT 3.2.2.2).
 fn greet(
     left: Option<ConnectionId>,
     connection: ConnectionId,
@@ -270,7 +273,7 @@ fn greet(
     Ok(())
 }
 
-// The answers to a Connect that would begin a session too many (MQTT 3.2.2.3).
+// Appends the answers to a Connect that would begin a session too many (MQTT 3.2.2.3).
 fn turn_away(connection: ConnectionId, out: &mut Vec<Output>) -> Result<(), Halted>
     ensures { OnOk result
         (out.new.items ≡ out.old.items ++ turned_away connection ∷ outputs.Close connection ∷ []) }

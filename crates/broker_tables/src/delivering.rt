@@ -1,4 +1,4 @@
-// Copies of publications on their way into sessions (MQTT 3.3.5, 4.6).
+// Putting copies of publications into sessions (MQTT 3.3.5, 4.6).
 
 ghost use Rattle.std.specs.Prelude.{◌≡◌, ◌≤◌, ◌++◌, [], ◌∷◌, true, false, Some, OnOk, IfOk};
 ghost use Rattle.packet.specs.declared.packet.Packet.TheVariants as packets;
@@ -22,7 +22,7 @@ use packet::{Delivery, Packet, Publish, QoS};
 use session::Session;
 use std::alloc::AllocError;
 
-/// What a PUBLISH carries.
+/// Returns what a PUBLISH carries.
 pub(crate) fn publication_of(publish: &Publish) -> Result<Publication, AllocError>
     ensures { IfOk result (λ publication. publication ≡ publication_of publish.now) }
 {
@@ -34,7 +34,7 @@ pub(crate) fn publication_of(publish: &Publish) -> Result<Publication, AllocErro
     })
 }
 
-/// The lower QoS of two.
+/// Returns the lower QoS of two.
 pub(crate) fn lower(one: QoS, other: QoS) -> QoS
     ensures { result ≡ lower_qos one other }
 {
@@ -45,7 +45,8 @@ pub(crate) fn lower(one: QoS, other: QoS) -> QoS
     }
 }
 
-// A copy of a publication for a subscriber: with RETAIN 0 (MQTT 3.3.1.3), at the lower QoS of the two.
+// Returns a copy of a publication for a subscriber: with RETAIN 0 (MQTT 3.3.1.3), at the lower QoS
+// of the two.
 fn copy_at(publication: &Publication, qos: QoS) -> Result<Publication, AllocError>
     ensures { IfOk result (λ copy. copy ≡ lowered publication.now qos) }
 {
@@ -57,7 +58,7 @@ fn copy_at(publication: &Publication, qos: QoS) -> Result<Publication, AllocErro
     })
 }
 
-/// A copy comes to the session of a connected client: one of QoS 0 is sent at once, and behind any
+/// Puts a copy into the session of a connected client: one of QoS 0 is sent at once, and after any
 /// other what may start starts.
 pub(crate) fn take_copy(
     session: &mut Session,
@@ -80,7 +81,7 @@ pub(crate) fn take_copy(
     Ok(())
 }
 
-// The PUBLISH at QoS 0.
+// Returns the PUBLISH at QoS 0.
 fn unanswered(copy: Publication) -> Packet
     ensures { copy.qos ≡ levels.AtMostOnce → result ≡ packets.Publish (publish_of false 0 copy) }
 {
@@ -92,8 +93,8 @@ fn unanswered(copy: Publication) -> Packet
     })
 }
 
-/// A publication that the client is granted at this QoS comes to its session. A client without a
-/// connection finds it there later, at QoS 1 and 2.
+/// Puts a publication that the client is granted at this QoS into its session. A client without a
+/// connection gets it later, at QoS 1 and 2.
 pub(crate) fn deliver(
     row: &mut ClientRow,
     window: Window,

@@ -14,8 +14,8 @@ use packet::ClientId;
 
 impl Tables {
     /// Ends a client's session, with its subscriptions, its received identifiers and its entries,
-    /// and closes its connection. A client without a session changes nothing. Only the Close takes
-    /// memory: where there is none for it, all stays as it was.
+    /// and closes its connection. Without a session nothing changes. Only the Close takes memory:
+    /// if there is none for it, all stays as it was.
     pub(crate) fn expel(&mut self, client: &ClientId, out: &mut Vec<Output>) -> Result<(), Halted>
         requires { IsInStep self.old }
         ensures state { OnOk result (state_in self.new ≡ (stepped self.old (commands.Expel client.now)).0) }
@@ -36,7 +36,7 @@ impl Tables {
     }
 }
 
-// Closes a connection that there may be.
+// Closes a connection, if there is one.
 fn shut(left: Option<ConnectionId>, out: &mut Vec<Output>) -> Result<(), Halted>
     ensures closes { OnOk result (out.new.items ≡ out.old.items ++ closed left) }
     ensures unsent { OnErr result (out.new.items ≡ out.old.items) }

@@ -1,4 +1,5 @@
-// The end of a connection: its loss, a DISCONNECT, and what MQTT forbids (MQTT 3.1.2.4, 3.14.4, 4.8).
+// The end of a connection: its loss, a DISCONNECT, and what MQTT forbids (MQTT 3.1.2.4, 3.14.4,
+// 4.8).
 
 ghost use Rattle.std.specs.Prelude.{◌≡◌, ◌++◌, [], ◌∷◌, OnOk};
 ghost use Rattle.broker_model.specs.declared.command.Command.TheVariants as commands;
@@ -11,8 +12,8 @@ use broker_rows::subs::SubIndex;
 use machine::Halted;
 
 impl Tables {
-    /// A connection is over: its client is served nowhere, and a clean session is over with it, its
-    /// subscriptions too. A connection of nobody changes nothing.
+    /// Ends a connection: its client is no longer served, and a clean session ends with it,
+    /// including its subscriptions. A connection that is no client's current one changes nothing.
     pub(crate) fn lose(&mut self, connection: ConnectionId)
         requires { IsInStep self.old }
         ensures state { state_in self.new ≡ (stepped self.old (commands.Lost connection)).0 }
@@ -30,7 +31,7 @@ impl Tables {
         row.connection = None;
     }
 
-    /// Closes a connection, which is over then.
+    /// Closes a connection, which ends then.
     pub(crate) fn close(
         &mut self,
         connection: ConnectionId,

@@ -1,4 +1,4 @@
-// PUBLISH: a client's publication, to everybody who subscribed to it (MQTT 3.3).
+// PUBLISH: a client's publication, sent to each client that subscribed to it (MQTT 3.3).
 
 ghost use Rattle.std.specs.Prelude.{◌≡◌, ◌++◌, false, Some, OnOk, IfOk, IfSome};
 ghost use Rattle.std.specs.List.{list_any};
@@ -29,7 +29,7 @@ use std::collections::BTreeMap;
 use topics::TopicName;
 
 impl Tables {
-    /// Does a PUBLISH of the client that is served on this connection: another try is answered once
+    /// Does a PUBLISH of the client that is served on this connection: a repeat is answered once
     /// more, one for which there is no room closes the connection, and any other is taken.
     pub(crate) fn publish(
         &mut self,
@@ -66,7 +66,7 @@ impl Tables {
         Ok(())
     }
 
-    // The clients with a subscription that matches, each with the greatest QoS.
+    // Returns the clients with a subscription that matches, each with the greatest QoS.
     fn granted(&self, topic: &TopicName) -> Result<Vec<(ClientId, QoS)>, AllocError>
         requires { IsInStep self.now }
         ensures { IfOk result (λ rows. rows.items ≡ granted_rows topic.now self.now.sessions.entries) }
@@ -76,7 +76,8 @@ impl Tables {
         Ok(rows)
     }
 
-    // Whether a session that is granted the publication lacks room for it, or it is one topic over.
+    // Says whether a session that is granted the publication lacks room for it, or it is one topic
+    // too many.
     fn refuses(&self, publication: &Publication, granted: &[(ClientId, QoS)]) -> bool
         requires { granted.now ≡ granted_rows publication.now.topic self.now.sessions.entries }
         ensures { result ≡ is_refused_in usual_limits (state_in self.now) publication.now }
@@ -85,7 +86,7 @@ impl Tables {
             || is_one_topic_over(&self.retained, publication)
     }
 
-    // The publisher's session takes note of the identifier of a PUBLISH at QoS 2 (MQTT 4.3.3).
+    // Notes the identifier of a PUBLISH at QoS 2 in the publisher's session (MQTT 4.3.3).
     fn note(&mut self, client: &ClientId, delivery: Delivery) -> Result<(), Halted>
         requires { IfSome (session_in client.now self.old.sessions.entries)
             (λ kept. is_again kept delivery ≡ false) }
@@ -101,7 +102,7 @@ impl Tables {
     }
 }
 
-// Whether a delivery is another try of one that the session took (MQTT 4.3.3).
+// Says whether a delivery is a repeat of one that the session took (MQTT 4.3.3).
 fn is_again(row: &ClientRow, delivery: Delivery) -> bool
     ensures { result ≡ is_again row.now delivery }
 {
@@ -111,7 +112,7 @@ fn is_again(row: &ClientRow, delivery: Delivery) -> bool
     }
 }
 
-// The answer to a PUBLISH, by its QoS (MQTT 3.3.4).
+// Appends the answer to a PUBLISH, by its QoS (MQTT 3.3.4).
 fn acknowledge(
     connection: ConnectionId,
     delivery: Delivery,
@@ -127,7 +128,7 @@ fn acknowledge(
     Ok(())
 }
 
-// The publisher's session takes note of the identifier of a PUBLISH at QoS 2 (MQTT 4.3.3).
+// Notes the identifier of a PUBLISH at QoS 2 in the publisher's session (MQTT 4.3.3).
 fn note(row: &mut ClientRow, delivery: Delivery) -> Result<(), Halted>
     requires { is_again row.old delivery ≡ false }
     ensures { OnOk result (row.new ≡ received_on delivery row.old) }
@@ -138,7 +139,7 @@ fn note(row: &mut ClientRow, delivery: Delivery) -> Result<(), Halted>
     Ok(())
 }
 
-// Whether a session would have to queue the publication and is full.
+// Says whether a session would have to queue the publication and is full.
 fn is_full_at(
     sessions: &BTreeMap<ClientId, ClientRow>,
     publication: &Publication,
@@ -155,7 +156,7 @@ fn is_full_at(
     }
 }
 
-// Whether a session that is granted it would have to queue the publication and is full.
+// Says whether a session that is granted it would have to queue the publication and is full.
 fn is_any_full(
     sessions: &BTreeMap<ClientId, ClientRow>,
     publication: &Publication,
@@ -171,14 +172,14 @@ fn is_any_full(
         .any(|row| is_full_at(sessions, publication, row))
 }
 
-// Whether the publication is to be retained on a topic too many.
+// Says whether the publication is to be retained on a topic too many.
 fn is_one_topic_over(retained: &RetainedStore, publication: &Publication) -> bool
     ensures { result ≡ is_one_topic_over usual_limits retained.now publication.now }
 {
     publication.retain && retained.refuses(&publication.topic, &publication.payload)
 }
 
-// Each session that is granted the publication gets its copy, and each client what is sent of it.
+// Gives each session that is granted the publication its copy, and each client what is sent of it.
 fn deliver_all(
     sessions: &mut BTreeMap<ClientId, ClientRow>,
     window: Window,
@@ -200,7 +201,7 @@ fn deliver_all(
     Ok(())
 }
 
-// A session that is granted the publication gets its copy, and its client what is sent of it.
+// Gives a session that is granted the publication its copy, and its client what is sent of it.
 fn deliver_to(
     sessions: &mut BTreeMap<ClientId, ClientRow>,
     window: Window,
@@ -226,7 +227,8 @@ fn deliver_to(
     Ok(())
 }
 
-// A publication with RETAIN 1 is kept (MQTT 3.3.1.3). There is a place for it where it is taken.
+// Keeps a publication with RETAIN 1 (MQTT 3.3.1.3). There is a place for it, since the publication
+// is taken.
 fn retain(retained: &mut RetainedStore, publication: Publication) -> Result<(), Halted>
     requires { is_one_topic_over usual_limits retained.old publication ≡ false }
     ensures { OnOk result (retained.new ≡ retains publication retained.old) }

@@ -16,7 +16,8 @@ use session::Session;
 use std::alloc::{AllocError, Global};
 use topics::TopicName;
 
-// A copy of a retained publication, with RETAIN 1, at the lower of its QoS and the one that is asked for.
+// Returns a copy of a retained publication, with RETAIN 1, at the lower of its QoS and the one that
+// is asked for.
 fn retained_copy(asked: QoS, topic: TopicName, kept: RetainedPublication) -> Publication
     ensures { result ≡ retained_copy asked (topic, kept) }
 {
@@ -28,7 +29,7 @@ fn retained_copy(asked: QoS, topic: TopicName, kept: RetainedPublication) -> Pub
     }
 }
 
-/// What a filter is sent of the retained publications, by topic.
+/// Returns what a filter is sent of the retained publications, by topic.
 pub(crate) fn copies_for(
     alloc: Global,
     retained: &RetainedStore,
@@ -45,7 +46,7 @@ pub(crate) fn copies_for(
     Ok(copies)
 }
 
-/// How many of these are queued: those of QoS 1 and 2.
+/// Returns how many of these are queued: those of QoS 1 and 2.
 pub(crate) fn queued(copies: &[Publication]) -> usize
     ensures { result ≡ length (queued copies.now) }
 {
@@ -58,7 +59,7 @@ pub(crate) fn queued(copies: &[Publication]) -> usize
     many
 }
 
-/// Copies come one by one to the session of a connected client.
+/// Puts copies one by one into the session of a connected client.
 pub(crate) fn take_copies(
     session: &mut Session,
     window: Window,

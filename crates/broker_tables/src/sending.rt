@@ -7,7 +7,7 @@ use broker_model::{ConnectionId, Output};
 use machine::Halted;
 use packet::Packet;
 
-/// Packets go out on a connection, in order.
+/// Appends the sending of packets on a connection, in order.
 pub(crate) fn send_all(
     connection: ConnectionId,
     sent: Vec<Packet>,

@@ -13,7 +13,8 @@ use packet::{ClientId, Packet};
 use std::alloc::AllocError;
 
 impl Tables {
-    /// Does a packet that came on a connection. On a connection of nobody it does nothing.
+    /// Does a packet that arrived on a connection. On a connection that is no client's current one
+    /// it does nothing.
     pub(crate) fn packet(
         &mut self,
         connection: ConnectionId,
@@ -70,7 +71,7 @@ impl Tables {
         }
     }
 
-    /// The client that is served on a connection, if one is.
+    /// Returns the client that is served on a connection, if one is.
     fn served(&self, connection: ConnectionId) -> Result<Option<ClientId>, AllocError>
         requires { IsTied self.now }
         ensures { IfOk result (λ client. client ≡ owners_in self.now.sessions.entries connection) }
@@ -82,7 +83,7 @@ impl Tables {
     }
 }
 
-// Whether it is a step of a handshake.
+// Says whether it is a step of a handshake.
 fn is_handshake(packet: &Packet) -> bool
     ensures { result ≡ is_handshake packet.now }
 {
@@ -92,7 +93,8 @@ fn is_handshake(packet: &Packet) -> bool
     )
 }
 
-// Whether it ends its connection: DISCONNECT, and what a client may not send (MQTT 3.1.0, 4.8).
+// Says whether it ends its connection: DISCONNECT, and what a client may not send (MQTT 3.1.0,
+// 4.8).
 fn is_violation(packet: &Packet) -> bool
     ensures { result ≡ is_violation packet.now }
 {

@@ -1,4 +1,4 @@
-// Start: a new ballot begins, and the connections of earlier ones are gone.
+// Start: a new ballot begins, and the connections of earlier ballots have ended.
 
 ghost use Rattle.std.specs.Prelude.{◌≡◌, Some, None, if◌then◌else◌};
 ghost use Rattle.broker_rows.specs.subs_base.ListIndex.{content_of};
@@ -16,7 +16,8 @@ use packet::ClientId;
 use std::collections::BTreeMap;
 
 impl Tables {
-    /// Does a Start: nobody is served any more, the clean sessions are over, and the window is the wide one.
+    /// Does a Start: no client is served any more, the clean sessions end, and the window is the
+    /// wide one.
     pub(crate) fn start(&mut self, ballot: u64)
         requires { IsInStep self.old }
         ensures state { state_in self.new ≡ (stepped self.old (commands.Start ballot)).0 }
@@ -29,7 +30,7 @@ impl Tables {
     }
 }
 
-// The index loses the clients of the clean sessions.
+// Drops the clients of the clean sessions from the index.
 fn drop_clean(index: &mut TreeIndex, sessions: &BTreeMap<ClientId, ClientRow>)
     ensures { content_of index.new
         ≡ all_dropped (clean_clients sessions.now.entries) (content_of index.old) }
@@ -41,14 +42,14 @@ fn drop_clean(index: &mut TreeIndex, sessions: &BTreeMap<ClientId, ClientRow>)
     }
 }
 
-// Each session is left without a connection, or is over.
+// Leaves each session without a connection, or ends it.
 fn leave_off_all(sessions: &mut BTreeMap<ClientId, ClientRow>)
     ensures { sessions.new.entries ≡ all_left_off sessions.old.entries }
 {
     sessions.retain(|_, row| stays(row));
 }
 
-// Leaves a session without a connection, and tells whether it stays.
+// Leaves a session without a connection, and says whether it stays.
 fn stays(row: &mut ClientRow) -> bool
     ensures { left_off row.old ≡ if result then Some row.new else None }
 {

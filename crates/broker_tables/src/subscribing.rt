@@ -1,4 +1,4 @@
-// SUBSCRIBE: a client asks for publications (MQTT 3.8).
+// SUBSCRIBE: a client subscribes (MQTT 3.8).
 
 ghost use Rattle.std.specs.Prelude.{◌≡◌, ◌++◌, Some, OnOk, IfOk, map};
 ghost use Rattle.packet.specs.declared.packet.Packet.TheVariants as packets;
@@ -27,7 +27,7 @@ use std::alloc::{AllocError, Global};
 
 impl Tables {
     /// Does a SUBSCRIBE of the client that is served on this connection: each filter is granted or
-    /// not, SUBACK says which, and what is retained of those that are is sent behind it.
+    /// not, SUBACK says which, and what is retained of those that are is sent after it.
     pub(crate) fn subscribe(
         &mut self,
         connection: ConnectionId,
@@ -67,7 +67,8 @@ impl Tables {
     }
 }
 
-// Takes the filters one by one: each is granted or not, and what is retained of it comes to the session.
+// Takes the filters one by one: each is granted or not, and what is retained of it is put into the
+// session.
 fn grant_all(
     session: &mut Session,
     window: Window,
@@ -90,8 +91,8 @@ fn grant_all(
     Ok(which)
 }
 
-// A filter is granted where it is not one too many and there is room for what is retained of it. It is
-// then a subscription, and what is retained of it comes to the session.
+// Grants a filter if it is not one too many and there is room for the retained publications that
+// match it. It is then a subscription, and those publications are put into the session.
 fn grant(
     session: &mut Session,
     window: Window,
@@ -116,7 +117,7 @@ fn grant(
     Ok(true)
 }
 
-// Whether the filter would be a subscription too many: an identical one is only replaced.
+// Says whether the filter would be a subscription too many: an identical one is only replaced.
 fn is_one_too_many(session: &Session, subscription: &Subscription) -> bool
     ensures { result
         ≡ is_one_too_many usual_limits session.now.subscriptions subscription.now }
@@ -125,7 +126,7 @@ fn is_one_too_many(session: &Session, subscription: &Subscription) -> bool
         && session.subscription_count() >= MAX_SUBSCRIPTIONS
 }
 
-// The index learns of the filters that are granted.
+// Sets the filters that are granted in the index.
 fn set_all(
     index: &mut TreeIndex,
     client: &ClientId,
@@ -144,7 +145,7 @@ fn set_all(
     Ok(())
 }
 
-// The answer to each filter (MQTT 3.9.3).
+// Returns the answer to each filter (MQTT 3.9.3).
 fn codes_of(
     alloc: Global,
     filters: &[Subscription],

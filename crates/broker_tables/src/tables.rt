@@ -13,10 +13,10 @@ use std::alloc::Global;
 use std::collections::BTreeMap;
 
 /// The sessions by client, and the retained publications. The map of connections and the index of
-/// subscriptions say of them nothing new: they find a row without a walk over all.
+/// subscriptions contain nothing new: they find a row without a walk over all.
 #[derive(Drop)]
 pub struct Tables {
-    /// How many entries of a session are under way at once.
+    /// How many entries of a session are in flight at once.
     pub window: Window,
     /// By client.
     pub sessions: BTreeMap<ClientId, ClientRow>,
@@ -26,12 +26,12 @@ pub struct Tables {
     pub index: TreeIndex,
     /// By topic.
     pub retained: RetainedStore,
-    /// Where what is made for a command comes from.
+    /// The allocator for what is made for a command.
     pub alloc: Global,
 }
 
 impl Tables {
-    /// Tables with nothing in them.
+    /// Returns empty tables.
     pub fn new(alloc: Global) -> Tables
         ensures state { state_in result ≡ empty_state 64 }
         ensures tied { IsTied result }

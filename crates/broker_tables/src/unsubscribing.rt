@@ -1,4 +1,4 @@
-// UNSUBSCRIBE: a client gives up subscriptions (MQTT 3.10).
+// UNSUBSCRIBE: a client unsubscribes (MQTT 3.10).
 
 ghost use Rattle.std.specs.Prelude.{◌≡◌, ◌++◌, Some, OnOk};
 ghost use Rattle.packet.specs.declared.packet.Packet.TheVariants as packets;
@@ -46,7 +46,7 @@ impl Tables {
     }
 }
 
-// The session gives up these filters, one by one.
+// Removes these filters from the session, one by one.
 fn give_up(session: &mut Session, filters: &[Filter])
     ensures { session.new
         ≡ with_filters (without_filters filters.now session.old.subscriptions) session.old }
@@ -56,7 +56,7 @@ fn give_up(session: &mut Session, filters: &[Filter])
     }
 }
 
-// And so does the index of the client.
+// Removes these filters of the client from the index.
 fn clear_all(index: &mut TreeIndex, client: &ClientId, filters: &[Filter])
     ensures { content_of index.new ≡ all_cleared client.now filters.now (content_of index.old) }
 {

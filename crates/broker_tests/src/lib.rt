@@ -1,5 +1,5 @@
-//! The broker on worked rows: commands in, packets out, both as the bytes of MQTT 3.1.1. Tests alone
-//! stand here.
+//! The broker tested by tables of examples: commands in, packets out, both as the bytes of MQTT
+//! 3.1.1. It has only tests.
 #![tactic(auto)]
 
 #[cfg(test)]

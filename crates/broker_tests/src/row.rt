@@ -1,4 +1,4 @@
-// Rows: what comes to a broker, and what goes out for it.
+// Rows: what comes to a broker, and what it sends then.
 
 use broker::BrokerMachine;
 use broker_model::{Command, ConnectionId, Output, SizedPacket};
@@ -21,19 +21,19 @@ pub(crate) enum Event<'a> {
     Expel(&'a str),
 }
 
-/// The bytes that go out on a connection; none where it is closed.
+/// The bytes that are sent on a connection; none if it is closed.
 pub(crate) type Answer<'a> = (u64, &'a [u8]);
 
-/// An event, and what goes out for it.
+/// An event, and what is sent for it.
 pub(crate) type Row<'a> = (Event<'a>, &'a [Answer<'a>]);
 
-/// What goes out where a connection is closed.
+/// What is written if a connection is closed.
 pub(crate) const CLOSED: &[u8] = &[];
 
-/// Nothing goes out.
+/// Nothing is sent.
 pub(crate) const NOTHING: &[Answer<'static>] = &[];
 
-/// Finds the first row that a broker does not answer as wanted.
+/// Finds the first row that a broker does not answer as expected.
 pub(crate) fn other_answer(
     alloc: Global,
     broker: &mut BrokerMachine,
@@ -47,7 +47,7 @@ pub(crate) fn other_answer(
     None
 }
 
-/// Whether a broker answers an event as wanted.
+/// Says whether a broker answers an event as expected.
 pub(crate) fn is_answered(
     alloc: Global,
     broker: &mut BrokerMachine,
@@ -58,7 +58,7 @@ pub(crate) fn is_answered(
     is_given(alloc, broker, event, &mut given) && are_wanted(alloc, &given, wanted)
 }
 
-// Appends the answers to an event, and tells whether memory was found.
+// Appends the answers to an event, and says whether memory was found.
 fn is_given(
     alloc: Global,
     broker: &mut BrokerMachine,
@@ -71,12 +71,12 @@ fn is_given(
     }
 }
 
-// Does a command, and tells whether memory was found.
+// Does a command, and says whether memory was found.
 fn is_done(broker: &mut BrokerMachine, command: &Command, given: &mut Vec<Output>) -> bool {
     broker.apply(command, given).is_ok()
 }
 
-/// The command of an event.
+/// Returns the command of an event.
 pub(crate) fn command_of(alloc: Global, event: Event<'_>) -> Option<Command> {
     match event {
         Event::Connect(count, client, clean) => {

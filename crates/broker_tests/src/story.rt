@@ -12,7 +12,7 @@ use std::alloc::Global;
 #[derive(Clone, Copy)]
 pub(crate) enum Start<'a> {
     Fresh,
-    /// The one that these bytes stand for.
+    /// The broker that is thawed from these bytes.
     Thawed(&'a [u8]),
 }
 
@@ -40,7 +40,7 @@ fn started(alloc: Global, start: Start<'_>) -> Option<BrokerMachine> {
     }
 }
 
-// A fault of a story that is one step.
+// Returns a fault of a story that is one step.
 fn fault_unless(is_right: bool) -> Option<usize> {
     if is_right { None } else { Some(0) }
 }

@@ -1,4 +1,4 @@
-// What a client sees is told by MQTT 3.1.1; each expected byte stands there.
+// Each expected byte that a client sees is derived from MQTT 3.1.1.
 
 mod connections;
 mod expelling;

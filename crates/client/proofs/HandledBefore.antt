@@ -1,4 +1,4 @@
--- HandledBefore.antt: what was handled before a packet that ends a call stands.
+-- HandledBefore.antt: what was handled before a packet that ends a call stays handled.
 use Rattle.std.proofs.Common.{◌≡◌, ℕ, true, false, if◌then◌else◌, List, Result, Ok, Err, refl, ap, ap₂, sym, subst}
 use Rattle.std.proofs.lemmas.Bool.{both_ways}
 use Rattle.client_base.specs.declared.error.ClientError.{ClientError}
@@ -14,7 +14,7 @@ use Rattle.client.specs.Inside.Turns.{ReadsOne, StopsAt, TakesIn, Feeds, is_fata
 pub handled_more : (start s u : Core) → Handles start s → ReadsOne s (Ok true) u → Handles start u
 handled_more start s u before one = Handles.more one.0 before one.2 one.3 one.4
 
--- a connection is gone alike from clients that differ in what they did not read
+-- the loss of a connection is the same for clients that differ in what they did not read
 gone_alike : (last new : Core) → new.state ≡ last.state → new.out ≡ last.out → gone new ≡ gone last
 gone_alike last new state out =
     ap₂ (λ s o. record { state = lost s; unread = nothing_read; out = o }) state out

@@ -1,4 +1,4 @@
--- Spelled.antt: packets that are written one behind the other.
+-- Spelled.antt: packets that are written one after another.
 use Rattle.std.proofs.Common.{◌≡◌, ℕ, true, false, ◌+◌, ◌<◌, List, [], ◌∷◌, ◌++◌, length, map, take, get_or, append_assoc, append-nil, refl, ap, sym, subst, ◌∙◌}
 use Rattle.std.proofs.lemmas.List.{map_more}
 use Rattle.packet.specs.declared.packet.Packet.{Packet}
@@ -8,7 +8,7 @@ use Rattle.client_base.specs.declared.kept_publication.KeptPublication.{KeptPubl
 use Rattle.client_base.specs.State.{ClientState, publish_kept, resent}
 use Rattle.client.specs.Core.{AppendsAll}
 
--- what is written behind is written behind both
+-- what is written after is written after both
 pub appends_join : (old between new : List ℕ) (packets others : List Packet) → AppendsAll old between packets → AppendsAll between new others
     → AppendsAll old new (packets ++ others)
 appends_join old between new [] others same more = subst (λ (bytes : List ℕ). AppendsAll bytes new others) same more
@@ -26,7 +26,7 @@ appends_next f xs i x old between new within is front spelled =
     subst (λ (packets : List Packet). AppendsAll old new packets) (sym more)
     (appends_join old between new (map f (take i xs)) (f x ∷ []) front (appends_one between new (f x) spelled))
 
--- ---- the same behind other bytes
+-- ---- the same after other bytes
 
 spelled_behind : (front old new : List ℕ) (packet : Packet) → AppendsSpelling old new packet → AppendsSpelling (front ++ old) (front ++ new) packet
 spelled_behind front old new packet spelled =

@@ -1,4 +1,4 @@
--- Used.antt: an identifier is used where a publication or a request has it.
+-- Used.antt: an identifier is used if a publication or a request has it.
 use Rattle.std.proofs.Common.{◌≡◌, ℕ, ◌||◌, ◌==◌, List, [], ◌∷◌, ◌++◌, map, refl, ap, ◌∙◌}
 use Rattle.std.specs.List.{list_any}
 use Rattle.session_base.specs.lists.Lists.{has_id}

@@ -1,4 +1,4 @@
--- What a `ClientCore` shows: what it keeps, what it did not read yet, and what it wrote.
+-- What a `ClientCore` shows: what it keeps, what it has not yet read, and what it wrote.
 use Rattle.std.specs.Prelude.{◌≡◌, ℕ, Bool, false, List, [], ◌∷◌, Some, None, Result, Ok, Err}
 use Rattle.packet.specs.declared.qos.QoS.{QoS}
 use Rattle.packet.specs.declared.packet.Packet.{Packet}
@@ -13,10 +13,10 @@ use Rattle.client_base.specs.Answered.{Turn}
 -- a client between two calls
 pub record Core : Type 0 where
   pub state : ClientState
-  pub unread : Stream  -- bytes of the server that are not handled yet
-  pub out : List ℕ  -- bytes that it wrote and did not hand over
+  pub unread : Stream  -- bytes from the server that are not yet handled
+  pub out : List ℕ  -- bytes that it wrote and has not yet handed over
 
--- nothing came yet
+-- nothing has come yet
 abbrev pub nothing_read : Stream
 nothing_read = record { held = []; failed = false }
 
@@ -24,35 +24,34 @@ abbrev pub new_core : List ℕ → ℕ → Core
 new_core client keep_alive =
     record { state = new_client client keep_alive; unread = nothing_read; out = [] }
 
--- new is old with the spellings of these packets at its end, one behind the other
+-- new is old with the spellings of these packets appended, one after another
 abbrev pub AppendsAll : List ℕ → List ℕ → List Packet → Type 0
 AppendsAll old new [] = new ≡ old
 AppendsAll old new (packet ∷ packets) =
     (between : List ℕ) × AppendsSpelling old between packet × AppendsAll between new packets
 
--- the step is done: its state, and what it writes behind what was written
+-- the step is done: its state, and its packets appended to what was written
 abbrev pub IsDone : Turn → Core → Core → Type 0
 IsDone turn old new =
     (new.state ≡ turn.state) × AppendsAll old.out new.out turn.writes × (new.unread ≡ old.unread)
 
--- A call is its step, whole; it is refused where the step is, and for want of memory nothing
--- changes.
+-- A call is its whole step; it is refused if the step is, and if memory runs out nothing changes.
 abbrev pub Does : Turn → Core → Result (Unit {0}) ClientError → Core → Type 0
 Does turn old (Ok done) new = (turn.refusal ≡ None) × IsDone turn old new
 Does turn old (Err errors.Memory) new = new ≡ old
 Does turn old (Err cause) new = (turn.refusal ≡ Some cause) × (new ≡ old)
 
--- its connection is gone: what it wrote stays, what it did not read is dropped
+-- its connection is lost: what it wrote stays, what it has not read is dropped
 abbrev pub gone : Core → Core
 gone core = record core { state = lost core.state; unread = nothing_read }
 
--- it opens: CONNECT is the first that is written on the new connection
+-- it opens a connection: CONNECT is the first that is written on it
 abbrev pub Opens : Turn → Core → Result (Unit {0}) ClientError → Core → Type 0
 Opens turn old (Ok done) new =
     (new.state ≡ turn.state) × AppendsAll [] new.out turn.writes × (new.unread ≡ nothing_read)
 Opens turn old (Err cause) new = (cause ≡ errors.Memory) × (new ≡ old)
 
--- it leaves: as a call, and what it did not read is dropped
+-- it disconnects: like a call, and what it has not read is dropped
 abbrev pub Leaves : Turn → Core → Result (Unit {0}) ClientError → Core → Type 0
 Leaves turn old (Ok done) new =
     (turn.refusal ≡ None) × (new.state ≡ turn.state) × AppendsAll old.out new.out turn.writes
@@ -64,7 +63,7 @@ Leaves turn old (Err cause) new = (turn.refusal ≡ Some cause) × (new ≡ old)
 abbrev pub without_accepted : Core → Core
 without_accepted core = record core { state = record core.state { accepted = [] } }
 
--- a publication of these parts
+-- a publication with these parts
 abbrev pub publication_with : Bool → QoS → List ℕ → List ℕ → Publication
 publication_with retain qos topic payload =
     record { retain = retain; qos = qos; topic = topic; payload = payload }

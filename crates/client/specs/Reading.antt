@@ -1,4 +1,4 @@
--- How the bytes of the server are read: packet by packet, to the first that ends the call.
+-- How the bytes from the server are read: packet by packet, up to the first that ends the call.
 use Rattle.std.specs.Prelude.{◌≡◌, ℕ, ◌⊎◌, List, ◌++◌, Some, None, Result, Ok, Err}
 use Rattle.packet.specs.declared.packet.Packet.{Packet}
 use Rattle.packet.specs.declared.error.DecodeFault.{DecodeFault}
@@ -13,11 +13,11 @@ use Rattle.client_base.specs.Answered.{Turn}
 use Rattle.client_base.specs.Calls.{received}
 use Rattle.client.specs.Core.{Core, IsDone, gone}
 
--- what the server's packet makes of a client
+-- what the server's packet does to a client
 abbrev pub turn_of : Packet → Core → Turn
 turn_of packet core = received packet core.state.stage core.state
 
--- the first whole packet that is not read yet, and the client without it
+-- the first whole packet that is not yet read, and the client without it
 abbrev pub Reads : Core → Packet → Core → Type 0
 Reads old packet new =
     Takes old.unread (Ok (Some packet)) new.unread × (new.state ≡ old.state) × (new.out ≡ old.out)
@@ -43,8 +43,8 @@ StopsFor cause core =
     ⊎ ((packet : Packet) × (next : Core) × Reads core packet next
     × ((turn_of packet next).refusal ≡ Some cause))
 
--- How it ends. A lost session lets the connection go on, and what is behind its CONNACK is not
--- read; else the connection is gone, and what was handled before stands.
+-- How the call ends. The connection survives a lost session, and what comes after its CONNACK is
+-- not read; otherwise the connection is lost, and what was handled before remains.
 abbrev pub EndsWith : Core → Result (Unit {0}) ClientError → Core → Type 0
 EndsWith core (Ok done) new = Takes core.unread (Ok None) core.unread × (new ≡ core)
 EndsWith core (Err errors.Memory) new = new ≡ gone core
@@ -54,11 +54,11 @@ EndsWith core (Err errors.SessionLost) new =
     × IsDone (turn_of packet next) next new
 EndsWith core (Err cause) new = StopsFor cause core × (new ≡ gone core)
 
--- the piece is behind what is not read yet
+-- the piece is appended to what is not yet read
 abbrev pub fed : List ℕ → Core → Core
 fed piece core = record core { unread = record core.unread { held = core.unread.held ++ piece } }
 
--- what a piece of the server's bytes makes of a client
+-- what a piece of the server's bytes does to a client
 abbrev pub OnBytes : List ℕ → Stage → Core → Result (Unit {0}) ClientError → Core → Type 0
 OnBytes piece stages.Closed old result new = (result ≡ Err errors.NotActive) × (new ≡ old)
 OnBytes piece stage old result new =

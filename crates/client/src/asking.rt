@@ -15,9 +15,8 @@ use std::alloc::Global;
 use topics::Filter;
 
 impl ClientCore {
-    /// Asks for the publications of a filter, at most at this QoS. `NotActive` comes exactly where
-    /// the client is offline, and else `WindowFull` where no identifier is free; a refusal leaves
-    /// everything as it was.
+    /// Subscribes to a filter, at most at this QoS. `NotActive` comes exactly if the client is
+    /// offline, and otherwise `WindowFull` if no identifier is free; a refusal changes nothing.
     pub fn subscribe(&mut self, filter: Filter, qos: QoS) -> Result<(), ClientError>
         ensures { Does (keeper_step (Call.Subscribes filter qos) self.old.state)
             self.old result self.new }
@@ -29,7 +28,7 @@ impl ClientCore {
         Ok(())
     }
 
-    /// Gives up a filter. It is refused as `subscribe` is.
+    /// Unsubscribes from a filter. It is refused as `subscribe` is.
     pub fn unsubscribe(&mut self, filter: Filter) -> Result<(), ClientError>
         ensures { Does (keeper_step (Call.Unsubscribes filter) self.old.state)
             self.old result self.new }
@@ -41,7 +40,7 @@ impl ClientCore {
         Ok(())
     }
 
-    // The identifier of the next request, or why there is none.
+    // Returns the identifier of the next request, or why there is none.
     pub(crate) fn request_id(&self) -> Result<PacketId, ClientError>
         ensures { RequestId self.now.state result }
     {
@@ -86,7 +85,7 @@ fn write_unsubscribe(
     write(&packet, out)
 }
 
-// SUBSCRIBE with one filter.
+// Returns a SUBSCRIBE with one filter.
 fn subscribe_packet(
     alloc: Global,
     id: PacketId,
@@ -106,7 +105,7 @@ fn subscribe_packet(
     }))
 }
 
-// UNSUBSCRIBE with one filter.
+// Returns an UNSUBSCRIBE with one filter.
 fn unsubscribe_packet(alloc: Global, id: PacketId, filter: Filter) -> Result<Packet, ClientError>
     ensures ok { IfOk result (λ packet. packet
         ≡ packets.Unsubscribe (record { id = id; filters = filter ∷ [] })) }

@@ -10,8 +10,8 @@ use std::alloc::Global;
 use std::marker::Model;
 
 /// A client that keeps its side of the handshakes over its connections (MQTT 4.3, 4.4). Its
-/// sessions are never clean. Bytes to the server are fetched by `outgoing`, bytes of the server are
-/// given by `on_bytes`.
+/// sessions are never clean. `outgoing` returns the bytes to the server, `on_bytes` takes the bytes
+/// from the server.
 #[derive(Drop)]
 pub struct ClientCore {
     pub(crate) client: ClientId,
@@ -55,8 +55,9 @@ impl Model for ClientCore {
 }
 
 impl ClientCore {
-    /// A client of this identifier that was never connected. Its connections are given up by the
-    /// server after one and a half times the keep alive in seconds without a packet; 0 is never.
+    /// Returns a client with this identifier that was never connected. The server closes its
+    /// connections after one and a half times the keep alive, in seconds, without a packet; 0 means
+    /// never.
     pub fn new(alloc: Global, client: ClientId, keep_alive: u16) -> ClientCore
         ensures { result ≡ new_core client keep_alive }
     {
@@ -78,8 +79,8 @@ impl ClientCore {
         }
     }
 
-    /// The connection is lost: requests without an answer and bytes that were not read are given
-    /// up. What is kept stays, and so does what was written, until `open`.
+    /// Marks the connection lost: requests without an answer and bytes that were not read are
+    /// dropped. What is kept stays; what was written stays until `open`.
     pub fn lost(&mut self)
         ensures { self.new ≡ gone self.old }
     {

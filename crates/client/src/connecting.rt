@@ -14,9 +14,9 @@ use cutter::Cutter;
 use packet::Packet;
 
 impl ClientCore {
-    /// Opens a connection: CONNECT is written, and it is all that is written until the server has
-    /// accepted the connection. An open connection is lost before. `Memory` is the only error, and
-    /// leaves everything as it was.
+    /// Opens a connection: writes CONNECT, and nothing else until the server has accepted the
+    /// connection. A connection that is still open is lost first. `Memory` is the only error, and
+    /// changes nothing.
     pub fn open(&mut self) -> Result<(), ClientError>
         ensures { Opens (keeper_step Call.Opens self.old.state) self.old result self.new }
     {
@@ -28,9 +28,8 @@ impl ClientCore {
         Ok(())
     }
 
-    /// Ends the connection: DISCONNECT is written where the server has accepted it, and then it is
-    /// lost. `NotActive` comes exactly where there is no connection; after `Memory` everything is
-    /// as it was.
+    /// Ends the connection: writes DISCONNECT if the server has accepted it, and then it is lost.
+    /// `NotActive` comes exactly if there is no connection; after `Memory` nothing has changed.
     pub fn disconnect(&mut self) -> Result<(), ClientError>
         ensures { Leaves (keeper_step Call.Disconnects self.old.state) self.old result self.new }
     {
@@ -43,7 +42,7 @@ impl ClientCore {
         Ok(())
     }
 
-    // CONNACK 0: what is kept goes out again, or is given up where the server has no session any
+    // Handles CONNACK 0: sends again what is kept, or drops it if the server has no session any
     // more.
     pub(crate) fn on_accepted(&mut self, present: bool) -> Result<(), ClientError>
         ensures { Tries (confirmed present self.old.state) self.old result self.new }
@@ -63,8 +62,7 @@ impl ClientCore {
         Ok(())
     }
 
-    // Writes what is kept, in its order, and all of it is sent then. After `Memory` nothing has
-    // changed.
+    // Writes what is kept, in order; then all of it is sent. After `Memory` nothing has changed.
     fn resend(&mut self) -> Result<(), ClientError>
         ensures ok { OnOk result (self.new ≡ all_sent self.new.out self.old) }
         ensures bytes { OnOk result (AppendsAll self.old.out self.new.out (resent self.old.state)) }
@@ -78,7 +76,7 @@ impl ClientCore {
         Ok(())
     }
 
-    // Gives up what was kept, and begins the next session.
+    // Drops what was kept, and begins the next session.
     fn discard(&mut self)
         ensures { self.new ≡ with_state (discarded self.old.state) self.old }
     {
@@ -89,7 +87,7 @@ impl ClientCore {
         self.session = self.session.saturating_add(1);
     }
 
-    // The bytes of what is kept, in its order.
+    // Returns the bytes of what is kept, in order.
     fn resent(&self) -> Result<Vec<u8>, ClientError>
         ensures ok { IfOk result (λ bytes. AppendsAll [] bytes.items (resent self.now.state)) }
         ensures memory { OnErr result (IsErrOf result ClientError.Memory) }

@@ -1,4 +1,4 @@
-// What a packet of a handshake makes of a client (MQTT 4.3).
+// What a packet of a handshake does to a client (MQTT 4.3).
 
 ghost use Rattle.std.specs.Prelude.{◌≡◌, false};
 ghost use Rattle.session_base.specs.lists.Lists.{has_id};
@@ -16,7 +16,8 @@ use client_base::{Accepted, ClientError};
 use packet::{Delivery, PacketId, Publish};
 
 impl ClientCore {
-    // PUBLISH: accepted each time at QoS 0 and 1, and at QoS 2 once while its identifier is kept.
+    // Handles PUBLISH: it is accepted each time at QoS 0 and 1, and at QoS 2 once while its
+    // identifier is kept.
     pub(crate) fn on_publish(&mut self, publish: Publish) -> Result<(), ClientError>
         ensures { Tries (on_publish publish publish.delivery self.old.state)
             self.old result self.new }
@@ -29,7 +30,7 @@ impl ClientCore {
         }
     }
 
-    // PUBLISH at QoS 0 has no answer.
+    // Handles PUBLISH at QoS 0, which has no answer.
     fn on_at_most_once(&mut self, publish: Publish) -> Result<(), ClientError>
         ensures { Tries (on_publish publish deliveries.AtMostOnce self.old.state)
             self.old result self.new }
@@ -38,7 +39,7 @@ impl ClientCore {
         Ok(())
     }
 
-    // PUBLISH at QoS 1.
+    // Handles PUBLISH at QoS 1.
     fn on_at_least_once(&mut self, id: PacketId, publish: Publish) -> Result<(), ClientError>
         ensures { Tries (on_publish publish (deliveries.AtLeastOnce false id) self.old.state)
             self.old result self.new }
@@ -50,7 +51,7 @@ impl ClientCore {
         Ok(())
     }
 
-    // PUBLISH at QoS 2: a repeat is answered, and not accepted again.
+    // Handles PUBLISH at QoS 2: a repeat is answered, and not accepted again.
     fn on_exactly_once(&mut self, id: PacketId, publish: Publish) -> Result<(), ClientError>
         ensures { Tries (on_publish publish (deliveries.ExactlyOnce false id) self.old.state)
             self.old result self.new }
@@ -62,8 +63,8 @@ impl ClientCore {
         self.accept_once(id, publish)
     }
 
-    // What is new at QoS 2 is accepted, and its identifier kept. Room for all that it leaves is made
-    // before, so that nothing is accepted whose identifier is not kept.
+    // Accepts what is new at QoS 2, and keeps its identifier. Memory for all of it is allocated
+    // first, so that nothing is accepted whose identifier is not kept.
     fn accept_once(&mut self, id: PacketId, publish: Publish) -> Result<(), ClientError>
         requires { has_id id self.old.state.received ≡ false }
         ensures { Tries (on_publish publish (deliveries.ExactlyOnce false id) self.old.state)
@@ -78,7 +79,7 @@ impl ClientCore {
         Ok(())
     }
 
-    // PUBREL: the identifier is kept no longer.
+    // Handles PUBREL: the identifier is no longer kept.
     pub(crate) fn on_pubrel(&mut self, id: PacketId) -> Result<(), ClientError>
         ensures { Tries (on_pubrel id self.old.state) self.old result self.new }
     {
@@ -87,14 +88,15 @@ impl ClientCore {
         Ok(())
     }
 
-    // PUBACK ends a publication at QoS 1.
+    // Handles PUBACK, which ends a publication at QoS 1.
     pub(crate) fn on_puback(&mut self, id: PacketId)
         ensures { self.new ≡ changed (on_puback id self.old.state) self.old }
     {
         end_acknowledged(&mut self.sent, id);
     }
 
-    // PUBREC releases a publication at QoS 2; for a released one PUBREL goes out again.
+    // Handles PUBREC, which releases a publication at QoS 2; for a released one PUBREL is sent
+    // again.
     pub(crate) fn on_pubrec(&mut self, id: PacketId) -> Result<(), ClientError>
         ensures { Tries (on_pubrec id self.old.state) self.old result self.new }
     {
@@ -109,21 +111,21 @@ impl ClientCore {
         Ok(())
     }
 
-    // PUBCOMP ends a released publication.
+    // Handles PUBCOMP, which ends a released publication.
     pub(crate) fn on_pubcomp(&mut self, id: PacketId)
         ensures { self.new ≡ changed (on_pubcomp id self.old.state) self.old }
     {
         forget(&mut self.released, id);
     }
 
-    // SUBACK answers a SUBSCRIBE.
+    // Handles SUBACK, which answers a SUBSCRIBE.
     pub(crate) fn on_suback(&mut self, id: PacketId)
         ensures { self.new ≡ changed (answered (is_subscribe id) self.old.state) self.old }
     {
         end_subscribes(&mut self.requests, id);
     }
 
-    // UNSUBACK answers an UNSUBSCRIBE.
+    // Handles UNSUBACK, which answers an UNSUBSCRIBE.
     pub(crate) fn on_unsuback(&mut self, id: PacketId)
         ensures { self.new ≡ changed (answered (is_unsubscribe id) self.old.state) self.old }
     {
@@ -131,7 +133,7 @@ impl ClientCore {
     }
 }
 
-// What is accepted of a PUBLISH, in this session.
+// Returns what is accepted of a PUBLISH, in this session.
 fn accepted_of(session: u64, publish: Publish) -> Accepted
     ensures { result ≡ accepted_of session publish }
 {

@@ -14,7 +14,7 @@ use packet::{PacketId, QoS};
 use session_base::fill_takes_what_waits;
 
 impl ClientCore {
-    // The least identifier that no publication and no request has.
+    // Returns the least identifier that no publication and no request has.
     pub(crate) fn free_id(&self) -> Option<PacketId>
         ensures least { IfSome result (λ id. id ≡ next_id self.now.state) }
         ensures found { IsSome result ↔ IsTrue (has_free_id self.now.state) }
@@ -30,7 +30,7 @@ impl ClientCore {
         if self.is_used(last) { None } else { Some(last) }
     }
 
-    // Whether a publication or a request has this identifier.
+    // Says whether a publication or a request has this identifier.
     #[tactic(auto, using(crate::proofs::Used::used_in_parts))]
     fn is_used(&self, id: PacketId) -> bool
         ensures { result ≡ has_id id (used_ids self.now.state) }
@@ -42,28 +42,28 @@ impl ClientCore {
     }
 }
 
-// Whether the identifier is among these.
+// Says whether the identifier is among these.
 pub(crate) fn has_id(ids: &[PacketId], id: PacketId) -> bool
     ensures { result ≡ has_id id ids.now }
 {
     ids.iter().any(|other| id == *other)
 }
 
-// Whether a kept publication has it.
+// Says whether a kept publication has it.
 fn is_kept(kept: &[KeptPublication], id: PacketId) -> bool
     ensures { result ≡ list_any (λ one. id == one.id) kept.now }
 {
     kept.iter().any(|one| id == one.id)
 }
 
-// Whether a request has it.
+// Says whether a request has it.
 fn is_asked(requests: &[Request], id: PacketId) -> bool
     ensures { result ≡ list_any (λ one. id == id_of_request one) requests.now }
 {
     requests.iter().any(|request| id == id_of(*request))
 }
 
-// The identifier of a request.
+// Returns the identifier of a request.
 fn id_of(request: Request) -> PacketId
     ensures { result ≡ id_of_request request }
 {
@@ -80,21 +80,21 @@ pub(crate) fn forget(ids: &mut Vec<PacketId>, id: PacketId)
     ids.retain(|other| id != *other);
 }
 
-// Whether PUBACK with this identifier ends the publication.
+// Says whether PUBACK with this identifier ends the publication.
 fn awaits_puback(id: PacketId, kept: &KeptPublication) -> bool
     ensures { result ≡ awaits_puback id kept.now }
 {
     id == kept.id && kept.publication.qos == QoS::AtLeastOnce
 }
 
-// Whether PUBREC with this identifier releases the publication.
+// Says whether PUBREC with this identifier releases the publication.
 pub(crate) fn awaits_pubrec(id: PacketId, kept: &KeptPublication) -> bool
     ensures { result ≡ awaits_pubrec id kept.now }
 {
     id == kept.id && kept.publication.qos != QoS::AtLeastOnce
 }
 
-// Whether SUBACK with this identifier answers the request.
+// Says whether SUBACK with this identifier answers the request.
 fn is_subscribe(id: PacketId, request: Request) -> bool
     ensures { result ≡ is_subscribe id request }
 {
@@ -104,7 +104,7 @@ fn is_subscribe(id: PacketId, request: Request) -> bool
     }
 }
 
-// Whether UNSUBACK with this identifier answers the request.
+// Says whether UNSUBACK with this identifier answers the request.
 fn is_unsubscribe(id: PacketId, request: Request) -> bool
     ensures { result ≡ is_unsubscribe id request }
 {
@@ -114,7 +114,7 @@ fn is_unsubscribe(id: PacketId, request: Request) -> bool
     }
 }
 
-// Whether PUBREC with this identifier releases one of these.
+// Says whether PUBREC with this identifier releases one of these.
 pub(crate) fn has_unreleased(kept: &[KeptPublication], id: PacketId) -> bool
     ensures { result ≡ list_any (awaits_pubrec id) kept.now }
 {

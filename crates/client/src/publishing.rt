@@ -20,15 +20,15 @@ use session_base::Publication;
 use std::alloc::AllocError;
 use topics::TopicName;
 
-/// How many publications are kept at most.
+/// The most publications that are kept.
 const WINDOW: usize = 64;
 
 impl ClientCore {
     /// Publishes. At QoS 1 and 2 the publication is kept until its handshake has ended, and sent at
-    /// once where the client is online, else behind the next CONNACK. In this order: `WindowFull`
-    /// comes exactly where at QoS 1 or 2 sixty-four publications are kept or no identifier is free,
-    /// `NotActive` where the client is offline at QoS 0, `TooLarge` where the packet would be over
-    /// the size limit. A refusal leaves everything as it was.
+    /// once if the client is online, otherwise after the next CONNACK. In this order: `WindowFull`
+    /// comes exactly if at QoS 1 or 2 sixty-four publications are kept or no identifier is free,
+    /// `NotActive` if the client is offline at QoS 0, `TooLarge` if the packet would be over the
+    /// size limit. A refusal changes nothing.
     pub fn publish(
         &mut self,
         topic: TopicName,
@@ -78,7 +78,7 @@ impl ClientCore {
         self.keep(KeptPublication { id, publication })
     }
 
-    // Keeps a publication, and sends it where the client is online.
+    // Keeps a publication, and sends it if the client is online.
     fn keep(&mut self, kept: KeptPublication) -> Result<(), ClientError>
         ensures { Does (keeping kept self.old.state) self.old result self.new }
     {
@@ -102,7 +102,7 @@ impl ClientCore {
         Ok(())
     }
 
-    // The identifier of the next publication, or why there is none.
+    // Returns the identifier of the next publication, or why there is none.
     pub(crate) fn publication_id(&self) -> Result<PacketId, ClientError>
         ensures { PublicationId self.now.state result }
     {
@@ -113,7 +113,7 @@ impl ClientCore {
     }
 }
 
-// The PUBLISH of a publication at QoS 0.
+// Returns the PUBLISH of a publication at QoS 0.
 fn packet_once(publication: Publication) -> Packet
     ensures { result ≡ packets.Publish (record {
       topic = publication.topic;
@@ -130,7 +130,7 @@ fn packet_once(publication: Publication) -> Packet
     })
 }
 
-// Whether the PUBLISH of a publication is over the size limit.
+// Says whether the PUBLISH of a publication is over the size limit.
 fn is_too_large(kept: &KeptPublication) -> Result<bool, AllocError>
     ensures { IfOk result (λ large. large ≡ is_over_limit (publish_kept false kept.now)) }
 {

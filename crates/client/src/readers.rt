@@ -1,4 +1,4 @@
-// What others may see of a client.
+// What others can read from a client.
 
 ghost use Rattle.std.specs.Prelude.{◌≡◌, ◌++◌, [], OnOk, OnErr, IsErrOf, length, min};
 ghost use Rattle.client_base.specs.State.{is_online, kept_count};
@@ -17,13 +17,13 @@ impl ClientCore {
         &self.client
     }
 
-    /// Appends what was written and not handed over before. Where the vector is empty the bytes are
-    /// not copied. After `Memory` nothing has changed.
+    /// Appends what was written and not yet handed over. If the vector is empty the bytes are not
+    /// copied. After `Memory` nothing has changed.
     pub fn outgoing(&mut self, out: &mut Vec<u8>) -> Result<(), ClientError>
         ensures bytes { OnOk result (out.new.items ≡ out.old.items ++ self.old.out) }
         ensures ok { OnOk result (self.new ≡ record self.old { out = [] }) }
 
-        // Memory may be wanting, and nothing else.
+        // Memory may run out, and nothing else may fail.
         ensures memory { OnErr result (IsErrOf result ClientError.Memory) }
         ensures same { OnErr result (self.new ≡ self.old) }
         ensures untouched { OnErr result (out.new.items ≡ out.old.items) }
@@ -37,7 +37,7 @@ impl ClientCore {
         Ok(())
     }
 
-    /// What was accepted and not taken out, in order (MQTT 4.3).
+    /// Returns what was accepted and not taken out, in order (MQTT 4.3).
     pub fn accepted(&self) -> &[Accepted]
         ensures { result.now ≡ self.now.state.accepted }
     {
@@ -52,7 +52,7 @@ impl ClientCore {
         mem::replace(&mut self.accepted, Vec::new(self.alloc))
     }
 
-    /// How many publications are kept: their handshakes have not ended. At most 64.
+    /// Returns how many publications are kept: their handshakes have not ended. At most 64.
     pub fn kept(&self) -> usize
         ensures { result ≡ min (kept_count self.now.state) usize.MAX }
     {
@@ -60,15 +60,15 @@ impl ClientCore {
         sent.saturating_add(self.unsent.len())
     }
 
-    /// Whether the server accepted the connection, and it is still open.
+    /// Says whether the server accepted the connection, and it is still open.
     pub fn connected(&self) -> bool
         ensures { result ≡ is_online self.now.state.stage }
     {
         self.stage == Stage::Online
     }
 
-    /// Whether the server said at the last accepted connection that it has a session of this
-    /// client; false before the first.
+    /// Says whether the server reported, on the last accepted connection, that it has a session of
+    /// this client; false before the first.
     pub fn present(&self) -> bool
         ensures { result ≡ self.now.state.present }
     {

@@ -11,12 +11,13 @@ use cutter::CutError;
 use packet::{Connack, DecodeFault, Packet};
 
 impl ClientCore {
-    /// Takes in the next bytes of the server, in pieces of any size, and handles each whole packet.
-    /// `NotActive` comes where there is no connection, and nothing changes, or where the server
-    /// refused the connection; `Protocol` for a packet that may not come there; `Malformed` for
-    /// bytes that are no packet; `Memory`. After these the client is as after `lost`, and packets before
-    /// stand. `SessionLost` comes where the server has lost the session: what was kept is given up
-    /// and the connection goes on; what came behind that packet is handled by the next call.
+    /// Takes the next bytes from the server, in pieces of any size, and handles each whole packet.
+    /// `NotActive` comes if there is no connection, and nothing changes, or if the server refused
+    /// the connection; `Protocol` for a packet that may not come there; `Malformed` for bytes that
+    /// are no packet; `Memory`. After these the client is as after `lost`, and the effects of
+    /// earlier packets remain. `SessionLost` comes if the server has lost the session: what was
+    /// kept is dropped and the connection stays open; what came after that packet is handled by the
+    /// next call.
     pub fn on_bytes(&mut self, piece: &[u8]) -> Result<(), ClientError>
         ensures { OnBytes piece.now self.old.state.stage self.old result self.new }
     {
@@ -30,7 +31,7 @@ impl ClientCore {
         read
     }
 
-    // Takes in a piece, and handles each whole packet, to the first that ends the call.
+    // Takes a piece, and handles each whole packet, up to the first that ends the call.
     fn take_in(&mut self, piece: &[u8]) -> Result<(), ClientError>
         ensures { TakesIn piece.now self.old result self.new }
     {
@@ -40,7 +41,7 @@ impl ClientCore {
         }
     }
 
-    // Puts a piece behind what is not read yet.
+    // Appends a piece to what is not yet read.
     fn feed(&mut self, piece: &[u8]) -> Result<(), ClientError>
         ensures { Feeds piece.now self.old result self.new }
     {
@@ -50,7 +51,7 @@ impl ClientCore {
         }
     }
 
-    // Handles each whole packet, to the first that ends the call.
+    // Handles each whole packet, up to the first that ends the call.
     fn read_all(&mut self) -> Result<(), ClientError>
         ensures { ReadsAll self.old result self.new }
     {
@@ -74,7 +75,7 @@ impl ClientCore {
         }
     }
 
-    // The next whole packet.
+    // Takes the next whole packet.
     fn next_packet(&mut self) -> Result<Option<Packet>, ClientError>
         ensures { TakesNext self.old result self.new }
     {
@@ -85,7 +86,7 @@ impl ClientCore {
         }
     }
 
-    // Handles a packet of the server.
+    // Handles a packet from the server.
     fn handle(&mut self, packet: Packet) -> Result<(), ClientError>
         ensures { Tries (turn_of packet self.old) self.old result self.new }
     {
@@ -96,7 +97,7 @@ impl ClientCore {
         }
     }
 
-    // The first packet of a connection has to be CONNACK.
+    // Handles the first packet of a connection, which has to be CONNACK.
     fn handle_first(&mut self, packet: Packet) -> Result<(), ClientError>
         ensures { Tries (on_first packet self.old.state) self.old result self.new }
     {
@@ -107,7 +108,7 @@ impl ClientCore {
         }
     }
 
-    // A later packet. What only a client sends, and a second CONNACK, may not come.
+    // Handles a later packet. What only a client sends, and a second CONNACK, are not allowed.
     fn handle_later(&mut self, packet: Packet) -> Result<(), ClientError>
         ensures { Tries (on_later packet self.old.state) self.old result self.new }
     {
@@ -131,7 +132,7 @@ impl ClientCore {
     }
 }
 
-// Why the reading stops at what is no packet.
+// Returns why the reading stops at bytes that are no packet.
 fn cut_cause(error: CutError) -> ClientError
     ensures { result ≡ cut_cause error }
 {
@@ -141,7 +142,8 @@ fn cut_cause(error: CutError) -> ClientError
     }
 }
 
-// A CONNECT that a server would refuse with a code is a packet that only a client sends.
+// Returns the cause of a fault. A CONNECT that a server would refuse with a code is a packet that
+// only a client sends.
 fn cause_of(fault: DecodeFault) -> ClientError
     ensures { result ≡ cause_of fault }
 {
@@ -151,7 +153,7 @@ fn cause_of(fault: DecodeFault) -> ClientError
     }
 }
 
-// Whether the connection is gone after this answer to a piece.
+// Says whether the connection is lost after this answer to a piece.
 fn is_fatal(read: Result<(), ClientError>) -> bool
     ensures { result ≡ is_fatal read }
 {

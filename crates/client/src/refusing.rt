@@ -11,11 +11,12 @@ use crate::client_core::ClientCore;
 use packet::QoS;
 use session_base::Publication;
 
-/// How many bytes the body of a packet has at most.
+/// The most bytes of a packet's body.
 const LONGEST_BODY: usize = 1_048_572;
 
 impl ClientCore {
-    /// Returns whether [`ClientCore::publish`] refuses a publication for another cause than `Memory`. It takes no memory.
+    /// Says whether [`ClientCore::publish`] refuses a publication for another cause than `Memory`.
+    /// Takes no memory.
     pub fn refuses(&self, publication: &Publication) -> bool
         ensures { result ≡ is_some (publish_refusal publication.now self.now.state) }
     {
@@ -25,8 +26,8 @@ impl ClientCore {
         self.publication_id().is_err() || is_long(publication)
     }
 
-    /// Returns whether [`ClientCore::subscribe`] and [`ClientCore::unsubscribe`] refuse each filter for another cause than
-    /// `Memory`. It takes no memory.
+    /// Says whether [`ClientCore::subscribe`] and [`ClientCore::unsubscribe`] refuse each filter
+    /// for another cause than `Memory`. Takes no memory.
     pub fn refuses_requests(&self) -> bool
         ensures { result ≡ is_some (request_refusal self.now.state) }
     {
@@ -34,7 +35,7 @@ impl ClientCore {
     }
 }
 
-// Whether the PUBLISH that carries a publication is over the size limit.
+// Says whether the PUBLISH that carries a publication is over the size limit.
 fn is_long(publication: &Publication) -> bool
     ensures { (id : ℕ) → result
         ≡ is_over_limit (packets.Publish (publish_of false id publication.now)) }
@@ -42,7 +43,8 @@ fn is_long(publication: &Publication) -> bool
     body_len(publication) > LONGEST_BODY
 }
 
-// How many bytes its body has: the topic with two bytes for its length, two for an identifier at QoS 1 and 2, and the payload.
+// Returns how many bytes its body has: the topic with two bytes for its length, two for an
+// identifier at QoS 1 and 2, and the payload.
 fn body_len(publication: &Publication) -> usize
     ensures { result ≡ min (2 + length publication.now.topic
         + (if is_answered publication.now.qos then 2 else 0) + length publication.now.payload) usize.MAX }

@@ -11,7 +11,7 @@ use client_base::{ClientError, KeptPublication};
 use packet::{ClientId, Connect, Delivery, Packet, PacketId, Publish, QoS, encode};
 use std::alloc::AllocError;
 
-// Writes a packet behind what is written. It is not over the size limit, which its makers see to.
+// Appends a packet to what is written. The callers ensure that it is not over the size limit.
 pub(crate) fn write(packet: &Packet, out: &mut Vec<u8>) -> Result<(), ClientError>
     requires { IsListed packet.now }
     ensures ok { OnOk result (AppendsSpelling out.old.items out.new.items packet.now) }
@@ -43,7 +43,7 @@ pub(crate) fn write_connect(
     write(&connect, out)
 }
 
-// QoS, DUP and identifier of a PUBLISH.
+// Returns the QoS, DUP and identifier of a PUBLISH.
 fn delivery(qos: QoS, dup: bool, id: PacketId) -> Delivery
     ensures { result ≡ delivery_at qos dup id }
 {
@@ -54,7 +54,7 @@ fn delivery(qos: QoS, dup: bool, id: PacketId) -> Delivery
     }
 }
 
-// The PUBLISH of a kept publication.
+// Returns the PUBLISH of a kept publication.
 pub(crate) fn publish_again(kept: &KeptPublication, dup: bool) -> Result<Packet, AllocError>
     ensures { IfOk result (λ packet. packet ≡ publish_kept dup kept.now) }
 {

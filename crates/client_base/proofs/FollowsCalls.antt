@@ -1,4 +1,4 @@
--- FollowsCalls.antt: publishing makes the same of a client and of the one with its history.
+-- FollowsCalls.antt: publishing makes the same for a client and of the one with its history.
 use Rattle.std.proofs.Common.{◌≡◌, ℕ, Bool, true, false, if◌then◌else◌, List, [], ◌∷◌, ◌++◌, None, refl, ap, ap₂, sym, ◌∙◌, append-nil}
 use Rattle.std.proofs.lemmas.Bool.{both_ways}
 use Rattle.session_base.specs.lists.Lists.{has_id}
@@ -29,7 +29,7 @@ first_behind (Own.Sent k p id ∷ own) o none alone first = first_behind own o n
 first_behind (Own.Released k p id ∷ own) o none alone first = first_behind own o none alone first
 first_behind (Own.Done k p ∷ own) o none alone first = first_behind own o none alone first
 
--- one that was sent, where all were
+-- one that was sent, if all were
 first_sent : (own : List Own) (k : ℕ) (p : Publication) (id : ℕ) → unsent_of own ≡ [] → IsSentFirst (own ++ Own.Sent k p id ∷ [])
 first_sent [] k p id none = tt
 first_sent (Own.Unsent n q i ∷ own) k p id none = absurd (both_ways false refl (ap is_none none))

@@ -1,4 +1,4 @@
--- FollowsConnack.antt: CONNACK 0 makes the same of a client and of the one with its history.
+-- FollowsConnack.antt: CONNACK 0 makes the same for a client and of the one with its history.
 use Rattle.std.proofs.Common.{◌≡◌, ℕ, ◌+◌, ◌-◌, ◌^◌, min, Bool, true, false, not, ◌&&◌, ◌==◌, nat_lt, if◌then◌else◌, List, [], ◌∷◌, ◌++◌, map, Option, Some, None, refl, ap, ap₂, sym, ◌∙◌, arith}
 use Rattle.std.proofs.lemmas.Bool.{both_ways}
 use Rattle.session_base.specs.lists.Lists.{has_id}
@@ -32,7 +32,7 @@ goes_on n = grind arith
 counted : (n : ℕ) → nat_lt 0 (if n == 0 then 1 else n) ≡ true
 counted n = grind arith
 
--- what goes out again
+-- what is sent again
 resent_same : (keeper : Keeper) (state : ClientState) → StandsFor keeper state → packets_in (history.resent keeper) ≡ resent state
 resent_same keeper state s =
     joined_packets (map (λ id. plain (packets.Pubrel id)) keeper.releases ++ sent_again keeper.own) (sent_first keeper.own)

@@ -1,4 +1,5 @@
--- FollowsHandled.antt: a packet of the server makes the same of a client and of the one with its history.
+-- FollowsHandled.antt: a packet of the server makes the same for a client and of the one with its
+-- history.
 use Rattle.std.proofs.Common.{◌≡◌, ℕ, suc, Bool, true, false, if◌then◌else◌, List, filter, refl, ap, sym, subst}
 use Rattle.std.proofs.lemmas.Bool.{both_ways}
 use Rattle.session_base.specs.packet.declared.connack.Connack.TheVariants as connacks

@@ -1,4 +1,5 @@
--- FollowsPackets.antt: what a packet of an accepted connection makes of a client is what it makes of the one with its history.
+-- FollowsPackets.antt: what a packet of an accepted connection does to a client is what it does to
+-- the one with its history.
 use Rattle.std.proofs.Common.{◌≡◌, ℕ, Bool, true, false, not, ◌&&◌, ◌||◌, ◌==◌, if◌then◌else◌, List, [], ◌∷◌, ◌++◌, map, filter, None, refl, ap, sym, ◌∙◌, append-nil}
 use Rattle.std.proofs.lemmas.Bool.{both_ways}
 use Rattle.session_base.specs.lists.Lists.{has_id}
@@ -20,7 +21,7 @@ use Rattle.client_base.specs.History.{StandsFor, WritesMore, IsSentFirst}
 use Rattle.client_base.proofs.Readings.{puback_sent, puback_unsent, puback_released}
 use Rattle.client_base.proofs.Released.{has_without}
 
--- what follows: the state stands for the client, and the same is written
+-- what follows: the state corresponds to the client, and the same is written
 pub record Same (before after : Side ℕ) (turn : Turn) : Type 0 where
   pub stands : StandsFor after.keeper turn.state
   pub writes : WritesMore before.connection after.connection turn.writes

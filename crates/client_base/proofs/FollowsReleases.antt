@@ -1,4 +1,5 @@
--- FollowsReleases.antt: PUBREC, PUBCOMP and CONNACK 0 make the same of a client and of the one with its history.
+-- FollowsReleases.antt: PUBREC, PUBCOMP and CONNACK 0 make the same for a client and of the one
+-- with its history.
 use Rattle.std.proofs.Common.{◌≡◌, ℕ, Bool, true, false, not, ◌&&◌, ◌||◌, ◌==◌, if◌then◌else◌, List, [], ◌∷◌, ◌++◌, map, filter, None, refl, ap, ap₂, sym, ◌∙◌}
 use Rattle.std.proofs.lemmas.Bool.{both_ways}
 use Rattle.std.specs.List.{list_any}

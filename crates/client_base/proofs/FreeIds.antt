@@ -32,7 +32,7 @@ same_least ids others law same =
     least_at others (least_free ids) law (law ids).0 (sym (same (least_free ids)) ∙ (law ids).2)
     (λ j positive small. sym (same j) ∙ (law ids).3 j positive small)
 
--- ---- all that was published, by where it stands
+-- ---- all that was published, by its place
 
 own_parts : (j : ℕ) (own : List Own) →
     has_id j (ids_of_own own) ≡ ((has_id j (released_of own) || has_id j (ids_of_kept (sent_of own))) || has_id j (ids_of_kept (unsent_of own)))
@@ -58,7 +58,7 @@ own_parts j (Own.Released k p id ∷ own) = ap (λ b. (j == id) || b) (own_parts
     front false = refl
 own_parts j (Own.Done k p ∷ own) = own_parts j own
 
--- a state uses the identifiers of the client that it stands for
+-- a state uses the identifiers of the client that it corresponds to
 used_same : (keeper : Keeper) (state : ClientState) → StandsFor keeper state → (j : ℕ) → has_id j (used_ids state) ≡ has_id j (ids_in_use keeper)
 used_same keeper state stands j =
     has_append j ((state.released ++ ids_of_kept state.sent) ++ ids_of_kept state.unsent) (map id_of_request state.requests)

@@ -1,4 +1,5 @@
--- IdentifiersOfRuns.antt: in no run of calls is an identifier under way twice, and none is a publication's and a request's.
+-- IdentifiersOfRuns.antt: in no run of calls is an identifier in flight twice, and none is a
+-- publication's and a request's.
 use Rattle.std.proofs.Common.{◌≡◌, ℕ, ◌+◌, Bool, true, false, if◌then◌else◌, List, [], ◌∷◌, ◌++◌, filter, refl, arith}
 use Rattle.session_base.proofs.of_lists.Identifiers.{distinct_apart}
 use Rattle.session_base.specs.packet.declared.connack.Connack.TheVariants as connacks

@@ -27,11 +27,11 @@ use Rattle.client_base.proofs.IdentifiersApart.{often, fewer_kept, fewer_request
 abbrev pub AreOnce : ClientState → Type 0
 AreOnce state = (i : ℕ) → tally i state ≤ 1
 
--- where none is used more often than before
+-- if none is used more often than before
 pub fewer : (old new : ClientState) → ((i : ℕ) → tally i new ≤ tally i old) → AreOnce old → AreOnce new
 fewer old new less few i = let a = less i in let b = few i in omega (arith, a, b)
 
--- where one is used that was free
+-- if one is used that was free
 one_more : (old new : ClientState) (x : ℕ) → tally x old ≡ 0 → ((i : ℕ) → tally i new ≤ tally i old + one_if (i == x)) → AreOnce old → AreOnce new
 one_more old new x free more few i = by (i == x) refl (more i) (few i)
   where
@@ -101,7 +101,7 @@ publish_once p deliveries.AtMostOnce state few = few
 publish_once p (deliveries.AtLeastOnce dup id) state few = few
 publish_once p (deliveries.ExactlyOnce dup id) state few = either_state (has_id id state.received) state _ few few
 
--- the released one comes last in place of where it was
+-- the released one is moved from its place to the end
 pubrec_once : (id : ℕ) (state : ClientState) → AreOnce state → AreOnce (on_later (packets.Pubrec id) state).state
 pubrec_once id state few = by (list_any (awaits_pubrec id) state.sent) refl
   where

@@ -15,7 +15,7 @@ use Rattle.client_base.specs.Called.{adds_own, keeper_goes}
 use Rattle.client_base.specs.OrderLaws.{AreNumbered, number_in, NumbersStay}
 use Rattle.client_base.proofs.PublishingOrder.{changed, puback_same, pubrec_same, pubcomp_same, all_numbered, one_more}
 
--- the earlier ones from 0 on, and the others behind them
+-- the earlier ones from 0 on, and the others after them
 abbrev pub AreAllNumbered : Keeper → Type 0
 AreAllNumbered keeper = AreNumbered 0 keeper.earlier × AreNumbered (length keeper.earlier) keeper.own
 

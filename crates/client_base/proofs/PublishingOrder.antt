@@ -1,4 +1,4 @@
--- PublishingOrder.antt: publications keep their numbers, and go out in the order of these.
+-- PublishingOrder.antt: publications keep their numbers, and are sent in the order of these.
 use Rattle.std.proofs.Common.{◌≡◌, ℕ, ◌+◌, suc, Bool, true, false, not, ◌&&◌, ◌==◌, if◌then◌else◌, List, [], ◌∷◌, ◌++◌, map, length, refl, ap, sym, ◌∙◌, subst, arith}
 use Rattle.std.proofs.lemmas.Bool.{both_ways}
 use Rattle.session_base.specs.Publication.{is_acknowledged}
@@ -9,7 +9,7 @@ use Rattle.client_base.specs.Handled.{at_puback, at_pubrec, at_pubcomp}
 use Rattle.client_base.specs.History.{IsSentFirst, sent_of}
 use Rattle.client_base.specs.OrderLaws.{AreNumbered, number_in, numbers_of, RisesFrom, GoesOutInOrder}
 
--- ---- what goes out, in order
+-- ---- what is sent, in order
 
 none_again : (own : List Own) → sent_of own ≡ [] → sent_again own ≡ []
 none_again [] none = refl

@@ -1,4 +1,5 @@
--- Readings.antt: what an answer of the server makes of all that was published, it makes of what is kept of it.
+-- Readings.antt: what an answer of the server does to all that was published, it does to what is
+-- kept of it.
 use Rattle.std.proofs.Common.{◌≡◌, ℕ, Bool, true, false, not, ◌&&◌, ◌||◌, ◌==◌, if◌then◌else◌, List, [], ◌∷◌, map, filter, refl, ap}
 use Rattle.std.specs.List.{list_any}
 use Rattle.session_base.specs.Publication.{is_acknowledged}

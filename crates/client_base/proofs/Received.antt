@@ -38,7 +38,7 @@ kept_last id (other ∷ ids) = ap (λ b. (id == other) || b) (kept_last id ids) 
 pub has_more : (id : ℕ) (ids more : List ℕ) → has_id id ids ≡ true → has_id id (ids ++ more) ≡ true
 has_more id ids more e = list_any-append (λ other. id == other) ids more ∙ ap (λ b. b || has_id id more) e
 
--- what is left out is this one alone
+-- only this one is left out
 pub has_others : (id other : ℕ) (ids : List ℕ) → (other == id) ≡ false → has_id id (without_id other ids) ≡ has_id id ids
 has_others id other [] e = refl
 has_others id other (first ∷ ids) e = by (other == first) refl (has_others id other ids e)
@@ -51,7 +51,7 @@ has_others id other (first ∷ ids) e = by (other == first) refl (has_others id 
     by true h ih = ih ∙ sym (ap (λ b. b || has_id id ids) (differs h))
     by false h ih = ap (λ b. (id == first) || b) ih
 
--- ---- what a PUBLISH makes of it
+-- ---- what a PUBLISH does to it
 
 pub accepts_unless_kept : AcceptsUnlessKept
 accepts_unless_kept p dup id state = by (has_id id state.received) refl

@@ -22,7 +22,7 @@ has_without j i (x ∷ xs) = by (i == x) refl (has_without j i xs)
     differs : (i == x) ≡ false → (j == x) ≡ true → (i == j) ≡ false
     differs h g = grind arith
 
-    -- where it is another, it counts as before
+    -- if it is another, it counts as before
     other : (b c : Bool) → (b ≡ true → c ≡ false) → (b || (not c && has_id j xs)) ≡ (not c && (b || has_id j xs))
     other true c f = ap (λ x. not x && true) (sym (f refl))
     other false c f = refl

@@ -1,4 +1,5 @@
--- SentAll.antt: behind a CONNACK 0 all is sent, in the order in which it was published; and one more is published.
+-- SentAll.antt: after a CONNACK 0 all is sent, in the order in which it was published; and one more
+-- is published.
 use Rattle.std.proofs.Common.{◌≡◌, true, false, List, [], ◌∷◌, ◌++◌, map, refl, ap, sym, ◌∙◌}
 use Rattle.session_base.specs.packet.declared.packet.Packet.{Packet}
 use Rattle.client_base.specs.declared.kept_publication.KeptPublication.{KeptPublication}
@@ -40,7 +41,7 @@ all_sent (Own.Sent k p id ∷ own) first = ap (λ (l : List KeptPublication). re
 all_sent (Own.Released k p id ∷ own) first = all_sent own first
 all_sent (Own.Done k p ∷ own) first = all_sent own first
 
--- ---- what goes out
+-- ---- what is sent
 
 abbrev pub packets_in : List Written → List Packet
 packets_in = map (λ written. written.packet)

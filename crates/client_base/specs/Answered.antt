@@ -1,4 +1,4 @@
--- What a packet of the server makes of a client, and which packets answer it (MQTT 3.2, 4.3, 4.4).
+-- What a packet of the server does to a client, and which packets answer it (MQTT 3.2, 4.3, 4.4).
 use Rattle.std.specs.Prelude.{ℕ, Bool, false, not, ◌&&◌, ◌==◌, if◌then◌else◌, List, [], ◌∷◌, ◌++◌, filter, Option, Some, None}
 use Rattle.std.specs.List.{list_any}
 use Rattle.session_base.specs.packet.declared.delivery.Delivery.{Delivery}
@@ -17,7 +17,7 @@ use Rattle.client_base.specs.declared.request.Request.TheVariants as requests
 use Rattle.client_base.specs.State.{ClientState, lost}
 use Rattle.session_base.specs.Identifiers.{without_id}
 
--- what a step leaves, the packets that it writes, and why it is refused, where it is
+-- the state after a step, the packets that it writes, and why it is refused, if it is
 pub record Turn : Type 0 where
   pub state : ClientState
   pub writes : List Packet
@@ -48,7 +48,8 @@ accepted_of session p =
 abbrev pub accepting : Publish → ClientState → ClientState
 accepting p state = record state { accepted = state.accepted ++ accepted_of state.session p ∷ [] }
 
--- QoS 0 and 1 are accepted each time, QoS 2 once while its identifier is kept (MQTT 4.3)
+-- a publication at QoS 0 or 1 is accepted each time, one at QoS 2 once while its identifier is kept
+-- (MQTT 4.3)
 abbrev pub on_publish : Publish → Delivery → ClientState → Turn
 on_publish p deliveries.AtMostOnce state = going_on (accepting p state) []
 on_publish p (deliveries.AtLeastOnce dup id) state =
@@ -59,7 +60,7 @@ on_publish p (deliveries.ExactlyOnce dup id) state =
     else record (accepting p state) { received = state.received ++ id ∷ [] })
     (packets.Pubrec id ∷ [])
 
--- PUBREL: the identifier is kept no longer, and PUBCOMP answers in any case (MQTT 4.3.3)
+-- PUBREL: the identifier is no longer kept, and PUBCOMP answers in any case (MQTT 4.3.3)
 abbrev pub on_pubrel : ℕ → ClientState → Turn
 on_pubrel id state =
     going_on (record state { received = without_id id state.received }) (packets.Pubcomp id ∷ [])
@@ -77,7 +78,7 @@ abbrev pub on_puback : ℕ → ClientState → Turn
 on_puback id state =
     going_on (record state { sent = filter (λ kept. not (awaits_puback id kept)) state.sent }) []
 
--- PUBREC releases a QoS 2 publication that was sent; for a released one PUBREL goes out again (MQTT
+-- PUBREC releases a QoS 2 publication that was sent; for a released one PUBREL is sent again (MQTT
 -- 4.3.3)
 abbrev pub on_pubrec : ℕ → ClientState → Turn
 on_pubrec id state =

@@ -1,4 +1,4 @@
--- What a call makes of a client with its history (MQTT 3.1, 3.3, 3.8, 3.10, 3.14).
+-- What a call does to a client with its history (MQTT 3.1, 3.3, 3.8, 3.10, 3.14).
 use Rattle.std.specs.Prelude.{ℕ, true, false, if◌then◌else◌, List, [], ◌∷◌, ◌++◌}
 use Rattle.session_base.specs.packet.declared.qos.QoS.{QoS}
 use Rattle.session_base.specs.packet.declared.packet.Packet.{Packet}
@@ -20,7 +20,7 @@ abbrev pub connects : ℕ → List ℕ → Written
 connects keep_alive c =
     plain (packets.Connect (record { client = c; clean = false; keep_alive = keep_alive }))
 
--- with keep alive 0, as the clients of the headline have it
+-- with keep alive 0, as the clients of the headline theorem have it
 abbrev pub opens : List ℕ → Written
 opens = connects 0
 

@@ -1,4 +1,4 @@
--- What each call, and each packet of the server, makes of a client (MQTT 3, 4.3, 4.4).
+-- What each call, and each packet from the server, does to a client (MQTT 3, 4.3, 4.4).
 use Rattle.std.specs.Prelude.{ℕ, ◌+◌, ◌-◌, ◌^◌, Bool, false, not, ◌&&◌, ◌==◌, min, nat_lt, if◌then◌else◌, [], ◌∷◌, ◌++◌, length, Option, Some, None}
 use Rattle.session_base.specs.packet.declared.connack.Connack.TheVariants as connacks
 use Rattle.session_base.specs.packet.declared.packet.Packet.{Packet}
@@ -32,7 +32,7 @@ opened state =
 abbrev pub loses_session : Bool → ClientState → Bool
 loses_session present state = not present && nat_lt 0 state.session
 
--- what was kept is given up, and the next session begins; its number stays below 2^64
+-- what was kept is dropped, and the next session begins; its number stays below 2^64
 abbrev pub discarded : ClientState → ClientState
 discarded state =
     record state {
@@ -47,7 +47,7 @@ discarded state =
 abbrev pub numbered : ClientState → ClientState
 numbered state = record state { session = if state.session == 0 then 1 else state.session }
 
--- CONNACK 0: what is kept goes out, then what was not sent yet (MQTT 3.2.2, 4.4)
+-- CONNACK 0: what is in flight is sent again, then what was not sent yet (MQTT 3.2.2, 4.4)
 abbrev pub confirmed : Bool → ClientState → Turn
 confirmed present state =
     let lacking = loses_session present state in
@@ -108,8 +108,8 @@ publish_packet p state = packets.Publish (publish_of false (next_id state) p)
 abbrev pub is_over_limit : Packet → Bool
 is_over_limit packet = nat_lt longest_body (length (body packet))
 
--- why a publication is refused: at QoS 1 and 2 for want of room, at QoS 0 while it is offline, or
--- as too large
+-- why a publication is refused: at QoS 1 and 2 if the window is full, at QoS 0 while the client is
+-- offline, or as too large
 abbrev pub publish_refusal : Publication → ClientState → Option ClientError
 publish_refusal p state =
     if is_answered p.qos && not (nat_lt (kept_count state) window && has_free_id state)
@@ -117,7 +117,7 @@ publish_refusal p state =
     if not (is_answered p.qos) && not (is_online state.stage) then Some errors.NotActive else
     if is_over_limit (publish_packet p state) then Some errors.TooLarge else None
 
--- it is kept at QoS 1 and 2, and sent at once where the client is online (MQTT 4.3)
+-- a publication at QoS 1 or 2 is kept; each is sent at once if the client is online (MQTT 4.3)
 abbrev pub published : Publication → ClientState → Turn
 published p state =
     let kept : KeptPublication = record { id = next_id state; publication = p } in

@@ -1,4 +1,4 @@
--- What a packet of the server makes of a client with its history (MQTT 3.2, 4.3, 4.4).
+-- What a packet of the server does to a client with its history (MQTT 3.2, 4.3, 4.4).
 use Rattle.std.specs.Prelude.{ℕ, suc, Bool, true, false, not, ◌&&◌, ◌||◌, ◌==◌, if◌then◌else◌, List, [], ◌∷◌, ◌++◌, map, filter}
 use Rattle.session_base.specs.packet.declared.connack.Connack.TheVariants as connacks
 use Rattle.session_base.specs.packet.declared.delivery.Delivery.{Delivery}
@@ -69,7 +69,7 @@ abbrev pub discarded : Keeper → Keeper
 discarded keeper =
     record keeper { earlier = all_own keeper; own = []; releases = []; received = [] }
 
--- a session that is gone takes what was kept with it
+-- what was kept is lost with its session
 abbrev pub confirmed : {Name : Type 0} → Bool → Side Name → Side Name
 confirmed present side =
     let kept =

@@ -1,4 +1,4 @@
--- The client that keeps no history stands for the one with it.
+-- When the client that keeps no history corresponds to the one with it.
 use Rattle.std.specs.Prelude.{◌≡◌, ℕ, true, nat_lt, List, [], ◌∷◌, ◌++◌, map}
 use Rattle.session_base.specs.packet.declared.packet.Packet.{Packet}
 use Rattle.session_base.specs.lists.Lists.{has_id}
@@ -23,13 +23,13 @@ released_of (Own.Released k p id ∷ own) = id ∷ released_of own
 released_of (_ ∷ own) = released_of own
 released_of [] = []
 
--- behind one that was not sent, none was
+-- after one that was not sent, none was
 abbrev pub IsSentFirst : List Own → Type 0
 IsSentFirst (Own.Unsent k p id ∷ own) = (sent_of own ≡ []) × IsSentFirst own
 IsSentFirst (_ ∷ own) = IsSentFirst own
 IsSentFirst [] = Unit {0}
 
--- ---- what stands for what
+-- ---- what corresponds to what
 
 pub record StandsFor (keeper : Keeper) (state : ClientState) : Type 0 where
   pub client : state.client ≡ keeper.client

@@ -4,7 +4,7 @@ use Rattle.session_base.specs.lists.Lists.{has_id, IsDistinct}
 use Rattle.client_base.specs.State.{new_client, publication_ids, request_ids, used_ids}
 use Rattle.client_base.specs.Steps.{Call, state_after}
 
--- whatever the client is asked for and the server sends, no identifier is under way twice
+-- whatever the client is asked for and the server sends, no identifier is in flight twice
 abbrev pub IdentifiersAreDistinct : Type 0
 IdentifiersAreDistinct =
     (calls : List Call) (client : List ℕ) (keep_alive : ℕ) →

@@ -6,22 +6,22 @@ use Rattle.session_base.specs.declared.publication.Publication.{Publication}
 use Rattle.client_base.specs.declared.request.Request.{Request}
 use Rattle.client_base.specs.State.{id_of_request}
 
--- A publication of the client, with the number of its call and where it stands. One of QoS 0 is
--- done at once.
+-- A publication of the client, with the number of its call and its state. One at QoS 0 is done at
+-- once.
 pub data Own : Type 0 where
   Unsent : (number : ℕ) → (publication : Publication) → (id : ℕ) → Own
   Sent : (number : ℕ) → (publication : Publication) → (id : ℕ) → Own
   Released : (number : ℕ) → (publication : Publication) → (id : ℕ) → Own
   Done : (number : ℕ) → (publication : Publication) → Own
 
--- A packet that it wrote, and of which publication it is -- history: bytes do not say it.
+-- A packet that it wrote, and which publication it belongs to. History: the bytes do not say it.
 pub record Written : Type 0 where
   pub packet : Packet
   pub number : Option ℕ
 
--- A connection that it opened: what it wrote on it, how much of that stands in the server's list of
--- commands, how many packets it handled there, and what it accepted at QoS 2
--- history: no field keeps it.
+-- A connection that it opened: what it wrote on it, how much of that is in the server's list of
+-- commands, how many packets it handled there, and what it accepted at QoS 2. History: no field
+-- keeps it.
 pub record Connection (Name : Type 0) : Type 0 where
   pub name : Name
   pub written : List Written
@@ -30,21 +30,19 @@ pub record Connection (Name : Type 0) : Type 0 where
   pub confirmed : Bool
   pub accepted : List Publication
 
--- The client: of its publications all, and of the rest what it keeps.
+-- The client: all its publications, and of the rest what it keeps.
 pub record Keeper : Type 0 where
   pub client : List ℕ
-  -- all that it published in sessions that it lost, in order
-  -- history: no field keeps it
+  -- all that it published in sessions that it lost, in order; history: no field keeps it
   pub earlier : List Own
-  -- and in the session that it knows
-  -- history: the done ones
+  -- and in the session that it knows; history: the done ones
   pub own : List Own
   pub releases : List ℕ  -- identifiers of the released ones, in the order of their PUBREC
   pub requests : List Request
   pub received : List ℕ  -- of QoS 2 publications that it accepted and has no PUBREL for
   pub is_open : Bool
-  pub is_online : Bool  -- a CONNACK 0 came on the open connection
-  pub was_served : Bool  -- one came before
+  pub is_online : Bool  -- whether a CONNACK 0 came on the open connection
+  pub was_served : Bool  -- whether a CONNACK 0 came before
 
 abbrev pub new_keeper : List ℕ → Keeper
 new_keeper c =

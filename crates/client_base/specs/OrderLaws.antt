@@ -1,4 +1,4 @@
--- What is kept goes out in the order in which it was published (MQTT 4.6).
+-- What is kept is sent in the order in which it was published (MQTT 4.6).
 use Rattle.std.specs.Prelude.{◌≡◌, ℕ, ◌<◌, suc, List, [], ◌∷◌, ◌++◌, Option, Some, None}
 use Rattle.client_base.specs.Keeper.{Own, Written, Side, all_own}
 use Rattle.client_base.specs.Written.{sent_again, sent_first}
@@ -17,7 +17,7 @@ abbrev pub AreNumbered : ℕ → List Own → Type 0
 AreNumbered n (o ∷ own) = (number_in o ≡ n) × AreNumbered (suc n) own
 AreNumbered n [] = Unit {0}
 
--- the publications of which these packets are
+-- the publications that these packets belong to
 abbrev pub numbers_of : List Written → List ℕ
 numbers_of (w ∷ more) = with_number w.number (numbers_of more)
   where
@@ -31,15 +31,15 @@ abbrev pub RisesFrom : ℕ → List ℕ → Type 0
 RisesFrom n (k ∷ ks) = (n < suc k) × RisesFrom (suc k) ks
 RisesFrom n [] = Unit {0}
 
--- numbers stay with their places, whatever is called or comes, and go on over sessions
+-- numbers stay with their places, whatever is called or comes, and continue over sessions
 abbrev pub NumbersStay : Type 0
 NumbersStay =
     (call : Call) (fresh : ℕ) (side : Side ℕ) →
     AreNumbered 0 (all_own side.keeper)
     → AreNumbered 0 (all_own (keeper_goes fresh call side).keeper)
 
--- what a CONNACK 0 makes go out of it, again or for the first time, goes out in the order of the
--- calls
+-- what a CONNACK 0 makes the client send of it, again or for the first time, it sends in the order
+-- of the calls
 abbrev pub GoesOutInOrder : Type 0
 GoesOutInOrder =
     (n : ℕ) (own : List Own) → AreNumbered n own → IsSentFirst own

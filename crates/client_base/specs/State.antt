@@ -73,17 +73,17 @@ publication_ids state = state.released ++ ids_of_kept state.sent ++ ids_of_kept 
 abbrev pub request_ids : ClientState → List ℕ
 request_ids state = map id_of_request state.requests
 
--- all that it uses: publications and requests draw from one pool
+-- all that it uses: publications and requests use one pool
 abbrev pub used_ids : ClientState → List ℕ
 used_ids state = publication_ids state ++ request_ids state
 
--- ---- what is kept goes out again (MQTT 4.4)
+-- ---- what is kept is sent again (MQTT 4.4)
 
 -- the PUBLISH of a kept publication, with this DUP
 abbrev pub publish_kept : Bool → KeptPublication → Packet
 publish_kept dup kept = packets.Publish (publish_of dup kept.id kept.publication)
 
--- behind a CONNACK 0: PUBREL for what is released, PUBLISH with DUP 1 for what was sent, then what
+-- after a CONNACK 0: PUBREL for what is released, PUBLISH with DUP 1 for what was sent, then what
 -- was not
 abbrev pub resent : ClientState → List Packet
 resent state =
@@ -93,6 +93,6 @@ resent state =
 
 -- ---- the end of a connection
 
--- it ends: requests are given up, all else stays
+-- it ends: requests are dropped, all else stays
 abbrev pub lost : ClientState → ClientState
 lost state = record state { requests = []; stage = stages.Closed }

@@ -22,7 +22,7 @@ request_refusal state =
     if not (is_online state.stage) then Some errors.NotActive else
     if not (has_free_id state) then Some errors.WindowFull else None
 
--- it is under way until its answer comes
+-- it is in flight until its answer comes
 abbrev pub asked : Request → Packet → ClientState → Turn
 asked request packet state =
     going_on (record state { requests = state.requests ++ request ∷ [] }) (packet ∷ [])
@@ -40,7 +40,7 @@ unsubscribed filter state =
 
 -- ---- the end of a connection
 
--- DISCONNECT goes out where the client is online (MQTT 3.14)
+-- DISCONNECT is written if the client is online (MQTT 3.14)
 abbrev pub disconnected : Stage → ClientState → Turn
 disconnected stages.Closed state = refused errors.NotActive state
 disconnected stages.Opened state = going_on (lost state) []

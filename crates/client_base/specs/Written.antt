@@ -1,4 +1,5 @@
--- What a client with its history writes, and of which publication each packet is (MQTT 3.3, 4.4).
+-- What a client with its history writes, and which publication each packet belongs to (MQTT 3.3,
+-- 4.4).
 use Rattle.std.specs.Prelude.{ℕ, Bool, true, false, List, [], ◌∷◌, ◌++◌, map, Some, None}
 use Rattle.session_base.specs.packet.declared.packet.Packet.{Packet}
 use Rattle.session_base.specs.packet.declared.packet.Packet.TheVariants as packets
@@ -23,7 +24,7 @@ sent_first (Own.Unsent k p id ∷ own) = publishes false k id p ∷ sent_first o
 sent_first (_ ∷ own) = sent_first own
 sent_first [] = []
 
--- behind a CONNACK 0: PUBREL for what is released, then PUBLISH with DUP 1 for what was sent, then
+-- after a CONNACK 0: PUBREL for what is released, then PUBLISH with DUP 1 for what was sent, then
 -- what was not
 abbrev pub resent : Keeper → List Written
 resent keeper =

@@ -1,12 +1,12 @@
-// A publication that a client took in.
+// A publication that a client accepted.
 
 use session_base::packet::{Payload, QoS};
 use session_base::topics::TopicName;
 
-/// A publication that a client took in (MQTT 4.3), with the number of the session in which it did.
+/// A publication that a client accepted (MQTT 4.3), with the number of the session in which it did.
 #[derive(Clone, Debug, PartialEq, Eq, Drop)]
 pub struct Accepted {
-    /// The number of the session: 1 from the first accepted connection on, and one more behind each
+    /// The number of the session: 1 from the first accepted connection on, and one more after each
     /// session that was lost.
     pub session: u64,
     /// The QoS at which it was delivered.

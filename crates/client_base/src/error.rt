@@ -17,19 +17,19 @@ pub enum ClientError {
     WindowFull,
     /// The packet would be over the size limit.
     TooLarge,
-    /// The server has no session of a client that had one: what was kept is given up, and the
-    /// connection goes on.
+    /// The server has no session of a client that had one: what was kept is dropped, and the
+    /// connection continues.
     SessionLost,
-    /// The server sent a packet that may not come there.
+    /// The server sent a packet that is not allowed there.
     Protocol,
-    /// The server's bytes are no packet; never want of memory.
+    /// The server's bytes are no packet. The kind is never that memory ran out.
     Malformed(MalformedKind),
-    /// No memory was found.
+    /// Memory ran out.
     Memory,
 }
 
 impl ClientError {
-    /// The number of this refusal, the same in every program and document of this broker.
+    /// Returns the number of this refusal, the same in every program and document of this broker.
     pub fn number(self) -> u8
         ensures { result ≡ client_number self }
     {

@@ -14,15 +14,15 @@ pub fn accepted_once_an_identifier()
     ensures stays { StaysKept }
 {}
 
-/// A client that keeps no history goes the way of the one with it, call by call and packet by
-/// packet: what it keeps is what the history says is kept, in its order, and it writes the same.
+/// A client that keeps no history does the same as the one with it, call by call and packet by
+/// packet: what it keeps is what the history says is kept, in order, and it writes the same.
 pub fn history_is_followed()
     ensures { CallsFollow }
 {
     fill_takes_what_waits();
 }
 
-/// Whatever a client is asked for and the server sends, no identifier is under way twice, and none
+/// Whatever a client is asked for and the server sends, no identifier is in flight twice, and none
 /// is a publication's and a request's at once (MQTT 2.3.1).
 pub fn identifiers_are_distinct()
     ensures distinct { IdentifiersAreDistinct }
@@ -31,8 +31,8 @@ pub fn identifiers_are_distinct()
     fill_takes_what_waits();
 }
 
-/// Publications keep the numbers of their calls, and behind each CONNACK 0 those that were not
-/// released go out in this order (MQTT 4.4, 4.6).
+/// Publications keep the numbers of their calls, and after each CONNACK 0 those that were not
+/// released are sent in this order (MQTT 4.4, 4.6).
 pub fn publishing_order_is_kept()
     ensures stay { NumbersStay }
     ensures order { GoesOutInOrder }

@@ -1,4 +1,5 @@
-//! Clients on worked rows: calls and bytes of servers in, bytes out, as MQTT 3.1.1 spells them. Tests alone stand here.
+//! Clients tested by tables of examples: calls and bytes of servers in, bytes out, as MQTT 3.1.1
+//! spells them. It has only tests.
 #![tactic(auto)]
 
 #[cfg(test)]

@@ -1,4 +1,4 @@
-// Clients: one as a state that bytes come to, and two that run over servers in memory.
+// Clients: one as a state that takes bytes, and two that run over servers in memory.
 
 mod connections;
 mod handshakes;

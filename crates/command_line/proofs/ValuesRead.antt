@@ -1,4 +1,5 @@
--- ValuesRead.antt: the subcommand that a parse met has a name and rows, and a number that was read stands in its text.
+-- ValuesRead.antt: the subcommand that a parse met has a name and rows, and a number that was read
+-- is in its text.
 use Rattle.std.proofs.Common.{◌≡◌, ℕ, List, true≢false, Option, Some, None, Result, Ok, Err, OnOk, option_map, is_some, ap, sym, ◌∙◌, refl, subst}
 use Rattle.std.proofs.lemmas.Bool.{false≢true}
 use Rattle.std.proofs.lemmas.Option.{same_Some}
@@ -25,7 +26,7 @@ number_read gives id rows (Some t) r n parses one none value is = record {
   said = parses t (Ok n) (subst (λ x. ReadsOne gives t x) is (value t refl));
 }
 
--- where none was read, the text says none
+-- if none was read, the text says none
 pub no_number_read : {E : Type 0} (gives : Text → Result ℕ E → Type 0) (id : Text) (rows : List Row) (o : Option Text) (r : Option ℕ) (n : ℕ)
     → ((t : Text) (x : Result ℕ E) → gives t x → ParsesUnsigned 32 10 t x) → o ≡ one_of id rows
     → ((t : Text) → o ≡ Some t → ReadsOne gives t r) → r ≡ None → HasNumber id rows n → ⊥
@@ -43,7 +44,7 @@ one_number id rows n m a b =
 pub none_is_none : {A : Type 0} (o : Option A) (a : A) → o ≡ None → o ≡ Some a → ⊥
 none_is_none o a none some = true≢false (ap is_some (sym some ∙ none))
 
--- what holds anyhow holds of a success
+-- what holds anyhow holds for a success
 pub on_ok : {T E P : Type 0} (r : Result T E) → P → OnOk r P
 on_ok (Ok x) p = p
 on_ok (Err e) p = tt

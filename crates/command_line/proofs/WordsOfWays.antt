@@ -12,11 +12,11 @@ pub word_read : (found : Found) (id : Text) (read is : Option (Bor (List ℕ))) 
 word_read found id read is value same =
     sym (first_value-rows found id) ∙ sym value ∙ ap (option_map (λ (s : Bor (List ℕ)). s.now)) same
 
--- a job of two words is one of the same words
+-- a job with two words is one with the same words
 pub same_words : (escape client x y : Option Text) (job : Option Escape) → escape ≡ x → client ≡ y → IsEscapeOf x y job → IsEscapeOf escape client job
 same_words escape client x y job first second is = rw (first, second) is
 
--- a client alone has no job
+-- a client without members has no job
 pub client_alone : (escape client : Option Text) (b : Text) (job : Option Escape) → escape ≡ None → client ≡ Some b → IsEscapeOf escape client job → ⊥
 client_alone escape client b job first second is = none job (same_words _ _ _ _ job (sym first) (sym second) is)
   where
@@ -24,7 +24,7 @@ client_alone escape client b job first second is = none job (same_words _ _ _ _ 
     none None is = is
     none (Some j) is = is
 
--- nor have members alone
+-- nor have members without a client
 pub members_alone : (escape client : Option Text) (a : Text) (job : Option Escape) → escape ≡ Some a → client ≡ None → IsEscapeOf escape client job → ⊥
 members_alone escape client a job first second is = none job (same_words _ _ _ _ job (sym first) (sym second) is)
   where

@@ -14,7 +14,7 @@ use Rattle.command_line.specs.declared.job.Escape.{Escape}
 use Rattle.command_line.specs.declared.fault.LineFault.{LineFault}
 use Rattle.command_line.specs.declared.fault.LineFault.TheVariants as faults
 
--- a decimal text of 32 bits; a plus may stand in front
+-- a decimal number of 32 bits as a text; a plus may come first
 abbrev pub IsNumber : Text → ℕ → Type 0
 IsNumber text n = (IsNumeral 10 (without_leading_plus text)
     × (digits_value 10 (without_leading_plus text) < 2 ^ 32))

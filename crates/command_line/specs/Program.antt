@@ -1,4 +1,4 @@
--- The program's command line: its subcommands and their arguments, as `clap` is told of them.
+-- The program's command line: its subcommands and their arguments, as they are declared to `clap`.
 use Rattle.std.specs.Prelude.{◌≡◌, ◌∷◌, [], ℕ, true, false, Some, codes, pos}
 use Rattle.clap.specs.Words.{App, Rule, Text, app_of, new_app, new_rule, rule_of}
 use Rattle.clap.specs.Words.{with_rule, with_subcommand}
@@ -8,7 +8,7 @@ use Rattle.clap.specs.declared.builder.command.Command.{Command}
 use Rattle.clap.specs.declared.builder.command.Command.TheViews.{out-Command}
 use Rattle.clap.specs.declared.builder.value_parser.ValueParser.TheVariants as parsers
 
--- `--name VALUE`, which has to be there
+-- `--name VALUE`, which is required
 abbrev pub required_option : Text → Rule
 required_option name =
     record (new_rule name) { long = Some name; required = true; value_names = 1 }
@@ -17,7 +17,7 @@ required_option name =
 abbrev pub free_option : Text → Rule
 free_option name = record (new_rule name) { long = Some name; value_names = 1 }
 
--- `--name N` with a number from `least` to `most`, which has to be there
+-- `--name N` with a number from `least` to `most`, which is required
 abbrev pub number_option : Text → ℕ → ℕ → Rule
 number_option name least most =
     record (required_option name) { parser = Some (parsers.Signed (pos least) (pos most)) }
@@ -31,7 +31,7 @@ qos_rule = number_option (codes "qos") 0 2
 abbrev pub count_rule : Rule
 count_rule = number_option (codes "count") 1 1000000
 
--- 10 where it is left out
+-- 10 if it is left out
 abbrev pub tries_rule : Rule
 tries_rule = record (number_option (codes "tries") 1 1000) {
   required = false;
@@ -84,7 +84,8 @@ play_app = with_rule
     (with_rule (with_rule (new_app (codes "play")) (free_option (codes "escape")))
     (free_option (codes "client"))) file_rule
 
--- the program without its subcommands: it has a version, wants a subcommand, and answers no words with the help
+-- the program without its subcommands: it has a version, requires a subcommand, and answers a
+-- command line without words by the help
 abbrev pub bare_program : App
 bare_program = record (new_app (codes "vbroker")) {
   top = record ((new_app (codes "vbroker")).top) {
@@ -106,6 +107,6 @@ program = with_subcommand
 abbrev pub IsArgument : Rule → Arg → Type 0
 IsArgument rule arg = (rule_of arg ≡ rule) × (arg.global ≡ false)
 
--- the command is read as this one, and no argument is taken by subcommands
+-- the command is read as this one, and its subcommands take no argument of it
 abbrev pub IsCommand : App → Command → Type 0
 IsCommand app command = (app_of command ≡ app) × ((out-Command command).has_globals ≡ false)

@@ -1,4 +1,4 @@
--- The table of nodes, and the TOML document that says it.
+-- The table of nodes, and its TOML document.
 use Rattle.std.specs.Prelude.{◌≡◌, ◌==◌, ◌&&◌, ℕ, Bool, true, not, List, [], ◌∷◌, map, nat_le, codes, pos, Some, string_bytes}
 use Rattle.std.specs.List.{list_all, list_any}
 use Rattle.toml.specs.Data.{Data, Members, array, integer, member, no_members, string, table}
@@ -11,7 +11,7 @@ use Rattle.command_line.specs.declared.node_table.NodeTable.{NodeTable}
 abbrev pub number : ℕ → Data
 number n = integer (pos n)
 
--- a list of values, each said by `says`
+-- a list of values, each written by `says`
 abbrev pub list_data : {X : Type 0} → (X → Data) → List X → Data
 list_data says xs = array (items_of (map says xs))
 
@@ -30,7 +30,7 @@ document_of t = member (codes "members") (list_data number t.config.members)
 abbrev pub has : List ListeningNode → ℕ → Bool
 has nodes id = list_any (λ (node : ListeningNode). node.id == id) nodes
 
--- each number is from 1 to 15, and none stands twice
+-- each number is from 1 to 15, and none occurs twice
 abbrev pub are_told_apart : List ListeningNode → Bool
 are_told_apart [] = true
 are_told_apart (node ∷ nodes) = (nat_le 1 node.id && nat_le node.id 15)
@@ -42,6 +42,6 @@ is_lawful_table t = are_told_apart t.nodes.items
     && (list_all (has t.nodes.items) t.config.members
     && is_lawful t.config.members t.config.primary)
 
--- the text is a TOML document that says this table and no more
+-- the text is a TOML document with this table and no more
 abbrev pub Says : List ℕ → NodeTable → Type 0
 Says text t = (parse_document text ≡ Some (document_of t)) × (is_lawful_table t ≡ true)

@@ -7,7 +7,7 @@ use clap::builder::ValueParser;
 use clap::{Arg, ArgAction};
 use std::alloc::Global;
 
-// `--NAME VALUE`, which has to be there.
+// Returns `--NAME VALUE`, which is required.
 fn option<'a>(alloc: Global, name: &'a str, value: &'a str, help: &'a str) -> Arg<'a>
     ensures { IsArgument (required_option name.entry.now) result }
 {
@@ -18,14 +18,14 @@ fn option<'a>(alloc: Global, name: &'a str, value: &'a str, help: &'a str) -> Ar
         .help(help)
 }
 
-/// `--config FILE`.
+/// Returns `--config FILE`.
 pub(crate) fn config<'a>(alloc: Global) -> Arg<'a>
     ensures { IsArgument config_rule result }
 {
     option(alloc, "config", "FILE", "The table of nodes, in TOML")
 }
 
-/// `--id ID`.
+/// Returns `--id ID`.
 pub(crate) fn id<'a>(alloc: Global) -> Arg<'a>
     ensures { IsArgument (required_option (codes "id")) result }
 {
@@ -33,14 +33,14 @@ pub(crate) fn id<'a>(alloc: Global) -> Arg<'a>
     option(alloc, "id", "ID", help)
 }
 
-/// `--topic T`.
+/// Returns `--topic T`.
 pub(crate) fn topic<'a>(alloc: Global) -> Arg<'a>
     ensures { IsArgument (required_option (codes "topic")) result }
 {
     option(alloc, "topic", "T", "The topic, without wildcards")
 }
 
-/// `--filter F`.
+/// Returns `--filter F`.
 pub(crate) fn filter<'a>(alloc: Global) -> Arg<'a>
     ensures { IsArgument (required_option (codes "filter")) result }
 {
@@ -48,7 +48,7 @@ pub(crate) fn filter<'a>(alloc: Global) -> Arg<'a>
     option(alloc, "filter", "F", help)
 }
 
-/// `--qos Q`.
+/// Returns `--qos Q`.
 pub(crate) fn qos<'a>(alloc: Global) -> Arg<'a>
     ensures { IsArgument qos_rule result }
 {
@@ -56,7 +56,7 @@ pub(crate) fn qos<'a>(alloc: Global) -> Arg<'a>
     option(alloc, "qos", "Q", help).value_parser(ValueParser::signed(0, 2))
 }
 
-/// `--message TEXT`.
+/// Returns `--message TEXT`.
 pub(crate) fn message<'a>(alloc: Global) -> Arg<'a>
     ensures { IsArgument (required_option (codes "message")) result }
 {
@@ -64,7 +64,7 @@ pub(crate) fn message<'a>(alloc: Global) -> Arg<'a>
     option(alloc, "message", "TEXT", help)
 }
 
-/// `--retain`.
+/// Returns `--retain`.
 pub(crate) fn retain<'a>(alloc: Global) -> Arg<'a>
     ensures { IsArgument retain_rule result }
 {
@@ -74,7 +74,7 @@ pub(crate) fn retain<'a>(alloc: Global) -> Arg<'a>
         .help("Has the broker keep it for later subscribers; an empty message clears it")
 }
 
-/// `--count N`.
+/// Returns `--count N`.
 pub(crate) fn count<'a>(alloc: Global) -> Arg<'a>
     ensures { IsArgument count_rule result }
 {
@@ -82,7 +82,7 @@ pub(crate) fn count<'a>(alloc: Global) -> Arg<'a>
     option(alloc, "count", "N", help).value_parser(ValueParser::signed(1, 1_000_000))
 }
 
-/// `--tries N`.
+/// Returns `--tries N`.
 pub(crate) fn tries<'a>(alloc: Global) -> Arg<'a>
     ensures { IsArgument tries_rule result }
 {
@@ -94,7 +94,7 @@ pub(crate) fn tries<'a>(alloc: Global) -> Arg<'a>
         .help("How many connections to open at most, 1 to 1000")
 }
 
-/// `ADDR...`.
+/// Returns `ADDR...`.
 pub(crate) fn addresses<'a>(alloc: Global) -> Arg<'a>
     ensures { IsArgument address_rule result }
 {
@@ -105,7 +105,7 @@ pub(crate) fn addresses<'a>(alloc: Global) -> Arg<'a>
         .help("Servers, as 127.0.0.1:1883, tried in turn")
 }
 
-// `--NAME VALUE`, which may be left out.
+// Returns `--NAME VALUE`, which may be left out.
 fn free_option<'a>(alloc: Global, name: &'a str, value: &'a str, help: &'a str) -> Arg<'a>
     ensures { IsArgument (free_option name.entry.now) result }
 {
@@ -115,7 +115,7 @@ fn free_option<'a>(alloc: Global, name: &'a str, value: &'a str, help: &'a str) 
         .help(help)
 }
 
-/// `--escape MEMBERS`.
+/// Returns `--escape MEMBERS`.
 pub(crate) fn escape<'a>(alloc: Global) -> Arg<'a>
     ensures { IsArgument (free_option (codes "escape")) result }
 {
@@ -123,7 +123,7 @@ pub(crate) fn escape<'a>(alloc: Global) -> Arg<'a>
     free_option(alloc, "escape", "MEMBERS", help)
 }
 
-/// `--client ID`.
+/// Returns `--client ID`.
 pub(crate) fn client<'a>(alloc: Global) -> Arg<'a>
     ensures { IsArgument (free_option (codes "client")) result }
 {
@@ -131,7 +131,7 @@ pub(crate) fn client<'a>(alloc: Global) -> Arg<'a>
     free_option(alloc, "client", "ID", help)
 }
 
-/// `[FILE]`.
+/// Returns `[FILE]`.
 pub(crate) fn file<'a>(alloc: Global) -> Arg<'a>
     ensures { IsArgument file_rule result }
 {

@@ -40,7 +40,7 @@ Examples:
   vbroker play examples/primary_crashes.script
   vbroker play --escape 2 --client a examples/primary_crashes.script";
 
-/// The whole command line.
+/// Returns the whole command line.
 pub(crate) fn program<'a>(alloc: Global) -> Result<Command<'a>, AllocError>
     ensures { IfOk result (IsCommand program) }
 {
@@ -51,7 +51,7 @@ pub(crate) fn program<'a>(alloc: Global) -> Result<Command<'a>, AllocError>
     enter(command, play(alloc)?)
 }
 
-// The program without its subcommands.
+// Returns the program without its subcommands.
 fn bare_program<'a>(alloc: Global) -> Command<'a>
     ensures { IsCommand bare_program result }
 {
@@ -64,7 +64,7 @@ fn bare_program<'a>(alloc: Global) -> Command<'a>
         .disable_help_subcommand(true)
 }
 
-// A subcommand without its arguments.
+// Returns a subcommand without its arguments.
 fn bare<'a>(alloc: Global, name: &'a str, about: &'a str, after_help: &'a str) -> Command<'a>
     ensures { IsCommand (new_app name.entry.now) result }
 {
@@ -73,7 +73,7 @@ fn bare<'a>(alloc: Global, name: &'a str, about: &'a str, after_help: &'a str) -
         .after_help(after_help)
 }
 
-// The command with one argument more.
+// Adds an argument to the command.
 fn add<'a>(command: Command<'a>, arg: Arg<'a>) -> Result<Command<'a>, AllocError>
     ensures { (app : App) (rule : Rule) → IsCommand app command.entry → IsArgument rule arg.entry
         → IfOk result (IsCommand (with_rule app rule)) }
@@ -81,7 +81,7 @@ fn add<'a>(command: Command<'a>, arg: Arg<'a>) -> Result<Command<'a>, AllocError
     command.arg(arg)
 }
 
-// The command with one subcommand more.
+// Adds a subcommand to the command.
 fn enter<'a>(command: Command<'a>, subcommand: Command<'a>) -> Result<Command<'a>, AllocError>
     ensures { (app sub_app : App) → IsCommand app command.entry
         → IsCommand sub_app subcommand.entry
@@ -90,7 +90,7 @@ fn enter<'a>(command: Command<'a>, subcommand: Command<'a>) -> Result<Command<'a
     command.subcommand(subcommand)
 }
 
-// `serve`.
+// Returns `serve`.
 fn serve<'a>(alloc: Global) -> Result<Command<'a>, AllocError>
     ensures { IfOk result (IsCommand serve_app) }
 {
@@ -99,7 +99,7 @@ fn serve<'a>(alloc: Global) -> Result<Command<'a>, AllocError>
     add(command, arguments::config(alloc))
 }
 
-// `pub`.
+// Returns `pub`.
 fn publish<'a>(alloc: Global) -> Result<Command<'a>, AllocError>
     ensures { IfOk result (IsCommand publish_app) }
 {
@@ -114,7 +114,7 @@ fn publish<'a>(alloc: Global) -> Result<Command<'a>, AllocError>
     add(command, arguments::addresses(alloc))
 }
 
-// `sub`.
+// Returns `sub`.
 fn subscribe<'a>(alloc: Global) -> Result<Command<'a>, AllocError>
     ensures { IfOk result (IsCommand subscribe_app) }
 {
@@ -128,7 +128,7 @@ fn subscribe<'a>(alloc: Global) -> Result<Command<'a>, AllocError>
     add(command, arguments::addresses(alloc))
 }
 
-// `play`.
+// Returns `play`.
 fn play<'a>(alloc: Global) -> Result<Command<'a>, AllocError>
     ensures { IfOk result (IsCommand play_app) }
 {

@@ -16,7 +16,7 @@ use std::alloc::Global;
 use std::collections::btree_map::Iter;
 use toml::{Table, Value};
 
-/// The table of nodes that a document says, whose numbers are at most 15.
+/// Returns the table of nodes in a document, with numbers of at most 15.
 pub(crate) fn document_table(alloc: Global, document: &Table) -> Result<NodeTable, TableFault>
     ensures value { IfOk result (λ t. table_view document.now ≡ document_of t) }
     ensures shape { IsErrOf result TableFault.Shape → (t : NodeTable) → IsSmall t
@@ -38,7 +38,7 @@ pub(crate) fn document_table(alloc: Global, document: &Table) -> Result<NodeTabl
     })
 }
 
-// The value of the next entry, if its key is this one.
+// Returns the value of the next entry, if its key is this one.
 fn next_value<'a>(entries: &mut Iter<'a, String, Value>, key: &str) -> Option<&'a Value>
     ensures some { IfSome result (λ value. members_view entries.old
         ≡ member key.now (view value.now) (members_view entries.new)) }
@@ -53,7 +53,7 @@ fn next_value<'a>(entries: &mut Iter<'a, String, Value>, key: &str) -> Option<&'
     }
 }
 
-// A number from 0 to 15.
+// Returns a number from 0 to 15.
 fn small_number(value: &Value) -> Option<u8>
     ensures some { IfSome result (λ n. view value.now ≡ number n) }
     ensures none { IsNone result → (n : ℕ) → is_small n ≡ true → view value.now ≡ number n → ⊥ }
@@ -66,7 +66,7 @@ fn small_number(value: &Value) -> Option<u8>
     }
 }
 
-// A list of numbers from 0 to 15.
+// Returns a list of numbers from 0 to 15.
 fn numbers_of(alloc: Global, value: &Value) -> Result<Members, TableFault>
     ensures value { IfOk result (λ numbers. view value.now ≡ list_data number numbers) }
     ensures shape { IsErrOf result TableFault.Shape → (ns : List ℕ) → list_all is_small ns ≡ true
@@ -83,7 +83,7 @@ fn numbers_of(alloc: Global, value: &Value) -> Result<Members, TableFault>
         .ok_or(TableFault::Memory)
 }
 
-// The nodes.
+// Returns the nodes of a TOML array.
 fn nodes_of(alloc: Global, value: &Value) -> Result<Vec<ListeningNode>, TableFault>
     ensures value { IfOk result (λ nodes. view value.now ≡ list_data node_data nodes.items) }
     ensures shape { IsErrOf result TableFault.Shape → (nodes : List ListeningNode)
@@ -97,7 +97,7 @@ fn nodes_of(alloc: Global, value: &Value) -> Result<Vec<ListeningNode>, TableFau
     Ok(nodes)
 }
 
-// A node.
+// Returns the node of a TOML table.
 fn node_of(alloc: Global, value: &Value) -> Result<ListeningNode, TableFault>
     ensures value { IfOk result (λ node. view value.now ≡ node_data node) }
     ensures shape { IsErrOf result TableFault.Shape → (node : ListeningNode)

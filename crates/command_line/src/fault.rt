@@ -1,4 +1,4 @@
-// Why what the user wrote was not read.
+// Why what the user wrote could not be read.
 
 ghost use Rattle.std.specs.Prelude.{◌≡◌};
 
@@ -8,12 +8,12 @@ use std::alloc::{AllocError, AllocFailed};
 /// Why a command line gives no job.
 #[derive(Debug, Drop)]
 pub enum LineFault {
-    /// The words are none that the program knows, or help or the version was asked for. Its text is for
+    /// The program does not know the words, or help or the version was asked for. Its text is for
     /// the user.
     Words(Error),
-    /// The words were taken, and yet a value that the job needs is not among their matches.
+    /// The words were accepted, but a value that the job needs is not among their matches.
     Incomplete,
-    /// No memory was found.
+    /// Memory ran out.
     Memory,
 }
 
@@ -22,7 +22,7 @@ pub enum LineFault {
 pub enum TableFault {
     /// The text is no TOML document of a lawful table of nodes.
     Shape,
-    /// No memory was found.
+    /// Memory ran out.
     Memory,
 }
 

@@ -2,34 +2,35 @@
 
 use packet::QoS;
 
-/// What a command line asks for: one of the subcommands, with its values. The texts are the user's words.
+/// What a command line asks for: one of the subcommands, with its values. The texts are the user's
+/// words.
 #[derive(Debug, Drop)]
 pub enum Job<'a> {
-    /// To serve clients.
+    /// Serves clients.
     Serve(Serve<'a>),
-    /// To publish once.
+    /// Publishes once.
     Publish(Publish<'a>),
-    /// To print what is published.
+    /// Prints what is published.
     Subscribe(Subscribe<'a>),
-    /// To play a script.
+    /// Plays a script.
     Play(Play<'a>),
 }
 
-/// To serve clients.
+/// Serves clients.
 #[derive(Debug, Drop)]
 pub struct Serve<'a> {
     /// The file with the table of nodes.
     pub config: &'a str,
 }
 
-/// To publish once.
+/// Publishes once.
 #[derive(Debug, Drop)]
 pub struct Publish<'a> {
     /// The Client Identifier, which is not checked here.
     pub id: &'a str,
     /// The Topic Name, which is not checked here.
     pub topic: &'a str,
-    /// How surely it is delivered.
+    /// The QoS at which it is delivered.
     pub qos: QoS,
     /// The payload.
     pub message: &'a str,
@@ -41,7 +42,7 @@ pub struct Publish<'a> {
     pub addresses: Vec<&'a str>,
 }
 
-/// To print what is published.
+/// Prints what is published.
 #[derive(Debug, Drop)]
 pub struct Subscribe<'a> {
     /// The Client Identifier, which is not checked here.
@@ -58,16 +59,16 @@ pub struct Subscribe<'a> {
     pub addresses: Vec<&'a str>,
 }
 
-/// To play a script.
+/// Plays a script.
 #[derive(Debug, Drop)]
 pub struct Play<'a> {
     /// The file with the script; without one it is standard input.
     pub script: Option<&'a str>,
-    /// Whose way out is told in place of the transcript, if one is.
+    /// The way out to print instead of the transcript, if one is asked for.
     pub escape: Option<Escape<'a>>,
 }
 
-/// To tell the way out of the world where a script ends.
+/// Prints the way out of the world in which a script ends.
 #[derive(Debug, Drop)]
 pub struct Escape<'a> {
     /// The members of the next ballot, with commas between them, which are not checked here.

@@ -1,4 +1,4 @@
-//! What the user wrote, read into values: the words of the command line by `clap`, the table of nodes by
+//! Parses what the user wrote: the words of the command line by `clap`, the table of nodes by
 //! `toml`.
 #![tactic(auto)]
 

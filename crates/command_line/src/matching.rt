@@ -1,4 +1,4 @@
-// The job that the matches of a command line stand for.
+// Getting the job from the matches of a command line.
 
 ghost use Rattle.std.specs.Prelude.{◌≡◌, ℕ, [], Option, Some, None, IfOk, IfErr, IsErrOf, codes};
 ghost use Rattle.packet.specs.declared.qos.QoS.{QoS};
@@ -19,7 +19,7 @@ use clap::ArgMatches;
 use packet::QoS;
 use std::alloc::Global;
 
-/// The job of the subcommand that was met, with the values of its arguments.
+/// Returns the job of the subcommand that was met, with the values of its arguments.
 pub(crate) fn job_of<'a>(alloc: Global, matches: &ArgMatches<'a>) -> Result<Job<'a>, LineFault>
     ensures job { IfOk result (IsJob (subcommand_rows_of matches.now)) }
     ensures refused { IfErr result (IsRefusal []) }
@@ -109,7 +109,7 @@ fn play<'a>(found: &ArgMatches<'a>) -> Result<Play<'a>, LineFault>
     })
 }
 
-// Whose way out is told, if one is: both of its words are there, or neither.
+// Returns the way out that is asked for, if one is: both of its arguments are present, or neither.
 fn escape<'a>(found: &ArgMatches<'a>) -> Result<Option<Escape<'a>>, LineFault>
     ensures job { IfOk result (IsEscape (rows_of (found_of found.now))) }
     ensures refused { IfErr result (IsRefusal []) }
@@ -123,7 +123,7 @@ fn escape<'a>(found: &ArgMatches<'a>) -> Result<Option<Escape<'a>>, LineFault>
     }
 }
 
-// The first value of an argument.
+// Returns the first value of an argument.
 fn text<'a>(found: &ArgMatches<'a>, id: &str) -> Result<&'a str, LineFault>
     ensures value { IfOk result (λ text.
         first_of id.now (rows_of (found_of found.now)) ≡ Some text.now) }
@@ -137,7 +137,7 @@ fn text<'a>(found: &ArgMatches<'a>, id: &str) -> Result<&'a str, LineFault>
     }
 }
 
-// The number of an argument.
+// Returns the number of an argument.
 fn number(found: &ArgMatches<'_>, id: &str) -> Result<u32, LineFault>
     ensures value { IfOk result (HasNumber id.now (rows_of (found_of found.now))) }
     ensures refused { IfErr result (IsRefusal []) }
@@ -150,7 +150,7 @@ fn number(found: &ArgMatches<'_>, id: &str) -> Result<u32, LineFault>
     }
 }
 
-// The level of delivery.
+// Returns the QoS.
 fn qos(found: &ArgMatches<'_>) -> Result<QoS, LineFault>
     ensures value { IfOk result (λ qos.
         HasNumber (codes "qos") (rows_of (found_of found.now)) (qos_number qos)) }
@@ -166,7 +166,7 @@ fn qos(found: &ArgMatches<'_>) -> Result<QoS, LineFault>
     }
 }
 
-// The addresses, in their order.
+// Returns the addresses, in order.
 fn addresses<'a>(alloc: Global, found: &ArgMatches<'a>) -> Result<Vec<&'a str>, LineFault>
     ensures value { IfOk result (λ all.
         all_of (codes "address") (rows_of (found_of found.now)) ≡ Some (texts all.items)) }

@@ -7,7 +7,7 @@ use ballot_base::Config;
 pub struct NodeTable {
     /// The configuration of ballot 1. It is lawful, and its members are among the nodes.
     pub config: Config,
-    /// The nodes, in the order of the table. Their numbers are from 1 to 15, and none stands twice.
+    /// The nodes, in the order of the table. Their numbers are from 1 to 15, and none occurs twice.
     pub nodes: Vec<ListeningNode>,
 }
 

@@ -15,10 +15,10 @@ use clap::error::ErrorKind;
 use std::alloc::Global;
 use std::convert::AsStr;
 
-/// Reads the words of a command line, of which the first is the program's name. The job's texts are the
-/// words themselves.
+/// Reads the words of a command line, the first of which is the program's name. The job's texts are
+/// the words themselves.
 pub fn line<'a, S: AsStr>(alloc: Global, words: &'a [S]) -> Result<Job<'a>, LineFault>
-    // The job is the subcommand, and its values are the matches, that the words have.
+    // The job is the subcommand of the words, and its values are their matches.
     ensures job { IfOk result (IsJob (subcommand_of program (map S.text words.entry.now))) }
     ensures taken { OnOk result (fault_of program (map S.text words.entry.now) ≡ []) }
 
@@ -34,7 +34,7 @@ pub fn line<'a, S: AsStr>(alloc: Global, words: &'a [S]) -> Result<Job<'a>, Line
     }
 }
 
-// A refusal of the words, or want of memory.
+// Returns the refusal of the words, or that memory ran out.
 fn refusal(error: Error) -> LineFault
     ensures refused { (kinds : Kinds) → HasKind kinds error → IsRefusal kinds result }
     ensures whole { result ≢ LineFault.Incomplete }

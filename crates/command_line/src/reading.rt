@@ -10,8 +10,8 @@ use crate::fault::TableFault;
 use crate::node_table::{ListeningNode, NodeTable};
 use std::alloc::Global;
 
-/// Reads the table of nodes out of a TOML document. [`TableFault::Shape`] comes exactly where the text is
-/// no document of a lawful table, or has a key more; the order of its keys is free.
+/// Reads the table of nodes from a TOML document. [`TableFault::Shape`] comes exactly if the text
+/// is no document of a lawful table, or has an unknown key; the order of its keys is free.
 pub fn table(alloc: Global, text: &str) -> Result<NodeTable, TableFault>
     ensures value { IfOk result (Says text.now) }
     ensures shape { IsErrOf result TableFault.Shape → (t : NodeTable) → Says text.now t → ⊥ }
@@ -29,7 +29,7 @@ pub fn table(alloc: Global, text: &str) -> Result<NodeTable, TableFault>
     }
 }
 
-// Whether the nodes can be told apart, and the members of ballot 1 are among them.
+// Says whether the nodes can be told apart, and the members of ballot 1 are among them.
 fn is_lawful(read: &NodeTable) -> bool
     ensures { result ≡ is_lawful_table read.now }
 {
@@ -38,7 +38,7 @@ fn is_lawful(read: &NodeTable) -> bool
         && (are_nodes(nodes, read.config.members.as_slice()) && read.config.is_lawful())
 }
 
-// Whether each number is from 1 to 15, and none stands twice.
+// Says whether each number is from 1 to 15, and none occurs twice.
 fn are_told_apart(nodes: &[ListeningNode]) -> bool
     ensures { result ≡ are_told_apart nodes.now }
 {
@@ -48,14 +48,14 @@ fn are_told_apart(nodes: &[ListeningNode]) -> bool
     (1 <= node.id && node.id <= 15) && (!has(others, node.id) && are_told_apart(others))
 }
 
-// Whether each of these is a node.
+// Says whether each of these is a node.
 fn are_nodes(nodes: &[ListeningNode], members: &[u8]) -> bool
     ensures { result ≡ list_all (has nodes.now) members.now }
 {
     members.iter().all(|member| has(nodes, *member))
 }
 
-// Whether a node has this number.
+// Says whether a node has this number.
 fn has(nodes: &[ListeningNode], id: u8) -> bool
     ensures { result ≡ has nodes.now id }
 {

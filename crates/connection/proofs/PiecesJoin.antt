@@ -1,4 +1,4 @@
--- PiecesJoin.antt: pieces that are told one behind the other are what the device gave, in its order.
+-- PiecesJoin.antt: pieces that are reported one after another are what the device gave, in order.
 use Rattle.std.specs.Prelude.{◌≡◌, ℕ, Option, None, Some, Ok, Err, List, [], ◌∷◌, ◌++◌, refl}
 use Rattle.std.proofs.Common.{sym, ◌∙◌, ap, subst, lit≤, append_assoc}
 use Rattle.std.proofs.lemmas.List.{append-nil, map-append}
@@ -34,7 +34,7 @@ pub gives_none : (old : Option (List ℕ)) → Consumes old old []
 gives_none None = tt
 gives_none (Some o) = refl
 
--- the pieces of two lists, one behind the other
+-- the pieces of two lists, one after another
 pub pieces_join :
     (port : Port) (a b c : List Item) (first second : List Came) (lost : List ℕ) (x y z : Option (List ℕ))
     → HearsPieces port a b first [] x y
@@ -53,7 +53,7 @@ pieces_join port a b c first second lost x y z h k =
     ∙ ap (λ l. l ++ lost) (sym (flat_map-append (λ (piece : Came). piece.bytes) first second)) in
     record { told = told; gave = subst (λ l. Consumes x z l) bytes both }
 
--- a piece that was told behind others
+-- a piece that was reported after others
 pub one_more :
     (port : Port) (opened last now : ℕ) (a b c : List Item) (x y z : Option (List ℕ))
     → HearsSome port opened last a b x y → HearsPiece port last b c (Ok now) y z
@@ -66,7 +66,7 @@ one_more port opened last now a b c x y z some (later, (bytes, h)) =
       times = comes piece some.times later;
     }
 
--- an end behind some pieces
+-- an end after some pieces
 pub ends_behind :
     (port : Port) (opened last : ℕ) (a b c : List Item) (ending : Ending) (x y z : Option (List ℕ))
     → HearsSome port opened last a b x y → HearsPiece port last b c (Err ending) y z
@@ -84,7 +84,7 @@ ends_behind port opened last a b c ending x y z some (same, (lost, gave, ends)) 
       times = subst (λ (pieces : List Came). Rises opened pieces last) (sym (append-nil some.pieces)) some.times;
     }
 
--- nothing was told yet
+-- nothing was reported yet
 pub none_yet : (port : Port) (opened : ℕ) (a : List Item) (x : Option (List ℕ)) → HearsSome port opened opened a a x x
 none_yet port opened a x = record {
   pieces = [];
@@ -92,7 +92,7 @@ none_yet port opened a x = record {
   times = opens;
 }
 
--- nothing was told, since memory was wanting
+-- nothing was reported, since memory ran out
 pub none_for_memory :
     (port : Port) (opened : ℕ) (a : List Item) (x : Option (List ℕ)) → HearsOn port opened a a endings.Memory x x
 unfolding none_yet
@@ -105,7 +105,7 @@ none_for_memory port opened a x = record {
   times = opens;
 }
 
--- what was told between a connection's first item and its last
+-- what was reported between a connection's first item and its last
 pub framed :
     (port : Port) (opened : ℕ) (a b c d : List Item) (ending : Ending) (x y : Option (List ℕ))
     → b ≡ a ++ Opened port opened ∷ [] → HearsOn port opened b c ending x y → d ≡ c ++ Ended port ∷ []

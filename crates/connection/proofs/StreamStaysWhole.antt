@@ -9,7 +9,7 @@ use Rattle.connection.specs.Life.Lives.{begins, goes_on}
 use Rattle.connection.specs.Whole.{IsWhole}
 use Rattle.connection.specs.Writing.{Flows}
 
--- nothing was handed over, and nothing written
+-- nothing was handed over, and nothing was written
 pub begins_whole :
     {T W : Type 0} (opens : T → Type 0) (hands : T → List ℕ → Handed → T → Type 0) (contents : W → Option (List ℕ))
     (tap : T) (device : W) (counted : Watched W) (left : List ℕ)
@@ -26,7 +26,7 @@ begins_whole {W = W} opens hands contents tap device counted left opened empty i
       lives = begins;
     }))
 
--- one write more
+-- one more write
 pub stays_whole :
     {T : Type 0} (opens : T → Type 0) (hands : T → List ℕ → Handed → T → Type 0) (flow : Flow)
     (before behind : T) (old new : Option (List ℕ)) (left rest : List ℕ)

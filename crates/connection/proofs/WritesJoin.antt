@@ -1,4 +1,4 @@
--- WritesJoin.antt: writes one after the other are one write, and nothing is left out between them.
+-- WritesJoin.antt: writes one after another are one write, and nothing is left out between them.
 use Rattle.std.proofs.Common.{◌≡◌, ℕ, ◌≤◌, Option, None, Some, List, [], ◌∷◌, ◌++◌, length, take, drop, refl, sym, ◌∙◌, ap, subst, append_assoc}
 use Rattle.std.proofs.lemmas.List.{append-nil, take-append-drop}
 use Rattle.std.specs.Io.KnownBytes.{Appends, Keeps}

@@ -1,4 +1,5 @@
--- What is told of a connection: that it was opened, each piece that came on it, and that it ended.
+-- What is reported of a connection: that it was opened, each piece that came on it, and that it
+-- ended.
 use Rattle.std.specs.Prelude.{◌≡◌, ℕ, ◌≤◌, List, [], ◌∷◌, ◌++◌, length, map, Option}
 use Rattle.std.specs.List.{flat_map}
 use Rattle.std.specs.Io.KnownBytes.{Consumes, IsAtEnd}
@@ -10,7 +11,7 @@ use Rattle.world_base.specs.declared.item.Item.TheVariants.{Opened, Bytes, Ended
 use Rattle.connection.specs.declared.ending.Ending.{Ending}
 use Rattle.connection.specs.declared.ending.Ending.TheVariants as endings
 
--- a piece that came, and the time that it was told with
+-- a piece that came, and the time with which it was reported
 pub record Came : Type 0 where
   pub bytes : List ℕ
   pub now : ℕ
@@ -21,32 +22,32 @@ pub data Rises (opened : ℕ) : List Came → ℕ → Type 0 where
   comes : {pieces : List Came} {last : ℕ} (piece : Came)
       → Rises opened pieces last → last ≤ piece.now → Rises opened (pieces ++ piece ∷ []) piece.now
 
--- the items of these pieces, in their order
+-- the items of these pieces, in order
 abbrev pub pieces_told : Port → List Came → List Item
 pieces_told port pieces = map (λ (piece : Came). Bytes port piece.bytes piece.now) pieces
 
--- all that is told of a connection that was opened at a time, and on which these pieces came
+-- the whole report of a connection that was opened at a time, and on which these pieces came
 abbrev pub told_of : Port → ℕ → List Came → List Item
 told_of port opened pieces = Opened port opened ∷ (pieces_told port pieces ++ Ended port ∷ [])
 
--- the bytes of all pieces, in their order
+-- the bytes of all pieces, in order
 abbrev pub joined : List Came → List ℕ
 joined pieces = flat_map (λ (piece : Came). piece.bytes) pieces
 
--- How it ended, with the pieces that came, what was read and not told, and what the device has left: a byte is lost only
--- where memory was wanting.
+-- How it ended, with the pieces that came, what was read and not reported, and what the device has
+-- left: a byte is lost only if memory ran out.
 abbrev pub EndsSo : Ending → List Came → List ℕ → Option (List ℕ) → Type 0
 EndsSo endings.Refused pieces lost behind = (pieces ≡ []) × (lost ≡ [])
 EndsSo endings.End pieces lost behind = (lost ≡ []) × IsAtEnd behind
 EndsSo endings.Fault pieces lost behind = lost ≡ []
 EndsSo endings.Memory pieces lost behind = length lost ≤ PIECE_BYTES
 
--- the count of the device's failed calls: it goes up by one where a call failed, and not else
+-- the count of the device's failed calls: it rises by one if a call failed, and not otherwise
 abbrev pub faults_after : Ending → ℕ → ℕ
 faults_after endings.Fault faults = counted_once faults
 faults_after _ faults = faults
 
--- What was told behind what was told before is a whole connection, its pieces are what the device
+-- What was reported after the earlier reports is a whole connection, its pieces are what the device
 -- gave, and their times do not fall.
 pub record Hears (port : Port) (old new : List Item) (ending : Ending) (before behind : Option (List ℕ))
     : Type 0 where

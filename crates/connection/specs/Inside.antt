@@ -6,7 +6,7 @@ use Rattle.world_base.specs.declared.item.Item.{Item}
 use Rattle.connection.specs.declared.ending.Ending.{Ending}
 use Rattle.connection.specs.Hearing.{Came, EndsSo, Rises, faults_after, joined, pieces_told}
 
--- these pieces were told, and what was read is these and what was lost
+-- these pieces were reported, and what was read is these and what was lost
 pub record HearsPieces
     (port : Port) (old new : List Item) (pieces : List Came) (lost : List ℕ)
     (before behind : Option (List ℕ))
@@ -14,7 +14,7 @@ pub record HearsPieces
   pub told : new ≡ old ++ pieces_told port pieces
   pub gave : Consumes before behind (joined pieces ++ lost)
 
--- pieces were told, the connection opened at a time, and then it ended so
+-- pieces were reported, for a connection opened at a time, and then it ended so
 pub record HearsOn
     (port : Port) (opened : ℕ) (old new : List Item) (ending : Ending)
     (before behind : Option (List ℕ))
@@ -26,7 +26,7 @@ pub record HearsOn
   pub last : ℕ
   pub times : Rises opened pieces last
 
--- some pieces were told, the last at this time, and none was lost
+-- some pieces were reported, the last at this time, and none was lost
 pub record HearsSome
     (port : Port) (opened last : ℕ) (old new : List Item) (before behind : Option (List ℕ))
     : Type 0 where
@@ -34,7 +34,7 @@ pub record HearsSome
   pub hears : HearsPieces port old new pieces [] before behind
   pub times : Rises opened pieces last
 
--- one piece was told, with a time that is not before the last one, or none and it ended
+-- one piece was reported, with a time that is not before the last one, or none and it ended
 abbrev pub HearsPiece :
     Port → ℕ → List Item → List Item → Result ℕ Ending
     → Option (List ℕ) → Option (List ℕ) → Type 0

@@ -1,10 +1,11 @@
--- What readers may want to know of these words.
+-- What readers may want to know about these definitions.
 use Rattle.std.specs.Prelude.{ℕ, List, Option}
 use Rattle.world_base.specs.declared.Handed.{Handed}
 use Rattle.connection.specs.Life.{Lives}
 use Rattle.connection.specs.Writing.{Writes}
 
--- Over the whole life of a connection nothing is left out: what was handed over is what was written, and then what is left.
+-- Over the whole life of a connection nothing is left out: what was handed over is what was
+-- written, followed by what is left.
 abbrev pub NothingIsLeftOut : {T : Type 0} → (T → List ℕ → Handed → T → Type 0) → Type 0
 NothingIsLeftOut {T = T} hands =
     (first : T) (start : Option (List ℕ)) (now : T) (handed : List ℕ) (contents : Option (List ℕ)) (left : List ℕ)

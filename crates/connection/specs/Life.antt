@@ -1,10 +1,12 @@
--- The writing of a connection over its whole life: one call after the other, each of which begins with what the one before left.
+-- The writing of a connection over its whole life: one call after another, each of which begins
+-- with what the one before left.
 use Rattle.std.specs.Prelude.{ℕ, List, [], ◌++◌, Option}
 use Rattle.world_base.specs.declared.Handed.{Handed}
 use Rattle.connection.specs.declared.flow.Flow.{Flow}
 use Rattle.connection.specs.Writing.{Flows}
 
--- From a tap and a device on: the tap now, all that was handed over by it, the device's bytes now, and what is left.
+-- What a tap and a device lead to: the tap now, all that was handed over by it, the device's bytes
+-- now, and what is left.
 pub data Lives {T : Type 0} (hands : T → List ℕ → Handed → T → Type 0) (first : T) (start : Option (List ℕ))
     : T → List ℕ → Option (List ℕ) → List ℕ → Type 0 where
   begins : Lives hands first start first [] start []

@@ -5,14 +5,15 @@ use Rattle.node_base.specs.Counted.{Watched}
 use Rattle.world_base.specs.declared.Handed.{Handed}
 use Rattle.connection.specs.Life.{Lives}
 
--- a tap, what was handed over by it and is not written yet, and the device that is written on
+-- a tap, what was handed over by it and is not yet written, and the device that is written to
 pub record Flowing (T W : Type 0) : Type 0 where
   pub tap : T
   pub left : List ℕ
   pub device : Watched W
 
--- From its first byte on a stream is whole. Its tap was opened, its device held no byte, as far as that is known, and then came one write
--- after the other. All that was handed over by the tap is what was written, and then what is left (`NothingIsLeftOut` of `Laws`).
+-- From its first byte on a stream is whole. Its tap was opened, its device held no byte, as far as
+-- that is known, and then came one write after another. All that was handed over by the tap is what
+-- was written, followed by what is left (`NothingIsLeftOut` of `Laws`).
 pub record IsWhole {T : Type 0} (opens : T → Type 0) (hands : T → List ℕ → Handed → T → Type 0)
     (tap : T) (contents : Option (List ℕ)) (left : List ℕ)
     : Type 0 where

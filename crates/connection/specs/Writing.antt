@@ -1,4 +1,4 @@
--- What is written of bytes that are put out, in their order, and what is left.
+-- What is written of queued bytes, in order, and what is left.
 use Rattle.std.specs.Prelude.{◌≡◌, ℕ, ◌<◌, ◌⊎◌, List, [], ◌++◌, length, Option}
 use Rattle.std.specs.Io.KnownBytes.{Appends}
 use Rattle.node_base.specs.Counted.{counted_once}
@@ -9,7 +9,7 @@ use Rattle.connection.specs.declared.wrote.Wrote.TheVariants as wrotes
 use Rattle.connection.specs.declared.flow.Flow.{Flow}
 use Rattle.connection.specs.declared.flow.Flow.TheVariants as flows
 
--- a beginning of the bytes joined the device's, and what is left is all the others
+-- a prefix of the bytes was appended to the device's, and what is left is the rest
 pub record Writes (old new : Option (List ℕ)) (bytes left : List ℕ) : Type 0 where
   pub taken : List ℕ
   pub is : bytes ≡ taken ++ left
@@ -23,7 +23,7 @@ LeavesSo wrotes.Stopped left = 0 < length left
 LeavesSo wrotes.Fault left = 0 < length left
 
 module _ {T : Type 0} where
-  -- these bytes are what is handed over with this answer, and they joined the list
+  -- these bytes are what is handed over with this answer, and they were appended to the list
   pub record HandsOver
       (hands : T → List ℕ → Handed → T → Type 0) (before : T) (answer : Handed) (behind : T)
       (old new : List ℕ)
@@ -32,7 +32,8 @@ module _ {T : Type 0} where
     pub handed : hands before bytes answer behind
     pub is : new ≡ old ++ bytes
 
-  -- these bytes are handed over, or none, since the device did not take what was left, or memory ran out
+  -- these bytes are handed over, or none, because the device did not take what was left, or memory
+  -- ran out
   abbrev pub HandsAny : (T → List ℕ → Handed → T → Type 0) → T → List ℕ → T → Type 0
   HandsAny hands before bytes behind =
       ((answer : Handed) × hands before bytes answer behind) ⊎ ((bytes ≡ []) × (behind ≡ before))
@@ -45,7 +46,8 @@ module _ {T : Type 0} where
   HandsSo hands flows.Stopped before bytes behind = HandsAny hands before bytes behind
   HandsSo hands flows.Fault before bytes behind = HandsAny hands before bytes behind
 
--- what is left, by how the writing ended; where it stopped, that may be nothing, since memory may have run out
+-- what is left, by how the writing ended; if it stopped, that may be nothing, since memory may have
+-- run out
 abbrev pub RestsSo : Flow → List ℕ → Type 0
 RestsSo flows.Open rest = rest ≡ []
 RestsSo flows.Closed rest = rest ≡ []
@@ -53,7 +55,7 @@ RestsSo flows.Late rest = 0 < length rest
 RestsSo flows.Stopped rest = Unit {0}
 RestsSo flows.Fault rest = 0 < length rest
 
--- the count of the device's failed calls: it goes up by one where a call failed, and not else
+-- the count of the device's failed calls: it rises by one if a call failed, and not otherwise
 abbrev pub faults_written : Wrote → ℕ → ℕ
 faults_written wrotes.Fault faults = counted_once faults
 faults_written _ faults = faults
@@ -62,7 +64,8 @@ abbrev pub faults_flowed : Flow → ℕ → ℕ
 faults_flowed flows.Fault faults = counted_once faults
 faults_flowed _ faults = faults
 
--- what was left before, and then what is handed over, is what is written, and then what is left now
+-- what was left before, followed by what is handed over, is what is written, followed by what is
+-- left now
 pub record Flows {T : Type 0}
     (hands : T → List ℕ → Handed → T → Type 0) (flow : Flow) (before behind : T)
     (old new : Option (List ℕ)) (left rest : List ℕ)

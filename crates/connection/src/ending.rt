@@ -3,12 +3,12 @@
 /// How [`listen`](crate::listen) ended.
 #[derive(Clone, Copy, Debug, PartialEq, Eq)]
 pub enum Ending {
-    /// The connection was not let in: nothing was read.
+    /// The connection was refused: nothing was read.
     Refused,
     /// The device had no more bytes.
     End,
     /// A read failed.
     Fault,
-    /// Memory was wanting. A piece that was read then, if there was one, was not told.
+    /// Memory ran out. A piece that was read then, if there was one, was not reported.
     Memory,
 }

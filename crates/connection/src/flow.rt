@@ -1,4 +1,4 @@
-// What is put out for a connection is written.
+// Writing what is queued for a connection.
 
 ghost use Rattle.std.specs.Prelude.{◌≡◌};
 ghost use Rattle.connection.specs.Writing.{Flows, faults_flowed};
@@ -27,8 +27,9 @@ pub enum Flow {
     Fault,
 }
 
-/// Writes what was left before, and then what is handed over now by a tap. As long as something is left nothing more is
-/// handed over, so that it waits where its size is bounded. What is not written is left, in its order.
+/// Writes what was left before, followed by what is handed over now by a tap. As long as something
+/// is left, no more is taken from the outlet, so that the rest waits there, where its size is
+/// bounded. What is not written is left, in order.
 pub fn write_out<R: Wait, T: Tap, O: Outlet<T>, W: Write>(
     rt: &R,
     left: &mut Unwritten,
@@ -39,7 +40,7 @@ pub fn write_out<R: Wait, T: Tap, O: Outlet<T>, W: Write>(
     ensures flows { Flows T.hands result tap.old tap.new
         (W.contents device.old.device) (W.contents device.new.device) left.old left.new }
 
-    // A fault is told exactly where one more call of the device failed.
+    // A fault is reported exactly if one more call of the device failed.
     ensures faults { device.new.faults ≡ faults_flowed result device.old.faults }
 {
     match left.write(device) {

@@ -1,6 +1,6 @@
-//! One connection over a device that is read and one that is written: what came on it is told to
-//! whoever hears of it, piece by piece, and what is put out for it is written in its order, as far as
-//! the device takes it.
+//! One connection over a device to read from and one to write to: what comes on it is reported to a
+//! `Hearer`, piece by piece, and what is queued for it is written in order, as far as the device
+//! takes it.
 #![tactic(auto)]
 
 mod ending;

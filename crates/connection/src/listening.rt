@@ -1,4 +1,4 @@
-// What comes on a connection is told.
+// Reporting what comes on a connection.
 
 ghost use Rattle.std.specs.Prelude.{◌≡◌, length};
 ghost use Rattle.connection.specs.Hearing.{Hears, faults_after};
@@ -13,8 +13,8 @@ use std::sync::Wait;
 use std::time::Clock;
 use world_base::{Item, Piece, Port};
 
-/// Tells of a connection: that it was opened, then each piece that the device gives, then that it
-/// ended, whichever way it did.
+/// Reports a connection: that it was opened, then each piece that the device gives, then that it
+/// ended, however it did.
 pub fn listen<R: Wait + Clock, H: Hearer, D: Read>(
     rt: &R,
     alloc: Global,
@@ -25,7 +25,7 @@ pub fn listen<R: Wait + Clock, H: Hearer, D: Read>(
     ensures hears { Hears port (H.heard hearer.old) (H.heard hearer.new)
         result (D.remaining device.old.device) (D.remaining device.new.device) }
 
-    // A fault is told exactly where one more call of the device failed.
+    // A fault is reported exactly if one more call of the device failed.
     ensures faults { device.new.faults ≡ faults_after result device.old.faults }
 {
     let opened = hearer.now(rt);
@@ -35,8 +35,8 @@ pub fn listen<R: Wait + Clock, H: Hearer, D: Read>(
     ending
 }
 
-// Tells each piece that the device gives, until it ends, if the connection is let in, that was
-// opened at a time.
+// Reports each piece that the device gives, until it ends, for a connection that was opened at a
+// time, if it is accepted.
 fn hear_on<R: Wait + Clock, H: Hearer, D: Read>(
     rt: &R,
     alloc: Global,
@@ -66,7 +66,7 @@ fn hear_on<R: Wait + Clock, H: Hearer, D: Read>(
     unreachable!()
 }
 
-// Reads a piece by one call of the device and tells it, with a time that is not before the last
+// Reads a piece by one call of the device and reports it, with a time that is not before the last
 // one. Returns that time, or how the connection ended.
 fn hear_piece<R: Wait + Clock, H: Hearer, D: Read>(
     rt: &R,

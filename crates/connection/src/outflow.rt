@@ -15,8 +15,9 @@ use std::io::Write;
 use std::marker::Model;
 use std::sync::Wait;
 
-/// A connection's tap, the device on which what it gives is written, and what the device did not take yet. Nobody else has any of
-/// them. So wherever it lies between two writes, its stream is whole.
+/// A connection's tap, the device to which its bytes are written, and what the device has not yet
+/// taken. Nothing else holds any of them. So wherever it is kept between two writes, its stream is
+/// whole.
 #[derive(Drop)]
 pub struct Outflow<T: Tap, W: Write> {
     tap: T,
@@ -58,17 +59,19 @@ impl<T: Tap, W: Write> Outflow<T, W> {
         &self.tap
     }
 
-    /// Writes what was left before, and then what an outlet hands over now, as [`write_out`].
+    /// Writes what was left before, followed by what an outlet hands over now, as [`write_out`]
+    /// does.
     pub fn write<R: Wait, O: Outlet<T>>(&mut self, rt: &R, outlet: &mut O) -> Flow
         ensures flows { Flows T.hands result self.old.tap self.new.tap
             (W.contents self.old.device.device) (W.contents self.new.device.device)
             self.old.left self.new.left }
 
-        // All that was handed over since the stream began is what was written, and then what is left.
+        // All that was handed over since the stream began is what was written, followed by what is
+        // left.
         ensures whole { IsWhole T.opens T.hands
             self.new.tap (W.contents self.new.device.device) self.new.left }
 
-        // A fault is told exactly where one more call of the device failed.
+        // A fault is reported exactly if one more call of the device failed.
         ensures faults { self.new.device.faults ≡ faults_flowed result self.old.device.faults }
     {
         write_out(rt, &mut self.left, &mut self.tap, outlet, &mut self.device)

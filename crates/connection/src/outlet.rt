@@ -1,4 +1,4 @@
-// Where the bytes for connections come from.
+// The source of the bytes for connections.
 
 ghost use Rattle.std.specs.Prelude.{◌≡◌, IfOk, OnErr};
 ghost use Rattle.connection.specs.Writing.{HandsOver};
@@ -7,10 +7,11 @@ use crate::tap::Tap;
 use std::sync::Wait;
 use world_base::{Handed, Memory};
 
-/// Where the bytes come from that are put out for connections, each by its tap: a node, also one behind a lock.
+/// The source of the bytes that are queued for connections, each taken by its tap: a node, also one
+/// behind a lock.
 pub trait Outlet<T: Tap> {
-    /// Appends what was put out for the tap's connection and not handed over before, and tells whether more may come.
-    /// The only error is want of memory, and then nothing is handed over.
+    /// Appends what was queued for the tap's connection and not yet handed over, and says whether
+    /// more may come. The only error is that memory ran out, and then nothing is handed over.
     fn hand_over<R: Wait>(
         &mut self,
         rt: &R,

@@ -1,7 +1,7 @@
-// By what the bytes of one connection are handed over.
+// The right to take the bytes of one connection.
 
-/// By this the bytes of one connection are handed over: nobody hands over for the connection without it. It cannot be copied, and its
-/// state tells one call from the next.
+/// The right to take the bytes of one connection: nobody hands over bytes for the connection
+/// without it. It cannot be copied, and its state tells one call from the next.
 pub trait Tap: Drop {
     ghost use Rattle.std.specs.Prelude.{List, ℕ};
     ghost use Rattle.world_base.specs.declared.Handed.{Handed};
@@ -9,6 +9,7 @@ pub trait Tap: Drop {
     // Nothing was handed over by it yet.
     ghost opens: { Self → Type 0 };
 
-    // Before a call, the bytes that are handed over then, with the answer, and after it.
+    // The state before a call, the bytes that are then handed over, with the answer, and the state
+    // after it.
     ghost hands: { Self → List ℕ → Handed → Self → Type 0 };
 }

@@ -1,4 +1,4 @@
-// What is put out and not written yet.
+// What is queued and not yet written.
 
 ghost use Rattle.std.specs.Prelude.{◌≡◌, ◌==◌, ◌≤◌, [], drop, length, IfOk, OnErr};
 ghost use Rattle.connection.specs.Writing.{HandsOver, LeavesSo, Writes, faults_written};
@@ -13,10 +13,11 @@ use std::marker::Model;
 use std::sync::Wait;
 use world_base::{Handed, Memory};
 
-/// How much room an empty one keeps for what comes next.
+/// How much capacity an empty one keeps for what comes next.
 const ROOM_KEPT: usize = 65_536;
 
-/// Bytes that are put out and not written yet, in their order. What was written is not moved: its bytes are counted.
+/// Bytes that are queued and not yet written, in order. What was written is not moved: its bytes
+/// are counted.
 #[derive(Drop)]
 pub struct Unwritten {
     alloc: Global,
@@ -36,7 +37,7 @@ impl Model for Unwritten {
 }
 
 impl Unwritten {
-    /// Returns one without bytes.
+    /// Returns an empty one.
     pub fn new(alloc: Global) -> Unwritten
         ensures { result ≡ [] }
     {
@@ -59,21 +60,21 @@ impl Unwritten {
         })
     }
 
-    /// Returns whether there is no byte.
+    /// Says whether there is no byte.
     pub fn is_empty(&self) -> bool
         ensures { result ≡ (length self.now == 0) }
     {
         self.done == self.bytes.len()
     }
 
-    /// Writes as much as the device takes. A call that was interrupted is made again. One that would have to wait, or did so
-    /// for too long, means that the device is full.
+    /// Writes as much as the device takes. A call that was interrupted is repeated. A call that
+    /// would have to wait, or did so for too long, means that the device is full.
     pub fn write<W: Write>(&mut self, device: &mut Counted<W>) -> Wrote
         ensures writes { Writes
             (W.contents device.old.device) (W.contents device.new.device) self.old self.new }
         ensures leaves { LeavesSo result self.new }
 
-        // A fault is told exactly where one more call of the device failed.
+        // A fault is reported exactly if one more call of the device failed.
         ensures faults { device.new.faults ≡ faults_written result device.old.faults }
     {
         for _ in 0..u64::MAX {
@@ -94,8 +95,8 @@ impl Unwritten {
         }
     }
 
-    /// Takes what an outlet hands over by a tap, if nothing is left. Where the outlet changes places with an empty list, as a
-    /// node does, no byte is copied.
+    /// Takes what an outlet hands over by a tap, if nothing is left. If the outlet swaps its list
+    /// with an empty one, as a node does, no byte is copied.
     pub(crate) fn take_from<R: Wait, T: Tap, O: Outlet<T>>(
         &mut self,
         rt: &R,
@@ -112,7 +113,7 @@ impl Unwritten {
         outlet.hand_over(rt, tap, &mut self.bytes)
     }
 
-    // The bytes that are left.
+    // Returns the bytes that are left.
     fn as_slice(&self) -> &[u8]
         ensures { result.now ≡ self.now }
     {
@@ -128,7 +129,7 @@ impl Unwritten {
     }
 }
 
-// Drops all bytes, and room that is too large to keep.
+// Drops all bytes, and capacity that is too large to keep.
 fn empty(alloc: Global, bytes: &mut Vec<u8>)
     ensures { bytes.new.items ≡ [] }
 {

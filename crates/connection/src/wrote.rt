@@ -5,10 +5,11 @@
 pub enum Wrote {
     /// All was written.
     Whole,
-    /// The device was full: a beginning was written, and the rest is left.
+    /// The device was full: a prefix was written, and the rest is left.
     Full,
-    /// The device takes nothing more, and no call failed: a beginning was written, and the rest is left.
+    /// The device takes nothing more, and no call failed: a prefix was written, and the rest is
+    /// left.
     Stopped,
-    /// A call of the device failed: a beginning was written, and the rest is left.
+    /// A call of the device failed: a prefix was written, and the rest is left.
     Fault,
 }

@@ -1,4 +1,5 @@
--- A move in which a replica hears nothing leaves it in its role, also one in which something is lost.
+-- A move in which a replica receives nothing leaves it in its role, also one in which something is
+-- lost.
 use Rattle.std.proofs.Common.{◌≡◌, false, refl, ap, ◌∙◌}
 use Rattle.group_model.specs.ballot.Replica.{ReplicaState}
 use Rattle.model.specs.broker_base.State.{State}
@@ -16,7 +17,7 @@ use Rattle.group_model.proofs.of_node_model.ReplicaStays.{added_same}
 use Rattle.group_model.specs.Group.{replica_of}
 use Rattle.group_model.proofs.MovesHappen.{changed_state, state_of}
 
--- a command is taken behind a change of connections
+-- a command is taken after a change of connections
 taken_role : (command : Command) (core between : CoreState) (did : Account) → replica_of between ≡ replica_of core → Takes command between did
     → (replica_of did.core).role ≡ (replica_of core).role
 taken_role command core between did same taken =

@@ -49,7 +49,7 @@ use Rattle.connection_model.proofs.States.{Stands}
 
 -- ---- the master
 
--- where the nodes stay as they are
+-- if the nodes stay as they are
 nodes_stay : {x : ConnectionName} {written : List Packet} {later : List ℕ} (g h : Group) (moments more : List (Moment State Command Output)) {put : List (ℕ × Command)} {sent : List ℕ}
     (xs ys : List Command) → h.nodes ≡ g.nodes → ((z : Moment State Command Output) → In z moments → In z more) → IsPrefixOf xs ys
     → Stands x written later g moments put sent xs → Stands x written later h more put sent ys
@@ -113,14 +113,14 @@ group_steps {config = config} g h (assigns_unheard wanted) {earlier = earlier} c
 group_steps {config = config} g h (answers_unheard from ballot sent) {earlier = earlier} came well =
     master_steps g h came refl (goes_on config g h (answers_unheard from ballot sent) earlier came)
 
--- ---- all that went on
+-- ---- all steps
 
 pub no_connections : (nodes : ℕ) (config : Config) → Each (λ (core : CoreState). core.connections ≡ []) (opening_cores nodes config)
 no_connections zero config = tt
 no_connections (suc n) config =
     each_append (λ (core : CoreState). core.connections ≡ []) (opening_cores n config) (opening_core (n + 1) config ∷ []) (no_connections n config) (refl, tt)
 
--- a past of the group, and where it is with each connection by what is agreed at its end
+-- a past of the group, and the state of each connection by what is agreed at its end
 pub record CarriedSo {nodes : ℕ} {config : Config} {g : Group} (went : Went nodes config g) : Type 0 where
   pub of : HasPast config g (groups_of went) (all_put went)
   pub good : (x : ConnectionName) (written : List Packet) (later : List ℕ) → Joins written (came_up x went ++ later)
@@ -130,7 +130,7 @@ pub record CarriedSo {nodes : ℕ} {config : Config} {g : Group} (went : Went no
 abbrev pub IsAgreedSo : {nodes : ℕ} {config : Config} {g : Group} {went : Went nodes config g} → CarriedSo went → List Command → Type 0
 IsAgreedSo {config = config} {g = g} so agreed = IsAgreed config (moment_of g ∷ so.of.earlier) agreed
 
--- it goes on by a step, and what is agreed grows
+-- it continues by a step, and what is agreed grows
 pub record CarriedOn {nodes : ℕ} {config : Config} {g h : Group} {went : Went nodes config g} (before : CarriedSo went) (step : MayGo g h) : Type 0 where
   pub now : CarriedSo (then_went went step)
   pub grows : (xs ys : List Command) → IsAgreedSo before xs → IsAgreedSo now ys → IsPrefixOf xs ys
@@ -169,7 +169,7 @@ carried_on {nodes = nodes} {config = config} g h went before step =
       grows = s.further.grows;
     }
 
--- so it is of all that went on
+-- the same holds for all steps
 pub carried_so : {nodes : ℕ} {config : Config} {g : Group} (went : Went nodes config g) → CarriedSo went
 carried_so {nodes = nodes} {config = config} (opened can) = carried_at_first nodes config can
 carried_so {g = h} (then_went {g = g} went step) = (carried_on g h went (carried_so went) step).now

@@ -17,14 +17,15 @@ use Rattle.connection_model.proofs.Flows.{Flows}
 use Rattle.connection_model.proofs.Flows.Flows.{away, begins, flows, ebbs, dries}
 use Rattle.connection_model.proofs.Shown.{Sends, answers_front}
 
--- On an open connection what went down and what waits are the answers at the first places of the list: those that the node
--- has applied, where it leads a ballot. On a closed one they are a beginning of all.
+-- On an open connection what went down and what waits are the answers at the first places of the
+-- list: those that the node has applied, if it leads a ballot. On a closed one they are a prefix of
+-- all.
 pub data Down (x : ConnectionName) (r : ReplicaState State Command) (down : List ℕ) (agreed : List Command) : Option Connection → Type 0 where
   shows : {c : Connection} (k : ℕ) → live c ≡ true → k ≤ length agreed → down ++ c.pending ≡ answers_to x (take k agreed) → (is_active r.role ≡ true → k ≡ r.committed)
       → Down x r down agreed (Some c)
   is_done : {o : Option Connection} → ((c : Connection) → o ≡ Some c → live c ≡ false) → IsPrefixOf (down ++ bytes_of o) (answers_to x agreed) → Down x r down agreed o
 
--- in each case it is a beginning of all
+-- in each case it is a prefix of all
 pub down_front : {x : ConnectionName} {r : ReplicaState State Command} {down : List ℕ} {agreed : List Command} {o : Option Connection} → Down x r down agreed o
     → IsPrefixOf down (answers_to x agreed)
 down_front {x = x} {down = down} {agreed = agreed} (shows {c = c} k lives low is active) =
@@ -44,12 +45,12 @@ down_later {x = x} xs ys grown (is_done over front) = is_done over (prefix_then 
 longer : (down front bytes : List ℕ) → IsPrefixOf front bytes → IsPrefixOf (down ++ front) (down ++ bytes)
 longer down front bytes p = record { rest = p.rest; is = ap (λ l. down ++ l) p.is ∙ sym (append_assoc down front p.rest) }
 
--- the bytes of a connection behind a move, where these came behind those that waited
+-- the bytes of a connection after a move, if these came after those that waited
 moved_on : (down over pending later bytes answers : List ℕ) → over ++ later ≡ pending ++ bytes → down ++ pending ≡ answers → (down ++ over) ++ later ≡ answers ++ bytes
 moved_on down over pending later bytes answers e is =
     append_assoc down over later ∙ ap (λ l. down ++ l) e ∙ sym (append_assoc down pending bytes) ∙ ap (λ l. l ++ bytes) is
 
--- the answers at the places that an open connection has seen, and behind them what was put out
+-- the answers at the places that an open connection has seen, and after them what was queued
 record Seen (x : ConnectionName) (new : ReplicaState State Command) (agreed : List Command) (answers bytes : List ℕ) : Type 0 where
   k : ℕ
   low : k ≤ length agreed

@@ -102,7 +102,7 @@ pub packets_put : (x : ConnectionName) (core : CoreState) (turn : Turn) (m : Los
 packets_put x core turn (exactly m) = exactly_packets x core turn m
 packets_put x core turn m = refl
 
--- ---- no CONNECT is refused where the bytes are those of packets
+-- ---- no CONNECT is refused if the bytes are those of packets
 
 no_stop : (rest : List Packet) (held later : List ℕ) (code : RefusalCode) → Joins rest (held ++ later) → verdict held ≡ Err (stops.Refused code) → ⊥
 unfolding verdict

@@ -1,4 +1,4 @@
--- What a move makes of the bytes of a connection that wait to be handed over.
+-- What a move does to the bytes of a connection that wait to be handed over.
 use Rattle.std.proofs.Common.{◌≡◌, ◌⊎◌, inl, inr, ℕ, Bool, true, false, not, ◌&&◌, if◌then◌else◌, List, [], ◌∷◌, ◌++◌, Option, Some, None, refl, sym, ap, ◌∙◌, subst, filter, map}
 use Rattle.std.specs.List.{find, list_any}
 use Rattle.std.proofs.lemmas.Bool.{both_ways}
@@ -30,8 +30,8 @@ use Rattle.connection_model.specs.Streams.{bytes_named}
 use Rattle.connection_model.specs.Streams.{handed_on as exactly_handed}
 use Rattle.connection_model.proofs.Handed.{handed_on}
 
--- Of a connection some bytes are handed over, and others are put out behind those that wait: all while it is open, a beginning
--- of them where it is closed, and none where it was closed.
+-- Of a connection some bytes are handed over, and others are queued after those that wait: all
+-- while it is open, a prefix of them if it is closed, and none if it was closed.
 pub data Flows (over bytes : List ℕ) : Option Connection → Option Connection → Type 0 where
   away : over ≡ [] → Flows over bytes None None
   begins : {d : Connection} → over ≡ [] → live d ≡ true → d.pending ≡ [] → Flows over bytes None (Some d)
@@ -121,7 +121,7 @@ hands_flow x port core o = by (find (is_at port) core.connections) refl
     later : List Connection
     later = changed (is_at port) handed core.connections
 
-    -- what stays in the list behind it
+    -- what stays in the list after it
     was : (d : Connection) → view all (named x) (filter is_listed later) ≡ Some d → view all (named x) later ≡ Some d
     was d f = (found_filtered x is_listed later d (one_changed (named x) (is_at port) handed core.connections (λ z. refl) (o.names x)) f).0
 

@@ -27,7 +27,7 @@ same_last : (port : Port) (f : Connection → Connection) (core : CoreState) →
 unfolding changes
 same_last port f core = refl
 
--- a command is proposed behind a change
+-- a command is proposed after a change
 behind : (command : Command) (core between : CoreState) → IsOrderly between → between.last_name ≡ core.last_name → (proposes command between).core.last_name ≡ core.last_name
 behind command core between o same = (stays_proposed command between o).last ∙ same
 
@@ -67,7 +67,7 @@ exactly_given x core turn crashes o given = by_same x core turn.core (stays_cras
 exactly_given x core turn settles o given = by_same x core turn.core (stays_settled core o).last given
 exactly_given x core turn (hands port) o given = by_same x core turn.core (stays_handed port core o).last given
 
--- .. where a command is taken behind a change
+-- .. if a command is taken after a change
 taken_last : (command : Command) (core between : CoreState) (did : Account) → IsOrderly between → between.last_name ≡ core.last_name → Takes command between did
     → did.core.last_name ≡ core.last_name
 taken_last command core between did o same taken = (stays_takes command between did taken o).last ∙ same

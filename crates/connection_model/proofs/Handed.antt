@@ -22,7 +22,7 @@ abbrev pub handed_losing : ConnectionName → {core : CoreState} {turn : Turn} �
 handed_losing x rests_losing = []
 handed_losing x (goes_losing m run) = handed_on x m ++ handed_losing x run
 
--- where nothing is lost
+-- if nothing is lost
 pub same_handed : (x : ConnectionName) {core : CoreState} {turn : Turn} (run : Runs core turn) → handed_losing x (losing_none run) ≡ handed_in_run x run
 same_handed x rests = refl
 same_handed x (goes_on m run) = ap (λ l. exactly_handed x m ++ l) (same_handed x run)
@@ -35,7 +35,7 @@ none_on : (x : ConnectionName) {core : CoreState} {turn : Turn} (m : LossyMoves 
 none_on x (exactly m) none = none_exactly x m none
 none_on x m none = refl
 
--- and where nothing is handed over
+-- and if nothing is handed over
 pub none_handed : (x : ConnectionName) {core : CoreState} {turn : Turn} (run : LossyRuns core turn) → HandsNothing run → handed_losing x run ≡ []
 none_handed x rests_losing none = refl
 none_handed x (goes_losing m run) none = ap (λ l. l ++ handed_losing x run) (none_on x m none.0) ∙ none_handed x run none.1

@@ -1,4 +1,4 @@
--- A move of a node keeps where the group is with a connection.
+-- A move of a node keeps the state of a connection of the group.
 use Rattle.std.proofs.Common.{◌≡◌, ◌⊎◌, inl, inr, ℕ, zero, suc, true, List, [], ◌∷◌, ◌++◌, length, take, Option, Some, None, slice_get, slice_set, refl, sym, ap, ◌∙◌, subst, ◌+◌, arith}
 use Rattle.std.proofs.lemmas.List.{append-nil}
 use Rattle.model.specs.packet.declared.packet.Packet.{Packet}
@@ -52,7 +52,7 @@ use Rattle.connection_model.proofs.Given.{stays_given}
 use Rattle.connection_model.proofs.Shown.{Sends, answers_front, gives_answers_to}
 use Rattle.connection_model.proofs.States.{Held, Stands, Untouched, leads_now, listed_given, packets_more, set_back, still_to_come, unlisted_shut}
 
--- ---- nothing is answered to a connection of which no packet stands in the list
+-- ---- nothing is answered to a connection of which no packet is in the list
 
 nothing_before : {X : Type 0} (xs : List X) → IsPrefixOf xs [] → xs ≡ []
 nothing_before [] p = refl
@@ -76,12 +76,12 @@ set_other (x ∷ xs) (suc i) (suc k) y other = set_other xs i k y (λ e. other (
 same_core : (a b : CoreState) → (let o : Option CoreState = Some a in o) ≡ Some b → a ≡ b
 same_core a b e = cc
 
--- an open connection is led on: the node led when it leads behind the move
+-- an open connection is led on: the node led when it leads after the move
 abbrev pub LeadsStill : CoreState → Turn → Type 0
 LeadsStill core turn = (x : ConnectionName) (c : Connection) → listed_named x core ≡ Some c → live c ≡ true → is_active (replica_of turn.core).role ≡ true
     → is_active (replica_of core).role ≡ true
 
--- what is known of a move of the node at a place of a group, of whose messages these are kept
+-- what is known about a move of the node at a place of a group, of which these messages are kept
 pub record Known {config : Config} (g : Group) {earlier : List (Moment State Command Output)} (came : Past rules config (moment_of g ∷ earlier)) (a : ℕ)
     {core : CoreState} {turn : Turn} (m : LossyMoves core turn) (kept : List (Effect Command Output)) : Type 0 where
   pub at : slice_get g.nodes a ≡ Some core

@@ -1,4 +1,4 @@
--- What a node does in a run of moves keeps where the group is with each connection.
+-- What a node does in a run of moves keeps the state of each connection of the group.
 use Rattle.std.proofs.Common.{◌≡◌, ℕ, false, List, [], ◌∷◌, ◌++◌, Some, slice_get, refl, sym, ap, ◌∙◌, subst, append_assoc}
 use Rattle.std.proofs.lemmas.List.{append-nil}
 use Rattle.model.specs.packet.declared.packet.Packet.{Packet}
@@ -45,7 +45,7 @@ use Rattle.connection_model.proofs.Handed.{handed_losing, handed_on}
 use Rattle.connection_model.proofs.MovesKeep.{Known, LeadsStill, move_keeps}
 use Rattle.connection_model.proofs.States.{Stands}
 
--- where a group is with a connection, by each list that is agreed there
+-- the state of a group's connection, by each list that is agreed there
 abbrev pub Good : Config → ConnectionName → List Packet → List ℕ → Group → List (Moment State Command Output) → List (ℕ × Command) → List ℕ → Type 0
 Good config x written later g moments put sent = (agreed : List Command) → IsAgreed config moments agreed → Stands x written later g moments put sent agreed
 
@@ -54,7 +54,8 @@ pub record IsPut {config : Config} {past : List (Moment State Command Output)} (
   pub proposed : proposals_of came ≡ put
   pub taken : (x : ConnectionName) → packets_in x (taken_of came) ≡ packets_in x put
 
--- A past goes on to a group, while these commands were put, and of each connection these bytes came up and these went down.
+-- A past continues to a group, while these commands were put, and of each connection these bytes
+-- came up and these went down.
 pub record Steps {config : Config} (g : Group) {earlier : List (Moment State Command Output)} (came : Past rules config (moment_of g ∷ earlier)) (h : Group)
     (more : List (ℕ × Command)) (up down : ConnectionName → List ℕ) : Type 0 where
   pub further : Further came (moment_of h) more
@@ -87,7 +88,7 @@ same_group g n core at = sym (rw (set_same g.nodes n core at, append-nil g.sent,
 
 -- ---- one move
 
--- the agreed list has a beginning of what was put
+-- the agreed list has a prefix of what was put
 said_first : {config : Config} {a : Moment State Command Output} {earlier : List (Moment State Command Output)} {came : Past rules config (a ∷ earlier)} (h : Group) {more : List (ℕ × Command)}
     (f : Further came (moment_of h) more) (x : ConnectionName) (put : List (ℕ × Command)) → IsPut came put → Each IsInItsBallot (put ++ more) → (ys : List Command)
     → IsAgreed config (moment_of h ∷ f.before) ys → IsPrefixOf (packets_of x ys) (packets_of x (commands_in (put ++ more)))
@@ -108,7 +109,7 @@ move_steps {config = config} g n core turn m kept at sent_so frozen t o leads {e
           (said_first (behind_turn (with_record g (recorded_by g.archive m)) n (keeping kept turn) (given_in m)) known.once.further x put is each ys behind) (good xs.0 xs.1);
     }
 
--- ---- one behind the other
+-- ---- one after another
 
 both_steps : {config : Config} {g h k : Group} {earlier : List (Moment State Command Output)} (came : Past rules config (moment_of g ∷ earlier)) (put more : List (ℕ × Command))
     (up next_up down next_down : ConnectionName → List ℕ) → (first : Steps g came h put up down) → Steps h first.further.past k more next_up next_down
@@ -149,7 +150,7 @@ calm_leads core turn m calm x c there lives e = ap is_active (sym (calm_role cor
 first_leads : (core : CoreState) (turn : Turn) → AreOfTheBallot core → LeadsStill core turn
 first_leads core turn of x c there lives e = left_true (is_active (replica_of core).role) _ (of.each x c there (open_if (is_over c.stage) lives)).0
 
--- one move, and a run behind it
+-- one move, and a run after it
 move_and_run : {config : Config} (g : Group) (n : ℕ) (core : CoreState) (first next : Turn) (m : LossyMoves core first) (run : LossyRuns first.core next) (kept : Given)
     (k : KeptOfBoth kept first.messages next.messages) {earlier : List (Moment State Command Output)} (came : Past rules config (moment_of g ∷ earlier))
     → (step : Steps g came (behind_turn (with_record g (recorded_by g.archive m)) n (keeping k.front first) (given_in m)) (put_in_move m) (λ x. came_on x m) (λ x. handed_on x m))

@@ -34,7 +34,7 @@ spelled_joined : (ps qs : List Packet) → spelled (ps ++ qs) ≡ spelled ps ++ 
 spelled_joined [] qs = refl
 spelled_joined (p ∷ ps) qs = ap (λ l. spelling p ++ l) (spelled_joined ps qs) ∙ sym (append_assoc (spelling p) (spelled ps) (spelled qs))
 
--- the answers to a beginning of a list are a beginning of those to the whole
+-- the answers to a prefix of a list are a prefix of those to the whole
 pub answers_front : (x : ConnectionName) (xs ys : List Command) → IsPrefixOf xs ys → IsPrefixOf (answers_to x xs) (answers_to x ys)
 answers_front x xs ys front =
     let more = put_front usual_limits xs ys x front in
@@ -78,8 +78,9 @@ answers_between x agreed first (suc k) past is low =
 
 -- ---- what a node gives
 
--- What a node put out for a connection while it became another: nothing where it is no active primary, and else the spelled
--- answers to the connection at the next places, from where it had applied the list if it was one before.
+-- What a node queued for a connection while it became another: nothing if it is no active primary,
+-- and otherwise the spelled answers to the connection at the next places, from where it had applied
+-- the list if it was one before.
 pub record Sends (x : ConnectionName) (old new : ReplicaState State Command) (agreed : List Command) (bytes : List ℕ) : Type 0 where
   pub from : ℕ
   pub starts : is_active old.role ≡ true → from ≡ old.committed

@@ -1,4 +1,4 @@
--- Where a group is with one connection, and what a move of one of its nodes makes of it.
+-- The state of one connection of a group, and what a move of one of its nodes does to it.
 use Rattle.std.proofs.Common.{◌≡◌, ◌⊎◌, inl, inr, ℕ, zero, suc, Bool, true, false, List, [], ◌∷◌, ◌++◌, map, Some, None, slice_get, slice_set, ◌&&◌, if◌then◌else◌, refl, sym, ap, ◌∙◌, subst}
 use Rattle.std.specs.List.{find}
 use Rattle.std.proofs.lemmas.List.Elements.{filter-append}
@@ -85,7 +85,7 @@ rows_of : (ballot : ℕ) (commands : List Command) → commands_in (map (λ comm
 rows_of ballot [] = refl
 rows_of ballot (command ∷ commands) = ap (λ l. command ∷ l) (rows_of ballot commands)
 
--- the packets behind a move are those before and those of the move
+-- the packets after a move are those before and those of the move
 pub packets_more : (x : ConnectionName) (put : List (ℕ × Command)) {core : CoreState} {turn : Turn} (m : LossyMoves core turn)
     → packets_of x (commands_in (put ++ put_in_move m)) ≡ packets_of x (commands_in put) ++ packets_of x (commands_put m)
 packets_more x put {core = core} m =

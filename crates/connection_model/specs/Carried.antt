@@ -1,4 +1,5 @@
--- What the nodes of a group make of a connection's bytes, by the list of commands on which they agree.
+-- What the nodes of a group do with a connection's bytes, by the list of commands on which they
+-- agree.
 use Rattle.std.specs.Prelude.{ℕ, List, ◌∷◌, ◌++◌}
 use Rattle.model.specs.packet.declared.packet.Packet.{Packet}
 use Rattle.group_model.specs.ballot.Config.{Config}
@@ -21,14 +22,14 @@ use Rattle.connection_model.specs.Streams.{came_up, went_down}
 abbrev pub answers_to : ConnectionName → List Command → List ℕ
 answers_to x agreed = spelled (put_to usual_limits (past_of usual_limits agreed) x)
 
--- A connection's commands in the list are a beginning of the packets that were written on it, in order; and what went down on
--- it is a beginning of the spellings of the answers that name it.
+-- A connection's commands in the list are a prefix of the packets that were written on it, in
+-- order; and what went down on it is a prefix of the spellings of the answers that name it.
 pub record IsCarried (x : ConnectionName) (written : List Packet) (handed : List ℕ) (agreed : List Command) : Type 0 where
   pub up : IsPrefixOf (packets_of x agreed) (commands_of x 0 written)
   pub down : IsPrefixOf handed (answers_to x agreed)
 
--- So it is of each connection on which packets are written, of whose bytes these came up, and of the list on which the
--- nodes agree.
+-- The same holds for each connection on which packets are written, when a prefix of their bytes
+-- arrived on it, and for each list on which the nodes agree.
 pub record Carries {nodes : ℕ} {config : Config} {g : Group} (went : Went nodes config g) : Type 0 where
   pub of : HasPast config g (groups_of went) (all_put went)
   pub each : (agreed : List Command) → IsAgreed config (moment_of g ∷ of.earlier) agreed → (x : ConnectionName)

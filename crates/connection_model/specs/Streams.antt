@@ -1,4 +1,5 @@
--- The bytes of a connection in a group of nodes: what came up on it, and what was handed over to go down.
+-- The bytes of a connection in a group of nodes: what came up on it, and what was handed over to go
+-- down.
 use Rattle.std.specs.Prelude.{ℕ, if◌then◌else◌, List, [], ◌++◌, Option, Some, None}
 use Rattle.group_model.specs.ballot.Config.{Config}
 use Rattle.model.specs.broker_base.Connection.{ConnectionName, same_connection}
@@ -17,7 +18,7 @@ use Rattle.group_model.specs.Goes.Went.{opened, then_went}
 
 -- ---- up
 
--- what comes on the connection of a name, at whatever node
+-- what comes on the connection of a name, at any node
 abbrev pub comes_up : ConnectionName → {g h : Group} → MayGo g h → List ℕ
 comes_up x (node_acts n core deed turn run at is first sent) = bytes_on x run
 comes_up x (node_loses n core item turn kept by at runs sent thinned) = came_with x item core
@@ -45,7 +46,7 @@ abbrev pub handed_in_run : ConnectionName → {core : CoreState} {turn : Turn} �
 handed_in_run x rests = []
 handed_in_run x (goes_on m run) = handed_on x m ++ handed_in_run x run
 
--- where an item is taken with losses nothing is
+-- if an item is taken with losses nothing is
 abbrev pub goes_down : ConnectionName → {g h : Group} → MayGo g h → List ℕ
 goes_down x (node_acts n core deed turn run at is first sent) = handed_in_run x run
 goes_down x (node_loses n core item turn kept by at runs sent thinned) = []

@@ -2,9 +2,10 @@
 
 ghost use Rattle.connection_model.specs.Carried.{GroupsCarryInOrder};
 
-/// Whatever the nodes of a group, its master and its clients do, the commands of a connection in the list on which the nodes agree
-/// are a beginning of the packets whose bytes came up on it, in order; and what goes down on it is a beginning of the
-/// spellings of the broker's answers that name it (MQTT 4.6).
+/// Whatever the nodes of a group, its master and its clients do, the commands of a connection in
+/// the list on which the nodes agree are a prefix of the packets whose bytes arrived on it, in
+/// order; and the bytes sent on it are a prefix of the spellings of the broker's answers that are
+/// for it (MQTT 4.6).
 pub fn groups_carry_in_order()
     ensures { GroupsCarryInOrder }
 {}

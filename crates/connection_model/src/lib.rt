@@ -1,5 +1,5 @@
-//! The connections of a group of nodes, as definitions and laws: what comes up on a connection as bytes, and what goes
-//! down on it, by the list of commands on which the nodes agree.
+//! The connections of a group of nodes, as definitions and laws: what comes up on a connection as
+//! bytes, and what goes down on it, by the list of commands on which the nodes agree.
 #![tactic(auto)]
 
 mod laws;

@@ -65,7 +65,7 @@ cons_parts x y xs ys e = (cc, cc)
 out_parts : {C O : Type 0} (p q : ℕ) (x y : O) → (let a : WholeEffect C O = effects.Out p x in a) ≡ effects.Out q y → (p ≡ q) × (x ≡ y)
 out_parts p q x y e = (cc, cc)
 
--- what stands for outputs, and then more, are these outputs, and then more
+-- what corresponds to outputs, and then more, are these outputs, and then more
 splits : {C O : Type 0} (archive : List C) (place : ℕ) (os : List O) (more : List (WholeEffect C O)) (es : List (Effect C O)) →
     whole_effects archive es ≡ map (effects.Out place) os ++ more → Splits archive place os more es
 splits archive place [] more es e = record { rest = es; is = refl; same = e }
@@ -81,7 +81,7 @@ splits {C = C} {O = O} archive place (o ∷ os) more (Out p x ∷ es) e =
     let t = splits archive place os more es z.1 in
     record { rest = t.rest; is = ap₂ (λ (a : Effect C O) (l : List (Effect C O)). a ∷ l) (ap₂ (λ (i : ℕ) (v : O). let a : Effect C O = Out i v in a) y.0 y.1) t.is; same = t.same }
 
--- a Held is one on whole logs alone
+-- a Held is the same on whole logs
 held_back : {C : Type 0} (archive : List C) (m : Message C) (from b n : ℕ) → whole_message archive m ≡ (let x : WholeMessage C = record { from = from; body = bodies.Held b n } in x) →
     m ≡ record { from = from; body = Held b n }
 held_back {C = C} archive m from b n e = by m.body refl (ap (λ (x : WholeMessage C). x.body) e)
@@ -104,7 +104,7 @@ held_back {C = C} archive m from b n e = by m.body refl (ap (λ (x : WholeMessag
     by (Append c place d) is f = cc
     by (Commit c held) is f = cc
 
--- an outcome that answers on whole logs answers where they are cut
+-- an outcome that answers on whole logs answers if they are cut
 answers_cut : {S C O : Type 0} (rules : Rules S C O) (archive : List C) (ballot : ℕ) (log : List C) (c : C) (os : List ℕ) (m : ℕ) (ow : WholeOutcome S C O) (o : Outcome S C O) →
     WholeAnswers rules ballot log c os m ow → AreLike rules ballot ow (wholly archive o) → AnswersCommand rules archive ballot log c os m o
 answers_cut rules archive ballot log c os m ow o z like =

@@ -1,4 +1,5 @@
--- Answering.antt: the next command at the primary of a led ballot, where nodes cut their logs. What is said of logs is said of whole ones.
+-- Answering.antt: the next command at the primary of a led ballot, if nodes cut their logs. What is
+-- said about logs is said about whole ones.
 use Rattle.std.specs.Prelude.{ℕ, ◌+◌, ◌*◌, ◌<◌, ◌≡◌, false, List, [], ◌∷◌, ◌++◌, length, map, slice_get, Some}
 use Rattle.machine.specs.Machine.{Rules, replay}
 use Rattle.lists.specs.Lists.{In}
@@ -18,8 +19,8 @@ use Rattle.cut_ways.specs.ways_out.Deliveries.{AreApart, NodeIs, numbers_from}
 use Rattle.cut_ways.specs.ways_out.Following.{Follows, Serves}
 use Rattle.cut_ways.specs.Deliveries.{Delivered, after_outcome}
 
--- a step of the primary that answers a command after a log: it gives what the machine answers there, before any message, and
--- serves the longer log then
+-- a step of the primary that answers a command after a log: it outputs what the machine answers
+-- there, before any message, and then serves the longer log
 pub record AnswersCommand {S C O : Type 0} (rules : Rules S C O) (archive : List C) (ballot : ℕ) (log : List C) (c : C)
     (others_of : List ℕ) (primary : ℕ) (o : Outcome S C O) : Type 0 where
   pub rest : List (Effect C O)
@@ -36,8 +37,9 @@ pub record AnswersLast {S C O : Type 0} (rules : Rules S C O) (a : Moment S C O)
   pub answers : AnswersCommand rules a.world.archive ballot log c others_of (place + 1)
       (received rules replica last (Held ballot (length log + 1)))
 
--- a proposal to the primary at a place, whose replica this is, where others follow: it gives nothing. The others are sent the
--- command, and answer; the primary takes all answers but the last, and when that one comes, it answers the command
+-- a proposal to the primary at a place, whose replica this is, when others follow: it outputs
+-- nothing. The others are sent the command, and answer; the primary takes all answers except the
+-- last, and when that one comes, it answers the command
 pub record IsHeldByAll {S C O : Type 0} (rules : Rules S C O) (a : Moment S C O) (place ballot : ℕ)
     (r : ReplicaState S C) (log : List C) (c : C) (front : List ℕ) (last : ℕ) : Type 0 where
   pub quiet : outputs (replica_step rules r (Proposes c)).effects ≡ []
@@ -55,7 +57,8 @@ pub record IsHeldByAll {S C O : Type 0} (rules : Rules S C O) (a : Moment S C O)
   pub each : (m : ℕ) → In m (front ++ last ∷ []) →
       NodeIs (Follows ballot (log ++ c ∷ [])) (whole_moment before).world.nodes m
 
--- the primary of a led ballot answers the next command: at once where it is alone, and else when all others have answered
+-- the primary of such a ballot answers the next command: at once if it is the only member, and
+-- otherwise when all others have answered
 abbrev pub CutGroupsAnswer : {S C O : Type 0} → Rules S C O → Type 0
 CutGroupsAnswer {S} {C} {O} rules =
     (config : Config) (a : Moment S C O) (past : List (Moment S C O)) →

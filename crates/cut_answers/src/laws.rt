@@ -4,8 +4,9 @@ ghost use Rattle.cut_answers.specs.Answering.{CutGroupsAnswer};
 
 use machine::Machine;
 
-/// States that the primary of a ballot, whose other members hold all of its log, answers the next command at its place, whichever
-/// logs were cut: at once where it is alone, and otherwise when all others have told that they hold it too.
+/// States that the primary of a ballot, whose other members hold all of its log, answers the next
+/// command at its place, whichever logs were cut: at once if it is the only member, and otherwise
+/// when all others have acknowledged that they hold it too.
 pub fn cut_groups_answer<M: Machine>()
     ensures { CutGroupsAnswer M.rules }
 {}

@@ -73,7 +73,7 @@ get_back g [] n y e = cc
 get_back g (x ∷ xs) zero y e = let same : g x ≡ y = cc in (x, refl, same)
 get_back g (x ∷ xs) (suc n) y e = get_back g xs n y e
 
--- an Activate is one on whole logs alone
+-- an Activate is the same on whole logs
 activate_back : {C : Type 0} (archive : List C) (m : Message C) (from b : ℕ) → whole_message archive m ≡ (let x : WholeMessage C = record { from = from; body = bodies.Activate b } in x) →
     m ≡ record { from = from; body = Activate b }
 activate_back {C = C} archive m from b e = by m.body refl (ap (λ (x : WholeMessage C). x.body) e)
@@ -109,7 +109,7 @@ pub record MomentLike {S C O : Type 0} (rules : Rules S C O) (ballot : ℕ) (a :
   pub sent : map (whole_letter b.world.archive) b.world.sent ≡ a.world.sent
   pub nodes : (n : ℕ) (p : WholeState S C) → slice_get a.world.nodes n ≡ Some p → NodeLike rules ballot b.world n p
 
--- a past goes on
+-- a past continues
 pub record Goes {S C O : Type 0} (rules : Rules S C O) (config : Config) (past : List (Moment S C O)) (b : Moment S C O) : Type 0 where
   pub between : List (Moment S C O)
   pub came : Past rules config (b ∷ (between ++ past))
@@ -132,7 +132,7 @@ pub record Followed {S C O : Type 0} (rules : Rules S C O) (config : Config) (ba
   pub goes : Goes rules config past end
   pub like : MomentLike rules ballot last end
   pub archive : end.world.archive ≡ a.world.archive
-  -- and the past on whole logs has gone on
+  -- and the past on whole logs has continued
   pub whole_before : List (WholeMoment S C O)
   pub whole_came : WholePast rules config (last ∷ whole_before)
 

@@ -1,4 +1,5 @@
--- LogsLike.antt: what a node takes in does to a cut log what it does to the whole one, but that a snapshot may leave the node ahead.
+-- LogsLike.antt: what a node takes does to a cut log what it does to the whole one, but that a
+-- snapshot may leave the node ahead.
 use Rattle.std.proofs.Common.{Bool, ◌≡◌, ℕ, ◌+◌, ◌<◌, ◌≤◌, ◌⊎◌, inl, inr, true, false, List, [], ◌∷◌, length, take, Some, refl, ap, sym, ◌∙◌, subst, arith}
 use Rattle.std.specs.Prelude.{nat_lt, nat_le, slice_get, ◌&&◌, ◌||◌, ◌==◌}
 use Rattle.std.proofs.lemmas.Bool.{and_parts, cases_Bool, cases_lt, eqb-true, lt-ltb, le-ltb}

@@ -1,4 +1,5 @@
--- SameRows.antt: what a node takes in that carries no log does to a cut log what it does to the whole one, and all the same is sent.
+-- SameRows.antt: what a node takes that carries no log does to a cut log what it does to the whole
+-- one, and all the same is sent.
 use Rattle.std.proofs.Common.{cond, Bool, ◌≡◌, ℕ, ◌≤◌, true, false, max, List, [], ◌∷◌, ◌++◌, length, take, drop, refl, ap, ap₂, sym, ◌∙◌, subst, arith}
 use Rattle.std.specs.Prelude.{nat_lt, nat_le, ◌&&◌, ◌==◌}
 use Rattle.std.specs.List.{list_any}
@@ -30,7 +31,7 @@ use Rattle.snapshots.proofs.Fronts.{whole_long, whole_part, whole_pushed}
 use Rattle.snapshots.proofs.Plain.{IsPlainBody}
 use Rattle.snapshots.proofs.Serving.{whole_outputs, whole_to_followed}
 
--- an outcome stands for one on whole logs, and nothing that it hands out is missing
+-- an outcome corresponds to one on whole logs, and nothing that it hands out is missing
 pub record IsSame {S C O : Type 0} (archive : List C) (o : Outcome S C O) (p : WholeOutcome S C O) : Type 0 where
   pub state : whole archive o.state ≡ p.state
   pub effects : whole_effects archive o.effects ≡ p.effects

@@ -1,5 +1,5 @@
--- Deliveries.antt: messages that come to their receivers one after the other, exactly, each named by its number, where nodes cut
--- their logs. The numbers are those of `ways_out`.
+-- Deliveries.antt: messages that come to their receivers one after another, exactly, each named by
+-- its number, if nodes cut their logs. The numbers are those of `ways_out`.
 use Rattle.std.specs.Prelude.{ℕ, ◌+◌, ◌≡◌, false, List, [], ◌∷◌, slice_get, Some}
 use Rattle.machine.specs.Machine.{Rules}
 use Rattle.snapshots.specs.agreement.MasterState.{assigning}
@@ -18,7 +18,7 @@ use Rattle.snapshots.specs.World.{moved, outputs}
 abbrev pub after_outcome : {S C O : Type 0} → ℕ → Outcome S C O → Moment S C O → Moment S C O
 after_outcome n o a = record { master = a.master; world = moved a.world n o.state o.effects }
 
--- the moment after an Activate that the master hears
+-- the moment after an Activate that the master receives
 abbrev pub after_activate : {S C O : Type 0} → ℕ → ℕ → Moment S C O → Moment S C O
 after_activate {C = C} from ballot a =
     record {
@@ -34,7 +34,7 @@ assigned_moment {C = C} config a =
       world = tells_from_master a.world (assigned C a.master config);
     }
 
--- messages come, one after the other, to nodes that run, give no outputs then, and have joined the
+-- messages come, one after another, to nodes that run, give no outputs then, and have joined the
 -- ballot after them, or to the master
 pub data Delivered {S C O : Type 0} (rules : Rules S C O) (ballot : ℕ) :
     Moment S C O → List ℕ → Moment S C O → Type 0 where

@@ -1,4 +1,5 @@
--- Laws.antt: the way to the next ballot, for groups whose nodes cut their logs. What is said of logs is said of whole ones.
+-- Laws.antt: the way to the next ballot, for groups whose nodes cut their logs. What is said about
+-- logs is said about whole ones.
 use Rattle.std.specs.Prelude.{ℕ, ◌+◌, ◌-◌, ◌*◌, ◌≡◌, List, [], ◌∷◌, ◌++◌, length}
 use Rattle.machine.specs.Machine.{Rules}
 use Rattle.lists.specs.Lists.{IsPrefixOf}
@@ -8,7 +9,7 @@ use Rattle.ways_out.specs.Deliveries.{way_out}
 use Rattle.ways_out.specs.Laws.{CanBeLed, IsLed, StartsGiveNothing}
 use Rattle.cut_ways.specs.Deliveries.{Delivered, assigned_moment}
 
--- a past goes on to a later moment, where this list is agreed; what was agreed before begins it
+-- a past continues to a later moment, if this list is agreed; what was agreed before begins it
 pub record GoesOnTo {S C O : Type 0} (rules : Rules S C O) (config : Config)
     (past : List (Moment S C O)) (b : Moment S C O) (agreed : List C) : Type 0 where
   pub between : List (Moment S C O)
@@ -34,7 +35,7 @@ pub record LeadsOut {S C O : Type 0} (rules : Rules S C O) (config : Config)
   pub led : IsLed (a.master.given + 1) new (log ++ rules.start_of (a.master.given + 1) ∷ []) (whole_moment last)
   pub goes : GoesOnTo rules config past last (log ++ rules.start_of (a.master.given + 1) ∷ [])
 
--- where starts give nothing there is a way out at each moment of a group, whichever logs were cut
+-- if starts have no output, there is a way out at each moment of a group, whichever logs were cut
 abbrev pub CutGroupsHaveWaysOut : {S C O : Type 0} → Rules S C O → Type 0
 CutGroupsHaveWaysOut {S} {C} {O} rules =
     StartsGiveNothing rules → (config : Config) (a : Moment S C O) (past : List (Moment S C O)) →

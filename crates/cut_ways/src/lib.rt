@@ -1,5 +1,5 @@
-//! The way to the next ballot for groups whose nodes cut their logs. No code runs here; the law is carried by a call that does
-//! nothing.
+//! The way to the next ballot for groups whose nodes cut their logs. No code runs here; the law is
+//! the contract of a call that does nothing.
 #![tactic(auto)]
 
 mod laws;

@@ -1,4 +1,5 @@
--- Every list of bytes is cut into packets and a rest, and behind the last whole packet all were given.
+-- Every list of bytes is cut into packets and a rest, and after the last whole packet all were
+-- given.
 use Rattle.std.proofs.Common.{◌≡◌, ◌≤◌, ℕ, zero, suc, List, [], ◌∷◌, ◌++◌, length, Result, Ok, Err, refl, sym, ap, ◌∙◌, subst, arith, length-append}
 use Rattle.std.specs.Prelude.{IfOk}
 use Rattle.packet.specs.Stop.{Stop}
@@ -12,7 +13,7 @@ use Rattle.cutter.specs.Stream.{HasNoFront, CutsInto}
 use Rattle.cutter.specs.Laws.{AreBytes, EveryStreamIsCut, NoPacketIsLeft, CuttingsAgree}
 use Rattle.cutter.proofs.OneWay.{Begins, ran-begins, one-way}
 
--- ---- where the verdict is no packet, there is none at the front
+-- ---- if the verdict is no packet, there is none at the front
 
 two_kinds : {A E : Type 0} (a : A) (x : E) → (let b : Result A E = Ok a in b) ≡ Err x → ⊥
 two_kinds a x e = cc

@@ -1,4 +1,4 @@
--- A stream is cut in one way, and what was given is a beginning of its packets.
+-- A stream is cut in one way, and what was given is a prefix of its packets.
 use Rattle.std.proofs.Common.{◌≡◌, ℕ, List, [], ◌∷◌, ◌++◌, refl, sym, ◌∙◌, ap, ap₂, subst, append_assoc}
 use Rattle.std.proofs.lemmas.List.{append_cancel_left}
 use Rattle.packet.specs.Laws.{NoneBeginsAnother}
@@ -7,7 +7,7 @@ use Rattle.cutter.specs.Stream.{Stream, GoesOnWith, CutsInto}
 use Rattle.cutter.specs.Laws.{OneCut, Ran, PacketsOfTheStream}
 use Rattle.cutter.specs.Laws.Ran.{begins, feeds, gives, answers}
 
--- where two packets are at the front, they are one, and so is what follows
+-- if two packets are at the front, they are equal, and so is what follows
 same-front : NoneBeginsAnother → (bytes : List ℕ) (p q : Packet) (x y : List ℕ) → GoesOnWith bytes p x → GoesOnWith bytes q y → (p ≡ q) × (x ≡ y)
 same-front law bytes p q x y (a, sa, pa, ea) (b, sb, pb, eb) =
     let h = law p q a b x y pa pb sa sb (sym ea ∙ eb) in
@@ -25,7 +25,7 @@ one-way law bytes (p ∷ ps) (q ∷ qs) rest left c d =
     let k = one-way law d.0 ps qs rest left (subst (λ (z : List ℕ). CutsInto z ps rest) h.1 c.2) d.2 in
     (ap₂ (λ (z : Packet) (zs : List Packet). z ∷ zs) h.0 k.0, k.1)
 
--- ---- what was taken in goes on from what was given
+-- ---- what was fed continues from what was given
 
 abbrev pub Begins : List ℕ → List Packet → List ℕ → Type 0
 Begins bytes [] rest = bytes ≡ rest

@@ -9,8 +9,8 @@ abbrev pub OneCut : Type 0
 OneCut = (bytes : List ℕ) (packets others : List Packet) (rest left : List ℕ)
     → CutsInto bytes packets rest → CutsInto bytes others left → (packets ≡ others) × (rest ≡ left)
 
--- A cutter after some calls, with all bytes that it took in and all packets that it gave. A call that
--- changes nothing needs no case.
+-- A cutter after some calls, with all bytes that it was fed and all packets that it gave. A call
+-- that changes nothing needs no case.
 pub data Ran : List ℕ → List Packet → Stream → Type 0 where
   begins : Ran [] [] (record { held = []; failed = false })
   feeds : {fed : List ℕ} {given : List Packet} {s : Stream} (piece : List ℕ)
@@ -20,7 +20,7 @@ pub data Ran : List ℕ → List Packet → Stream → Type 0 where
   answers : {fed : List ℕ} {given : List Packet} {s t : Stream} (result : Result (Option Packet) CutError)
       → Ran fed given s → t.held ≡ s.held → Takes s result t → Ran fed given t
 
--- what was given is a beginning of the packets of the bytes that were taken in
+-- what was given is a prefix of the packets of the bytes that were fed
 abbrev pub PacketsOfTheStream : Type 0
 PacketsOfTheStream = (fed : List ℕ) (given : List Packet) (s : Stream) → Ran fed given s
     → (packets : List Packet) (rest : List ℕ) → CutsInto fed packets rest
@@ -35,13 +35,13 @@ abbrev pub EveryStreamIsCut : Type 0
 EveryStreamIsCut = (bytes : List ℕ) → AreBytes bytes
     → (packets : List Packet) × (rest : List ℕ) × CutsInto bytes packets rest
 
--- behind an answer that no whole packet is there, what was given are all packets of the bytes that were taken in,
--- and what is held is the rest
+-- after an answer that no whole packet is there, what was given are all packets of the bytes that
+-- were fed, and what is held is the rest
 abbrev pub NoPacketIsLeft : Type 0
 NoPacketIsLeft = (fed : List ℕ) (given : List Packet) (s t : Stream) → Ran fed given s → Takes s (Ok None) t
     → CutsInto fed given s.held
 
--- so two cutters that took in the same bytes, cut anywhere, gave the same and hold the same
+-- so two cutters that were fed the same bytes, cut anywhere, gave the same and hold the same
 abbrev pub CuttingsAgree : Type 0
 CuttingsAgree = (fed : List ℕ) (given others : List Packet) (s t u v : Stream)
     → Ran fed given s → Takes s (Ok None) t → Ran fed others u → Takes u (Ok None) v

@@ -10,7 +10,7 @@ use Rattle.packet.specs.declared.error.DecodeFault.TheVariants as faults
 use Rattle.cutter.specs.declared.error.CutError.{CutError}
 use Rattle.cutter.specs.declared.error.CutError.TheVariants as errors
 
--- the bytes that came and are not taken yet, and whether a fault was met
+-- the bytes that came and are not taken yet, and whether a fault was found
 pub record Stream : Type 0 where
   pub held : List ℕ
   pub failed : Bool
@@ -24,13 +24,14 @@ GoesOnWith bytes packet rest =
 abbrev pub HasNoFront : List ℕ → Type 0
 HasNoFront bytes = (packet : Packet) (rest : List ℕ) → GoesOnWith bytes packet rest → ⊥
 
--- the packets whose spellings, joined, are the longest such front of the bytes, and what follows them
+-- the packets whose spellings, joined, are the longest such front of the bytes, and what follows
+-- them
 abbrev pub CutsInto : List ℕ → List Packet → List ℕ → Type 0
 CutsInto bytes [] rest = (bytes ≡ rest) × HasNoFront rest
 CutsInto bytes (packet ∷ packets) rest =
     (left : List ℕ) × GoesOnWith bytes packet left × CutsInto left packets rest
 
--- a fault of the stream; want of memory is none
+-- a fault of the stream; that memory ran out is none
 abbrev pub IsFault : DecodeFault → List ℕ → Type 0
 IsFault (faults.Malformed kind) bytes =
     (kind ≢ kinds.Memory) × (verdict bytes ≡ Err (stops.Malformed kind))

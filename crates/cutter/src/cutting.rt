@@ -28,7 +28,7 @@ impl Model for Cutter {
 }
 
 impl Cutter {
-    /// A cutter at the beginning of a stream.
+    /// Returns a cutter at the beginning of a stream.
     pub fn new(alloc: Global) -> Cutter
         ensures { result ≡ record { held = []; failed = false } }
     {
@@ -39,15 +39,15 @@ impl Cutter {
         }
     }
 
-    /// How many bytes came and are not taken yet.
+    /// Returns how many bytes came and are not taken yet.
     pub fn len(&self) -> usize
         ensures { result ≡ length self.now.held }
     {
         self.held.len()
     }
 
-    /// Takes in the next piece of the stream. After `Memory`, which a piece without bytes never gets,
-    /// nothing has changed; `Failed` comes exactly behind a fault of the stream.
+    /// Appends the next piece of the stream. After `Memory`, which a piece without bytes never
+    /// gets, nothing has changed; `Failed` comes exactly after a fault of the stream.
     pub fn feed(&mut self, piece: &[u8]) -> Result<(), CutError>
         ensures ok { OnOk result
             (self.new ≡ record self.old { held = self.old.held ++ piece.now }) }
@@ -63,9 +63,9 @@ impl Cutter {
         Ok(())
     }
 
-    /// Takes the next packet, where the whole of it came. A fault of the stream is answered once,
-    /// and `Failed` from then on; after `Memory`, which only comes where `decode` asks for memory,
-    /// nothing has changed.
+    /// Takes the next packet, if the whole of it came. A fault of the stream is answered once, and
+    /// `Failed` from then on; after `Memory`, which only comes if `decode` asks for memory, nothing
+    /// has changed.
     pub fn next(&mut self) -> Result<Option<Packet>, CutError>
         ensures { Takes self.old result self.new }
     {

@@ -11,17 +11,17 @@ use std::fmt;
 /// Why a call of a [`crate::Cutter`] gives nothing.
 #[derive(Clone, Copy, Debug, PartialEq, Eq)]
 pub enum CutError {
-    /// The stream goes on with what begins no packet, or with a CONNECT that is to be refused; never
-    /// want of memory.
+    /// The stream continues with bytes that begin no packet, or with a CONNECT that is to be
+    /// refused. It is never that memory ran out.
     Decode(DecodeFault),
-    /// No memory was found; the cutter is as it was.
+    /// Memory ran out; the cutter is as it was.
     Memory,
     /// An earlier call answered a fault of the stream.
     Failed,
 }
 
 impl CutError {
-    /// The number of the refusal; a CONNECT that is answered with a code has none.
+    /// Returns the number of the refusal; a CONNECT that is answered with a code has none.
     pub fn number(self) -> Option<u8>
         ensures { result ≡ cut_number self }
     {

@@ -11,8 +11,8 @@ pub fn one_cut()
     no_spelling_begins_another();
 }
 
-/// However the calls of a cutter follow each other, what it has given is a beginning of the packets
-/// of all bytes that it was fed.
+/// However the calls of a cutter follow each other, what it has given is a prefix of the packets of
+/// all bytes that it was fed.
 pub fn packets_of_the_stream()
     ensures { PacketsOfTheStream }
 {
@@ -24,8 +24,8 @@ pub fn every_stream_is_cut()
     ensures { EveryStreamIsCut }
 {}
 
-/// Behind an answer that no whole packet is there, a cutter has given all packets of the bytes that it
-/// took in and holds the rest; so two that took in the same bytes, cut anywhere, gave the same.
+/// After an answer that no whole packet is there, a cutter has given all packets of the bytes that
+/// it was fed and holds the rest; so two that were fed the same bytes, cut anywhere, gave the same.
 pub fn no_packet_is_left()
     ensures none { NoPacketIsLeft }
     ensures agree { CuttingsAgree }

@@ -1,4 +1,5 @@
--- A sole member that reads a CONNECT puts the answer out first, whatever else it reads or puts out in the same step.
+-- A sole member that reads a CONNECT queues the answer first, whatever else it reads or queues in
+-- the same step.
 use Rattle.std.proofs.Common.{◌≡◌, ◌<◌, ◌≤◌, ℕ, zero, suc, Bool, true, false, if◌then◌else◌, not, List, [], ◌∷◌, ◌++◌, length, map, Option, Some, None, Result, Ok, Err, refl, sym, ap, ◌∙◌, subst}
 use Rattle.std.specs.Prelude.{nat_lt}
 use Rattle.std.specs.List.{find, fold}
@@ -39,7 +40,7 @@ use Rattle.escaping.proofs.AnswerPutOut.{FrontOf, Keeps, closed_keeps, first_put
 use Rattle.escaping.proofs.ConnectProposed.{changed_twice, find_changed, is_more, two_kinds}
 use Rattle.escaping.proofs.OneDelivery.{with_replica}
 
--- ---- whatever is read, what is put out first stays so
+-- ---- whatever is read, what is queued first stays so
 
 module _ (at : Port) (front : List ℕ) (some : 0 < length front) where
   abbrev HasFront : CoreState → Type 0
@@ -132,7 +133,7 @@ module _ (core : CoreState) (port : Port) (now : ℕ) (piece : List ℕ) (c : Co
   leads : serves core ≡ true
   leads = (and_parts (serves core) (nat_lt (places core.replica.state.log) most_places) room).0
 
-  -- it stands, with its CONNECT
+  -- it is open, with its CONNECT
   is_open : is_open_at port c ≡ true
   is_open = found_passes (is_open_at port) core.connections c opened
 

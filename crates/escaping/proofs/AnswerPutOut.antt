@@ -1,4 +1,4 @@
--- The first output of a message is put out first, whatever comes after it.
+-- The first output of a message is queued first, whatever comes after it.
 use Rattle.std.proofs.Common.{◌≡◌, ◌<◌, ◌≤◌, ◌+◌, ℕ, zero, suc, Bool, true, false, ◌||◌, if◌then◌else◌, not, List, [], ◌∷◌, ◌++◌, filter, length, map, Option, Some, None, refl, sym, ap, ◌∙◌, subst, arith}
 use Rattle.std.specs.Prelude.{◌==◌, nat_le}
 use Rattle.std.specs.List.{find, fold}
@@ -109,7 +109,7 @@ module _ (port : Port) (front : List ℕ) (some : 0 < length front) where
           either true = found_later d (filter is_listed cs) e (rest (tail_is d cs e z))
           either false = rest (tail_is d cs e z)
 
-  -- ---- what becomes of a connection
+  -- ---- what happens to a connection
 
   pub closed_keeps : Keeps closed
   closed_keeps = record { port_of = λ d. refl; front_of = λ d first. first }
@@ -174,7 +174,7 @@ module _ (port : Port) (front : List ℕ) (some : 0 < length front) where
 
 -- ---- the first output
 
--- where two tests find one connection, a change by one is found by the other
+-- if two tests find one connection, a change by one is found by the other
 pub found_both : (one two : Connection → Bool) (f : Connection → Connection) (cs : List Connection) (c : Connection) → one c ≡ true → two c ≡ true → two (f c) ≡ true →
     find two cs ≡ Some c → find one cs ≡ Some c → find two (changed one f cs) ≡ Some (f c)
 found_both one two f [] c p q r found here = cc

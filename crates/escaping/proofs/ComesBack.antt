@@ -1,4 +1,4 @@
--- A client whose session was kept is welcomed back behind the start of a ballot.
+-- A client whose session was kept is welcomed back after the start of a ballot.
 use Rattle.std.proofs.Common.{◌≡◌, ℕ, Bool, true, false, ◌||◌, if◌then◌else◌, not, List, [], ◌∷◌, ◌++◌, length, map, Option, Some, None, refl, ap, ◌∙◌}
 use Rattle.std.specs.Prelude.{◌==◌, flat_map, is_some, nat_lt}
 use Rattle.lists.specs.Lists.{Each}
@@ -26,7 +26,7 @@ use Rattle.model.proofs.Answers.{past_push}
 use Rattle.model.proofs.BrokerRules.{gives_answers}
 use Rattle.escaping.specs.Welcome.{IsSentTo, KeptSessionsAreWelcomed}
 
--- ---- behind the start of a ballot
+-- ---- after the start of a ballot
 
 -- no client has a connection
 pub none_current : (limits : Limits) (past : Past) (ballot : ℕ) (c : Client) → current_connection (place_of limits past (commands.Start ballot) ∷ past) c ≡ None

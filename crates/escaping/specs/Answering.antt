@@ -1,4 +1,5 @@
--- What the last answer of the others makes the new primary put out: the answer to the CONNECT, first of all.
+-- What the last answer of the others makes the new primary send: first of all the answer to the
+-- CONNECT.
 use Rattle.std.specs.Prelude.{◌≡◌, ◌<◌, ◌≤◌, ℕ, false, List, [], ◌∷◌, ◌++◌, length, map, Some, true, Ok}
 use Rattle.std.specs.List.{find}
 use Rattle.lists.specs.Lists.{IsPrefixOf}
@@ -33,15 +34,15 @@ pub record PutsOutFirst (port : Port) (front : List ℕ) (core : CoreState) : Ty
   pub listed : listed_at port core ≡ Some connection
   pub first : IsPrefixOf front connection.pending
 
--- where the first output of a message is a packet for an open connection with nothing to hand over, it is put out first, whatever comes
--- after it
+-- if the first output of a message is a packet for an open connection with nothing to hand over, it
+-- is sent first, whatever comes after it
 abbrev pub AnswerIsPutOut : Type 0
 AnswerIsPutOut = (core : CoreState) (message : Message Command) (port : Port) (x : ConnectionName) (c : Connection) (place : ℕ) (packet : Packet) (others : List Output)
     (more : List (Effect Command Output)) → core.replica.state.stopped ≡ false → listed_at port core ≡ Some c → find (is_open_named x) core.connections ≡ Some c →
     c.pending ≡ [] → (heard_by core message).effects ≡ map (Out place) (Send x packet ∷ others) ++ more → 0 < length (spelling packet) →
     length (spelling packet) ≤ most_pending → PutsOutFirst port (spelling packet) (node_step (Peer message) core).core
 
--- the same where a sole member reads the CONNECT, and its proposal is answered at once
+-- the same if a sole member reads the CONNECT, and its proposal is answered at once
 abbrev pub AnswerAloneIsPutOut : Type 0
 AnswerAloneIsPutOut = (core : CoreState) (port : Port) (now : ℕ) (piece : List ℕ) (c : Connection) (connect : Connect) (place : ℕ) (packet : Packet)
     (others : List Output) (more : List (Effect Command Output)) → has_room core ≡ true → open_at port core ≡ Some c → listed_at port core ≡ Some c →

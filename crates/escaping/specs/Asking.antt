@@ -21,15 +21,15 @@ use Rattle.group_model.specs.world_base.Step.{node_step}
 use Rattle.group_model.specs.world_base.Turns.{has_room}
 use Rattle.escaping.specs.Delivery.{IsCalm}
 
--- the connection whose CONNECT came whole at this time
+-- the connection whose CONNECT became whole at this time
 abbrev pub asked_now : ℕ → ℕ → Connection → Connection
 asked_now now keep_alive c = record c { stage = Proposed; keep_alive = keep_alive; last_packet = now; unread = [] }
 
--- what a proposal makes of the node's replica
+-- what a proposal does to the node's replica
 abbrev pub proposal_at : CoreState → Command → Outcome State Command Output
 proposal_at core command = proposed rules core.replica.state command
 
--- the node that has proposed it, where it gives nothing yet
+-- the node that has proposed it, if that has no output yet
 abbrev pub with_asked : ℕ → Port → Connect → Command → CoreState → CoreState
 with_asked now port connect command core =
     record core {
@@ -37,7 +37,8 @@ with_asked now port connect command core =
       connections = filter is_listed (changed (is_open_at port) (asked_now now connect.keep_alive) core.connections);
     }
 
--- bytes that are a CONNECT, on a connection that awaits one, at a node whose log has room, are proposed under the connection's name
+-- bytes that are a CONNECT, on a connection that awaits one, at a node whose log has room, are
+-- proposed under the connection's name
 abbrev pub ConnectIsProposed : Type 0
 ConnectIsProposed = (core : CoreState) (port : Port) (now : ℕ) (piece : List ℕ) (c : Connection) (connect : Connect) → has_room core ≡ true → IsCalm core →
     open_at port core ≡ Some c → is_first c.stage ≡ true → c.unread ≡ [] → verdict piece ≡ Ok (packets.Connect connect, []) →

@@ -1,4 +1,4 @@
--- One step of a node on a message, where its replica gives nothing.
+-- One step of a node on a message for which its replica has no output.
 use Rattle.std.specs.Prelude.{◌≡◌, ◌⊎◌, false, []}
 use Rattle.lists.specs.Lists.{Each}
 use Rattle.ballot.specs.Message.{Message}
@@ -15,22 +15,25 @@ use Rattle.group_model.specs.world_base.Connections.{has_failed}
 use Rattle.group_model.specs.world_base.Core.{CoreState, Turn, rules}
 use Rattle.group_model.specs.world_base.Step.{node_step}
 
--- what a message makes of the node's replica
+-- what a message does to the node's replica
 abbrev pub heard_by : CoreState → Message Command → Outcome State Command Output
 heard_by core message = received rules core.replica.state message.from message.body
 
--- the broker has heard of each connection that was closed because there was no room for what was put out
+-- the loss of each connection that was closed because there was no room for what was to be sent is
+-- reported to the broker
 abbrev pub IsCalm : CoreState → Type 0
 IsCalm core = Each (λ (c : Connection). has_failed c ≡ false) core.connections
 
--- this turn makes of the node's replica what the outcome says, sends just its messages, and gives no name
+-- this turn does to the node's replica what the outcome says, sends just its messages, and gives no
+-- name
 pub record IsDelivery (core : CoreState) (o : Outcome State Command Output) (turn : Turn) : Type 0 where
   pub replica : turn.core.replica ≡ record core.replica { state = o.state }
   pub last_name : turn.core.last_name ≡ core.last_name
   pub messages : turn.messages ≡ o.effects
   pub calm : IsCalm turn.core
 
--- so does the step on a message, where the replica runs and gives no output, and the node is calm or is no active primary afterwards
+-- the same holds for the step on a message, if the replica runs and has no output, and the node is
+-- calm or is no active primary afterwards
 abbrev pub AStepIsADelivery : Type 0
 AStepIsADelivery = (core : CoreState) (message : Message Command) → core.replica.state.stopped ≡ false → outputs (heard_by core message).effects ≡ [] →
     IsCalm core ⊎ (is_active (heard_by core message).state.role ≡ false) → IsDelivery core (heard_by core message) (node_step (Peer message) core)

@@ -1,4 +1,5 @@
--- A connection that waits for its CONNECT and then for its answer, while other messages come and bytes are handed over.
+-- A connection that waits for its CONNECT and then for its answer, while other messages come and
+-- bytes are handed over.
 use Rattle.std.specs.Prelude.{◌≡◌, ℕ, true, false, [], None, Some}
 use Rattle.std.specs.List.{find, list_any}
 use Rattle.packet.specs.declared.connect.Connect.{Connect}
@@ -19,24 +20,26 @@ use Rattle.escaping.specs.Asking.{with_asked}
 use Rattle.escaping.specs.Delivery.{IsCalm, heard_by}
 use Rattle.escaping.specs.Opening.{first_name, with_first}
 
--- a connection of this name at this port is open, and nothing was put out for it
+-- a connection of this name at this port is open, and nothing was queued for it
 pub record AwaitsAnswer (port : Port) (x : ConnectionName) (core : CoreState) : Type 0 where
   pub connection : Connection
   pub listed : listed_at port core ≡ Some connection
   pub named : find (is_open_named x) core.connections ≡ Some connection
   pub none : connection.pending ≡ []
 
--- it stays so where a calm node that leads on takes a message of which its replica gives no output
+-- it stays so when a calm node that keeps leading takes a message for which its replica has no
+-- output
 abbrev pub MessagesKeepItWaiting : Type 0
 MessagesKeepItWaiting = (port : Port) (x : ConnectionName) (core : CoreState) (message : Message Command) → AwaitsAnswer port x core → IsCalm core →
     core.replica.state.stopped ≡ false → outputs (heard_by core message).effects ≡ [] → is_active (heard_by core message).state.role ≡ true →
     (heard_by core message).state.stopped ≡ false → AwaitsAnswer port x (node_step (Peer message) core).core
 
--- and where bytes are handed over, at whichever port
+-- and when bytes are handed over, at whichever port
 abbrev pub HandingKeepsItWaiting : Type 0
 HandingKeepsItWaiting = (port other : Port) (x : ConnectionName) (core : CoreState) → AwaitsAnswer port x core → AwaitsAnswer port x (hands_over other core)
 
--- a connection of this name at this port is open, its CONNECT has not come, and nothing was put out for it
+-- a connection of this name at this port is open, its CONNECT has not arrived, and nothing was
+-- queued for it
 pub record AwaitsConnect (port : Port) (x : ConnectionName) (core : CoreState) : Type 0 where
   pub waits : AwaitsAnswer port x core
   pub name : waits.connection.name ≡ x
@@ -44,12 +47,13 @@ pub record AwaitsConnect (port : Port) (x : ConnectionName) (core : CoreState) :
   pub first : is_first waits.connection.stage ≡ true
   pub unread : waits.connection.unread ≡ []
 
--- so does the first connection of a ballot, at a port of which the node lists none, where no open connection has its name
+-- the same holds for the first connection of a ballot, at a port for which the node lists none, if
+-- no open connection has its name
 abbrev pub FirstAwaitsConnect : Type 0
 FirstAwaitsConnect = (port : Port) (core : CoreState) → list_any (is_at port) core.connections ≡ false →
     find (is_open_named (first_name core)) core.connections ≡ None → AwaitsConnect port (first_name core) (with_first port core)
 
--- it stays so where bytes are handed over, at whichever port
+-- it stays so when bytes are handed over, at whichever port
 abbrev pub HandingKeepsTheConnect : Type 0
 HandingKeepsTheConnect = (port other : Port) (x : ConnectionName) (core : CoreState) → AwaitsConnect port x core → AwaitsConnect port x (hands_over other core)
 

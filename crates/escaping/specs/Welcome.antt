@@ -1,4 +1,5 @@
--- That a client whose session was kept is welcomed back after the start of a ballot, and its connection is not closed (MQTT 3.1.2.4, 3.2.2.2).
+-- A client whose session was kept is answered with session present after the start of a ballot, and
+-- its connection is not closed (MQTT 3.1.2.4, 3.2.2.2).
 use Rattle.std.specs.Prelude.{◌≡◌, ℕ, true, false, List, [], ◌∷◌, ◌++◌, Some}
 use Rattle.lists.specs.Lists.{Each}
 use Rattle.ballot.specs.Machine.{replay}
@@ -18,13 +19,14 @@ abbrev pub IsSentTo : ConnectionName → Output → Type 0
 IsSentTo x (Send y packet) = y ≡ x
 IsSentTo x (Close y) = ⊥
 
--- after these commands and the start of a ballot a Connect is answered with CONNACK 0 and session present, and then with packets alone
+-- after these commands and the start of a ballot a Connect is answered with CONNACK 0 and session
+-- present, and then only with packets
 pub record IsWelcomedBack (list : List Command) (ballot : ℕ) (x : ConnectionName) (c : Client) : Type 0 where
   pub rest : List Output
   pub gives : rules.gives (replay rules (list ++ commands.Start ballot ∷ [])) (commands.Connect x c false) ≡ welcome x true ∷ rest
   pub sent : Each (IsSentTo x) rest
 
--- so is each client whose session is there, and is not clean
+-- this holds for each client whose session exists and is not clean
 abbrev pub KeptSessionsAreWelcomed : Type 0
 KeptSessionsAreWelcomed = (list : List Command) (ballot : ℕ) (x : ConnectionName) (c : Client) → session_of (past_of usual_limits list) c ≡ Some false →
     IsWelcomedBack list ballot x c

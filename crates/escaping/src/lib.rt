@@ -1,5 +1,6 @@
-//! What the steps of a way out make of one node with connections, and what its broker answers to a client that comes back there.
-//! No code runs here; the laws are carried by calls that do nothing.
+//! What the steps of a way out do to one node with connections, and what its broker answers to a
+//! client that comes back there. No code runs here; the laws are contracts of calls that do
+//! nothing.
 #![tactic(auto)]
 
 mod laws;

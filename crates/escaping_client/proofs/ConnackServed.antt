@@ -1,4 +1,4 @@
--- A client that takes in a CONNACK 0 with session present is online then.
+-- A client that handles a CONNACK 0 with session present is online then.
 use Rattle.std.proofs.Common.{◌≡◌, ◌⊎◌, inl, inr, ℕ, true, List, [], ◌++◌, Option, Some, None, Result, Ok, Err, refl, sym, ap, ◌∙◌, subst}
 use Rattle.client.specs.Core.{Core, nothing_read}
 use Rattle.client.specs.Reading.{EndsWith, Handles, OnBytes, Reads, StopsFor, fed, turn_of}
@@ -36,7 +36,7 @@ same_packet : (r : Result (Packet × List ℕ) Stop) (p q : Packet) (k l : List 
 same_packet r p q k l e f =
     let both : (p, k) ≡ (q, l) = cc in (ap (λ (x : Packet × List ℕ). x.0) both, ap (λ (x : Packet × List ℕ). x.1) both)
 
--- where nothing whole stands, there is no packet, and no fault
+-- if no whole packet is there, there is no packet, and no fault
 no_fault : (bytes : List ℕ) → verdict bytes ≡ Err stops.More → (fault : DecodeFault) → IsFault fault bytes → ⊥
 no_fault bytes e (faults.Malformed kind) f = two_stops (verdict bytes) stops.More (stops.Malformed kind) e f.1 (λ g. cc)
   where
@@ -106,7 +106,7 @@ module _ (piece : List ℕ) (old : Core) (whole : verdict piece ≡ Ok (connack,
   none_stops_after cause last empty (inr (packet, next, reads, refused)) =
       ok_not_err (verdict last.unread.held) (packet, next.unread.held) stops.More reads.0.1 (nothing_more last empty)
 
-  -- so it ends behind it
+  -- so it ends after it
   ends : (last new : Core) (result : Result (Unit {0}) ClientError) → (result ≡ Err errors.Memory → ⊥) → (last ≡ fed piece old) ⊎ After last → EndsWith last result new →
       (result ≡ Ok tt) × IsServed new
   ends last new (Ok done) memory (inl same) z =

@@ -1,4 +1,4 @@
--- The CONNACK at the client: it is online with its session present.
+-- The CONNACK at the client: the client is online with its session present.
 use Rattle.std.specs.Prelude.{◌≡◌, ℕ, true, List, [], Result, Ok, Err}
 use Rattle.client.specs.Core.{Core, nothing_read}
 use Rattle.client.specs.Reading.{OnBytes}
@@ -15,7 +15,8 @@ pub record IsServed (core : Core) : Type 0 where
   pub online : is_online core.state.stage ≡ true
   pub present : core.state.present ≡ true
 
--- bytes that are such a CONNACK, on a connection that was opened and on which nothing came yet, are taken unless memory runs out
+-- bytes that are such a CONNACK, on a connection that was opened and on which nothing came yet, are
+-- taken unless memory runs out
 abbrev pub ConnackServes : Type 0
 ConnackServes = (piece : List ℕ) (old new : Core) (result : Result (Unit {0}) ClientError) → verdict piece ≡ Ok (packets.Connack (connacks.Accepted true), []) →
     old.state.stage ≡ stages.Opened → old.unread ≡ nothing_read → (result ≡ Err errors.Memory → ⊥) → OnBytes piece old.state.stage old result new →

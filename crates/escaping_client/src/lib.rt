@@ -1,4 +1,5 @@
-//! What the CONNACK that a way out ends with makes of a client. No code runs here; the law is carried by a call that does nothing.
+//! What the CONNACK at the end of a way out does to a client. No code runs here; the law is the
+//! contract of a call that does nothing.
 #![tactic(auto)]
 
 mod laws;

@@ -81,13 +81,13 @@ pub record AwaitsOthers (ballot place : ℕ) (port : Port) (x : ConnectionName) 
   pub calm : AreCalm ballot n
   pub waits : StillWaits ballot place port x n
 
--- .. where another node changes
+-- .. if another node changes
 elsewhere : (ballot place : ℕ) (port : Port) (x : ConnectionName) (n v : NodesState) (at : ℕ) (new : CountedCore) → (place ≡ at → ⊥) → v.nodes ≡ slice_set n.nodes at new →
     StillWaits ballot place port x n → StillWaits ballot place port x v
 elsewhere ballot place port x n v at new other is s =
     record { node = s.node; stands = ap (λ l. slice_get l place) is ∙ get_set_other n.nodes at place new other ∙ s.stands; leads = s.leads; waits = s.waits }
 
--- .. where it does itself
+-- .. if it does itself
 itself : (ballot place : ℕ) (port : Port) (x : ConnectionName) (n v : NodesState) (old new : CountedCore) → slice_get n.nodes place ≡ Some old → v.nodes ≡ slice_set n.nodes place new →
     LeadsAt ballot (replica_of new.core) → AwaitsAnswer port x new.core → StillWaits ballot place port x v
 itself ballot place port x n v old new there is leads waits =
@@ -215,7 +215,7 @@ module _ (config : Config) (a : Moment State Command Output) (past : List (Momen
       es ≡ map (Out (length log)) (Send x session_present ∷ welcomed.rest) ++ more
   begins es more is = is ∙ ap (λ (os : List Output). map (Out (length log)) os ++ more) welcomed.gives
 
-  -- ---- alone
+  -- ---- as the sole member
 
   pub alone : AnswersCommand rules a.world.archive ballot log c [] (place + 1) (replica_step rules r (Proposes c)) →
       PutsOutFirst port (spelling session_present) (node_step (Bytes port piece now) core).core

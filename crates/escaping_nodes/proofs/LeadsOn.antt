@@ -32,7 +32,7 @@ joined_if : {S C O : Type 0} (t : Bool) (o u : Outcome S C O) (n : ℕ) → (if 
 joined_if true o u n j e = j
 joined_if false o u n j e = absurd (both_ways false refl e)
 
--- a test that begins so is not passed
+-- a test whose first part fails is not passed
 fails_first : (x y : Bool) → x ≡ false → (x && y) ≡ true → ⊥
 fails_first x y e f = both_ways x e (and_parts x y f).0
 
@@ -135,7 +135,7 @@ module _ {S C O : Type 0} (rules : Rules S C O) (ballot : ℕ) (r : ReplicaState
       by_test ballot (follows r b && nat_le k (places r.log)) _ (nothing_done O r)
       (λ e. absurd (fails_last (r.joined == b && r.held_in == b) (is_backup r.role) backup (and_parts (follows r b) (nat_le k (places r.log)) e).0)) (λ e. l)
 
-  -- and where it proposes
+  -- and if it proposes
   added_leads : (c : C) → LeadsAt ballot (added {O = O} rules r c).state
   unfolding added commit
   added_leads c =

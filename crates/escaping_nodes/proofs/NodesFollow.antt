@@ -1,4 +1,4 @@
--- Nodes to which the messages of a way out come go through what it says of their replicas.
+-- Nodes to which the messages of a way out come go through what it says about their replicas.
 use Rattle.std.proofs.Common.{◌≡◌, ◌⊎◌, inl, inr, ◌<◌, ℕ, ◌+◌, false, List, [], ◌∷◌, ◌++◌, map, Option, Some, None, refl, sym, ap, ◌∙◌, subst, arith}
 use Rattle.std.specs.Prelude.{slice_get, slice_set}
 use Rattle.std.proofs.lemmas.Bool.{cases_eq}
@@ -52,7 +52,7 @@ pub replica_at : (a : Moment State Command Output) (n : NodesState) → IsSeen a
 replica_at a n s at node there =
     ap (λ (l : List (ReplicaState State Command)). slice_get l at) s.nodes ∙ get_mapped replica_of (cores_of n.nodes) at node.core (get_mapped core_of n.nodes at node there)
 
--- the replicas, where a node becomes another
+-- the replicas, if a node becomes another
 pub nodes_set : (nodes : List CountedCore) (at : ℕ) (new : CountedCore) →
     map replica_of (cores_of (slice_set nodes at new)) ≡ slice_set (map replica_of (cores_of nodes)) at (replica_of new.core)
 nodes_set nodes at new = ap (map replica_of) (set_mapped core_of nodes at new) ∙ set_mapped replica_of (cores_of nodes) at new.core
@@ -66,7 +66,7 @@ some_one o x y e f = cc
 abbrev pub IsCalmOrLow : ℕ → CountedCore → Type 0
 IsCalmOrLow ballot node = IsCalm node.core ⊎ (node.core.replica.state.joined < ballot)
 
--- where one becomes another that is calm, or has not joined the ballot, all are so still
+-- if one becomes another that is calm, or has not joined the ballot, all are so still
 pub set_calm : (ballot : ℕ) (nodes : List CountedCore) (at : ℕ) (node new : CountedCore) → slice_get nodes at ≡ Some node → IsCalmOrLow ballot new →
     ((i : ℕ) (x : CountedCore) → slice_get nodes i ≡ Some x → IsCalmOrLow ballot x) → (i : ℕ) (x : CountedCore) → slice_get (slice_set nodes at new) i ≡ Some x →
     IsCalmOrLow ballot x
@@ -78,7 +78,7 @@ set_calm ballot nodes at node new there now before i x e = by (cases_eq i at)
         (some_one (slice_get (slice_set nodes at new) at) new x (get_set nodes at node new there) (ap (slice_get (slice_set nodes at new)) (sym same) ∙ e)) now
     by (inr other) = before i x (sym (get_set_other nodes at i new other) ∙ e)
 
--- the replicas, where one becomes what it was
+-- the replicas, if one becomes what it was
 pub set_same_replica : (n : NodesState) (at : ℕ) (node : CountedCore) → slice_get n.nodes at ≡ Some node →
     slice_set (map replica_of (cores_of n.nodes)) at (replica_of node.core) ≡ map replica_of (cores_of n.nodes)
 set_same_replica n at node there =
@@ -247,7 +247,7 @@ nothing_comes ballot a b all_came n s = s
 
 -- ---- names
 
--- a deed that gives no name, and more that give none
+-- a call that gives no name, and more that give none
 names_then : (n : NodesState) (at : ℕ) (node : CountedCore) (deed : Deed) (new : NodesState) → slice_get n.nodes at ≡ Some node →
     (done deed node.core).core.last_name ≡ node.core.last_name → KeepNames (behind_deed at node deed n) new → KeepNames n new
 names_then n at node deed new there same more i x later e f = by (cases_eq i at)

@@ -36,7 +36,8 @@ use Rattle.escaping_nodes.specs.Coming.Come.{all_came as none_comes, hands}
 use Rattle.escaping_nodes.specs.Opened.{CanOpen, ConnectionsOpenFirst, IsOpened, first_of}
 use Rattle.escaping_nodes.proofs.NodesFollow.{IsCalmOrLow, hands_calm, hands_keep, hands_seen, nodes_set, set_calm, set_same_replica, some_one}
 
--- a primary that leads its ballot serves clients, and the broker heard of each failed connection
+-- a primary that leads its ballot serves clients, and each failed connection is reported to the
+-- broker
 calm_there : (ballot : ℕ) (node : CountedCore) → node.core.replica.state.joined ≡ ballot → IsCalmOrLow ballot node → IsCalm node.core
 calm_there ballot node same (inl calm) = calm
 calm_there ballot node same (inr low) = absurd (omega (arith, same, low))
@@ -85,7 +86,7 @@ module _ (a : Moment State Command Output) (n : NodesState) (ballot place : ℕ)
             (first_awaits_connect port core can.free (ap (λ (x : ConnectionName). find (is_open_named x) core.connections) named ∙ can.unnamed)));
       }
 
--- it awaits it still where bytes are handed over
+-- it still awaits it when bytes are handed over
 handed : (a : Moment State Command Output) (n : NodesState) (ballot place : ℕ) (others_of : List ℕ) (log : List Command) (port : Port) (at : ℕ) (other : CountedCore) (p : Port) →
     slice_get n.nodes at ≡ Some other → IsOpened a n ballot place others_of log port → IsOpened a (behind_deed at other (gives p) n) ballot place others_of log port
 handed a n ballot place others_of log port at other p there o = by (cases_eq place at)

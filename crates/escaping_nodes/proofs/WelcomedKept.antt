@@ -45,7 +45,7 @@ unfolding session_of
 still limits past ballot c there =
     ap (newest_session None false (ends_any (place_of limits past (commands.Start ballot)) c (current_connection past c))) there
 
--- the answer tells it
+-- the answer says it
 tells : (limits : Limits) (past : Past) (x : ConnectionName) (c : Client) → ((d : Client) → current_connection past d ≡ None) →
     is_welcome (answers_of limits past (commands.Connect x c false)) ≡ is_kept (session_of past c)
 tells limits past x c none =

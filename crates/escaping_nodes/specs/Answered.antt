@@ -42,8 +42,9 @@ session_present = packets.Connack (connacks.Accepted true)
 abbrev pub begun : List Command → ℕ → List Command
 begun list start = list ++ commands.Start start ∷ []
 
--- the node at a place leads a ballot, with the commands of this list before the ballot's start; a connection awaits its CONNECT there; and the
--- bytes are a CONNECT of a client whose session is there and not clean
+-- the node at a place leads a ballot, with the commands of this list before the ballot's start; a
+-- connection awaits its CONNECT there; and the bytes are a CONNECT of a client whose session exists
+-- and is not clean
 pub record CanAsk (a : Moment State Command Output) (n : NodesState) (ballot place : ℕ) (node : CountedCore) (others_of : List ℕ) (port : Port)
     (x : ConnectionName) (list : List Command) (start : ℕ) (piece : List ℕ) (connect : Connect) : Type 0 where
   pub seen : IsSeen a n
@@ -56,7 +57,7 @@ pub record CanAsk (a : Moment State Command Output) (n : NodesState) (ballot pla
   pub is_connect : verdict piece ≡ Ok (packets.Connect connect, [])
   pub kept : connect.clean ≡ false
 
--- a sole member puts the answer out first when it reads them
+-- a sole member queues the answer first when it reads them
 abbrev pub SoleMemberAnswersTheClient : Type 0
 SoleMemberAnswersTheClient = (config : Config) (a : Moment State Command Output) (past : List (Moment State Command Output)) → Past rules config (a ∷ past) →
     (n : NodesState) (ballot place : ℕ) (node : CountedCore) (port : Port) (x : ConnectionName) (list : List Command) (start now : ℕ) (piece : List ℕ) (connect : Connect) →
@@ -67,7 +68,8 @@ SoleMemberAnswersTheClient = (config : Config) (a : Moment State Command Output)
 abbrev pub last_held : ℕ → ℕ → List Command → Message Command
 last_held last ballot log = record { from = last; body = Held ballot (length log + 1) }
 
--- that message was sent to the node at the place, which runs, and puts the answer out first when it comes
+-- that message was sent to the node at the place, which runs, and queues the answer first when it
+-- comes
 pub record PutsOutAtLast (place index : ℕ) (port : Port) (message : Message Command) (n : NodesState) : Type 0 where
   pub node : CountedCore
   pub stands : slice_get n.nodes place ≡ Some node
@@ -75,7 +77,8 @@ pub record PutsOutAtLast (place index : ℕ) (port : Port) (message : Message Co
   pub comes : slice_get n.sent index ≡ Some (place + 1, message)
   pub puts : PutsOutFirst port (spelling session_present) (node_step (Peer message) node.core).core
 
--- with others: they are sent the command, and answer; once all answers but the last have come, the last one makes the primary put the answer out first
+-- with others: they are sent the command, and answer; once all answers except the last have come,
+-- the last one makes the primary queue the answer first
 abbrev pub OthersLetTheClientBeAnswered : Type 0
 OthersLetTheClientBeAnswered = (config : Config) (a : Moment State Command Output) (past : List (Moment State Command Output)) → Past rules config (a ∷ past) →
     (n new : NodesState) (ballot place : ℕ) (node : CountedCore) (front : List ℕ) (last : ℕ) (port : Port) (x : ConnectionName) (list : List Command) (start now : ℕ) (piece : List ℕ) (connect : Connect) →

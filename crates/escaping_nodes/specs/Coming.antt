@@ -1,4 +1,5 @@
--- Messages that come to nodes with connections, each by its number and exactly, and what they make of the replicas.
+-- Messages that reach nodes with connections, each by its number and without losses, and what they
+-- do to the replicas.
 use Rattle.std.specs.Prelude.{◌≡◌, ◌⊎◌, ◌<◌, ℕ, ◌+◌, false, List, [], ◌∷◌, map, Some, slice_get}
 use Rattle.ballot.specs.Body.TheVariants.{Activate}
 use Rattle.ballot.specs.Message.{Message}
@@ -16,7 +17,8 @@ use Rattle.world_nodes.specs.Nodes.{NodesState, cores_of}
 use Rattle.cut_answers.specs.cut_ways.Deliveries.{Delivered}
 use Rattle.escaping.specs.Delivery.{IsCalm}
 
--- the messages of these numbers come, one after the other, to nodes that run or to the master; in between nodes hand over bytes
+-- the messages of these numbers come, one after another, to nodes that run or to the master; in
+-- between nodes hand over bytes
 pub data Come : NodesState → List ℕ → NodesState → Type 0 where
   all_came : {n : NodesState} → Come n [] n
   to_node : {n new : NodesState} {ks : List ℕ} (k at : ℕ) (node : CountedCore) (message : Message Command) → slice_get n.sent k ≡ Some (at + 1, message) →

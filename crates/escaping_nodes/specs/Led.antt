@@ -13,7 +13,8 @@ use Rattle.cut_answers.specs.cut_ways.ways_out.Laws.{CanBeLed}
 use Rattle.cut_answers.specs.cut_ways.Laws.{LeadsOut}
 use Rattle.escaping_nodes.specs.Coming.{AreCalm, Come, IsSeen, KeepNames}
 
--- the moment to which the way out leads is seen then, each node is calm or has not joined the new ballot, and none has given a name
+-- the moment to which the way out leads is seen then, each node is calm or has not joined the new
+-- ballot, and none has given a name
 pub record AreLedOut (config : Config) (past : List (Moment State Command Output)) (a : Moment State Command Output) (new : Config) (place : ℕ)
     (log : List Command) (n end : NodesState) : Type 0 where
   pub way : LeadsOut rules config past a new place log
@@ -21,7 +22,8 @@ pub record AreLedOut (config : Config) (past : List (Moment State Command Output
   pub calm : AreCalm (a.master.given + 1) end
   pub names : KeepNames n end
 
--- whatever led up to nodes of which a new ballot asks no more than it may, whichever logs they cut, and whatever they keep of connections
+-- whatever the history of nodes that may be led to a new ballot, whichever logs they cut, and
+-- whatever connections they keep
 abbrev pub NodesAreLedOut : Type 0
 NodesAreLedOut = (config : Config) (a : Moment State Command Output) (past : List (Moment State Command Output)) → Past rules config (a ∷ past) →
     (new : Config) (place source : ℕ) (log : List Command) → CanBeLed (whole_moment a) new place source log → (n end : NodesState) → IsSeen a n →

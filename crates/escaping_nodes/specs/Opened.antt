@@ -27,7 +27,8 @@ use Rattle.escaping_nodes.specs.Coming.{AreCalm, Come, IsSeen}
 abbrev pub first_of : ℕ → ConnectionName
 first_of ballot = record { ballot = ballot; count = 1 }
 
--- the node at a place leads a ballot in which it gave no name yet, and lists no connection at this port
+-- the node at a place leads a ballot in which it gave no name yet, and lists no connection at this
+-- port
 pub record CanOpen (a : Moment State Command Output) (n : NodesState) (ballot place : ℕ) (node : CountedCore) (others_of : List ℕ) (log : List Command)
     (port : Port) : Type 0 where
   pub seen : IsSeen a n
@@ -48,13 +49,14 @@ pub record IsOpened (a : Moment State Command Output) (n : NodesState) (ballot p
   pub serves : Serves ballot log others_of (place + 1) (whole a.world.archive (replica_of node.core))
   pub awaits : AwaitsConnect port (first_of ballot) node.core
 
--- so it is once the connection was opened, whatever bytes are handed over then
+-- that holds once the connection was opened, whatever bytes are handed over then
 abbrev pub ConnectionsOpenFirst : Type 0
 ConnectionsOpenFirst = (a : Moment State Command Output) (n new : NodesState) (ballot place : ℕ) (node : CountedCore) (others_of : List ℕ) (log : List Command)
     (port : Port) (now : ℕ) → CanOpen a n ballot place node others_of log port → Come (behind_deed place node (takes (Opened port now)) n) [] new →
     IsOpened a new ballot place others_of log port
 
--- who would be welcomed back after these commands has a session that is not clean, and the other way round
+-- a client would be answered with session present after these commands exactly if it has a session
+-- that is not clean
 abbrev pub WelcomedAreKept : Type 0
 WelcomedAreKept = (client : Client) (list : List Command) → ((welcomes_back client list ≡ true) → (session_of (past_of usual_limits list) client ≡ Some false))
     × ((session_of (past_of usual_limits list) client ≡ Some false) → (welcomes_back client list ≡ true))

@@ -1,5 +1,5 @@
-//! What the messages of a way out make of nodes with connections: of their replicas what they make of a group of replicas.
-//! No code runs here; the laws are carried by calls that do nothing.
+//! What the messages of a way out do to nodes with connections: to their replicas what they do to a
+//! group of replicas. No code runs here; the laws are contracts of calls that do nothing.
 #![tactic(auto)]
 
 mod laws;

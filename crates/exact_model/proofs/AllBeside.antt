@@ -27,7 +27,7 @@ use Rattle.exact_model.proofs.WorldsWrite.{HasAllPipes, clients_alone, is_of_wri
 
 -- ---- as it opens
 
--- beside it a world of `model` opens
+-- at the same time a world of `model` opens
 opens_beside : (cs : List Client) → Beside cs [] (map pipes_alone (map new_client cs))
 opens_beside cs =
     record {

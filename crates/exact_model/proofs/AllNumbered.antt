@@ -60,7 +60,7 @@ resent_numbered keeper =
     (each_append IsNumbered (map (λ id. plain (packets.Pubrel id)) keeper.releases) (sent_again keeper.own) (releases_numbered keeper.releases) (again_numbered keeper.own))
     (first_numbered keeper.own)
 
--- ---- what a packet makes of the newest connection
+-- ---- what a packet does to the newest connection
 
 abbrev StaysNumbered : Connection → Side → Type 0
 StaysNumbered κ side = Each IsNumbered κ.written → Each IsNumbered side.connection.written

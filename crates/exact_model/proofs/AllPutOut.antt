@@ -1,4 +1,4 @@
--- A world comes to have read all that was written, and to have put out all that is agreed.
+-- A world reaches a state in which all that was written is read, and all that is agreed is sent.
 use Rattle.std.proofs.Common.{◌≡◌, ◌≤◌, ◌+◌, ℕ, zero, suc, true, List, [], ◌∷◌, length, map, set, Some, refl, sym, ap, ◌∙◌, subst, arith}
 use Rattle.std.specs.Prelude.{slice_get}
 use Rattle.world_model.specs.agreement.whole.Applying.{outputs_between}
@@ -23,7 +23,8 @@ use Rattle.world_model.proofs.of_model.WorldsExact.{reached_holds}
 use Rattle.world_model.proofs.of_group_model.Placed.{set_same, set_twice}
 use Rattle.exact_model.proofs.Places.{in_turn, take_whole}
 
--- the open end of a connection of which all is read, whose node has applied this list and put out all the answers
+-- the open end of a connection of which all is read, whose node has applied this list and sent all
+-- the answers
 abbrev pub end_of : List Command → Connection → End
 end_of agreed κ =
     record { read = length κ.written; seen = length agreed; put = put_to usual_limits (past_of usual_limits agreed) κ.name; is_open = true }
@@ -107,7 +108,7 @@ client_puts_out cs old w i c apart reached at low full =
 abbrev pub filled : List Command → ClientEnds → ClientEnds
 filled agreed c = record c { ends = ends_of agreed c.connections }
 
--- each client's, where they had put out what a shorter list asks for
+-- each client's, if they had sent what a shorter list asks for
 pub all_put_out : (cs : List Client) (old : List Command) (w : World) → AreApart cs → Reached cs w → length old ≤ length w.agreed → Each (IsFull old) w.clients
     → Reached cs (record w { clients = map (filled w.agreed) w.clients })
 all_put_out cs old w apart reached low full =

@@ -28,7 +28,7 @@ use Rattle.exact_model.proofs.ExpelledNobody.{expel_in_range}
 
 -- ---- command by command
 
--- behind one of them the broker is in its ranges, and its answers can be spelled
+-- after one of them the broker is in its ranges, and its answers can be spelled
 goes_in_range : (state : State) (command : Command) → IsFitting command → IsBrokerState usual_limits state
     → IsBrokerState usual_limits (step usual_limits 64 state command).0 × AllByRecursion CanBeSpelled (step usual_limits 64 state command).1
 goes_in_range state (commands.Connect x c clean) fits h = (

@@ -1,5 +1,5 @@
--- A world of `model` beside the clients of another: where each client's nodes have read all that it wrote, and put out all that
--- is agreed, it goes on as the agreed list grows.
+-- A world of `model` with the same clients as another world: while each client's nodes have read
+-- all that it wrote, and sent all that is agreed, it continues as the agreed list grows.
 use Rattle.std.proofs.Common.{◌≡◌, ℕ, true, List, [], ◌∷◌, filter, length, map, take, Some, refl, sym, ap, ◌∙◌, subst, arith}
 use Rattle.std.specs.Prelude.{slice_get}
 use Rattle.broker_base.specs.Command.{Command}
@@ -21,7 +21,7 @@ use Rattle.exact_model.proofs.Untaken.{AreSameUntaken, untaken_connection}
 use Rattle.exact_model.proofs.AllPutOut.{IsFull, all_put_out, end_of, ends_of, filled}
 use Rattle.exact_model.proofs.Places.{each_of_made, map_back, map_twice, same_place, take_whole}
 
--- a client with its connections, but for how much of them stands in the list
+-- a client with its connections, except how much of them is in the list
 pub record Alone : Type 0 where
   pub keeper : Keeper
   pub connections : List Connection
@@ -32,7 +32,7 @@ alone keeper connections = record { keeper = keeper; connections = map untaken_c
 abbrev pub ends_alone : ClientEnds → Alone
 ends_alone c = alone c.keeper c.connections
 
--- a world with these clients, in which each node has read all and put out all
+-- a world with these clients, in which each node has read all and sent all
 pub record Beside (cs : List Client) (agreed : List Command) (clients : List Alone) : Type 0 where
   pub world : World
   pub reached : Reached cs world
@@ -40,9 +40,9 @@ pub record Beside (cs : List Client) (agreed : List Command) (clients : List Alo
   pub full : Each (IsFull agreed) world.clients
   pub same : map ends_alone world.clients ≡ clients
 
--- ---- what a client alone shows of its ends
+-- ---- what a client shows of its ends without its nodes
 
--- ends do not depend on how much stands in the list
+-- ends do not depend on how much is in the list
 ends_untaken : (agreed : List Command) (connections : List Connection) → ends_of agreed (map untaken_connection connections) ≡ ends_of agreed connections
 ends_untaken agreed [] = refl
 ends_untaken agreed (κ ∷ connections) = ap (λ l. end_of agreed κ ∷ l) (ends_untaken agreed connections)
@@ -50,7 +50,7 @@ ends_untaken agreed (κ ∷ connections) = ap (λ l. end_of agreed κ ∷ l) (en
 pub same_ends : (agreed : List Command) (connections others : List Connection) → AreSameUntaken connections others → ends_of agreed connections ≡ ends_of agreed others
 same_ends agreed connections others same = sym (ends_untaken agreed connections) ∙ ap (ends_of agreed) same ∙ ends_untaken agreed others
 
--- where all that is not taken of two lists of clients is the same, their ends are full together
+-- if all that is not taken of two lists of clients is the same, their ends are full together
 full_still : (agreed : List Command) (clients others : List ClientEnds) → map untaken others ≡ map untaken clients → Each (IsFull agreed) clients → Each (IsFull agreed) others
 full_still agreed clients others same full =
     each_by (IsFull agreed) others (λ i c at. by i c (same_place untaken untaken clients others i c (sym same) at))
@@ -78,7 +78,8 @@ pub record IsOfAlone (clients : List Alone) (command : Command) : Type 0 where
   pub at : slice_get client.connections j ≡ Some connection
   pub named : is_packet_of command connection.name ≡ true
 
--- a list has of each connection a beginning of what was written, in order, and packets of these connections alone
+-- a list has of each connection a prefix of what was written, in order, and only packets of these
+-- connections
 pub record IsOfWritten (clients : List Alone) (agreed : List Command) : Type 0 where
   pub order : (i j : ℕ) (c : Alone) (κ : Connection) → slice_get clients i ≡ Some c → slice_get c.connections j ≡ Some κ →
       IsPrefixOf (filter (of_name κ.name) agreed) (commands_from κ.name 0 κ.written)
@@ -86,7 +87,7 @@ pub record IsOfWritten (clients : List Alone) (agreed : List Command) : Type 0 w
 
 module _ (cs : List Client) (apart : AreApart cs) (agreed later : List Command) (clients : List Alone) (b : Beside cs agreed clients) (grown : IsPrefixOf agreed later)
     (of : IsOfWritten clients later) where
-  -- a connection as it stands alone
+  -- a connection without its node
   alone_at : (i j : ℕ) (c : ClientEnds) (κ : Connection) → slice_get b.world.clients i ≡ Some c → slice_get c.connections j ≡ Some κ
       → (slice_get clients i ≡ Some (ends_alone c)) × (slice_get (ends_alone c).connections j ≡ Some (untaken_connection κ))
   alone_at i j c κ at there =
@@ -129,7 +130,7 @@ module _ (cs : List Client) (apart : AreApart cs) (agreed later : List Command) 
                 named = ap (λ (κ : Connection). is_packet_of command κ.name) z.2 ∙ o.named;
               }
 
-  -- then the world goes on to the longer list
+  -- then the world continues to the longer list
   pub grows_beside : Beside cs later clients
   grows_beside =
       let came = worlds_are_served cs b.world later apart b.reached served in

@@ -24,7 +24,7 @@ pub same_written : (more : List Written) (connections others : List Connection) 
     → AreSameUntaken (writes_first more connections) (writes_first more others)
 same_written more connections others same = written_untaken more connections ∙ ap (writes_first more) same ∙ sym (written_untaken more others)
 
--- what is written may stand behind a test
+-- what is written may come after a test
 if_written : (online : Bool) (more : List Written) (connections others : List Connection) → AreSameUntaken connections others
     → AreSameUntaken (if online then writes_first more connections else connections) (if online then writes_first more others else others)
 if_written true more connections others same = same_written more connections others same

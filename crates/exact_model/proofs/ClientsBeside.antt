@@ -1,4 +1,5 @@
--- What a client does by itself goes on beside it: it calls, handles a packet, or opens a connection, and its nodes read what it wrote.
+-- What a client does is done in that world too: it calls, handles a packet, or opens a connection,
+-- and its nodes read what it wrote.
 use Rattle.std.proofs.Common.{◌≡◌, ◌≤◌, ℕ, Bool, true, false, ◌||◌, List, [], ◌∷◌, length, map, set, take, Some, refl, sym, ap, ap₂, ◌∙◌, subst, arith, length-append}
 use Rattle.std.specs.Prelude.{slice_get}
 use Rattle.packet.specs.declared.packet.Packet.{Packet}
@@ -103,7 +104,7 @@ calls_beside {cs = cs} {agreed = agreed} {clients = clients} b i s t h call at =
             (same_client (record d { keeper = keeper; connections = behind }) (record { keeper = keeper; connections = writes new κ ∷ others; ends = end_of agreed κ ∷ ends_of agreed others }) refl now ends) reached)
             refl (omega (arith, long)) refl)
 
--- ---- it handles the next packet that was put out
+-- ---- it handles the next packet that was sent
 
 pub handles_beside : {cs : List Client} {agreed : List Command} {clients : List Alone} (b : Beside cs agreed clients) (i : ℕ) (keeper : Keeper) (κ : Connection)
     (others : List Connection) (packet : Packet) → slice_get clients i ≡ Some (alone keeper (κ ∷ others)) → keeper.is_open ≡ true

@@ -1,4 +1,5 @@
--- What a client does in a world is done beside it: it calls, handles a packet, and opens a connection.
+-- What a client does in a world is done in the world of `model` too: it calls, handles a packet,
+-- and opens a connection.
 use Rattle.std.proofs.Common.{◌≡◌, ◌≤◌, ◌⊎◌, inl, inr, ℕ, zero, suc, Bool, true, false, ◌||◌, List, [], ◌∷◌, length, Ok, Option, Some, set, refl, sym, ap, ◌∙◌, subst}
 use Rattle.std.specs.Prelude.{slice_get}
 use Rattle.std.proofs.lemmas.Bool.{both_ways, cases_Bool}

@@ -1,4 +1,5 @@
--- The commands of packets that were written on a connection are fitting, and so is a list of such commands.
+-- The commands of packets that were written on a connection are fitting; a list of such commands is
+-- fitting too.
 use Rattle.std.proofs.Common.{◌≡◌, ℕ, zero, suc, Bool, true, false, if◌then◌else◌, List, [], ◌∷◌, filter, refl, subst}
 use Rattle.lists.specs.Lists.{Each, In, IsPrefixOf}
 use Rattle.lists.specs.Lists.In.{here, there}
@@ -28,7 +29,7 @@ commands_fit x n (packet ∷ written) named fits = (command_fits x n packet name
 
 -- ---- of a list
 
--- what holds of each that passes a test holds of one of the list that passes it
+-- what holds for each that passes a test holds for one of the list that passes it
 of_passing : (P : Command → Type 0) (test : Command → Bool) (xs : List Command) (command : Command) → Each P (filter test xs) → In command xs → test command ≡ true → P command
 of_passing P test [] command all among holds = elim among [ ]
 of_passing P test (x ∷ xs) command all (there among) holds = by (test x) all (λ rest. of_passing P test xs command rest among holds)
@@ -42,7 +43,8 @@ each_among : (P : Command → Type 0) (xs : List Command) → ((command : Comman
 each_among P [] all = tt
 each_among P (x ∷ xs) all = (all x here, each_among P xs (λ command among. all command (there among)))
 
--- the command is of a connection, and the list has of it a beginning of the packets that were written on it
+-- the command is of a connection, and the list has of it a prefix of the packets that were written
+-- on it
 pub record IsWritten (agreed : List Command) (command : Command) : Type 0 where
   pub name : ConnectionName
   pub written : List Packet
@@ -56,7 +58,7 @@ fits_so agreed command among w =
     of_passing IsFitting (λ (c : Command). is_packet_of c w.name) agreed command
     (each_left IsFitting (packets_of w.name agreed) w.order.rest (subst (Each IsFitting) w.order.is (commands_fit w.name 0 w.written w.named w.whole))) among w.of
 
--- a list is fitting where each of its packets is of such a connection
+-- a list is fitting if each of its packets is of such a connection
 pub list_fits : (agreed : List Command) → ((command : Command) → In command agreed → is_of_connection command ≡ true → IsWritten agreed command) → Each IsFitting agreed
 list_fits agreed written = each_among IsFitting agreed by
   where

@@ -1,4 +1,4 @@
--- What is promised of a client does not depend on how much of what it wrote is counted as taken.
+-- What is promised for a client does not depend on how much of what it wrote is counted as taken.
 use Rattle.std.proofs.Common.{◌≡◌, ◌≤◌, ℕ, ◌+◌, Bool, true, false, if◌then◌else◌, List, [], ◌∷◌, ◌++◌, length, map, filter, Some, refl, ap, ap₂, sym, ◌∙◌, subst}
 use Rattle.lists.specs.Lists.{Each, In, IsPrefixOf}
 use Rattle.packet.specs.declared.packet.Packet.TheVariants as packets
@@ -57,7 +57,7 @@ accepted_in_untaken past c start [] = refl
 accepted_in_untaken past c start (κ ∷ connections) =
     ap (λ l. l ++ (if is_at start (opened_in past c κ.name) then κ.accepted else [])) (accepted_in_untaken past c start connections)
 
--- so it is the same of other connections
+-- the same holds for other connections
 same_by : {X : Type 0} (f : List Connection → X) → ((connections : List Connection) → f (map untaken_connection connections) ≡ f connections)
     → (connections others : List Connection) → AreSameUntaken connections others → f connections ≡ f others
 same_by f untaken connections others same = sym (untaken connections) ∙ ap f same ∙ untaken others

@@ -1,4 +1,5 @@
--- What is known of a world on its way, with a world of `model` beside it; and that a step of the group, and what carries bytes, keeps it.
+-- What is known about a world on the way, together with a world of `model`; and that a step of the
+-- group, and the carrying of bytes, keeps it.
 use Rattle.std.proofs.Common.{◌≡◌, ℕ, List, map, set, Some, refl, sym, ◌∙◌, subst}
 use Rattle.std.specs.Prelude.{slice_get}
 use Rattle.std.proofs.lemmas.List.{length-set}
@@ -20,14 +21,14 @@ use Rattle.exact_model.proofs.Beside.{Beside, grows_beside}
 use Rattle.world_model.proofs.of_connection_model.CarriedInOrder.{CarriedSo, IsAgreedSo, carried_on}
 use Rattle.exact_model.proofs.WorldsWrite.{HasAllPipes, clients_alone, is_of_written, pipes_alone}
 
--- of all that went on in its group a past, and for each list that is agreed at its end a world of `model`
+-- a past of all steps of its group, and for each list that is agreed at its end a world of `model`
 pub record GoesBeside (nodes : ℕ) (config : Config) (cs : List Client) (w : World) (went : Went nodes config w.group) : Type 0 where
   pub holds : Holds w went
   pub piped : Each HasAllPipes w.clients
   pub so : CarriedSo went
   pub beside : (agreed : List Command) → IsAgreedSo so agreed → Beside cs agreed (clients_alone w)
 
--- ---- the group goes on
+-- ---- the group continues
 
 pub group_beside : {nodes : ℕ} {config : Config} {cs : List Client} → AreApart cs → (w : World) (g : Group) (went : Went nodes config g) (so : CarriedSo went) (step : MayGo g w.group)
     → ((agreed : List Command) → IsAgreedSo so agreed → Beside cs agreed (clients_alone w)) → Holds w (then_went went step) → Each HasAllPipes w.clients
@@ -55,7 +56,7 @@ pub alone_still : (clients : List ClientPipes) (i j : ℕ) (c : ClientPipes) (q 
     → map pipes_alone (set clients i (with_pipe j q c)) ≡ map pipes_alone clients
 alone_still clients i j c q at = map_set pipes_alone clients i c (with_pipe j q c) at refl
 
--- while the group goes on
+-- while the group continues
 pub pipe_beside : {nodes : ℕ} {config : Config} {cs : List Client} → AreApart cs → (v : World) (went : Went nodes config v.group) (g : Group) (i j : ℕ) (c : ClientPipes) (q : Pipe)
     (s : GoesBeside nodes config cs v went) (step : MayGo v.group g) → slice_get v.clients i ≡ Some c → Holds (with_client i (with_pipe j q c) (record v { group = g })) (then_went went step)
     → GoesBeside nodes config cs (with_client i (with_pipe j q c) (record v { group = g })) (then_went went step)

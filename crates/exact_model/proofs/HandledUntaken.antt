@@ -1,4 +1,4 @@
--- What a client makes of a packet does not depend on how much of what it wrote is counted as taken.
+-- What a client does to a packet does not depend on how much of what it wrote is counted as taken.
 use Rattle.std.proofs.Common.{◌≡◌, ℕ, suc, Bool, true, false, not, ◌&&◌, if◌then◌else◌, [], ◌∷◌, ◌++◌, map, refl, ap, sym, ◌∙◌}
 use Rattle.packet.specs.declared.connack.Connack.TheVariants as connacks
 use Rattle.packet.specs.declared.delivery.Delivery.{Delivery}
@@ -96,7 +96,7 @@ handled_untaken packet side = by side.keeper.is_online
 
 -- ---- two sides
 
--- sides with one keeper, whose connections are the same but for what is counted as taken
+-- sides with one keeper, whose connections are the same except what is counted as taken
 pub record AreAlike (one other : Side) : Type 0 where
   pub keeper : one.keeper ≡ other.keeper
   pub connection : untaken_connection one.connection ≡ untaken_connection other.connection

@@ -1,4 +1,4 @@
--- Which of a client's publications are new in a list is read of the list alone.
+-- Which of a client's publications are new in a list depends only on the list.
 use Rattle.std.proofs.Common.{◌≡◌, ℕ, Bool, true, false, ◌&&◌, if◌then◌else◌, List, [], ◌∷◌, ◌++◌, map, Option, Some, None, refl, sym, ap, ap₂, ◌∙◌, subst}
 use Rattle.std.specs.Prelude.{slice_get}
 use Rattle.std.proofs.lemmas.Bool.{both_ways}
@@ -34,7 +34,7 @@ pub owner_taken : (limits : Limits) (past : Past) (p : Publish) (o : Option Clie
 owner_taken limits past p None d e = cc
 owner_taken limits past p (Some c) d e = ap (λ (k : Client). Some k) (sym (only_own (is_repeat past c p.delivery) (is_refused limits past (publication_of p)) c d e))
 
--- the number and the publication of one that is new, where it is the client's
+-- the number and the publication of one that is new, if it is the client's
 picked : (get : ℕ → Option Publication) (same new : Bool) (o : Option ℕ) (q : Publication) → ((k : ℕ) → o ≡ Some k → same ≡ true) → (same ≡ true → (k : ℕ) × (o ≡ Some k))
     → ((k : ℕ) → o ≡ Some k → get k ≡ Some q) → map get (more_by new o) ≡ map (λ (r : Publication). Some r) (if same && new then q ∷ [] else [])
 picked get true true (Some k) q own mine is = ap (λ (x : Option Publication). x ∷ []) (is k refl)

@@ -1,4 +1,5 @@
--- While a client has had one session, its new publications are a beginning of those that it published at QoS 2.
+-- While a client has had one session, its new publications are a prefix of those that it published
+-- at QoS 2.
 use Rattle.std.proofs.Common.{◌≡◌, ℕ, suc, Bool, true, false, if◌then◌else◌, List, [], ◌∷◌, ◌++◌, map, Option, Some, refl, sym, ap, ap₂, ◌∙◌}
 use Rattle.std.specs.Prelude.{slice_get}
 use Rattle.std.proofs.lemmas.List.{map-append}

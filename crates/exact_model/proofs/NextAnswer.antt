@@ -37,7 +37,8 @@ next_of (p ∷ handled) (q ∷ put) held rest left packet whole fits e goes =
     next_of handled put held rest left packet whole.1 fits.1
     (append_cancel_left (spelling q) (spelled put) ((spelled handled ++ held) ++ rest) (e ∙ behind p handled held rest ∙ ap (λ l. l ++ ((spelled handled ++ held) ++ rest)) one.1)) goes
 
--- where what was handled, spelled, with the bytes that came and those on their way, is a beginning of the spelled answers
+-- if what was handled, spelled, with the bytes that came and those in transit, is a prefix of the
+-- spelled answers
 pub next_answer : (handled put : List Packet) (came left : Stream) (down : List ℕ) (packet : Packet) → Each IsPacket handled → Each IsPacket put → came.failed ≡ false
     → IsPrefixOf (spelled handled ++ (came.held ++ down)) (spelled put) → Takes came (Ok (Some packet)) left → slice_get put (length handled) ≡ Some packet
 next_answer handled put came left down packet whole fits sound front takes =

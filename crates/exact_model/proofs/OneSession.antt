@@ -1,4 +1,4 @@
--- While the first session of a client lasts, it is promised what it was where no session is ended.
+-- While the first session of a client lasts, it is promised what it was if no session is ended.
 use Rattle.std.proofs.Common.{◌≡◌, ℕ, Bool, true, List, [], ◌∷◌, ◌++◌, map, Option, Some, None, is_some, refl, sym, ap, ◌∙◌, inl, inr}
 use Rattle.std.specs.List.{flat_map}
 use Rattle.std.proofs.lemmas.Bool.{both_ways}

@@ -42,7 +42,7 @@ use Rattle.world_model.proofs.of_story.sessions.NumberedGoes.{counted_all_within
 use Rattle.exact_model.proofs.CurrentNamed.{IsCurrentNamed, stays_named, taken_named}
 use Rattle.exact_model.proofs.AllNumbered.{AreNumbered, IsNumbered, happens_numbered, is_unnumbered}
 
--- where it is the client's
+-- if it is the client's
 abbrev pub CarriesOwn : Client → List Connection → Command → Past → Type 0
 CarriesOwn c connections command past =
     (x : ConnectionName) (p : Publish) → command ≡ commands.Packet x (packets.Publish p) → owner_of past x ≡ Some c → (k : ℕ) × (carries connections command past ≡ Some k)

@@ -146,7 +146,7 @@ none_published cs i c at =
     each_get (λ (d : ClientPipes). publications_of (all_own d.keeper) ≡ []) (map new_client cs) i c
     (each_of_made new_client (λ (d : ClientPipes). publications_of (all_own d.keeper) ≡ []) cs (each_by (λ (d : Client). publications_of (all_own (new_client d).keeper) ≡ []) cs (λ k d there. refl))) at
 
--- what a client published is what the steps on the way say of it
+-- what a client published is what the steps on the way say about it
 pub own_published : {nodes : ℕ} {config : Config} {cs : List Client} → AreApart cs → (w : World) (trail : Reached nodes config cs w) (i : ℕ) (c : ClientPipes)
     → slice_get w.clients i ≡ Some c → publications_of (all_own c.keeper) ≡ published_of i (published_on trail)
 own_published {cs = cs} apart w (begins can) i c at = none_published cs i c at

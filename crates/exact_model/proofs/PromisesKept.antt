@@ -1,4 +1,4 @@
--- What is promised of a client that is in step holds in each of its lives.
+-- What is promised for a client that is in step holds in each of its lives.
 use Rattle.std.proofs.Common.{◌≡◌, ◌≤◌, ℕ, Bool, true, false, if◌then◌else◌, List, [], ◌∷◌, ◌++◌, filter, length, map, Option, Some, refl, sym, ap, ap₂, ◌∙◌, subst, inl, inr, ◌⊎◌, arith}
 use Rattle.std.specs.Prelude.{slice_get}
 use Rattle.lists.specs.Lists.{In}

@@ -1,4 +1,5 @@
--- The run of the row goes on: the client subscribes, publishes at QoS 2, and accepts what comes back.
+-- The run of the row continues: the client subscribes, publishes at QoS 2, and accepts what comes
+-- back.
 use Rattle.std.specs.List.{All}
 use Rattle.std.specs.Str.{chars, is_utf8}
 use lib.Utf8.{encode}
@@ -20,7 +21,7 @@ use Rattle.exact_model.proofs.ClientServed.{its_session, less_by, within_by}
 id_whole : IsId 1
 id_whole = (less_by _ _ refl, less_by _ _ refl)
 
--- a packet of an identifier alone
+-- a packet that holds only an identifier
 pubrec_whole : IsPacket (packets.Pubrec 1)
 pubrec_whole = (id_whole, tt, within_by _ _ refl)
 
@@ -47,7 +48,7 @@ publish_whole = ((refl, id_whole), tt, within_by _ _ refl)
 
 -- ---- the run
 
--- what it writes behind PUBREC and the PUBLISH is one piece
+-- what it writes after PUBREC and the PUBLISH is one piece
 one_piece : (spelling (packets.Pubrel 1) ++ []) ++ (spelling (packets.Pubrec 1) ++ []) ≡ both ++ []
 unfolding spelling
 one_piece = refl

@@ -1,4 +1,5 @@
--- A world of one node and one client with one connection: what may happen in it, each with what the node keeps behind it.
+-- A world of one node and one client with one connection: what may happen in it, each with what the
+-- node keeps after it.
 use Rattle.std.proofs.Common.{◌≡◌, ℕ, true, false, List, [], ◌∷◌, ◌++◌, Some, slice_get, refl, sym, ap, ◌∙◌, subst}
 use Rattle.packet.specs.Spelling.{IsPacket, spelling}
 use Rattle.packet.specs.Verdict.{verdict}
@@ -33,7 +34,7 @@ use Rattle.world_model.specs.World.{ClientPipes, Pipe, World, after_writing, new
 use Rattle.world_model.proofs.DeedsCarry.{deeds_carry_their_bytes}
 use Rattle.exact_model.specs.Rows.{one_node}
 
--- ---- a deed of a node
+-- ---- a call of a node
 
 pub record Turned (g : Group) (n : ℕ) (deed : Deed) (core later : CoreState) : Type 0 where
   pub does : Does g (Some (n, deed))
@@ -87,7 +88,7 @@ module _ {core : CoreState} {keeper : Keeper} {κ : Connection} {up down held : 
         stands = t.stands;
       }
 
-  -- the node hands over what it put out
+  -- the node hands over what it sent
   pub row_down : (later : CoreState) (bytes : List ℕ) → going_with κ.name (gives the_port) core ≡ bytes → (done (gives the_port) core).core ≡ later
       → Row later (client_with keeper κ (pipe_with up (down ++ bytes) held))
   row_down later bytes put is =

@@ -1,4 +1,5 @@
--- What the node of the row does, computed: it opens a connection, and reads what comes, and puts out the answers.
+-- What the node of the row does, computed: it opens a connection, and reads what comes, and sends
+-- the answers.
 use Rattle.std.specs.Str.{chars, is_utf8}
 use lib.Utf8.{encode}
 use Rattle.std.proofs.Common.{◌≡◌, ℕ, false, List, [], ◌∷◌, ◌++◌, length, refl}

@@ -52,7 +52,7 @@ kept_own [] = []
 abbrev publication_kept : KeptPublication → Publication
 publication_kept k = k.publication
 
--- where none was sent
+-- if none was sent
 none_sent : (own : List Own) → sent_of own ≡ [] → map publication_kept (unsent_of own) ≡ kept_own own
 none_sent [] e = refl
 none_sent (Own.Unsent k p id ∷ own) e = ap (λ (l : List Publication). p ∷ l) (none_sent own e)
@@ -73,7 +73,7 @@ kept_is keeper state s = ap₂ (λ (a b : List KeptPublication). map publication
 
 -- ---- by number
 
--- these stand in the whole from number n on
+-- these are in the whole from number n on
 abbrev pub StandFrom : List Publication → ℕ → List Own → Type 0
 StandFrom ps n own = (j : ℕ) → slice_get ps (n + j) ≡ slice_get (publications_of own) j
 

@@ -1,4 +1,5 @@
--- Connections that are the same, but for how much of what was written on them stands in the list of commands.
+-- Connections that are the same, except how much of what was written on them is in the list of
+-- commands.
 use Rattle.std.specs.Prelude.{◌≡◌, List, map}
 use Rattle.world_model.specs.story.Sides.{Connection}
 

@@ -84,7 +84,7 @@ promise_untaken c connections others published past state same p =
       ended = p.ended;
     }
 
--- what is promised of a client by what it shows
+-- what is promised for a client by what it shows
 promised : {nodes : ℕ} {config : Config} {cs : List Client} → AreApart cs → (w : World) (went : Went nodes config w.group) (s : GoesBeside nodes config cs w went) (agreed : List Command) → IsAgreedSo s.so agreed
     → (published : List Publication) (i : ℕ) (c : ClientPipes) (state : ClientState) → slice_get w.clients i ≡ Some c → publications_of (all_own c.keeper) ≡ published → IsShownBy c state
     → Promise c.connections published agreed state

@@ -87,7 +87,7 @@ module _ {nodes : ℕ} {config : Config} (w : World) (went : Went nodes config w
           let p = there_is c.pipes j (subst (λ n. suc j ≤ n) (sym all) (stands_within c.connections j z.0 z.1)) in
           record { c = c; μ = z.0; p = p.0; has = record { client = client; connection = z.1; pipe = p.1 }; same = z.2 }
 
-  -- the list has a beginning of what was written on it
+  -- the list has a prefix of what was written on it
   pub order_at : (i : ℕ) (c : ClientPipes) (j : ℕ) (κ : Connection) (p : Pipe) → HasPipe w i c j κ p
       → IsPrefixOf (packets_in_list κ.name agreed) (commands_of κ.name 0 (packets_of κ.written))
   order_at i c j κ p has = let h = holds.each i c j κ p has in (carries_each w.group went so agreed is κ.name (packets_of κ.written) h.up.later h.up.joined).up

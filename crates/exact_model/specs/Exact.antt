@@ -1,4 +1,5 @@
--- What holds of every world of clients and a group of nodes: the headline for each client, by the list on which the nodes agree.
+-- What holds for every world of clients and a group of nodes: the headline for each client, by the
+-- list on which the nodes agree.
 use Rattle.std.specs.Prelude.{◌≡◌, ◌≤◌, ℕ, List, ◌∷◌, Some, slice_get}
 use Rattle.lists.specs.Lists.{Each}
 use Rattle.ballot.specs.Config.{Config}
@@ -35,11 +36,11 @@ story_of agreed c = record { past = past_of usual_limits agreed; connections = c
 abbrev pub IsExactInStep : List Command → ClientPipes → Type 0
 IsExactInStep agreed c = IsInStep (story_of agreed c) → ExactlyOnceOverSessions usual_limits (story_of agreed c)
 
--- one that no Expel names has one session at most, which lasts where it began, and so it is in step
+-- one that no Expel names has one session at most, which lasts once it began, and so it is in step
 abbrev pub IsInOneSession : List Command → ClientPipes → Type 0
 IsInOneSession agreed c = IsUnexpelled c.keeper.client (past_of usual_limits agreed) → HasOneSession (story_of agreed c)
 
--- what a client shows that keeps no history
+-- the parts that a client without history shows
 pub record IsShownBy (c : ClientPipes) (state : ClientState) : Type 0 where
   pub keeper : history.StandsFor c.keeper state
   pub accepted : accepted_once state.accepted ≡ accepted_on c.connections
@@ -55,17 +56,17 @@ pub record IsExactBy (agreed : List Command) (w : World) : Type 0 where
   -- connections carry their packets in order, both ways
   pub pipes : (i : ℕ) (c : ClientPipes) (j : ℕ) (κ : Connection) (p : Pipe) → HasPipe w i c j κ p → IsInOrder agreed κ p
 
--- A world that is reached on this way: what went on in its group on the way is a past, there is a list on which the nodes agree
--- at its end, and so it is by that list.
+-- A world that is reached by these steps: the steps of its group are a past, there is a list on
+-- which the nodes agree at its end, and the world is exact by that list.
 pub record IsExact {nodes : ℕ} {config : Config} {cs : List Client} {w : World} (trail : Reached nodes config cs w) : Type 0 where
   pub of : HasPast config w.group (groups_of (went_of trail)) (all_put (went_of trail))
   pub agreed : List Command
   pub is_agreed : IsAgreed config (moment_of w.group ∷ of.earlier) agreed
   pub exact : (list : List Command) → IsAgreed config (moment_of w.group ∷ of.earlier) list → IsExactBy list w
-  -- and what a client shows, with what it was asked to publish on the way, is as promised
+  -- and what a client shows, with what it was asked to publish in these steps, is as promised
   pub promises : (list : List Command) → IsAgreed config (moment_of w.group ∷ of.earlier) list → (i : ℕ) (c : ClientPipes) (state : ClientState) →
       slice_get w.clients i ≡ Some c → IsShownBy c state → Promise c.connections (published_of i (published_on trail)) list state
 
--- of clients with identifiers of their own, and on every way
+-- for clients with identifiers of their own, and for all steps
 abbrev pub WorldsAreExact : Type 0
 WorldsAreExact = (nodes : ℕ) (config : Config) (cs : List Client) (w : World) → AreApart cs → (trail : Reached nodes config cs w) → IsExact trail

@@ -1,4 +1,4 @@
--- What a client that has had one session is promised: no less than where no session is ever ended.
+-- What a client that has had one session is promised: no less than if no session is ever ended.
 use Rattle.std.specs.Prelude.{◌≡◌, false, List, ◌++◌, map}
 use Rattle.lists.specs.Lists.{Each}
 use Rattle.session_base.specs.declared.publication.Publication.{Publication}
@@ -14,14 +14,16 @@ use Rattle.exact_model.specs.Promise.{PromiseInStep}
 use Rattle.exact_model.specs.Shown.{at_two, kept_of, new_of}
 use Rattle.world_model.specs.Accepted.{accepted_once}
 
--- of client c, by the places of the list
+-- for client c, by the places of the list
 pub record PromiseOfOne (c : Client) (published : List Publication) (past : Past) (state : ClientState) : Type 0 where
-  -- its QoS 2 publications are new in the order in which it was asked for them, each once; those that are not new yet it still keeps
+  -- its QoS 2 publications are new in the order in which it was asked for them, each once; those
+  -- that are not new yet it still keeps
   pub waiting : List Publication
   pub in_order : at_two published ≡ new_of c past ++ waiting
   pub again : List Publication
   pub kept : at_two (kept_of state) ≡ again ++ waiting
-  -- what it accepted at QoS 2 is a beginning of the QoS 2 entries of its session, each once, with every one that is released
+  -- what it accepted at QoS 2 is a prefix of the QoS 2 entries of its session, each once, with
+  -- every one that is released
   pub old : List Entry
   pub new : List Entry
   pub entries : two_entries (entries_of usual_limits past c) ≡ old ++ new

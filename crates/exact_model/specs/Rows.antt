@@ -1,4 +1,5 @@
--- Short runs of a world, to their ends: one client of a group of one node connects, and publishes to itself.
+-- Short runs of a world, to their ends: one client of a group of one node connects, and publishes
+-- to itself.
 use Rattle.std.specs.Prelude.{◌≡◌, Bool, true, false, List, [], ◌∷◌, map, slice_get, Some}
 use Rattle.packet.specs.declared.packet.Packet.{Packet}
 use Rattle.packet.specs.declared.packet.Packet.TheVariants as packets
@@ -52,8 +53,8 @@ accepted_by c = accepted_on c.connections
 abbrev pub published_by : ClientPipes → List Own
 published_by c = c.keeper.own
 
--- A world is reached in which the client has subscribed to what it published at QoS 2, both handshakes have ended, it has accepted
--- its publication once, and the node keeps this list.
+-- A world is reached in which the client has subscribed to what it published at QoS 2, both
+-- handshakes have ended, it has accepted its publication once, and the node keeps this list.
 pub record APublicationIsAccepted : Type 0 where
   pub end : World
   pub trail : Reached 1 one_node (writer ∷ []) end

@@ -1,4 +1,5 @@
--- What is seen of one client: what it keeps and what it accepted, and its places in the list on which the nodes agree.
+-- What is seen of one client: what it keeps and what it accepted, and its places in the list on
+-- which the nodes agree.
 use Rattle.std.specs.Prelude.{◌≡◌, ◌&&◌, ℕ, Bool, false, if◌then◌else◌, List, [], ◌∷◌, ◌++◌, Some, filter, map, slice_get}
 use Rattle.std.specs.List.{flat_map}
 use Rattle.lists.specs.Lists.{Each, In}
@@ -62,7 +63,8 @@ pub record AreNewInOrder (published new : List Publication) : Type 0 where
   pub rise : IsRising numbers
   pub are : map (slice_get published) numbers ≡ map (λ (p : Publication). Some p) new
 
--- none is passed over: those that are not new yet it still keeps, and beside them only some that are new
+-- none is skipped: it still keeps those that are not yet new, and besides them only some that are
+-- new
 pub record AreStillKept (published new kept : List Publication) : Type 0 where
   pub waiting : List Publication
   pub published_are : published ≡ new ++ waiting
@@ -71,14 +73,16 @@ pub record AreStillKept (published new kept : List Publication) : Type 0 where
 
 -- ---- of what it accepted
 
--- At QoS 2 a beginning of a session's QoS 2 entries: `old`, in order, each once. No entry after it is released.
+-- At QoS 2 a prefix of a session's QoS 2 entries: `old`, in order, each once. No entry after it is
+-- released.
 pub record HasBeginning (c : Client) (past : Past) (start : ℕ) : Type 0 where
   pub old : List Entry
   pub new : List Entry
   pub entries : two_entries (entries_in usual_limits past c start) ≡ old ++ new
   pub rest : Each (λ (entry : Entry). is_released entry ≡ false) new
 
--- Such a beginning of each of its sessions, by the place at which it began; and these are all that it accepted, session after session.
+-- Such a prefix of each of its sessions, by the place at which it began; and these are all that it
+-- accepted, session after session.
 pub record AcceptsInOrder (c : Client) (past : Past) (state : ClientState) : Type 0 where
   pub session : (start : ℕ) → HasBeginning c past start
   pub accepted : accepted_once state.accepted ≡ flat_map (λ start. map publication_in (session start).old) (starts_of past c)

@@ -1,5 +1,5 @@
-//! What is proved of every world of clients and a group of nodes: it is exact, by the list on which the nodes agree;
-//! and runs of such a world, computed to their ends.
+//! What is proved for every world of clients and a group of nodes: it is exact, by the list on
+//! which the nodes agree; and runs of such a world, computed to their ends.
 #![tactic(auto)]
 
 mod laws;

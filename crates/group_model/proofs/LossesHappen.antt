@@ -35,7 +35,7 @@ use Rattle.group_model.proofs.Packets.{AreTaken, none_taken, proposal_taken}
 use Rattle.group_model.proofs.Replicas.{changes_keep, room_serves, serving_runs}
 use Rattle.group_model.proofs.Thinning.{Given, KeptOf, kept_of_told, loses_more, nothing_kept, steps_lose, thinned_more}
 
--- ---- the replica hears something
+-- ---- the replica receives something
 
 -- a replica that has stopped stays as it is, or stops again
 stopped_happens : (g : Group) (n : ℕ) (core : CoreState) (turn : Turn) (new : ReplicaState State Command) (given thin : Given) → slice_get g.nodes n ≡ Some core → replica_of turn.core ≡ new
@@ -84,7 +84,7 @@ left_true : (a b : Bool) → (a && b) ≡ true → a ≡ true
 left_true true b e = refl
 left_true false b e = absurd cc
 
--- behind a change of connections
+-- after a change of connections
 takes_happen : (g : Group) (n : ℕ) (core between : CoreState) (command : Command) (did : Account) (kept : Given) → slice_get g.nodes n ≡ Some core → between.replica ≡ core.replica
     → Takes command between did → Thinned kept did.messages → (config : Config) (earlier : List (Moment State Command Output)) (came : Past rules config (moment_of g ∷ earlier))
     → Once came (moment_of (behind_turn g n (keeping kept (turn_of did)) did.given)) (((replica_of core).joined, command) ∷ []) n (outputs did.given)

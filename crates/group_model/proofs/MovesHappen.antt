@@ -70,7 +70,8 @@ use Rattle.group_model.proofs.Placed.{get_mapped, set_mapped, set_same}
 use Rattle.group_model.proofs.Thinning.{Given, KeptOf, kept_of_all, nothing_kept}
 use Rattle.group_model.proofs.Replicas.{changes_keep, hands_keeps, moved_replica, opens_keeps, room_serves, serving_runs, settles_keeps}
 
--- A past goes on to this moment, by events in which these commands were proposed; what is agreed grows.
+-- A past continues to this moment, by events in which these commands were proposed; what is agreed
+-- grows.
 pub record Further {config : Config} {a : Moment State Command Output} {earlier : List (Moment State Command Output)} (came : Past rules config (a ∷ earlier))
     (b : Moment State Command Output) (put : List (ℕ × Command)) : Type 0 where
   pub before : List (Moment State Command Output)
@@ -116,7 +117,7 @@ same_world archive a b c = rw (a, b, c) refl
 abbrev with_world : MasterState → World State Command Output → Moment State Command Output
 with_world m w = record { master = m; world = w }
 
--- behind a turn the replica at the place is this one
+-- after a turn the replica at the place is this one
 behind_is : (g : Group) (n : ℕ) (turn : Turn) (given effects : Given) (new : ReplicaState State Command) → replica_of turn.core ≡ new
     → messages turn.messages ≡ messages effects → outputs given ≡ outputs effects
     → with_world g.master (let w : World State Command Output = record { nodes = slice_set (map replica_of g.nodes) n new; sent = g.sent ++ messages effects; left = g.left ++ outputs effects; archive = g.archive } in w)
@@ -246,7 +247,7 @@ no_step g n core turn given config earlier came at replica none_sent none_left =
 
 -- ---- moves
 
--- what is asked of each move, of whose messages these are kept
+-- what must hold for each move, of which these messages are kept
 abbrev Happens : Group → ℕ → (core : CoreState) (turn : Turn) → Moves core turn → Given → Type 0
 Happens g n core turn m kept = (config : Config) (earlier : List (Moment State Command Output)) (came : Past rules config (moment_of g ∷ earlier))
     → Once came (moment_of (behind_turn (with_record g (recorded_by g.archive m)) n (keeping kept turn) (given_in m))) (put_in_move m) n (outputs (given_in m))
@@ -267,7 +268,7 @@ pub serves_as : (a b : CoreState) → a.replica ≡ b.replica → serves a ≡ s
 serves_as a b same =
     ap (λ (r : CountedReplica State Command). serves (let k : CoreState = record { replica = r; last_name = record { ballot = 0; count = 0 }; connections = [] } in k)) same
 
--- a step of the replica alone, of whose messages these are kept
+-- a step of only the replica, of which these messages are kept
 moved_happens : (g : Group) (n : ℕ) (core between : CoreState) (input : Input Command) (kept : Given) → slice_get g.nodes n ≡ Some core
     → (replica_of core).stopped ≡ false → MayTake (moment_of g).world n input → AreTaken (replica_of core) (replica_step rules (replica_of core) input).state input
     → KeptOf kept (replica_step rules (replica_of core) input).effects → (config : Config) (earlier : List (Moment State Command Output))
@@ -358,7 +359,7 @@ heard_happens g n core input kept at other sent t config earlier came = by (repl
         (moved_happens g n core core input kept at e (may_take g n input other sent) (none_taken (replica_of core) (replica_step rules (replica_of core) input).state input other)
         (kept_of_all (replica_step rules (replica_of core) input).effects kept f) config earlier came))
 
--- where the node does not serve, nobody hears that a connection is lost
+-- if the node does not serve, it is not reported that a connection is lost
 lost_unheard : (g : Group) (n : ℕ) (core between : CoreState) (command : Command) (kept : Given) → slice_get g.nodes n ≡ Some core → between.replica ≡ core.replica
     → serves core ≡ false → Thinned kept (proposes command between).messages → (config : Config) (earlier : List (Moment State Command Output))
     (came : Past rules config (moment_of g ∷ earlier)) → Once came (moment_of (behind_turn g n (keeping kept (proposes command between)) [])) [] n []
@@ -370,7 +371,7 @@ lost_unheard g n core between command kept at same none_served t config earlier 
     by true e f = absurd cc
     by false e f = quietly g n core between kept at (state_of between core same) f config earlier came
 
--- where it serves, the broker hears it
+-- if it serves, that is reported to the broker
 lost_happens : (g : Group) (n : ℕ) (core between : CoreState) (command : Command) (kept : Given) → slice_get g.nodes n ≡ Some core → between.replica ≡ core.replica
     → HasRoomFor core command → (b : Bool) → serves core ≡ b → Thinned kept (proposes command between).messages → (config : Config)
     (earlier : List (Moment State Command Output)) (came : Past rules config (moment_of g ∷ earlier))

@@ -39,7 +39,7 @@ all_over : (cs : List Connection) → Each (λ (c : Connection). is_over c.stage
 all_over [] = tt
 all_over (c ∷ cs) = (refl, all_over cs)
 
--- what is open behind the settling is so where the node serves
+-- what is open after the settling is so if the node serves
 settled_serves : (x : ConnectionName) (core : CoreState) (d : Connection) → listed_named x (settled core) ≡ Some d → is_over d.stage ≡ false
     → serves (settled core) ≡ true
 unfolding settled
@@ -74,7 +74,7 @@ well_behind deed core turn is well orderly of =
       names = subst (λ (t : Turn). AreOfTheBallot t.core) (sym is) (deed_ends deed core well (subst (λ (t : Turn). AreWhereItServes t.core) is of));
     }
 
--- so does a step with losses end
+-- a step with losses ends in the same way
 lost_well : (item : Item) (core : CoreState) (turn : Turn) → RunsOn item core turn.core turn.messages → IsOrderly turn.core → AreWhereItServes turn.core → IsWell turn.core
 lost_well item core turn runs orderly of =
     record {

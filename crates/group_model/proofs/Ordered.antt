@@ -1,4 +1,5 @@
--- The packets of a connection stand in each log, and in the agreed list, in the order in which they were put.
+-- The packets of a connection are in each log, and in the agreed list, in the order in which they
+-- were put.
 use Rattle.std.proofs.Common.{◌≡◌, ℕ, Bool, true, false, if◌then◌else◌, List, [], ◌∷◌, Some, slice_get, refl, sym, ap, ◌∙◌, subst}
 use Rattle.lists.specs.Lists.{Each, In, IsPrefixOf}
 use Rattle.lists.specs.Lists.In.{here, there}

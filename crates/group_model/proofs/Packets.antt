@@ -1,4 +1,5 @@
--- The packets of a connection among what is proposed to a replica: it takes them all, where its log has room for them.
+-- The packets of a connection among what is proposed to a replica: it takes them all, if its log
+-- has room for them.
 use Rattle.std.proofs.Common.{◌≡◌, ◌<◌, ◌+◌, ℕ, Bool, true, false, not, nat_lt, if◌then◌else◌, List, [], ◌∷◌, ◌++◌, length, refl, sym, ap, arith}
 use Rattle.std.proofs.lemmas.Bool.{lt-ltb}
 use Rattle.std.proofs.lemmas.List.{length-append}
@@ -41,7 +42,7 @@ none_taken r new (Receives message) other = λ x. nothing_if (nat_lt (places r.l
 none_taken r new Ticks other = λ x. nothing_if (nat_lt (places r.log) (places new.log)) x
 none_taken r new (Proposes command) other = absurd cc
 
--- where there is room the log grows
+-- if there is room the log grows
 grows : (r : ReplicaState State Command) (command : Command) → is_active r.role ≡ true → nat_lt (places r.log) most_places ≡ true
     → nat_lt (places r.log) (places (proposed rules r command).state.log) ≡ true
 grows r command active room =

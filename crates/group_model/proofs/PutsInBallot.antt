@@ -1,4 +1,5 @@
--- What a move puts to its replica is put in the ballot of its name, where the names of open connections are of the ballot.
+-- What a move proposes to its replica is proposed in the ballot of its name, if the names of open
+-- connections are of the ballot.
 use Rattle.std.proofs.Common.{◌≡◌, Bool, true, false, nat_lt, if◌then◌else◌, ℕ, List, [], ◌∷◌, map, refl, ◌∙◌, sym, subst}
 use Rattle.std.proofs.lemmas.Bool.{both_ways}
 use Rattle.lists.specs.Lists.{Each, In}
@@ -50,7 +51,7 @@ proposed_in : (core : CoreState) (turn : Turn) (m : LossyMoves core turn) (comma
 proposed_in core turn m command o of serving is x named =
     lossy_names_keep_their_ballot.proposes core turn m o of serving x command (subst (In command) (sym is) here) named
 
--- who takes a command behind a change of connections serves
+-- who takes a command after a change of connections serves
 serves_who_takes : (core between : CoreState) (command : Command) (did : Account) → between.replica ≡ core.replica → Takes command between did → serves core ≡ true
 serves_who_takes core between command did same taken =
     sym (serves_as between core same) ∙ room_serves between (nat_lt (places (replica_of between).log) most_places) taken.room
@@ -90,7 +91,7 @@ puts_in core turn m o of = tt
 
 -- ---- runs
 
--- in a run what is put is put in its ballot; and what stays so behind it
+-- in a run what is put is put in its ballot; and what stays so after it
 pub record RunsWell {core : CoreState} {turn : Turn} (run : LossyRuns core turn) : Type 0 where
   pub orderly : IsOrderly turn.core
   pub names : AreWhereItServes turn.core

@@ -1,5 +1,5 @@
--- What the record of places gets in a run in which something may be lost: nothing where no log is cut, and where one is, what it
--- had applied.
+-- What the record of places gets in a run in which something may be lost: nothing if no log is cut,
+-- and otherwise what it had applied.
 use Rattle.std.proofs.Common.{◌≡◌, ℕ, Bool, true, false, not, nat_lt, if◌then◌else◌, List, [], ◌∷◌, ◌++◌, refl, sym, ap, ◌∙◌, arith}
 use Rattle.std.proofs.lemmas.Bool.{and_parts, ltb-true}
 use Rattle.node_model.specs.broker_base.Command.{Command}
@@ -32,7 +32,7 @@ pub records_none : (archive : List Command) {core : CoreState} {turn : Turn} (ru
 records_none archive rests none = refl
 records_none archive (goes_on m run) none = ap (λ (l : List Command). recorded_in l run) (none_by archive m none.0) ∙ records_none archive run none.1
 
--- ---- the replica hears nothing, but its log may be cut at first
+-- ---- the replica receives nothing, but its log may be cut at first
 
 -- the record after a run, by the base at which it leaves the log
 abbrev pub recorded_to : List Command → CoreState → ℕ → List Command

@@ -48,7 +48,7 @@ hands_keeps port core = by (listed_at port core)
     by None = refl
     by (Some c) = refl
 
--- ---- what its own step makes of it
+-- ---- what its own step does to it
 
 named_keeps : (name : ConnectionName) (f : Connection → Connection) (core : CoreState) → (changes_named name f core).replica ≡ core.replica
 unfolding changes_named

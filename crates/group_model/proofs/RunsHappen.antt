@@ -1,4 +1,4 @@
--- What a node does by a run of moves are events among replicas, one behind the other.
+-- What a node does by a run of moves are events among replicas, one after another.
 use Rattle.std.proofs.Common.{◌≡◌, ℕ, List, [], ◌∷◌, ◌++◌, Some, slice_get, refl, sym, ap, ◌∙◌, subst, append_assoc}
 use Rattle.node_model.specs.ballot.Config.{Config}
 use Rattle.node_model.specs.ballot.Effect.{Effect}

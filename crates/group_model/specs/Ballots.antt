@@ -1,4 +1,4 @@
--- In which ballot the packets of a connection are put to a replica.
+-- In which ballot the packets of a connection are proposed to a replica.
 use Rattle.std.specs.Prelude.{◌≡◌, ℕ, true}
 use Rattle.lists.specs.Lists.{Each}
 use Rattle.node_model.specs.ballot.Config.{Config}
@@ -12,6 +12,6 @@ use Rattle.group_model.specs.Goes.{Went, all_put}
 abbrev pub IsInItsBallot : ℕ × Command → Type 0
 IsInItsBallot put = (x : ConnectionName) → is_packet_of put.1 x ≡ true → x.ballot ≡ put.0
 
--- so it is of all that nodes of a group put to their replicas
+-- the same holds for all that nodes of a group propose to their replicas
 abbrev pub PutsInTheBallotOfTheName : Type 0
 PutsInTheBallotOfTheName = (nodes : ℕ) (config : Config) (g : Group) (went : Went nodes config g) → Each IsInItsBallot (all_put went)

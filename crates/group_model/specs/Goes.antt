@@ -22,20 +22,22 @@ use Rattle.group_model.specs.Losing.{all_given as given_losing, put_in_run as pu
 use Rattle.group_model.specs.Putting.{recorded_in}
 pub use Rattle.group_model.specs.Putting.{AllWasSent, InputWasSent, WasSent, all_given, commands_put, put_in_move, put_in_run}
 
--- the master behind an Assign; a refused one changes nothing
+-- the master after an Assign; a refused one changes nothing
 abbrev pub behind_assign : Group → Config → Option AssignRefusal → Group
 behind_assign g config (Some why) = g
 behind_assign g config None = told_by_master g (assigned Command g.master config)
 
--- what a node hands out, if these messages alone are not lost
+-- the effects of a node, if only these messages are not lost
 abbrev pub keeping : List (Effect Command Output) → Turn → Turn
 keeping kept turn = record turn { messages = kept }
 
 pub data MayGo (g : Group) : Group → Type 0 where
-  -- a node takes an item, or hands over bytes, by these moves; what its replica hears, or a cut, comes first
+  -- a node takes an item, or hands over bytes, by these moves; what its replica receives, or a cut,
+  -- comes first
   node_acts : (n : ℕ) (core : CoreState) (deed : Deed) (turn : Turn) (run : Runs core turn) → slice_get g.nodes n ≡ Some core →
       turn ≡ done deed core → HearsAtFirst run → AllWasSent g n run → MayGo g (behind_turn (with_record g (recorded_in g.archive run)) n turn (all_given run))
-  -- a node takes an item with losses, by these moves; what comes with it was sent, and some of its messages may be missing
+  -- a node takes an item with losses, by these moves; what comes with it was sent, and some of its
+  -- messages may be missing
   node_loses : (n : ℕ) (core : CoreState) (item : Item) (turn : Turn) (kept : List (Effect Command Output)) (by : IsRunOn item core turn) →
       slice_get g.nodes n ≡ Some core → RunsOn item core turn.core turn.messages → WereSent g n (heard_with item) → Thinned kept turn.messages →
       MayGo g (behind_turn (with_record g (recorded_losing g.archive by.run)) n (keeping kept turn) (given_losing by.run))
@@ -46,17 +48,18 @@ pub data MayGo (g : Group) : Group → Type 0 where
   master_hears : (from ballot : ℕ) → In (0, record { from = from; body = Activate ballot }) g.sent →
       MayGo g (with_master (told_by_master g (activated Command g.master ballot from g.master.waiting))
       (activated Command g.master ballot from g.master.waiting).state)
-  -- the same where the master's message is lost
+  -- the same if the master's message is lost
   assigns_unheard : (config : Config) → MayGo g (with_master g (master_behind g.master config (refusal g.master config)))
   answers_unheard : (from ballot : ℕ) → In (0, record { from = from; body = Activate ballot }) g.sent →
       MayGo g (with_master g (activated Command g.master ballot from g.master.waiting).state)
 
--- all that went on in a group of so many nodes, from its opening in a configuration on
+-- all steps of a group of this many nodes, from its opening in a configuration on
 pub data Went (nodes : ℕ) (config : Config) : Group → Type 0 where
   opened : can_open nodes config ≡ true → Went nodes config (opening_group nodes config)
   then_went : {g h : Group} → Went nodes config g → MayGo g h → Went nodes config h
 
--- what nodes put to their replicas, each command with the ballot that its node had joined, in order
+-- what nodes proposed to their replicas, each command with the ballot that its node had joined, in
+-- order
 abbrev pub put_in_step : {g h : Group} → MayGo g h → List (ℕ × Command)
 put_in_step (node_acts n core deed turn run at is first sent) = put_in_run run
 put_in_step (node_loses n core item turn kept by at runs sent thinned) = put_losing by.run
@@ -69,7 +72,7 @@ abbrev pub all_put : {nodes : ℕ} {config : Config} {g : Group} → Went nodes 
 all_put (opened can) = []
 all_put (then_went went step) = all_put went ++ put_in_step step
 
--- the group behind each of them, the newest first
+-- the group after each of them, the newest first
 abbrev pub groups_of : {nodes : ℕ} {config : Config} {g : Group} → Went nodes config g → List Group
 groups_of {g = g} (opened can) = g ∷ []
 groups_of {g = g} (then_went went step) = g ∷ groups_of went

@@ -14,9 +14,9 @@ use Rattle.snapshots.specs.Past.{Moment}
 use Rattle.snapshots.specs.World.{messages, outputs}
 use Rattle.node_model.specs.world_base.Core.{CoreState, Turn, opening_core}
 
--- Node n + 1 stands at place n. All messages that were ever sent stay, each with its receiver: any may come late, again
--- or never. So do the outputs that replicas gave, with their places in the log. The record has the places below the bases of
--- all logs.
+-- Node n + 1 is at place n. All messages that were ever sent stay, each with its receiver: any may
+-- come late, again or never. So do the outputs that replicas gave, with their places in the log.
+-- The record has the places below the bases of all logs.
 pub record Group : Type 0 where
   pub master : MasterState
   pub nodes : List CoreState
@@ -34,9 +34,9 @@ abbrev pub opening_group : ℕ → Config → Group
 opening_group nodes config =
     record { master = opening_master config; nodes = opening_cores nodes config; sent = []; left = []; archive = [] }
 
--- ---- behind what happens
+-- ---- after what happens
 
--- behind a turn of the node at place n, in which its replica gave this
+-- after a turn of the node at place n, in which its replica gave this
 abbrev pub behind_turn : Group → ℕ → Turn → List (Effect Command Output) → Group
 behind_turn g n turn given =
     record g {
@@ -45,7 +45,7 @@ behind_turn g n turn given =
       left = g.left ++ outputs given;
     }
 
--- behind a message of the master
+-- after a message of the master
 abbrev pub told_by_master : Group → MasterOutcome Command → Group
 told_by_master g o = record g { sent = g.sent ++ (o.receiver, record { from = master; body = o.body }) ∷ [] }
 
@@ -57,7 +57,7 @@ with_master g m = record g { master = m }
 abbrev pub with_record : Group → List Command → Group
 with_record g archive = record g { archive = archive }
 
--- ---- its replicas, as they are seen where nodes agree
+-- ---- its replicas, as they are seen if nodes agree
 
 abbrev pub replica_of : CoreState → ReplicaState State Command
 replica_of core = core.replica.state

@@ -1,4 +1,5 @@
--- The same in moves in which something may be lost: a command that the replica does not take is not put to it.
+-- The same in moves in which something may be lost: a command that the replica does not take does
+-- not count as proposed.
 use Rattle.std.specs.Prelude.{ℕ, List, [], ◌∷◌, ◌++◌, map}
 use Rattle.node_model.specs.ballot.Effect.{Effect}
 use Rattle.node_model.specs.ballot.Protocol.{Input}
@@ -13,7 +14,7 @@ use Rattle.group_model.specs.Group.{Group, replica_of}
 use Rattle.group_model.specs.Putting.{InputWasSent}
 use Rattle.group_model.specs.Putting.{commands_put as exactly_put, recorded_by as exactly_recorded}
 
--- each of these that comes of others was sent to the node
+-- each of these inputs that comes from others was sent to the node
 abbrev pub WereSent : Group → ℕ → List (Input Command) → Type 0
 WereSent g n [] = Unit {0}
 WereSent g n (input ∷ inputs) = InputWasSent g n input × WereSent g n inputs
@@ -27,12 +28,12 @@ abbrev pub recorded_in : List Command → {core : CoreState} {turn : Turn} → L
 recorded_in archive rests = archive
 recorded_in archive (goes_on m run) = recorded_in (recorded_by archive m) run
 
--- what its replica gives
+-- the effects of its replica
 abbrev pub all_given : {core : CoreState} {turn : Turn} → LossyRuns core turn → List (Effect Command Output)
 all_given rests = []
 all_given (goes_on m run) = given_in m ++ all_given run
 
--- the commands that a node puts to its replica in a move
+-- the commands that a node proposes to its replica in a move
 abbrev pub commands_put : {core : CoreState} {turn : Turn} → LossyMoves core turn → List Command
 commands_put (exactly m) = exactly_put m
 commands_put m = proposal_of m

@@ -1,4 +1,4 @@
--- In which order the packets of a connection stand in the logs of a group and in the agreed list.
+-- In which order the packets of a connection are in the logs of a group and in the agreed list.
 use Rattle.std.specs.Prelude.{◌≡◌, ℕ, List, ◌∷◌, filter, slice_get, Some}
 use Rattle.lists.specs.Lists.{IsPrefixOf}
 use Rattle.node_model.specs.ballot.Config.{Config}
@@ -17,7 +17,8 @@ use Rattle.group_model.specs.Pasts.{HasPast}
 abbrev pub packets_of : ConnectionName → List Command → List Command
 packets_of x commands = filter (λ (command : Command). is_packet_of command x) commands
 
--- of each connection the whole log of each node, and the agreed list, has a beginning of the packets that were put for it, in order
+-- the whole log of each node, and the agreed list, has of each connection a prefix of the packets
+-- that were proposed for it, in order
 pub record KeepsOrder (config : Config) (g : Group) (groups : List Group) (put : List (ℕ × Command)) : Type 0 where
   pub of : HasPast config g groups put
   pub logs : (x : ConnectionName) (n : ℕ) (core : CoreState) → slice_get g.nodes n ≡ Some core →

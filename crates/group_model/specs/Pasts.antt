@@ -1,4 +1,4 @@
--- That the replicas of a group went through a past as agreement is proved of.
+-- The steps of a group's replicas are a past for which agreement is proved.
 use Rattle.std.specs.Prelude.{◌≡◌, ℕ, List, ◌∷◌, filter}
 use Rattle.lists.specs.Lists.{Each, In}
 use Rattle.node_model.specs.ballot.Config.{Config}
@@ -17,8 +17,9 @@ use Rattle.group_model.specs.Goes.{Went, all_put, groups_of}
 abbrev pub packets_in : ConnectionName → List (ℕ × Command) → List (ℕ × Command)
 packets_in x rows = filter (λ (row : ℕ × Command). is_packet_of row.1 x) rows
 
--- A past whose last moment are the replicas of the group. In it these commands were proposed, of them the packets of all
--- connections were taken, and each of these earlier groups has its moment.
+-- A past whose last moment is that of the group's replicas. In it these commands were proposed, the
+-- packets of all connections among them were taken, and each of these earlier groups has its
+-- moment.
 pub record HasPast (config : Config) (g : Group) (groups : List Group) (put : List (ℕ × Command)) : Type 0 where
   pub earlier : List (Moment State Command Output)
   pub past : Past rules config (moment_of g ∷ earlier)

@@ -1,4 +1,5 @@
--- What a node puts to its replica in a run of moves, what the replica gives, and that what it hears was sent.
+-- What a node proposes to its replica in a run of moves, the effects of the replica, and that what
+-- it receives was sent.
 use Rattle.std.specs.Prelude.{◌≡◌, Some, ℕ, ◌+◌, if◌then◌else◌, List, [], ◌∷◌, ◌++◌, map}
 use Rattle.lists.specs.Lists.{In}
 use Rattle.node_model.specs.ballot.Effect.{Effect}
@@ -15,13 +16,13 @@ use Rattle.node_model.specs.Moves.Moves.{hears, cuts_log, reads_first, reads_lat
 use Rattle.node_model.specs.Puts.{given_in}
 use Rattle.group_model.specs.Group.{Group, replica_of}
 
--- what a node hears of others was sent to it
+-- what a node receives from others was sent to it
 abbrev pub InputWasSent : Group → ℕ → Input Command → Type 0
 InputWasSent g n (Receives message) = In (n + 1, message) g.sent
 InputWasSent g n (Proposes command) = Unit {0}
 InputWasSent g n Ticks = Unit {0}
 
--- and the bytes to which it cuts its log stand for its machine
+-- and the bytes to which it cuts its log thaw to its machine
 abbrev pub WasSent : Group → ℕ → {core : CoreState} {turn : Turn} → Moves core turn → Type 0
 WasSent g n (hears input is) = InputWasSent g n input
 WasSent g n {core = core} (cuts_log can) =
@@ -32,7 +33,8 @@ abbrev pub AllWasSent : Group → ℕ → {core : CoreState} {turn : Turn} → R
 AllWasSent g n rests = Unit {0}
 AllWasSent g n (goes_on m run) = WasSent g n m × AllWasSent g n run
 
--- the record of places after a move, and after a run: a cut adds what the log that is cut has applied
+-- the record of places after a move, and after a run: a cut adds what the log that is cut has
+-- applied
 abbrev pub recorded_by : List Command → {core : CoreState} {turn : Turn} → Moves core turn → List Command
 recorded_by archive {core = core} (cuts_log can) = recorded archive (replica_of core)
 recorded_by archive _ = archive
@@ -41,12 +43,12 @@ abbrev pub recorded_in : List Command → {core : CoreState} {turn : Turn} → R
 recorded_in archive rests = archive
 recorded_in archive (goes_on m run) = recorded_in (recorded_by archive m) run
 
--- what its replica gives
+-- the effects of its replica
 abbrev pub all_given : {core : CoreState} {turn : Turn} → Runs core turn → List (Effect Command Output)
 all_given rests = []
 all_given (goes_on m run) = given_in m ++ all_given run
 
--- the commands that a node puts to its replica in a move
+-- the commands that a node proposes to its replica in a move
 abbrev pub commands_put : {core : CoreState} {turn : Turn} → Moves core turn → List Command
 commands_put (reads_first now port c connect rest at first is room) = commands.Connect c.name connect.client connect.clean ∷ []
 commands_put (reads_later now port c packet rest at later is room) = commands.Packet c.name packet ∷ []

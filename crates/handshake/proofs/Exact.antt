@@ -1,4 +1,4 @@
--- Every run keeps what is good: what is accepted is a beginning of the items, in order and each once.
+-- Every run keeps what is good: what is accepted is a prefix of the items, in order and each once.
 use Rattle.std.proofs.Common.{◌≡◌, ℕ, Bool, true, false, List, [], ◌∷◌, ◌++◌, map, refl, sym, subst}
 use Rattle.std.proofs.lemmas.List.{append-nil}
 use Rattle.lists.specs.Lists.{Each}

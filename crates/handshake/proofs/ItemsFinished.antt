@@ -1,4 +1,4 @@
--- What a PUBCOMP makes of the items.
+-- What a PUBCOMP does to the items.
 use Rattle.std.proofs.Common.{◌≡◌, ℕ, Bool, true, false, ◌==◌, if◌then◌else◌, List, [], ◌∷◌, map, refl, ap, ap₂, subst, inl, inr, ◌⊎◌}
 use Rattle.std.proofs.lemmas.Bool.{cases_Bool}
 use Rattle.lists.specs.Lists.{has_id, IsDistinct, Each}

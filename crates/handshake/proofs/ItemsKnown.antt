@@ -1,4 +1,4 @@
--- What the receiver knows of the items.
+-- What the receiver knows about the items.
 use Rattle.std.proofs.Common.{◌≡◌, ℕ, Bool, true, false, not, ◌&&◌, ◌||◌, ◌==◌, List, [], ◌∷◌, refl, ap, ap₂, sym, subst, inl, inr, ◌⊎◌}
 use Rattle.std.proofs.lemmas.Bool.{or_cases, both_ways, cases_Bool}
 use Rattle.lists.specs.Lists.{has_id, IsDistinct, Each}

@@ -1,4 +1,4 @@
--- What a PUBREC makes of the items.
+-- What a PUBREC does to the items.
 use Rattle.std.proofs.Common.{◌≡◌, ℕ, Bool, true, false, ◌||◌, ◌==◌, if◌then◌else◌, List, [], ◌∷◌, map, refl, ap, ap₂, subst, inl, inr, ◌⊎◌}
 use Rattle.std.proofs.lemmas.Bool.{cases_Bool}
 use Rattle.lists.specs.Lists.{has_id, Each}

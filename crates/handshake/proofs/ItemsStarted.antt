@@ -1,4 +1,4 @@
--- What a start makes of the items.
+-- What a start does to the items.
 use Rattle.std.proofs.Common.{◌≡◌, ℕ, Bool, false, List, [], ◌∷◌, ◌++◌, Some, None, refl, ap, ap₂, sym, ◌∙◌}
 use Rattle.lists.specs.Lists.{Each}
 use Rattle.handshake.specs.Items.{Item, busy, sent, start_first, first_waiting}
@@ -20,7 +20,7 @@ none_sent (Item.Sent v id ∷ items) w = elim w.0 [ ]
 none_sent (Item.Released v id ∷ items) w = elim w.0 [ ]
 none_sent (Item.Finished v ∷ items) w = elim w.0 [ ]
 
--- behind items that do not wait
+-- after items that do not wait
 pub start_behind : {V : Type 0} (received : ℕ → Bool) (id : ℕ) (old new : List (Item V)) → Each (IsOld received) old → start_first id (old ++ new) ≡ old ++ start_first id new
 start_behind received id [] new h = refl
 start_behind received id (Item.Waits v ∷ old) new h = elim h.0 [ ]

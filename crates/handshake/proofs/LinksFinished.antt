@@ -1,4 +1,4 @@
--- What is under way when a PUBCOMP is heard.
+-- What is in transit when a PUBCOMP is received.
 use Rattle.std.proofs.Common.{◌≡◌, ℕ, Bool, false, ◌==◌, List, [], ◌∷◌, ◌++◌, map, sym, subst}
 use Rattle.std.proofs.lemmas.List.{append-nil}
 use Rattle.lists.specs.Lists.{has_id, Each}

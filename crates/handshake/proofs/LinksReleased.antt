@@ -1,4 +1,4 @@
--- What is under way when a PUBREC is heard.
+-- What is in transit when a PUBREC is received.
 use Rattle.std.proofs.Common.{◌≡◌, ℕ, Bool, false, ◌==◌, List, [], ◌∷◌, ◌++◌, map, ap, sym, ◌∙◌, subst, append_assoc}
 use Rattle.std.proofs.lemmas.List.{append-nil, map-append}
 use Rattle.lists.specs.Lists.{has_id, IsDistinct, Each}

@@ -1,4 +1,4 @@
--- What is under way when an item starts, waits, or a side leaves.
+-- What is in transit when an item starts, waits, or a side leaves.
 use Rattle.std.proofs.Common.{◌≡◌, ℕ, Bool, true, false, ◌==◌, List, [], ◌∷◌, ◌++◌, map, refl, ap, sym, ◌∙◌, subst, append_assoc}
 use Rattle.std.proofs.lemmas.List.{append-nil, map-append}
 use Rattle.lists.specs.Lists.{has_id, IsDistinct, Each}
@@ -15,7 +15,7 @@ use Rattle.handshake.proofs.LinksTaken.{publishes_append}
 
 -- ---- one starts
 
--- what is under way has identifiers that are busy
+-- what is in transit has identifiers that are busy
 not_busy : {V : Type 0} (i j : ℕ) (old : List (Item V)) → has_id i (busy old) ≡ false → has_id j (busy old) ≡ true → (i == j) ≡ false
 not_busy i j old n h = other_id i j (busy old) n h
 

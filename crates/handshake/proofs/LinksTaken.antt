@@ -1,4 +1,4 @@
--- What is under way when the receiver takes in.
+-- What is in transit when the receiver takes a packet.
 use Rattle.std.proofs.Common.{◌≡◌, ℕ, Bool, false, ◌==◌, List, [], ◌∷◌, ◌++◌, map, refl, ap, sym, ◌∙◌, subst, append_assoc}
 use Rattle.std.proofs.lemmas.List.{append-nil, map-append}
 use Rattle.lists.specs.Lists.{has_id, IsDistinct, Each}
@@ -15,7 +15,7 @@ publishes_append [] g = refl
 publishes_append (Forward.Publish id v ∷ f) g = ap (λ l. (id, v) ∷ l) (publishes_append f g)
 publishes_append (Forward.Pubrel id ∷ f) g = publishes_append f g
 
--- ---- the receiver takes in
+-- ---- the receiver takes a packet
 
 answered_id : {V : Type 0} (m : Forward V) → backward_id (answer m) ≡ forward_id m
 answered_id (Forward.Publish id v) = refl

@@ -1,4 +1,4 @@
--- What is sent, with its value: behind a PUBREC of another, and behind a PUBCOMP.
+-- What is sent, with its value: after a PUBREC of another, and after a PUBCOMP.
 use Rattle.std.proofs.Common.{◌≡◌, ℕ, Bool, true, false, ◌==◌, if◌then◌else◌, List, [], ◌∷◌, map, refl}
 use Rattle.std.proofs.lemmas.Bool.{both_ways}
 use Rattle.lists.specs.Lists.{In}

@@ -11,7 +11,7 @@ use Rattle.lists.proofs.OfEach.{each_append}
 use Rattle.handshake.proofs.BusyIdentifiers.{busy_append}
 use Rattle.handshake.proofs.ItemsKnown.{with, without, olds_more, news_more, olds_less, news_less, released_not_sent}
 
--- ---- the receiver takes in a publication
+-- ---- the receiver takes a publication
 
 known_more : (received : ℕ → Bool) (ids : List ℕ) (id : ℕ) → ((i : ℕ) → received i ≡ true → has_id i ids ≡ true)
     → (j : ℕ) → with id received j ≡ true → has_id j (ids ++ id ∷ []) ≡ true

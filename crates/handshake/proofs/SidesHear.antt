@@ -1,4 +1,4 @@
--- The two sides when the sender hears.
+-- The two sides when the sender receives an answer.
 use Rattle.std.proofs.Common.{◌≡◌, ℕ, Bool, true, false, ◌==◌, List, ◌++◌, map, ap, sym, ◌∙◌, subst, inl, inr, ◌⊎◌}
 use Rattle.std.proofs.lemmas.List.{map-append}
 use Rattle.std.proofs.lemmas.Bool.{both_ways, cases_Bool}
@@ -11,7 +11,7 @@ use Rattle.handshake.proofs.BusyIdentifiers.{busy_append, sent_busy, released_bu
 use Rattle.handshake.proofs.ItemsReleased.{busy_releasing, values_releasing, releasing_others, olds_releasing}
 use Rattle.handshake.proofs.ItemsFinished.{values_finishing, finishing_others, olds_finishing, apart_finishing, busy_finishing}
 
--- ---- the sender hears
+-- ---- the sender receives an answer
 
 pub sides_release : {V : Type 0} (items : List (Item V)) (accepted : List V) (received : ℕ → Bool) (old new : List (Item V)) (id : ℕ)
     → AreSides items accepted received old new → has_sent id old ≡ true

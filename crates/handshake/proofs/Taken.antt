@@ -1,4 +1,4 @@
--- What the receiver takes in, on either link.
+-- What the receiver takes, on either link.
 use Rattle.std.proofs.Common.{◌≡◌, ℕ, Bool, true, false, not, ◌&&◌, ◌==◌, List, [], ◌∷◌, ◌++◌, refl, ap, sym, ◌∙◌, subst}
 use Rattle.std.proofs.lemmas.Bool.{both_ways}
 use Rattle.lists.specs.Lists.{Each}

@@ -11,7 +11,7 @@ is_over (Item.Released v id) = true
 is_over (Item.Finished v) = true
 is_over _ = false
 
--- What is accepted is a beginning of the items, in order, and each that is released is among them.
+-- What is accepted is a prefix of the items, in order, and each that is released is among them.
 pub record IsExact {V : Type 0} (h : Handshake V) : Type 0 where
   pub old : List (Item V)
   pub new : List (Item V)
@@ -19,7 +19,7 @@ pub record IsExact {V : Type 0} (h : Handshake V) : Type 0 where
   pub accepted : h.accepted ≡ map value_of old
   pub rest : Each (λ item. is_over item ≡ false) new
 
--- so it is after every run from the opening
+-- that holds after every run from the opening
 abbrev pub RunsAreExact : Type 0 → Type 0
 RunsAreExact V = (h : Handshake V) → Run (opening V) h → IsExact h
 
@@ -29,7 +29,8 @@ next_of (Link.Joined (m ∷ f) b) = Some m
 next_of (Link.Ahead (m ∷ f)) = Some m
 next_of _ = None
 
--- a publication that comes with an identifier that the receiver knows was accepted before, the same one
+-- a publication that comes with an identifier that the receiver knows was accepted before, the same
+-- one
 abbrev pub RepeatsWereAccepted : Type 0 → Type 0
 RepeatsWereAccepted V =
     (h : Handshake V) → Run (opening V) h → (id : ℕ) (v : V) → next_of h.link ≡ Some (Forward.Publish id v) →

@@ -1,9 +1,10 @@
--- The handshake of QoS 2 between two sides, over connections that are lost and opened again (MQTT 4.3.3, 4.4).
+-- The handshake of QoS 2 between two sides, over connections that are lost and opened again (MQTT
+-- 4.3.3, 4.4).
 use Rattle.std.specs.Prelude.{◌≡◌, ℕ, Bool, true, false, not, ◌&&◌, ◌||◌, ◌==◌, List, [], ◌∷◌, ◌++◌, map, Some}
 use Rattle.lists.specs.Lists.{has_id, IsDistinct, Each}
 use Rattle.handshake.specs.Items.{Item, busy, sent, has_released, releasing, finishing, start_first, first_waiting}
 
--- ---- what is under way
+-- ---- what is in transit
 
 pub data Forward (V : Type 0) : Type 0 where
   Publish : (id : ℕ) → (value : V) → Forward V
@@ -13,8 +14,8 @@ pub data Backward : Type 0 where
   Pubrec : (id : ℕ) → Backward
   Pubcomp : (id : ℕ) → Backward
 
--- Both sides are on one connection; or the receiver has left, and the sender may still hear; or the sender has
--- left, and the receiver may still take in what was sent.
+-- Both sides are on one connection; or the receiver has left, and the sender may still receive; or
+-- the sender has left, and the receiver may still take what was sent.
 pub data Link (V : Type 0) : Type 0 where
   Joined : (forward : List (Forward V)) → (backward : List Backward) → Link V
   Behind : (backward : List Backward) → Link V
@@ -34,7 +35,7 @@ abbrev pub reply : {V : Type 0} → Backward → List (Forward V)
 reply (Backward.Pubrec id) = Forward.Pubrel id ∷ []
 reply (Backward.Pubcomp id) = []
 
--- the receiver takes in
+-- the receiver accepts
 abbrev pub accepting : {V : Type 0} → ℕ → V → Bool → Handshake V → Link V → Handshake V
 accepting id v true h l = record { items = h.items; accepted = h.accepted; received = h.received; link = l }
 accepting id v false h l =
@@ -45,7 +46,7 @@ taking (Forward.Publish id v) h l = accepting id v (h.received id) h l
 taking (Forward.Pubrel id) h l =
     record { items = h.items; accepted = h.accepted; received = λ j. not (j == id) && h.received j; link = l }
 
--- the sender hears
+-- the sender receives an answer
 abbrev pub heard : {V : Type 0} → Backward → List (Item V) → List (Item V)
 heard (Backward.Pubrec id) items = map (releasing id) items
 heard (Backward.Pubcomp id) items = map (finishing id) items
@@ -53,7 +54,7 @@ heard (Backward.Pubcomp id) items = map (finishing id) items
 abbrev pub with_items : {V : Type 0} → List (Item V) → Link V → Handshake V → Handshake V
 with_items items l h = record { items = items; accepted = h.accepted; received = h.received; link = l }
 
--- what goes out on the sender's connection, where anybody takes it in
+-- what the sender sends on its connection, if the receiver may still take it
 abbrev pub sending : {V : Type 0} → Forward V → Link V → Link V
 sending m (Link.Joined f b) = Link.Joined (f ++ m ∷ []) b
 sending m (Link.Behind b) = Link.Behind b
@@ -86,7 +87,7 @@ pub data Moves {V : Type 0} (h : Handshake V) : Handshake V → Type 0 where
   restarts : (releases : List ℕ) → IsDistinct releases → Each (λ id. has_released id h.items ≡ true) releases →
       Moves h (with_items h.items (Link.Joined (resend releases h.items) []) h)
 
--- one after the other
+-- one after another
 pub data Run {V : Type 0} (h : Handshake V) : Handshake V → Type 0 where
   stays : Run h h
   goes_on : {k l : Handshake V} → Run h k → Moves k l → Run h l

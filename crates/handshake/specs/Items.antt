@@ -1,9 +1,9 @@
--- What a sender publishes at QoS 2, and where each publication stands (MQTT 4.3.3).
+-- What a sender publishes at QoS 2, and the state of each publication (MQTT 4.3.3).
 use Rattle.std.specs.Prelude.{ℕ, Bool, false, ◌||◌, ◌==◌, if◌then◌else◌, List, [], ◌∷◌, Option, Some, None}
 
 -- ---- the sender's items
 
--- one QoS 2 publication of a sender, and where it stands
+-- one QoS 2 publication of a sender, with its state
 pub data Item (V : Type 0) : Type 0 where
   Waits : (value : V) → Item V
   Sent : (value : V) → (id : ℕ) → Item V
@@ -16,7 +16,7 @@ value_of (Item.Sent v id) = v
 value_of (Item.Released v id) = v
 value_of (Item.Finished v) = v
 
--- identifiers under way, and those of sent and of released ones
+-- identifiers in flight, and those of sent and of released ones
 abbrev pub busy : {V : Type 0} → List (Item V) → List ℕ
 busy (Item.Sent v id ∷ items) = id ∷ busy items
 busy (Item.Released v id ∷ items) = id ∷ busy items

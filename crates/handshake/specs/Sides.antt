@@ -1,4 +1,4 @@
--- What every run of a handshake keeps: the two sides, and what is under way between them.
+-- What every run of a handshake keeps: the two sides, and what is in transit between them.
 use Rattle.std.specs.Prelude.{◌≡◌, ℕ, Bool, true, false, List, [], ◌∷◌, ◌++◌, map}
 use Rattle.lists.specs.Lists.{In, has_id, IsDistinct, Each}
 use Rattle.handshake.specs.Items.{Item, value_of, busy, sent, has_sent, has_released}
@@ -22,13 +22,13 @@ abbrev pub IsWaiting : {V : Type 0} → Item V → Type 0
 IsWaiting (Item.Waits v) = Unit {0}
 IsWaiting _ = ⊥
 
--- behind one that waits, all wait
+-- after one that waits, all wait
 abbrev pub WaitsLast : {V : Type 0} → List (Item V) → Type 0
 WaitsLast (Item.Waits v ∷ items) = Each IsWaiting items
 WaitsLast (_ ∷ items) = WaitsLast items
 WaitsLast [] = Unit {0}
 
--- ---- what is under way
+-- ---- what is in transit
 
 abbrev pub publishes : {V : Type 0} → List (Forward V) → List (ℕ × V)
 publishes (Forward.Publish id v ∷ f) = (id, v) ∷ publishes f
@@ -48,7 +48,7 @@ abbrev pub IsMeant : {V : Type 0} → List (Item V) → Forward V → Type 0
 IsMeant old (Forward.Publish id v) = Unit {0}
 IsMeant old (Forward.Pubrel id) = has_released id old ≡ true
 
--- a PUBREC is of an accepted item, and a PUBCOMP of one whose identifier the receiver forgot
+-- a PUBREC is for an accepted item, and a PUBCOMP for one whose identifier the receiver forgot
 abbrev pub IsDue : {V : Type 0} → (ℕ → Bool) → List (Item V) → Backward → Type 0
 IsDue received old (Backward.Pubrec id) = has_sent id old ≡ true
 IsDue received old (Backward.Pubcomp id) = (has_released id old ≡ true) × (received id ≡ false)
@@ -57,7 +57,8 @@ IsDue received old (Backward.Pubcomp id) = (has_released id old ≡ true) × (re
 abbrev pub IsSent : {V : Type 0} → List (Item V) → ℕ × V → Type 0
 IsSent items row = In row (sent items)
 
--- what comes to the receiver: some that it has, each with the value that was first sent, and then exactly these
+-- what comes to the receiver: some that it has already, each with the value that was first sent,
+-- and then exactly these
 pub record Comes {V : Type 0} (old : List (Item V)) (f : List (Forward V)) (next : List (ℕ × V)) : Type 0 where
   pub again : List (ℕ × V)
   pub is : publishes f ≡ again ++ next
@@ -85,7 +86,7 @@ IsLinked received old new (Link.Joined f b) = IsJoined received old new f b
 IsLinked received old new (Link.Behind b) = IsBehind received old b
 IsLinked received old new (Link.Ahead f) = IsAhead old new f
 
--- the two sides, apart from what is under way
+-- the two sides, apart from what is in transit
 pub record AreSides {V : Type 0} (items : List (Item V)) (accepted : List V) (received : ℕ → Bool) (old new : List (Item V))
     : Type 0 where
   pub is : items ≡ old ++ new

@@ -1,4 +1,5 @@
--- The exit status of a program that ends with a fault, and how the faults of its parts become the program's.
+-- The exit status of a program that ends with a fault, and how the faults of its parts become the
+-- program's.
 use Rattle.std.specs.Prelude.{ℕ}
 use Rattle.clap.specs.Values.{kind_of}
 use Rattle.clap.specs.declared.error.kind.ErrorKind.{ErrorKind}
@@ -16,7 +17,8 @@ use Rattle.user_client.specs.declared.fault.ClientFault.TheVariants as clients
 use Rattle.jobs.specs.declared.fault.Fault.{Fault}
 use Rattle.jobs.specs.declared.fault.Fault.TheVariants as faults
 
--- 1 for file, network and memory, 2 for the command line, 3 for a table, a script or another argument
+-- 1 for file, network and memory, 2 for the command line, 3 for a table, a script or another
+-- argument
 abbrev pub status_of : Fault → ℕ
 status_of faults.Memory = 1
 status_of faults.Input = 1
@@ -35,38 +37,39 @@ status_of (faults.Refused number) = 3
 status_of faults.SessionPresent = 1
 status_of faults.Lost = 1
 
--- 0 where the version was asked for, 1 where memory ran out, 2 for help and for each refused word or number
+-- 0 if the version was asked for, 1 if memory ran out, 2 for help and for each refused word or
+-- number
 abbrev pub words_status : ErrorKind → ℕ
 words_status kinds.DisplayVersion = 0
 words_status kinds.OutOfMemory = 1
 words_status kind = 2
 
--- of a command line that gives no job
+-- for a command line that gives no job
 abbrev pub line_status : LineFault → ℕ
 line_status (lines.Words error) = words_status (kind_of error)
 line_status lines.Incomplete = status_of faults.Words
 line_status lines.Memory = status_of faults.Memory
 
--- of a script that was not played as it should be
+-- for a script that was not played as it should be
 abbrev pub played_fault_of : PlayError → Fault
 played_fault_of (plays.Line number) = faults.Script number
 played_fault_of plays.Memory = faults.Memory
 played_fault_of plays.Losses = faults.Losses
 played_fault_of plays.Idle = faults.Idle
 
--- of nodes that were not served
+-- for nodes that were not served
 abbrev pub served_fault_of : ServeError → Fault
 served_fault_of serves.BadMembers = faults.Config
 served_fault_of serves.Memory = faults.Memory
 served_fault_of serves.Clock = faults.Clock
 served_fault_of serves.Threads = faults.Threads
 
--- of a table of nodes that was not read
+-- for a table of nodes that could not be read
 abbrev pub table_fault_of : TableFault → Fault
 table_fault_of tables.Shape = faults.Config
 table_fault_of tables.Memory = faults.Memory
 
--- of a client that did not do what it was to do
+-- for a client that did not do its job
 abbrev pub client_fault_of : ClientFault → Fault
 client_fault_of (clients.Refused number) = faults.Refused number
 client_fault_of clients.SessionPresent = faults.SessionPresent

@@ -1,10 +1,10 @@
--- What is written of a script that is played.
+-- What is written for a played script.
 use Rattle.std.specs.Prelude.{ℕ, List, [], Option}
 use Rattle.std.specs.Io.KnownBytes.{Appends}
 use Rattle.play.specs.Transcripts.{Plays}
 use Rattle.play.specs.Ways.{TellsWay}
 
--- the text's transcript was written, of a world in which memory was wanting in so many events
+-- the text's transcript was written, from a world in which memory ran out in this many events
 pub record Prints (text : List ℕ) (old new : Option (List ℕ)) (losses : ℕ) : Type 0 where
   pub transcript : List ℕ
   pub played : Plays text [] transcript losses

@@ -14,7 +14,7 @@ use user_client::ClientFault;
 /// Why the program ends with another status than 0. Its text is for the user.
 #[derive(Debug, Drop, Error)]
 pub enum Fault {
-    /// Memory was wanting.
+    /// Memory ran out.
     #[error("out of memory")]
     Memory,
     /// Standard input could not be read.
@@ -38,7 +38,7 @@ pub enum Fault {
     /// An address cannot be listened on.
     #[error("cannot listen on {0}: {1}")]
     Address(String, ErrorKind),
-    /// A word of the command line is no UTF-8, or a value is missing.
+    /// A word of the command line is not UTF-8, or a value is missing.
     #[error("the words of the command line could not be read; try vbroker --help")]
     Words,
     /// The file is no table of nodes.
@@ -47,10 +47,12 @@ pub enum Fault {
     /// A text is no script, by this line of it, counted from 1.
     #[error("script line {0}")]
     Script(u64),
-    /// A script was played to its end and its transcript was written, but its world ran out of memory.
+    /// A script was played to its end and its transcript was written, but its world ran out of
+    /// memory.
     #[error("out of memory: the transcript shows a world that lost something")]
     Losses,
-    /// The world where a script ends has no way out for the members and the client that were named.
+    /// The world in which a script ends has no way out for the members and the client that were
+    /// named.
     #[error("idle")]
     Idle,
     /// A client's identifier, topic, filter or message was refused.
@@ -65,8 +67,8 @@ pub enum Fault {
 }
 
 impl Fault {
-    /// The exit status: 1 for a fault of file, network or memory, 2 for a command line that is
-    /// refused, 3 for a refused table, script or argument.
+    /// Returns the exit status: 1 for a fault of file, network or memory, 2 for a command line that
+    /// is refused, 3 for a refused table, script or argument.
     pub fn status(&self) -> u8
         ensures { result ≡ status_of self.now }
     {

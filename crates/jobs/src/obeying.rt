@@ -17,28 +17,29 @@ use std::time::Clock;
 /// What a line orders.
 #[derive(Drop)]
 enum Order {
-    /// The server is to end.
+    /// The server ends.
     Quit,
-    /// How each node stands.
+    /// The status of each node is printed.
     Status,
-    /// A configuration is to become active.
+    /// The next ballot is given to a configuration.
     Assign(Config),
-    /// A node is to crash.
+    /// A node crashes.
     Crash(u8),
-    /// The session of a client is to end.
+    /// The session of a client ends.
     Expel(ClientId),
 }
 
-/// The refusal of a line that is no order, and of a crash of no living node.
+/// The refusal of a line that is no order, and of a crash of a node that does not run.
 const NO_ORDER: u8 = 24;
 
-/// The refusal of an order that only an active primary can obey, where no node is one.
+/// The refusal of an order that only an active primary can obey, if no node is one.
 const NO_PRIMARY: u8 = 18;
 
-/// The refusal for want of memory.
+/// The refusal because memory ran out.
 const NO_MEMORY: u8 = 12;
 
-/// Obeys the lines of the input to its end or to `quit`, and answers each. The only fault is an input that cannot be read.
+/// Obeys the lines of the input to its end or to `quit`, and answers each. The only fault is an
+/// input that cannot be read.
 pub(crate) fn obey<R, I, O>(
     rt: &R,
     peers: &Peers,
@@ -62,7 +63,8 @@ where
     unreachable!()
 }
 
-// What the next line orders, or the number by which it is refused. The end of the input orders to quit.
+// Returns what the next line orders, or the number by which it is refused. The end of the input
+// orders to quit.
 fn next_order<I: BufRead>(alloc: Global, input: &mut I) -> Result<Result<Order, u8>, Fault> {
     let mut line = String::new(alloc);
     match input.read_line(&mut line) {
@@ -80,7 +82,7 @@ fn next_order<I: BufRead>(alloc: Global, input: &mut I) -> Result<Result<Order, 
     }
 }
 
-// What a line orders, or the number by which it is refused.
+// Returns what a line orders, or the number by which it is refused.
 fn order_of(alloc: Global, line: &str) -> Result<Order, u8> {
     if let Some(client) = line.strip_prefix("expel ") {
         return expel_of(alloc, client);
@@ -98,7 +100,8 @@ fn order_of(alloc: Global, line: &str) -> Result<Order, u8> {
     }
 }
 
-// The order to end the session of the client of this identifier, or the number by which the identifier is refused.
+// Returns the order to end the session of the client with this identifier, or the number by which
+// the identifier is refused.
 fn expel_of(alloc: Global, client: &str) -> Result<Order, u8>
     ensures order { IfOk result (λ order. order ≡ orders.Expel client.now) }
     ensures sound { OnOk result (client_fault client.now ≡ None) }
@@ -110,7 +113,8 @@ fn expel_of(alloc: Global, client: &str) -> Result<Order, u8>
     }
 }
 
-// A number, of which those above 255 are as 255: no node has them. A sign is no part of one.
+// Returns the number that a word says. A number above 255 counts as 255, which no node has. A sign
+// is not part of a number.
 fn number_of(word: &str) -> Result<u8, u8> {
     if word.starts_with('+') {
         return Err(NO_ORDER);
@@ -121,7 +125,7 @@ fn number_of(word: &str) -> Result<u8, u8> {
     }
 }
 
-/// The numbers of a word, with commas between them, or the number by which it is refused.
+/// Returns the numbers of a word, with commas between them, or the number by which it is refused.
 pub(crate) fn members_of(alloc: Global, word: &str) -> Result<Members, u8> {
     let mut numbers = Vec::new(alloc);
     for part in word.split(',') {
@@ -136,7 +140,7 @@ pub(crate) fn members_of(alloc: Global, word: &str) -> Result<Members, u8> {
     }
 }
 
-// Does an order and says what came of it. Clients are served also where nobody can be told.
+// Does an order and prints the result. Clients are served also if nothing can be printed.
 fn answer<R, O>(rt: &R, peers: &Peers, nodes: &[ListeningNode], order: Order, output: &mut O)
 where
     R: Wait + Clock,
@@ -163,7 +167,7 @@ where
     }
 }
 
-// Has the session of a client ended, and says so or why not.
+// Ends the session of a client, and prints that, or why not.
 fn expel<R, O>(rt: &R, peers: &Peers, client: &ClientId, output: &mut O)
 where
     R: Wait + Clock,
@@ -182,7 +186,7 @@ fn refuse<O: Write>(output: &mut O, number: u8) {
     let _ = writeln!(output, "refused {number}");
 }
 
-// How each node stands, in the order of their numbers.
+// Prints the status of each node, in the order of their numbers.
 fn tell_all<R, O>(rt: &R, peers: &Peers, nodes: &[ListeningNode], output: &mut O)
 where
     R: Wait + Clock,

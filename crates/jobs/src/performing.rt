@@ -13,7 +13,8 @@ use std::sync::Wait;
 use std::thread::Threads;
 use std::time::Clock;
 
-/// Does a job over one reader and two writers, and gives the exit status. A fault is told in one line.
+/// Does a job over one reader and two writers, and returns the exit status. A fault is printed in
+/// one line.
 pub fn perform<R, I, O, E>(
     rt: &R,
     job: &Job<'_>,
@@ -40,11 +41,11 @@ where
     }
 }
 
-/// Tells a fault in one line, and returns its exit status.
+/// Prints a fault in one line, and returns its exit status.
 pub fn tell<E: Write>(faults: &mut E, fault: &Fault) -> u8
     ensures { result ≡ status_of fault.now }
 {
-    // There is nowhere else to tell it.
+    // There is nowhere else to print it.
     let _ = writeln!(faults, "vbroker: {fault}");
     fault.status()
 }

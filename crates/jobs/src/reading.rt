@@ -8,7 +8,7 @@ use std::fs;
 use std::io::{BufRead, ErrorKind};
 use std::rt::Files;
 
-/// The bytes of a file.
+/// Returns the bytes of a file.
 pub(crate) fn bytes_of<R: Files + AllocGlobal>(rt: &R, file: &str) -> Result<Vec<u8>, Fault> {
     match fs::read(rt, file) {
         Ok(bytes) => Ok(bytes),
@@ -19,7 +19,7 @@ pub(crate) fn bytes_of<R: Files + AllocGlobal>(rt: &R, file: &str) -> Result<Vec
     }
 }
 
-/// The bytes of the input, to its end.
+/// Returns the bytes of the input, to its end.
 pub(crate) fn rest_of<I: BufRead>(alloc: Global, input: &mut I) -> Result<Vec<u8>, Fault>
     ensures { IfOk result (λ bytes. IfSome (I.remaining input.old) (λ rest. bytes.items ≡ rest)) }
 {

@@ -11,8 +11,8 @@ use clap::error::ErrorKind;
 use command_line::LineFault;
 use std::io::Write;
 
-/// Says why a command line gives no job, and returns the exit status. Help and the version go to the output where they were
-/// asked for, all else to `faults`.
+/// Prints why a command line gives no job, and returns the exit status. Help and the version go to
+/// the output if they were asked for, everything else to `faults`.
 pub fn refuse<O: Write, E: Write>(fault: &LineFault, output: &mut O, faults: &mut E) -> u8
     ensures { result ≡ line_status fault.now }
 {
@@ -28,7 +28,7 @@ pub fn refuse<O: Write, E: Write>(fault: &LineFault, output: &mut O, faults: &mu
 
 // Prints what the words of the command line are answered by.
 fn print<O: Write, E: Write>(error: &Error, output: &mut O, faults: &mut E) {
-    // There is nowhere else to tell it.
+    // There is nowhere else to print it.
     if error.use_stderr() {
         let _ = write!(faults, "{error}");
     } else {
@@ -37,7 +37,7 @@ fn print<O: Write, E: Write>(error: &Error, output: &mut O, faults: &mut E) {
     }
 }
 
-// The exit status where the words are answered by this.
+// Returns the exit status for this answer to the words.
 fn status_of_words(kind: ErrorKind) -> u8
     ensures { result ≡ words_status kind }
 {

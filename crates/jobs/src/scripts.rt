@@ -19,14 +19,14 @@ use std::alloc::Global;
 use std::io::{BufRead, Write};
 use std::rt::Files;
 
-// The number by which a word is refused that lists no members.
+// The number by which a word is refused that is no list of members.
 const BAD_MEMBERS: u8 = 20;
 
-// The number of every refusal for want of memory.
+// The number of every refusal because memory ran out.
 const NO_MEMORY: u8 = 12;
 
-/// Plays the script of a file, or of the input where no file is named, and writes its transcript, or a way out of the world where
-/// it ends.
+/// Plays the script of a file, or of the input if no file is named, and writes its transcript, or a
+/// way out of the world in which it ends.
 pub(crate) fn run<R, I, O>(
     rt: &R,
     job: &Play<'_>,
@@ -48,7 +48,8 @@ where
     }
 }
 
-// Plays a script, and writes a way out of the world where it ends, as the words ask for it.
+// Plays a script, and writes a way out of the world in which it ends, for the members and the
+// client that the words name.
 fn tell_way<O: Write>(
     alloc: Global,
     text: &[u8],
@@ -68,7 +69,7 @@ fn tell_way<O: Write>(
     escape_text(alloc, text, members.as_slice(), &client, output)
 }
 
-// The client of this identifier, or the number by which it is refused.
+// Returns the client with this identifier, or the number by which it is refused.
 fn client_of(alloc: Global, word: &str) -> Result<ClientId, u8>
     ensures value { IfOk result (λ client. client ≡ word.now) }
     ensures sound { OnOk result (client_fault word.now ≡ None) }
@@ -80,7 +81,7 @@ fn client_of(alloc: Global, word: &str) -> Result<ClientId, u8>
     }
 }
 
-/// Plays a script, and writes a way out of the world where it ends, as lines that may follow it.
+/// Plays a script, and writes a way out of the world in which it ends, as lines that may follow it.
 pub fn escape_text<O: Write>(
     alloc: Global,
     text: &[u8],
@@ -91,12 +92,13 @@ pub fn escape_text<O: Write>(
     ensures told { OnOk result (PrintsWay text.now members.now client.now
         (O.contents output.old) (O.contents output.new)) }
 
-    // Where there is none, nothing is written.
+    // If there is none, nothing is written.
     ensures idle { IsErrOf result Fault.Idle → HasNoWay text.now members.now client.now }
     ensures untouched { IsErrOf result Fault.Idle
         → O.contents output.new ≡ O.contents output.old }
 
-    // A text is no script for its first line that has not its form; nothing is written of it.
+    // A text that is no script is refused for its first line that does not have its form; nothing
+    // of it is written.
     ensures refused { (number : ℕ) → IsErrOf result (Fault.Script number)
         → Refuses (lines_of text.now) (Line number) }
 {
@@ -107,16 +109,17 @@ pub fn escape_text<O: Write>(
     }
 }
 
-/// Plays a script, and writes its transcript where that is whole.
+/// Plays a script, and writes its transcript if that is complete.
 pub fn play_text<O: Write>(alloc: Global, text: &[u8], output: &mut O) -> Result<(), Fault>
     ensures played { OnOk result
         (Prints text.now (O.contents output.old) (O.contents output.new) 0) }
 
-    // Where memory was wanting in the world, the transcript is written all the same.
+    // If memory ran out in the world, the transcript is still written.
     ensures wanting { IsErrOf result Fault.Losses → (losses : ℕ) × ((0 < losses)
         × Prints text.now (O.contents output.old) (O.contents output.new) losses) }
 
-    // A text is no script for its first line that has not its form; nothing is written of it.
+    // A text that is no script is refused for its first line that does not have its form; nothing
+    // of it is written.
     ensures refused { (number : ℕ) → IsErrOf result (Fault.Script number)
         → Refuses (lines_of text.now) (Line number) }
     ensures untouched { (number : ℕ) → IsErrOf result (Fault.Script number)

@@ -14,11 +14,12 @@ use std::sync::Wait;
 use std::thread::Threads;
 use std::time::Clock;
 
-/// How many files a node may have open at once beside its listener: its connections, one that is turned away, and one by which its
-/// door is closed.
+/// How many files a node may have open at once besides its listener: its connections, one that is
+/// refused, and one by which its door is closed.
 const FILES: usize = CONNECTIONS as usize + 2;
 
-/// Serves clients as a file's table of nodes says, if as many files can be open at once as its nodes need.
+/// Serves clients as a file's table of nodes says, if as many files can be open at once as its
+/// nodes need.
 pub(crate) fn run<R, I, O, E>(
     rt: &R,
     job: &Serve<'_>,
@@ -40,7 +41,7 @@ where
     serve_nodes(rt, &read, input, output, faults)
 }
 
-// Looks whether as many files can be open at once as are asked for.
+// Checks whether this many files can be open at once.
 fn find_files<R: Files + AllocGlobal>(rt: &R, count: usize) -> Result<(), Fault> {
     let mut files = Vec::with_capacity(rt.alloc(), count)?;
     for _ in 0..count {
@@ -52,9 +53,9 @@ fn find_files<R: Files + AllocGlobal>(rt: &R, count: usize) -> Result<(), Fault>
     Ok(())
 }
 
-/// Serves clients as a table of nodes says, and obeys the lines of the input, until its end or the line
-/// `quit`. Where each node listens is told on `faults`, which is standard error, and so is a listener that other machines may
-/// reach. An input that cannot be read ends it with that fault.
+/// Serves clients as a table of nodes says, and obeys the lines of the input, until its end or the
+/// line `quit`. Prints on `faults`, which is standard error, where each node listens, and which
+/// listeners other machines may reach. An input that cannot be read ends it with that fault.
 pub fn serve_table<R, I, O, E>(
     rt: &R,
     text: &str,
@@ -95,7 +96,7 @@ where
     writeln!(output, "bye").ok().ok_or(Fault::Output)
 }
 
-// Listens where each node is to listen, and then tells it.
+// Listens where each node has to listen, and then prints it.
 fn listen_all<R, E>(rt: &R, nodes: &[ListeningNode], faults: &mut E) -> Result<Vec<Place>, Fault>
 where
     R: AllocGlobal + Net<Listener = TcpListener, Stream = TcpStream>,
@@ -125,8 +126,8 @@ where
     }
 }
 
-// Tells where a node listens, and whether others than this machine may reach it. Clients are served also where nobody can
-// be told.
+// Prints where a node listens, and whether other machines may reach it. Clients are served also if
+// nothing can be printed.
 fn tell<E: Write>(place: &Place, id: u8, faults: &mut E) {
     if let Ok(address) = place.address() {
         let _ = writeln!(faults, "node {id} listens on {address}");

@@ -8,10 +8,10 @@ use std::thread;
 use std::time::{Clock, Duration};
 use user_client::{Publisher, Servers, Subscriber};
 
-/// How long a client waits behind a connection that was lost, in milliseconds.
+/// How long a client waits after a connection that was lost, in milliseconds.
 const REST: u64 = 200;
 
-// Servers at these addresses, each in its turn.
+// Servers at these addresses, one after another.
 #[derive(Drop)]
 struct TcpServers<'a, R> {
     rt: &'a R,
@@ -38,7 +38,7 @@ impl<'a, R: Net<Stream = TcpStream> + Clock> Servers for TcpServers<'a, R> {
     }
 }
 
-/// Publishes once, and waits until it is acknowledged. The addresses are tried in turn.
+/// Publishes once, and waits until it is acknowledged. The addresses are tried one after another.
 pub fn publish<R>(rt: &R, job: &Publish<'_>) -> Result<(), Fault>
 where
     R: Clock + AllocGlobal + Net<Stream = TcpStream>,
@@ -59,7 +59,8 @@ where
     Ok(publisher.run(&mut servers, job.tries)?)
 }
 
-/// Prints what is published, a line each, until as many came as were asked for. The addresses are tried in turn.
+/// Prints what is published, a line each, until as many came as were asked for. The addresses are
+/// tried one after another.
 pub fn subscribe<R, O>(rt: &R, job: &Subscribe<'_>, output: &mut O) -> Result<(), Fault>
 where
     R: Clock + AllocGlobal + Net<Stream = TcpStream>,

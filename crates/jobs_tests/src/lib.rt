@@ -1,4 +1,5 @@
-//! Tests of `jobs`: a crate with tests is proved a second time with them, so they stand apart.
+//! Tests of `jobs`. A crate with tests is proved a second time with them, so they are a crate of
+//! their own.
 #![tactic(auto)]
 
 #[cfg(test)]

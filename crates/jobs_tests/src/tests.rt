@@ -1,5 +1,5 @@
-// What no clause says: that words and tables which are as they should be are read, what each job writes, how it ends, and
-// that clients find their sessions at the node that an order names.
+// What no clause says: that words and tables which are as they should be are read, what each job
+// writes, how it ends, and that clients find their sessions at the node that an order names.
 
 mod ends;
 mod expels;

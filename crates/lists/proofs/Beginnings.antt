@@ -1,4 +1,4 @@
--- Beginnings of lists: of what a list begins with, and two beginnings of one list.
+-- Beginnings of lists: of what a list begins with, and two prefixes of one list.
 use Rattle.std.proofs.Common.{◌≡◌, ℕ, zero, suc, ◌≤◌, ◌⊎◌, inl, inr, List, [], ◌∷◌, ◌++◌, length, take, Some, refl, ap, sym, ◌∙◌, subst, append_assoc, arith}
 use Rattle.std.specs.Prelude.{slice_get}
 use Rattle.std.proofs.lemmas.List.{append-nil, take-append-le, length-append}
@@ -22,7 +22,7 @@ prefix_push xs x = record { rest = x ∷ []; is = refl }
 pub prefix_length : {X : Type 0} {xs ys : List X} → IsPrefixOf xs ys → length xs ≤ length ys
 prefix_length {xs = xs} p = let e = ap length p.is in omega (arith, e, length-append xs p.rest)
 
--- what stands in a beginning stands in the whole
+-- what is in a beginning is in the whole
 slice_get-append : {X : Type 0} (xs ys : List X) (i : ℕ) (x : X) → slice_get xs i ≡ Some x → slice_get (xs ++ ys) i ≡ Some x
 slice_get-append [] ys i x e = cc
 slice_get-append (z ∷ xs) ys zero x e = e
@@ -44,7 +44,7 @@ prefix_next {X = X} xs ys x p e = by_rest p.rest p.is
     by_rest rest q = subst (λ (us : List X). IsPrefixOf (xs ++ x ∷ []) us) (sym q)
         (next xs rest (subst (λ (us : List X). slice_get us (length xs) ≡ Some x) q e))
 
--- two beginnings of one list
+-- two prefixes of one list
 pub prefix_either : {X : Type 0} (xs ys zs : List X) → IsPrefixOf xs zs → IsPrefixOf ys zs → IsPrefixOf xs ys ⊎ IsPrefixOf ys xs
 prefix_either [] ys zs p q = inl (record { rest = ys; is = refl })
 prefix_either (x ∷ xs) [] zs p q = inr (record { rest = x ∷ xs; is = refl })

@@ -42,7 +42,7 @@ pub distinct_front : (xs ys : List ℕ) → IsDistinct (xs ++ ys) → IsDistinct
 distinct_front [] ys d = tt
 distinct_front (x ∷ xs) ys d = ((has_split x xs ys d.0).0, distinct_front xs ys d.1)
 
--- what stands in front does not stand behind
+-- what is in front does not come after
 pub distinct_apart : (i : ℕ) (xs ys : List ℕ) → IsDistinct (xs ++ ys) → has_id i xs ≡ true → has_id i ys ≡ false
 distinct_apart i [] ys d e = absurd (both_ways false refl e)
 distinct_apart i (x ∷ xs) ys d e = by (or_cases (i == x) (has_id i xs) e) (distinct_apart i xs ys d.1)

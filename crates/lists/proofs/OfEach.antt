@@ -1,4 +1,4 @@
--- What holds of each element of two lists holds of each of the joined one, and back.
+-- What holds for each element of two lists holds for each of the joined one, and back.
 use Rattle.std.proofs.Common.{List, [], ◌∷◌, ◌++◌}
 use Rattle.lists.specs.Lists.{Each}
 

@@ -2,7 +2,7 @@
 use Rattle.std.proofs.Common.{◌≡◌, ℕ, zero, suc, List, [], ◌∷◌, ◌++◌, length, set, Some, refl, ap}
 use Rattle.std.specs.Prelude.{slice_get}
 
--- the place behind a list that was pushed to
+-- the place after a list that was pushed to
 pub get_pushed : {X : Type 0} (xs : List X) (x : X) → slice_get (xs ++ x ∷ []) (length xs) ≡ Some x
 get_pushed [] x = refl
 get_pushed (y ∷ xs) x = get_pushed xs x

@@ -15,7 +15,7 @@ use Rattle.std.proofs.lemmas.Map.Lookups.{exact_bytes}
 abbrev pub Table : Type 0 → Type 0
 Table X = List (List ℕ × X)
 
--- bytes in their order
+-- bytes in order
 abbrev pub by_bytes : List ℕ → List ℕ → Ordering
 by_bytes = slice_cmp nat_cmp
 

@@ -1,18 +1,18 @@
--- Words on lists that several crates share.
+-- Definitions on lists that several crates share.
 use Rattle.std.specs.Prelude.{◌≡◌, ℕ, Bool, false, ◌==◌, List, [], ◌∷◌, ◌++◌}
 use Rattle.std.specs.List.{list_any}
 
--- one of a list
+-- a member of a list
 pub data In {X : Type 0} (x : X) : List X → Type 0 where
   here : {xs : List X} → In x (x ∷ xs)
   there : {y : X} {xs : List X} → In x xs → In x (y ∷ xs)
 
--- a beginning of a list: the list is the beginning with more at its end
+-- a prefix of a list: the list is the prefix with more at its end
 pub record IsPrefixOf {X : Type 0} (xs ys : List X) : Type 0 where
   pub rest : List X
   pub is : ys ≡ xs ++ rest
 
--- it holds of each
+-- a property holds for each element
 abbrev pub Each : {X : Type 0} → (X → Type 0) → List X → Type 0
 Each P (x ∷ xs) = P x × Each P xs
 Each P [] = Unit {0}
@@ -21,7 +21,7 @@ Each P [] = Unit {0}
 abbrev pub has_id : ℕ → List ℕ → Bool
 has_id id = list_any (λ other. id == other)
 
--- no identifier comes twice
+-- no identifier occurs twice
 abbrev pub IsDistinct : List ℕ → Type 0
 IsDistinct (id ∷ ids) = (has_id id ids ≡ false) × IsDistinct ids
 IsDistinct [] = Unit {0}

@@ -1,18 +1,18 @@
-// Laws of the words on lists. The calls do nothing; their contracts are the laws.
+// Laws of the definitions on lists. The calls do nothing; their contracts are the laws.
 
 ghost use Rattle.lists.specs.Laws.{BeginningsJoin, BeginningsMeet, IdentifiersStayApart};
 
-/// Of two beginnings of one list one is a beginning of the other.
+/// Of two prefixes of one list, one is a prefix of the other.
 pub fn beginnings_meet<T>()
     ensures { BeginningsMeet T }
 {}
 
-/// A beginning of a beginning is a beginning.
+/// A prefix of a prefix is a prefix.
 pub fn beginnings_join<T>()
     ensures { BeginningsJoin T }
 {}
 
-/// An identifier that is not among distinct ones may come behind them.
+/// An identifier that is not among distinct ones may be appended to them.
 pub fn identifiers_stay_apart()
     ensures { IdentifiersStayApart }
 {}

@@ -1,5 +1,5 @@
-//! Words on lists that several crates share, and what is proved of them: a beginning of a list, one of a list, and
-//! identifiers that are apart. Its functions do nothing; their contracts are the laws.
+//! Definitions on lists that several crates share, and laws about them: prefixes, members, and
+//! identifiers that are distinct. Its functions do nothing; their contracts are the laws.
 #![tactic(auto)]
 
 mod laws;

@@ -1,10 +1,10 @@
--- Machine.antt: a machine by its rules alone, and what a list of commands does to it.
+-- Machine.antt: a machine given only by its rules, and what a list of commands does to it.
 use Rattle.std.specs.Prelude.{ℕ, List, [], ◌∷◌, Option}
 use Rattle.machine.specs.declared.error.ThawFault.{ThawFault}
 use Rattle.machine.specs.declared.error.ThawFault.TheVariants.{Shape, Memory}
 
--- where the machine begins, which command begins a ballot, what a command makes of a state, and
--- what it gives there; the bytes to which a state is frozen, and the state that bytes stand for
+-- the opening state, the command that begins a ballot, what a command does to a state, and its
+-- outputs there; the bytes to which a state is frozen, and the state that is thawed from bytes
 pub record Rules (S C O : Type 0) : Type 0 where
   pub opening : S
   pub start_of : ℕ → C
@@ -13,16 +13,16 @@ pub record Rules (S C O : Type 0) : Type 0 where
   pub frozen : S → List ℕ
   pub thawed : List ℕ → Option S
 
--- the state after commands that were done one after the other from the state s
+-- the state after commands that were done one after another from the state s
 abbrev pub replay_from : {S C O : Type 0} → Rules S C O → S → List C → S
 replay_from rules s [] = s
 replay_from rules s (command ∷ commands) = replay_from rules (rules.after s command) commands
 
--- the state after commands that were done one after the other from the beginning
+-- the state after commands that were done one after another from the beginning
 abbrev pub replay : {S C O : Type 0} → Rules S C O → List C → S
 replay rules commands = replay_from rules rules.opening commands
 
--- the numbers of the refusals, as they stand in the table of refusals
+-- the numbers of the refusals, as in the table of refusals
 abbrev pub thaw_number : ThawFault → ℕ
 thaw_number Shape = 10
 thaw_number Memory = 12

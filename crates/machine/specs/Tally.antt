@@ -11,7 +11,7 @@ abbrev pub total_after : ℕ → TallyCommand → ℕ
 total_after total (Add number) = (total + number) % 2 ^ 64
 total_after total (Start ballot) = total
 
--- what a command gives: the new total, and nothing at the start of a ballot
+-- the outputs of a command: the new total, and nothing at the start of a ballot
 abbrev pub totals_given : ℕ → TallyCommand → List ℕ
 totals_given total (Add number) = total_after total (Add number) ∷ []
 totals_given total (Start ballot) = []
@@ -25,7 +25,7 @@ IsTallyCommand (Start ballot) = ballot < 2 ^ 64
 abbrev pub bytes_of : ℕ → List ℕ
 bytes_of total = to_be_bytes w64 total
 
--- the tally of eight such bytes; no other bytes stand for one
+-- the tally of eight such bytes; no other bytes thaw
 abbrev pub tally_of : List ℕ → Option Tally
 tally_of bytes =
     if length bytes == 8 then Some (record { total = from_be_bytes w64 bytes }) else None

@@ -1,4 +1,4 @@
-// What a machine's calls can answer in place of a value.
+// What a machine's calls can return in place of a value.
 
 ghost use Rattle.std.specs.Prelude.{◌≡◌};
 ghost use Rattle.machine.specs.Machine.{thaw_number};
@@ -7,12 +7,12 @@ use std::alloc::{AllocError, AllocFailed};
 use std::error::Error;
 use std::fmt;
 
-/// A growth was refused. Nothing was changed.
+/// Memory ran out. Nothing was changed.
 #[derive(Clone, Copy, Debug, PartialEq, Eq)]
 pub struct Memory;
 
 impl Memory {
-    /// The number of this refusal, the same in every program and document of this broker.
+    /// Returns the number of this refusal, the same in every program and document of this broker.
     pub fn number(self) -> u8
         ensures { result ≡ 12 }
     {
@@ -40,13 +40,13 @@ impl<T: Drop> From<AllocFailed<T>> for Memory {
     }
 }
 
-/// A growth was refused in the middle of a command: the machine may have done a part of it and is
-/// not used again.
+/// Memory ran out in the middle of a command: the machine may have done a part of it and is not
+/// used again.
 #[derive(Clone, Copy, Debug, PartialEq, Eq)]
 pub struct Halted;
 
 impl Halted {
-    /// The number of this refusal, the same in every program and document of this broker.
+    /// Returns the number of this refusal, the same in every program and document of this broker.
     pub fn number(self) -> u8
         ensures { result ≡ 17 }
     {
@@ -80,17 +80,17 @@ impl From<Memory> for Halted {
     }
 }
 
-/// Why no machine came out of frozen bytes.
+/// Why frozen bytes do not thaw to a machine.
 #[derive(Clone, Copy, Debug, PartialEq, Eq)]
 pub enum ThawFault {
     /// The bytes are not of the frozen form.
     Shape,
-    /// A growth was refused.
+    /// Memory ran out.
     Memory,
 }
 
 impl ThawFault {
-    /// The number of this refusal, the same in every program and document of this broker.
+    /// Returns the number of this refusal, the same in every program and document of this broker.
     pub fn number(self) -> u8
         ensures { result ≡ thaw_number self }
     {

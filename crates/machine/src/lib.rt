@@ -1,4 +1,5 @@
-//! What a replicated state machine is, with its laws, and a small lawful one that counts.
+//! What a replicated state machine is, with its laws, and a small machine that counts and satisfies
+//! them.
 #![tactic(auto)]
 
 mod error;

@@ -6,16 +6,16 @@ ghost use Rattle.machine.specs.Machine.{Rules};
 use crate::error::{Halted, Memory, ThawFault};
 use std::alloc::Global;
 
-/// A deterministic machine: what it becomes and what it gives follow from its state and the
-/// command alone, so that replicas that take the same commands in the same order stay equal.
+/// A deterministic machine: its next state and its outputs depend only on its state and the
+/// command, so that replicas that take the same commands in the same order stay equal.
 ///
-/// `rules` says where every machine begins, which command begins a ballot, what a command makes of
-/// a state, what it gives, and the bytes of a state. `IsState` and `IsCommand` hold of every value
-/// that a program has in hand: they say which numbers and sizes there are.
+/// `rules` gives the first state of every machine, the command that begins a ballot, what a command
+/// does to a state, its outputs, and the bytes of a state. `IsState` and `IsCommand` hold for every
+/// value in a program: they say which numbers and sizes there are.
 pub trait Machine: Drop {
     /// What a log holds.
     type Command: Drop;
-    /// What a command gives.
+    /// An output of a command.
     type Output: Drop;
 
     // The rules, as one record.
@@ -25,21 +25,22 @@ pub trait Machine: Drop {
 
     ghost IsCommand: { Self.Command → Type 0 };
 
-    /// A second command that equals this one. Its only error is want of memory.
+    /// Returns a copy of this command. The only error is that memory ran out.
     fn copy(alloc: Global, command: &Self::Command) -> Result<Self::Command, Memory>
         ensures same { IfOk result (λ copied. copied ≡ command.now) }
         ensures valid { IsCommand command.now };
 
-    /// A machine at its beginning. All of them are equal; the only error is want of memory.
+    /// Returns a machine in its first state. All of them are equal; the only error is that memory
+    /// ran out.
     fn fresh(alloc: Global) -> Result<Self, Memory>
         ensures { IfOk result (λ machine. machine ≡ rules.opening) };
 
-    /// The command that each log takes at the beginning of a ballot after the first.
+    /// Returns the command that each log takes at the start of a ballot after the first.
     fn start(ballot: u64) -> Self::Command
         ensures { result ≡ rules.start_of ballot };
 
-    /// Does one command and appends what it gives to `out`. [`Halted`] comes only where a growth
-    /// was refused: `out` is then as before, and the machine is not used again.
+    /// Does one command and appends its outputs to `out`. [`Halted`] comes only if memory ran out:
+    /// `out` is then as before, and the machine is not used again.
     fn apply(&mut self, command: &Self::Command, out: &mut Vec<Self::Output>) -> Result<(), Halted>
         ensures state { OnOk result (self.new ≡ rules.after self.old command.now) }
         ensures outputs { OnOk result
@@ -47,14 +48,14 @@ pub trait Machine: Drop {
         ensures err { OnErr result (out.new.items ≡ out.old.items) }
         ensures valid { IsState self.old };
 
-    /// Appends the bytes of this state to `bytes`, which stay as they were where memory is wanting.
+    /// Appends the bytes of this state to `bytes`, which stay as they were if memory runs out.
     fn freeze(&self, bytes: &mut Vec<u8>) -> Result<(), Memory>
         ensures ok { OnOk result (bytes.new.items ≡ bytes.old.items ++ rules.frozen self.now) }
         ensures err { OnErr result (bytes.new.items ≡ bytes.old.items) }
         ensures valid { IsState self.now };
 
-    /// The machine that frozen bytes stand for. [`ThawFault::Shape`] comes only where they stand
-    /// for none, [`ThawFault::Memory`] only where a growth was refused.
+    /// Returns the machine that was frozen to these bytes. [`ThawFault::Shape`] comes only if no
+    /// machine is frozen to them, [`ThawFault::Memory`] only if memory ran out.
     fn thaw(alloc: Global, bytes: &[u8]) -> Result<Self, ThawFault>
         ensures ok { IfOk result (λ machine. rules.thawed bytes.now ≡ Some machine) }
         ensures shape { result ≡ Err ThawFault.Shape → rules.thawed bytes.now ≡ None };

@@ -1,21 +1,21 @@
-// A machine that adds numbers: small enough to see that the laws can be met.
+// A machine that adds numbers: a small one that shows that the laws can be satisfied.
 
 use crate::error::{Halted, Memory, ThawFault};
 use crate::machine::Machine;
 use std::alloc::Global;
 
-/// Adds what it is told to, modulo 2^64.
+/// Adds the numbers that it is given, modulo 2^64.
 #[derive(Debug, Drop, PartialEq, Eq)]
 pub struct Tally {
     total: u64,
 }
 
-/// What a [`Tally`] can be told.
+/// A command of a [`Tally`].
 #[derive(Clone, Copy, Debug, PartialEq, Eq)]
 pub enum TallyCommand {
-    /// Adds this number and gives the new total.
+    /// Adds this number and outputs the new total.
     Add(u64),
-    /// A ballot of this number begins: changes nothing and gives nothing.
+    /// A ballot of this number begins: changes nothing and outputs nothing.
     Start(u64),
 }
 

@@ -1,4 +1,4 @@
--- Lanes are all lanes of an inbox exactly where there are as many, and each has its place's number.
+-- Lanes are all lanes of an inbox exactly if there are as many, and each has its place's number.
 use Rattle.std.specs.Prelude.{◌≡◌, ◌≢◌, ℕ, zero, suc, ◌<◌, List, [], ◌∷◌, length, map, slice_index_or, refl}
 use Rattle.std.proofs.Common.{sym, ◌∙◌, ap, ⊎_elim, length-append, arith}
 use Rattle.std.proofs.lemmas.List.{ext_get_or, length-map}

@@ -36,7 +36,7 @@ module _ {T : Type 0} where
       omega (arith, split, none, new, counted lane within))
       (same_or_other x.0 lane)
 
-  -- a receiver that heard a receipt keeps what it kept
+  -- a receiver that got a receipt keeps what it kept
   pub kept_hearing : (queue : TableId) (room : ℕ) (old new : Pass (ℕ × T) (View T)) (name : TableId) (counts : List ℕ) (w : View T)
       → ReceiverKept queue room old name counts
       → IsSamePass old new

@@ -1,4 +1,4 @@
--- What holds of each pass's view holds still after one of them changed, or one more came.
+-- What holds for each pass's view holds still after one of them changed, or one more came.
 use Rattle.std.specs.Prelude.{◌≡◌, ◌≢◌, ◌⊎◌, ℕ, zero, suc, List, [], ◌∷◌, ◌++◌, length, slice_set, refl}
 use Rattle.std.proofs.Common.{sym, ap, subst, inl, inr, ⊎_elim}
 use mathlib.Core.Option.{some, some-injective, some-ne-none}
@@ -19,7 +19,7 @@ module _ {V : Type 0} where
       (λ (x : (j ≢ port) × (get_elem? views j ≡ some u)). others j u x.0 x.1)
       (at_set views port j w u e)
 
-  -- what stands in a longer list stood there before, or is the new one at its end
+  -- what is in a longer list was there before, or is the new one at its end
   pub at_end : (views : List V) (new : V) (j : ℕ) (u : V) → get_elem? (views ++ new ∷ []) j ≡ some u
       → (get_elem? views j ≡ some u) ⊎ ((j ≡ length views) × (new ≡ u))
   at_end [] new zero u e = inr (refl, some-injective _ _ e)

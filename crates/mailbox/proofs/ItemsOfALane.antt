@@ -1,4 +1,4 @@
--- The items of a lane in a list are those of its parts, in their order.
+-- The items of a lane in a list are those of its parts, in order.
 use Rattle.std.specs.Prelude.{◌≡◌, ◌≢◌, ◌==◌, ℕ, Bool, true, false, List, [], ◌∷◌, ◌++◌, if◌then◌else◌, refl}
 use Rattle.std.proofs.Common.{ap, eq-eqb, ne_eqb}
 use Rattle.mailbox.specs.Delivery.{items_of}

@@ -1,4 +1,4 @@
--- Where all that the lanes sent was taken, what was counted and what is left over are all of it.
+-- If all that the lanes sent was taken, what was counted and what is left over are all of it.
 use Rattle.std.specs.Prelude.{◌≡◌, ℕ, zero, suc, ◌<◌, List, [], ◌∷◌, ◌++◌, length, map, take, slice_index, slice_index_or, refl}
 use Rattle.std.proofs.Common.{sym, ◌∙◌, ap, subst, arith}
 use Rattle.std.proofs.lemmas.List.{take_all, length-map, map-append}
@@ -27,7 +27,7 @@ module _ {T : Type 0} where
   only P s it zero d within = it
   only P s it (suc k) d within = absurd (omega arith)
 
-  -- what holds of each lane as it was made
+  -- what holds for each lane as it was made
   fresh_all : (P : Sender T → Type 0) (inbox lanes : ℕ)
       → ((k : ℕ) → k < lanes → P (record { inbox = inbox; lane = k; met = 0; sent = [] }))
       → All P (fresh_lanes inbox lanes)
@@ -44,7 +44,7 @@ module _ {T : Type 0} where
       map-append as_made (fresh_lanes inbox lanes) (last ∷ [])
       ∙ ap (λ l. l ++ last ∷ []) (fresh_map inbox lanes)
 
-  -- a fact of a lane's numbers holds of all lanes, if it does of those that were made
+  -- a fact of a lane's numbers holds for all lanes, if it does of those that were made
   pub of_all_lanes : (P : Sender T → Type 0) (r : Taker T) (lanes : List (Sender T))
       → AreAllLanes r lanes
       → ((k : ℕ) → k < r.lanes → P (record { inbox = r.inbox; lane = k; met = 0; sent = [] }))

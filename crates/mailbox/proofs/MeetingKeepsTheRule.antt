@@ -1,5 +1,5 @@
--- The receiver takes in what a lane knows, compares, and gives it back: the rule is kept, and what was
--- taken of the lane is a beginning of what it sent.
+-- The receiver adds what a lane knows, compares, and gives it back: the rule is kept, and what was
+-- taken of the lane is a prefix of what it sent.
 use Rattle.std.specs.Prelude.{◌≡◌, ◌≢◌, ℕ, true, false, List, ◌++◌, length, slice_set, refl}
 use Rattle.std.proofs.Common.{sym, ◌∙◌, ap, ⊎_elim, arith}
 use mathlib.Core.Option.{some}

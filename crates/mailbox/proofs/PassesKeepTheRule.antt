@@ -12,7 +12,7 @@ use Rattle.mailbox.proofs.Rights.{rights_set, rights_snoc, rights_split}
 use Rattle.mailbox.proofs.Seats.{seated, seated-same, seated-other, not_false}
 
 module _ {T : Type 0} where
-  -- an inbox that nobody used yet
+  -- an inbox that was not used yet
   pub begins : Delivers {T = T} [] (receiver_view 0 [] (2 ^ 64) (2 ^ 64) nothing ∷ [])
   begins = record {
     reader = 0;

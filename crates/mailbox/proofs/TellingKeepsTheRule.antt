@@ -1,5 +1,6 @@
--- Lanes and the receiver tell what they know, and hear it: the rule is kept. Where the inbox holds nothing, all is taken
--- that was told to be sent; where it is full, more is sent than was told to be the most, but for what it holds.
+-- Lanes and the receiver say what they know, and learn it: the rule is kept. If the inbox holds
+-- nothing, all items are taken that were said to be sent; if it is full, more is sent than the
+-- greatest number that was said, except what it holds.
 use Rattle.std.specs.Prelude.{◌≡◌, ◌≢◌, ℕ, ◌+◌, ◌-◌, ◌^◌, ◌≤◌, true, List, [], ◌++◌, length, slice_set, Option, Some, None, IfNone}
 use Rattle.std.proofs.Common.{sym, ◌∙◌, ap, subst, ⊎_elim, append-nil, arith}
 use Rattle.std.proofs.lemmas.List.{nil_from_length}
@@ -119,7 +120,7 @@ module _ {T : Type 0} where
             each_set F views port both (mine.0, mine.1, (told.0, told.1, told.2, mine.2.3)) (λ k x other' f. h.fits k x f) j u e);
       }
 
-  -- where the inbox holds nothing, all is taken that the receiver was told to be sent
+  -- if the inbox holds nothing, all is taken that the receiver was told to be sent
   arrived : (v : View T) → v.gets ≡ true → Held 0 (Moment v) → v.told.sent ≤ length (items_of v.told.lane v.taken)
   arrived v gets (items, size, moment) =
       let h = moment.holds in
@@ -131,7 +132,7 @@ module _ {T : Type 0} where
       ap (λ l. length (items_of v.told.lane (h.taken ++ l))) none ∙ ap (λ l. length (items_of v.told.lane l)) (append-nil h.taken ∙ sym known.1) in
       omega (arith, told, all, here)
 
-  -- the same, as the receiver and the receipt that it heard are seen
+  -- the same, for the receiver and the receipt that it got
   pub has_arrived :
       {A : Type 0} (result : Option A) (v w heard' : View T) (receiver : Taker T) (receipt : Receipted)
       → heard' ≡ heard v w
@@ -147,14 +148,14 @@ module _ {T : Type 0} where
       (λ i. (told i, taken i))
       (subst (λ (u : View T). u.told.sent ≤ length (items_of u.told.lane u.taken)) is here)
 
-  -- where the inbox is full, the lane was told that at least so many items will ever be sent
+  -- if the inbox is full, the lane was told that at least this many items will ever be sent
   pub full : (v : View T) (size : ℕ) → Held size (Moment v) → v.told.taken + size + v.may ≤ v.told.most
   full v size (items, is, moment) =
       let h = moment.holds in
       let told = (h.fits moment.port v moment.knows).2 in
       omega (arith, h.within, is, told.1, told.2, rights_has moment.views moment.port v moment.knows)
 
-  -- the same, as the lane and the receipt that it heard are seen
+  -- the same, for the lane and the receipt that it got
   pub is_full :
       (v w heard' : View T) (size : ℕ) (lane : Sender T) (receipt : Receipted)
       → heard' ≡ heard v w

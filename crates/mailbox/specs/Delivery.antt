@@ -1,4 +1,4 @@
--- The rule of an inbox: for each lane, what was taken of it and what the inbox still holds of it
+-- The rule of an inbox: for each lane, what was taken of it and what the inbox still holds for it
 -- are, in order, all that it sent.
 use Rattle.std.specs.Prelude.{◌≡◌, ◌==◌, ℕ, ◌+◌, ◌*◌, ◌^◌, ◌<◌, ◌≤◌, true, false, List, [], ◌∷◌, ◌++◌, length, if◌then◌else◌}
 use mathlib.Core.Option.{some}
@@ -11,12 +11,12 @@ abbrev pub items_of : {T : Type 0} → ℕ → List (ℕ × T) → List T
 items_of lane [] = []
 items_of lane (x ∷ xs) = if x.0 == lane then x.1 ∷ items_of lane xs else items_of lane xs
 
--- somebody who was told nothing knows only that no inbox ever gets more than 2^64 items
+-- what is known without a receipt: only that no inbox ever gets more than 2^64 items
 abbrev pub nothing : Told
 nothing = record { lane = 0; sent = 0; taken = 0; most = 2 ^ 64 }
 
--- what a lane knows: its number, what it sent, how many of these it knows to be taken, how many more it may send, and what
--- it was told
+-- what a lane knows: its number, what it sent, how many of these it knows to be taken, how many
+-- more it may send, and what receipts told it
 abbrev pub lane_view : {T : Type 0} → ℕ → List T → ℕ → ℕ → Told → View T
 lane_view lane sent met may told = record {
   sends = true;
@@ -31,8 +31,8 @@ lane_view lane sent met may told = record {
   told = told;
 }
 
--- what the receiver knows: how many lanes there are, what it took, how many items the lanes may send that it has yet to
--- make, how many all lanes may send, and what it was told
+-- what the receiver knows: how many lanes there are, what it took, how many items the lanes that it
+-- has not made yet may send, how many all lanes may send, and what receipts told it
 abbrev pub receiver_view : {T : Type 0} → ℕ → List (ℕ × T) → ℕ → ℕ → Told → View T
 receiver_view lanes taken may all told = record {
   sends = false;
@@ -57,7 +57,7 @@ rights [] = 0
 rights (v ∷ views) = v.may + rights views
 
 module _ {T : Type 0} where
-  -- what a lane's pass knows is so, and no other pass is this lane's
+  -- what a lane's pass knows is true, and no other pass is this lane's
   abbrev pub FitsLane : (ℕ → ℕ) → (ℕ → List T) → List (ℕ × T) → ℕ → ℕ → View T → Type 0
   FitsLane seat sent taken made port v =
       v.sends ≡ true
@@ -66,12 +66,12 @@ module _ {T : Type 0} where
       × (v.met ≤ length (items_of v.lane taken))
       × (v.lane < made)
 
-  -- what the receiver's pass knows is so, and no other pass is the receiver's
+  -- what the receiver's pass knows is true, and no other pass is the receiver's
   abbrev pub FitsReceiver : ℕ → List (ℕ × T) → ℕ → ℕ → View T → Type 0
   FitsReceiver reader taken made port v =
       v.gets ≡ true → (port ≡ reader) × (v.taken ≡ taken) × (v.lanes ≡ made)
 
-  -- what a pass was told is true, and so is the greatest number of items that it knows
+  -- what receipts told a pass is true, and the greatest number of items that it knows is right
   abbrev pub FitsTold : (ℕ → List T) → List (ℕ × T) → ℕ → View T → Type 0
   FitsTold sent taken most v =
       (v.told.sent ≤ length (sent v.told.lane))

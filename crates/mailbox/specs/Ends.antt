@@ -21,26 +21,27 @@ pub record Taker (T : Type 0) : Type 0 where
   -- history: no field keeps it
   pub taken : List (ℕ × T)
 
--- a receipt: the number of its inbox, and what it tells of that inbox
+-- a receipt: the number of its inbox, and what it says about that inbox
 pub record Receipted : Type 0 where
   pub inbox : ℕ
   -- history: no field keeps it
   pub told : Told
 
 module _ {T : Type 0} where
-  -- the lanes 0, 1, .. of a new inbox, in order, of which nothing was sent
+  -- the lanes 0, 1, .. of a new inbox, in order, on which nothing was sent
   abbrev pub fresh_lanes : ℕ → ℕ → List (Sender T)
   fresh_lanes inbox zero = []
   fresh_lanes inbox (suc lanes) =
       fresh_lanes inbox lanes ++ record { inbox = inbox; lane = lanes; met = 0; sent = [] } ∷ []
 
-  -- at one moment, at which all that the receipt tells was true, the inbox held as many items as it can
+  -- at one moment, at which everything that the receipt says was true, the inbox held as many items
+  -- as it can
   abbrev pub WasFull : Sender T → Receipted → Type 0
   WasFull s receipt =
       Held INBOX_ITEMS (Moment (lane_view s.lane s.sent s.met (MOST_SENT - length s.sent) receipt.told))
 
-  -- as far as the receipt tells, there may be no room: what was taken, what the inbox can hold and what this lane may still
-  -- send do not pass what all lanes will ever send
+  -- as far as the receipt says, there may be no room: what was taken, what the inbox can hold and
+  -- what this lane may still send do not exceed what all lanes will ever send
   abbrev pub IsFullAsTold : Sender T → Receipted → Type 0
   IsFullAsTold s receipt =
       receipt.told.taken + INBOX_ITEMS + (MOST_SENT - length s.sent) ≤ receipt.told.most
@@ -49,11 +50,11 @@ module _ {T : Type 0} where
   abbrev pub IsSpent : Sender T → Type 0
   IsSpent s = MOST_SENT ≤ length s.sent
 
-  -- at one moment, at which all that the receipt tells was true, the inbox held nothing
+  -- at one moment, at which everything that the receipt says was true, the inbox held nothing
   abbrev pub WasEmpty : Taker T → Receipted → Type 0
   WasEmpty r receipt = Held 0 (Moment (taker_view r.lanes r.taken receipt.told))
 
-  -- every item that was sent, as the receipt tells, is among these items that were taken
+  -- every item that was sent, as far as the receipt says, is among these items that were taken
   abbrev pub HasArrived : Receipted → List (ℕ × T) → Type 0
   HasArrived receipt taken = receipt.told.sent ≤ length (items_of receipt.told.lane taken)
 
@@ -73,7 +74,7 @@ module _ {T : Type 0} where
   abbrev pub all_met : Sender T → Sender T
   all_met s = record s { met = length s.sent }
 
-  -- what was counted of a lane and what is left over of it are, in order, all that it sent
+  -- what was counted for a lane and what is left over from it are, in order, all that it sent
   abbrev pub ArrivesWhole : List ℕ → List (ℕ × T) → Sender T → Type 0
   ArrivesWhole counts left s =
       take (slice_index counts s.lane) s.sent ++ items_of s.lane left ≡ s.sent

@@ -46,44 +46,44 @@ module _ {T : Type 0} where
   abbrev pub sealed : View T → View T
   sealed v = record v { may = 0; all = v.all - v.may }
 
-  -- a lane tells what it has sent
+  -- a lane says what it has sent
   abbrev pub lane_tells : View T → View T
   lane_tells v = record nobody { told = record nothing { lane = v.lane; sent = length v.sent } }
 
-  -- the receiver tells what it has taken, and how many items there will ever be
+  -- the receiver says what it has taken, and how many items there will ever be
   abbrev pub receiver_tells : View T → View T
   receiver_tells v = record nobody { told = record nothing { taken = length v.taken; most = v.all } }
 
-  -- a lane that sends no more tells that, besides what it was told
+  -- a lane that sends no more says that, in addition to what receipts told it
   abbrev pub ended : View T → View T
   ended v = record nobody {
     told = record v.told { lane = v.lane; sent = length v.sent; most = v.told.most - v.may };
   }
 
-  -- what a receipt tells is taken in
+  -- what a receipt says is added
   abbrev pub heard : View T → View T → View T
   heard v w = record v { told = w.told }
 
-  -- the receiver's view with a lane's taken in
+  -- the receiver's view with a lane's added
   abbrev pub joined : View T → View T → View T
   joined v w = record v { sends = w.sends; lane = w.lane; sent = w.sent; met = w.met; may = v.may + w.may }
 
-  -- what was taken of the lane is a beginning of what it sent, and no less than it knew
+  -- what was taken of the lane is a prefix of what it sent, and no less than it knew
   pub record Learned (v : View T) : Type 0 where
     pub rest : List T
     pub beginning : v.sent ≡ items_of v.lane v.taken ++ rest
     pub more : v.met ≤ length (items_of v.lane v.taken)
     pub made : v.lane < v.lanes
 
-  -- what is the receiver's of a view that both share
+  -- the receiver's part of a view that both share
   abbrev pub receiver_part : View T → View T
   receiver_part v = receiver_view v.lanes v.taken 0 v.all v.told
 
-  -- what is the lane's, which knows now how much of it was taken
+  -- the lane's part, which knows now how much of it was taken
   abbrev pub lane_part : View T → View T
   lane_part v = lane_view v.lane v.sent (length (items_of v.lane v.taken)) v.may v.told
 
--- what a lane keeps: its pass, of the inbox that its number names, knows what the lane shows
+-- what a lane keeps: its pass, for the inbox that its number names, knows what the lane shows
 pub record LaneKept {T : Type 0}
     (queue : TableId) (room : ℕ) (pass : Pass (ℕ × T) (View T)) (name : TableId) (lane count : ℕ)
     : Type 0 where
@@ -111,13 +111,13 @@ pub record ReceiverKept {T : Type 0}
       → lane < length counts
       → slice_index counts lane ≡ length (items_of lane (view pass).taken)
 
--- what a receipt keeps: its pass, of the inbox that its number names, knows what it tells
+-- what a receipt keeps: its pass, for the inbox that its number names, knows what it says
 pub record ReceiptKept {T : Type 0} (pass : Pass (ℕ × T) (View T)) (name : TableId) : Type 0 where
   pub of_queue : pass.table_id ≡ name
   pub at_rest : pass.me.1 ≡ []
   pub role : view pass ≡ record nobody { told = (view pass).told }
 
--- what a dealer keeps: its pass, of the inbox that its number names, has made so many lanes
+-- what a dealer keeps: its pass, for the inbox that its number names, has made this many lanes
 pub record DealerKept {T : Type 0}
     (queue : TableId) (room : ℕ) (pass : Pass (ℕ × T) (View T)) (name : TableId) (counts : List ℕ)
     : Type 0 where
@@ -131,7 +131,7 @@ pub record DealerKept {T : Type 0}
   pub few : length counts ≤ 64
   pub counted : (lane : ℕ) → slice_index counts lane ≡ 0
 
--- what an inbox keeps that has no lanes yet
+-- what an inbox without lanes keeps
 pub record InboxKept {T : Type 0}
     (queue : TableId) (room : ℕ) (pass : Pass (ℕ × T) (View T))
     : Type 0 where
@@ -141,7 +141,7 @@ pub record InboxKept {T : Type 0}
   pub has_slots : queue.slots ≡ INBOX_ITEMS
   pub role : view pass ≡ receiver_view 0 [] (2 ^ 64) (2 ^ 64) nothing
 
--- what the receiver took more is what joined the list
+-- what the receiver took more is what was appended to the list
 pub record TakesMore {T : Type 0} (old new : Taker T) (list longer : List (ℕ × T)) : Type 0 where
   pub more : List (ℕ × T)
   pub history : new ≡ record old { taken = old.taken ++ more }

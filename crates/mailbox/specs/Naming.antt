@@ -1,8 +1,8 @@
--- The identity of an inbox: that of its queue, which no other queue shares.
+-- The identity of an inbox: that of its queue, which no other queue has.
 use Rattle.std.specs.Prelude.{[]}
 use Rattle.atomic_table.specs.Seated.{TableId}
 
--- what a number stands for where nothing was picked: no inbox has it
+-- the identity for a number that was given to no inbox: no inbox has it
 abbrev pub no_inbox : TableId
 no_inbox = record {
   words = 0;

@@ -18,8 +18,8 @@ pub const INBOX_ITEMS: usize = 1_024;
 /// The most lanes of an inbox.
 pub const MOST_LANES: u8 = 64;
 
-/// An empty inbox that has no number and no lanes yet. To a contract it is its identity, which no
-/// other inbox shares.
+/// An empty inbox that has no number and no lanes yet. In contracts it is its identity, which no
+/// other inbox has.
 #[derive(Drop)]
 pub struct Inbox<T: Drop> {
     queue: Arc<Queue<T>, Global>,
@@ -47,7 +47,7 @@ impl<T: Drop> Model for Inbox<T> {
 }
 
 impl<T: Drop> Inbox<T> {
-    /// An empty inbox with room for 1,024 items.
+    /// Returns an empty inbox with capacity for 1,024 items.
     pub fn new(alloc: Global) -> Result<Self, AllocError>
         ensures { IfOk result (λ n. n.slots ≡ 1024) }
     {
@@ -56,7 +56,8 @@ impl<T: Drop> Inbox<T> {
         Ok(Inbox { queue, pass, alloc })
     }
 
-    /// The receiver and the lanes of this inbox, which is the one of this number in the run.
+    /// Returns the receiver and the lanes of this inbox, which is the one of this number in the
+    /// run.
     pub fn named<J: Naming>(
         self,
         number: u8,

@@ -51,21 +51,21 @@ impl<T: Drop, J: Naming> Model for Lane<T, J> {
 }
 
 impl<T: Drop, J: Naming> Lane<T, J> {
-    /// The number of the inbox that this lane leads to.
+    /// Returns the number of the inbox that this lane leads to.
     pub fn number(&self) -> u8
         ensures { result ≡ self.now.inbox }
     {
         self.inbox
     }
 
-    /// The number of this lane in its inbox, from 0.
+    /// Returns the number of this lane in its inbox, from 0.
     pub fn lane(&self) -> u8
         ensures { result ≡ self.now.lane }
     {
         self.lane
     }
 
-    /// How many items the lane has sent.
+    /// Returns how many items the lane has sent.
     pub fn count(&self) -> u64
         ensures { result ≡ length self.now.sent }
     {
@@ -87,8 +87,8 @@ impl<T: Drop, J: Naming> Lane<T, J> {
         }
     }
 
-    /// Ends the lane, which then sends no more. The receipt that comes back tells all that this one told, and counts fewer
-    /// items that all lanes together will ever send.
+    /// Ends the lane, which then sends no more. The receipt that is returned says all that this one
+    /// said, and counts fewer items that all lanes together will ever send.
     pub fn end(self, receipt: Receipt<T, J>) -> Receipt<T, J>
         requires { receipt.inbox ≡ self.inbox }
         ensures { result ≡ record receipt {
@@ -115,8 +115,9 @@ impl<T: Drop, J: Naming> Lane<T, J> {
         }
     }
 
-    /// Sends an item. It comes back only if the inbox was full at some moment of the call, or if the lane has sent
-    /// [`MOST_SENT`] items. If the receipt tells that there is room, it does not come back.
+    /// Sends an item. It comes back only if the inbox was full at some moment of the call, or if
+    /// the lane has sent [`MOST_SENT`] items. If the receipt says that there is room, it does not
+    /// come back.
     pub fn send<R: Wait>(&mut self, rt: &R, item: T, receipt: Receipt<T, J>) -> Result<(), T>
         requires { receipt.inbox ≡ self.old.inbox }
         ensures sent { OnOk result

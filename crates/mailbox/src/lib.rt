@@ -1,6 +1,6 @@
 //! An inbox: items that several lanes send and one receiver takes. What arrives of each lane is
-//! what it sent, whole, once and in its order; between lanes there is no order to rely on. An item
-//! may be of any type.
+//! what it sent, whole, once and in order; between lanes there is no order to rely on. An item may
+//! be of any type.
 #![tactic(auto)]
 
 mod dealer;

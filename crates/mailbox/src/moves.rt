@@ -1,6 +1,6 @@
 // The rule of an inbox's queue, and what each use of a pass does to what is known. Two of these are
 // atomic steps that change what the inbox holds: `Sends`, a push by a lane, and `Takes`, a pop by
-// the receiver. The others only share out what is known.
+// the receiver. The others only pass on what is known.
 
 use crate::view::View;
 use crossbeam_queue::protocol::{Join, Lesson, Outcome, Protocol, Split};
@@ -74,7 +74,7 @@ impl<T> Split<View<T>> for Seals {
     ghost right = { λ v. nobody };
 }
 
-/// A lane hands all that it knows to a pass that the receiver takes in.
+/// A lane gives all that it knows to a pass that the receiver takes.
 pub struct Lends;
 
 impl<T> Split<View<T>> for Lends {
@@ -85,7 +85,7 @@ impl<T> Split<View<T>> for Lends {
     ghost right = { λ v. v };
 }
 
-/// A lane tells what it has sent, by a pass of its own.
+/// A lane says what it has sent, by a pass of its own.
 pub struct LaneTells;
 
 impl<T> Split<View<T>> for LaneTells {
@@ -96,7 +96,7 @@ impl<T> Split<View<T>> for LaneTells {
     ghost right = { lane_tells };
 }
 
-/// The receiver tells what it has taken, by a pass of its own.
+/// The receiver says what it has taken, by a pass of its own.
 pub struct ReceiverTells;
 
 impl<T> Split<View<T>> for ReceiverTells {
@@ -107,7 +107,7 @@ impl<T> Split<View<T>> for ReceiverTells {
     ghost right = { receiver_tells };
 }
 
-/// A lane sends no more, and tells that.
+/// A lane sends no more, and says that.
 pub struct Ends;
 
 impl<T> Split<View<T>> for Ends {
@@ -118,7 +118,7 @@ impl<T> Split<View<T>> for Ends {
     ghost right = { ended };
 }
 
-/// What a receipt tells is taken in.
+/// What a receipt says is added.
 pub struct Hears;
 
 impl<T> Join<View<T>> for Hears {
@@ -129,7 +129,7 @@ impl<T> Join<View<T>> for Hears {
     ghost spent = { nobody };
 }
 
-/// The receiver takes in what a lane knows, compares, and gives it back.
+/// The receiver adds what a lane knows, compares, and gives it back.
 pub struct Meets;
 
 impl<T> Join<View<T>> for Meets {

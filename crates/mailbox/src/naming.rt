@@ -1,10 +1,10 @@
-// Which inbox a number stands for.
+// Which inbox a number means.
 
 use std::marker::Brand;
 
-/// Which inbox each number stands for in a run, fixed before the first is named. A function that is
-/// generic in a `Naming` can tell by their numbers that a lane and a receiver are of one inbox, even
-/// behind a lock. Its caller passes [`Brand`] and picks the inboxes that it made.
+/// Which inbox each number means in a run, fixed before the first is named. A function that is
+/// generic in a `Naming` knows from their numbers that a lane and a receiver belong to one inbox,
+/// even behind a lock. Its caller passes [`Brand`] and chooses the inboxes that it made.
 pub trait Naming {
     ghost use Rattle.std.specs.Prelude.{ℕ};
     ghost use Rattle.atomic_table.specs.Seated.{TableId};

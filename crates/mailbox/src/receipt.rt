@@ -1,11 +1,12 @@
-// What the ends of an inbox tell each other.
+// What the ends of an inbox say to each other.
 
 use crate::moves::Knowledge;
 use crate::naming::Naming;
 use std::marker::{Model, PhantomData};
 
-/// Tells how many items a lane has sent at least, how many of all lanes were taken at least, and how many these will ever
-/// send at most. Only contracts know what it tells, and no field keeps it. So whoever gets one has to look at the inbox itself.
+/// Says how many items a lane has sent at least, how many of all lanes were taken at least, and how
+/// many these will ever send at most. Only contracts know what it says, and no field keeps it. So
+/// the code that gets one has to look at the inbox itself.
 #[derive(Drop)]
 pub struct Receipt<T: Drop, J: Naming> {
     pub(crate) pass: Knowledge<T>,

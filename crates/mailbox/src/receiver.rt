@@ -50,21 +50,21 @@ impl<T: Drop, J: Naming> Model for Receiver<T, J> {
 }
 
 impl<T: Drop, J: Naming> Receiver<T, J> {
-    /// The number of the inbox that this receiver takes from.
+    /// Returns the number of the inbox that this receiver takes from.
     pub fn number(&self) -> u8
         ensures { result ≡ self.now.inbox }
     {
         self.inbox
     }
 
-    /// How many lanes the inbox has.
+    /// Returns how many lanes the inbox has.
     pub fn lanes(&self) -> usize
         ensures { result ≡ self.now.lanes }
     {
         self.counts.len()
     }
 
-    /// Whether these are all lanes of this inbox, in the order of their numbers.
+    /// Says whether these are all lanes of this inbox, in the order of their numbers.
     pub fn has_all(&self, lanes: &[Lane<T, J>]) -> bool
         ensures { IsTrue result ↔ AreAllLanes self.now lanes.now }
     {
@@ -79,15 +79,16 @@ impl<T: Drop, J: Naming> Receiver<T, J> {
         true
     }
 
-    /// Takes the item that came first, with the number of its lane. There is none only if the inbox was empty at some
-    /// moment of the call. Then every item that was sent, as the receipt tells, was taken before.
+    /// Takes the item that came first, with the number of its lane. There is none only if the inbox
+    /// was empty at some moment of the call. Then every item that was sent, as far as the receipt
+    /// says, was taken before.
     pub fn take<R: Wait>(&mut self, rt: &R, receipt: Receipt<T, J>) -> Option<(u8, T)>
         requires { receipt.inbox ≡ self.old.inbox }
         ensures taken { IfSome result (λ x.
             self.new ≡ record self.old { taken = self.old.taken ++ x ∷ [] }) }
         ensures lane { IfSome result (λ x. x.0 < self.old.lanes) }
 
-        // If nothing came, nothing was there: all was taken of which the receipt tells.
+        // If nothing came, the inbox was empty: everything that the receipt knows about was taken.
         ensures empty { IfNone result (WasEmpty self.old receipt) }
         ensures arrived { IfNone result (HasArrived receipt self.old.taken) }
         ensures same { IfNone result (self.new ≡ self.old) }
@@ -98,7 +99,8 @@ impl<T: Drop, J: Naming> Receiver<T, J> {
         Some((lane, item))
     }
 
-    /// Returns a receipt of how many items were taken so far, and that each lane sends at most 2^55.
+    /// Returns a receipt of how many items were taken so far, and that each lane sends at most
+    /// 2^55.
     pub fn receipt(&mut self) -> Receipt<T, J>
         ensures tells { result ≡ record {
           inbox = self.old.inbox;
@@ -116,7 +118,7 @@ impl<T: Drop, J: Naming> Receiver<T, J> {
         }
     }
 
-    /// How many items of a lane of this inbox were taken. The lane then knows it too.
+    /// Returns how many items of a lane of this inbox were taken. The lane then knows it too.
     pub fn meet(&mut self, lane: &mut Lane<T, J>) -> u64
         requires { lane.old.inbox ≡ self.old.inbox }
         ensures exact { result ≡ length (items_of lane.old.lane self.old.taken) }
@@ -137,8 +139,8 @@ impl<T: Drop, J: Naming> Receiver<T, J> {
     }
 
     /// Takes all that is left, once the lanes send no more: `counts` gets how many items of each
-    /// lane were taken before, and `left` those that are left over, in order. It takes no memory:
-    /// both have their room beforehand.
+    /// lane were taken before, and `left` those that are left over, in order. Takes no memory: both
+    /// have their capacity beforehand.
     pub fn settle<R: Wait>(
         &mut self,
         rt: &R,
@@ -173,7 +175,7 @@ impl<T: Drop, J: Naming> Receiver<T, J> {
         unreachable!()
     }
 
-    // Takes what is there, as far as there is room for it.
+    // Takes what is there, as far as there is capacity for it.
     fn drain<R: Wait>(&mut self, rt: &R, left: &mut Vec<(u8, T)>)
         ensures { TakesMore self.old self.new left.old.items left.new.items }
     {
@@ -191,7 +193,7 @@ impl<T: Drop, J: Naming> Receiver<T, J> {
         }
     }
 
-    // Whether all that these lanes sent was taken.
+    // Says whether all that these lanes sent was taken.
     fn meets_all(&mut self, lanes: &mut [Lane<T, J>]) -> bool
         requires { All (λ s. s.inbox ≡ self.old.inbox) lanes.old }
         ensures all { IsTrue result → All (IsTaken self.old.taken) lanes.new }

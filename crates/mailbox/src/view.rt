@@ -2,7 +2,8 @@
 
 use std::collections::LinkedList;
 
-/// What anybody may know of an inbox. It stays true whatever happens. It exists in proofs alone: no value of it is made.
+/// What may be known about an inbox anywhere. It stays true whatever happens. It exists only in
+/// proofs: no value of it is made.
 pub struct Told {
     /// A lane.
     pub lane: u8,
@@ -14,8 +15,8 @@ pub struct Told {
     pub most: u64,
 }
 
-/// What a lane, the receiver, both while they meet, or a receipt know of an inbox. It exists in proofs alone: no value of
-/// it is made.
+/// What a lane, the receiver, both while they meet, or a receipt know about an inbox. It exists
+/// only in proofs: no value of it is made.
 pub struct View<T> {
     /// Whether a lane knows this.
     pub sends: bool,
@@ -35,6 +36,6 @@ pub struct View<T> {
     pub may: u64,
     /// How many items all lanes together will ever have sent, at most, as the receiver knows.
     pub all: u64,
-    /// What it was told last.
+    /// What the last receipt told it.
     pub told: Told,
 }

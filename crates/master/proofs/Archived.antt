@@ -23,7 +23,7 @@ nothing_left (suc n) zero (x ∷ xs) low = refl
 nothing_left (suc n) (suc m) [] low = refl
 nothing_left (suc n) (suc m) (x ∷ xs) low = nothing_left n m xs (omega (arith, low))
 
--- none, where the record has them
+-- none, if the record has them
 pub added_none : {X : Type 0} (archive rest : List X) (base committed from to : ℕ) → from ≡ length archive - base → to ≡ committed - base → to ≤ from →
     archive ≡ archive ++ drop (length archive - base) (take (committed - base) rest)
 added_none archive rest base committed from to at up low =
@@ -47,7 +47,7 @@ recorded_by {C = C} archive more rest base committed r within b c same is =
     is ∙ ap (λ (us : List C). archive ++ drop (length archive - base) (take (committed - base) us)) same
     ∙ ap₂ (λ i j. archive ++ drop (length archive - i) (take (j - i) r.log.rest)) b c ∙ sym (recorded_part archive r within)
 
--- what was added is taken back
+-- what was added is undone
 pub taken_back : {X : Type 0} (archive more : List X) (before : ℕ) → IsPrefixOf archive more → before ≡ length archive → take before more ≡ archive
 taken_back {X = X} archive more before p at =
     ap (λ n. take n more) at ∙ take_prefix (length archive) p (omega arith) ∙ all_of archive

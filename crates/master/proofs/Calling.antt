@@ -42,7 +42,7 @@ counts_of : {S C O : Type 0} (rules : Rules S C O) {old : CountedReplica S C} {o
 counts_of rules (inl e) = inl e.2
 counts_of rules (inr e) = inr e.1
 
--- where nothing is to be handed out, nothing was
+-- if nothing is to be handed out, nothing was
 given_nothing : {S C O : Type 0} (rules : Rules S C O) {old : CountedReplica S C} {o : Outcome S C O} {new : CountedReplica S C} {given : List (Effect C O)} →
     o.effects ≡ [] → Steps rules old o new given → given ≡ o.effects
 given_nothing rules empty (inl e) = e.1
@@ -50,8 +50,8 @@ given_nothing rules empty (inr (inl (a, t), c)) = thinned_nothing empty t ∙ sy
 given_nothing rules empty (inr (inr (inl (a, t)), c)) = t ∙ sym empty
 given_nothing rules empty (inr (inr (inr (a, t)), c)) = t ∙ sym empty
 
--- a call of a replica is its step, perhaps with losses; where that sends nothing, leaves the log as it is and applies nothing, it has
--- none
+-- a call of a replica is its step, perhaps with losses; if that sends nothing, leaves the log as it
+-- is and applies nothing, it has none
 pub record Called {S C O : Type 0} (rules : Rules S C O) (old : CountedReplica S C) (input : Input C) (new : CountedReplica S C)
     (before behind : List (Effect C O)) : Type 0 where
   pub stepped : Stepped rules old (replica_step rules old.state input) new before behind

@@ -58,14 +58,14 @@ next_lower least next x low = ap (λ b. cond b (x, least) (least, min next x)) (
 next_higher : (least next x : ℕ) → least ≤ x → next_least least next x ≡ (least, min next x)
 next_higher least next x high = ap (λ b. cond b (x, least) (least, min next x)) (le-ltb x least high)
 
--- behind a 0 the second is the least of the others
+-- after a 0 the second is the least of the others
 behind_zero : (told : List ℕ) (next : ℕ) (ms : List ℕ) → least_but_one told 0 next ms ≡ least_of next (λ m. get_or told m 0) ms
 behind_zero told next [] = refl
 behind_zero told next (m ∷ ms) =
     ap (λ (p : ℕ × ℕ). least_but_one told p.0 p.1 ms) (next_behind_zero next (get_or told m 0))
     ∙ behind_zero told (min next (get_or told m 0)) ms ∙ least_lower next (get_or told m 0) (λ x. get_or told x 0) ms
 
--- what the others told, where one member told nothing
+-- what the others acknowledged, if one member acknowledged nothing
 abbrev pub told_or : ℕ → ℕ → List ℕ → ℕ → ℕ
 told_or top p told m = cond (m == p) top (get_or told m 0)
 
@@ -149,7 +149,7 @@ second_is told p top last least next (m ∷ ms) rising i none low bound =
     (λ l n j a b. second_is told p top m l n ms (and_parts (nat_lt last m && nat_le m 15) (are_rising m ms) rising).1 j none a b)
     rising i none low bound
 
--- a primary tells nothing by messages
+-- a primary says nothing by messages
 primary_silent : {S C O : Type 0} (w : World S C O) (h : History C) (b : ℕ) (g : Given) (to from : ℕ) (body : Body C) → Says w h to from body →
     h.given b ≡ Some g → (from ≡ g.primary) → told_by b body ≡ 0
 primary_silent w h b g to from (NewBallot x members a old) says given is = refl
@@ -185,7 +185,7 @@ primary_told {S = S} {C = C} rules w h b g s given = told_none g.primary b w.sen
         ap (λ k. cond k (told_by b x.1.body) 0) (eq-eqb x.1.from g.primary e) ∙ primary_silent w h b g x.0 x.1.from x.1.body (s.said x.0 x.1 i) given e
     by_sender x i (inr ne) = ap (λ k. cond k (told_by b x.1.body) 0) (ne_eqb x.1.from g.primary ne)
 
--- the agreed list is the front that all members of the active ballot told
+-- the agreed list is the front that all members of the active ballot acknowledged
 pub record IsFront {S C O : Type 0} (rules : Rules S C O) (a : Moment S C O) (xs : List C) : Type 0 where
   pub history : History C
   pub serves : Serves rules a.master a.world history
@@ -243,7 +243,7 @@ front_length rules a xs f =
     ∙ length-take-le (chosen_length a.world.sent a.master.active f.given f.line) f.line.list
     (least_top (length f.line.list) (told_length a.world.sent a.master.active f.given f.line) f.given.members)
 
--- what another member told
+-- what another member acknowledged
 other_told : {S C O : Type 0} (a : Moment S C O) (g : Given) (l : Line C) (m : ℕ) → (m ≡ g.primary → ⊥) →
     told_length a.world.sent a.master.active g l m ≡ most_told m a.master.active a.world.sent
 other_told a g l m ne = ap (λ k. cond k (length l.list) (most_told m a.master.active a.world.sent)) (ne_eqb m g.primary ne)
@@ -266,7 +266,7 @@ told_within rules a xs f m i =
     within_of rules w h s m b (told_length w.sent b f.given f.line m) f.line f.lined
     (told_whole w h m b f.given f.line f.is_given f.lined told)
 
--- with two members and more, the agreed list is as long as what all but the primary told
+-- with two members and more, the agreed list is as long as what all but the primary acknowledged
 pub counted_length : {S C O : Type 0} (rules : Rules S C O) (config : Config) (a : Moment S C O) (past : List (Moment S C O)) (xs : List C) (told : ToldIn) (top : ℕ) →
     Past rules config (a ∷ past) → IsAgreed config (a ∷ past) xs → told.ballot ≡ a.master.active → ((m : ℕ) → m < 16 → get_or told.held m 0 ≡ most_told m told.ballot a.world.sent) →
     ((m : ℕ) → get_or told.held m 0 ≤ top) → (length a.master.members ≡ 1 → ⊥) →
@@ -312,7 +312,7 @@ counted_length {S = S} {C = C} {O = O} rules config a past xs told top came agre
     least : ℕ
     least = least_of top (told_or top f.given.primary told.held) a.master.members
 
-    -- what one of the others told, in both words
+    -- what one of the others acknowledged, by both definitions
     same : (m : ℕ) → In m a.master.members → (m ≡ f.given.primary → ⊥) →
         told_or top f.given.primary told.held m ≡ told_length a.world.sent a.master.active f.given f.line m
     same m i ne = told_or_other top f.given.primary told.held m ne ∙ counts m i ∙ sym (other_told a f.given f.line m ne)
@@ -448,7 +448,7 @@ sole_length {S = S} {C = C} {O = O} rules config a past xs came agreed m sole = 
         ap (λ k. length (log_of (slice_get a.world.nodes k))) at ∙ ap (λ o. length (log_of o)) z.stands
         ∙ (let d = whole in let y : length z.replica.log ≡ length xs = omega (arith, up, down, d) in y)
 
--- the front of a member's log, where it is long enough
+-- the front of a member's log, if it is long enough
 pub member_front : {S C O : Type 0} (rules : Rules S C O) (config : Config) (a : Moment S C O) (past : List (Moment S C O)) (k m : ℕ) →
     Past rules config (a ∷ past) → ((xs : List C) → IsAgreed config (a ∷ past) xs → k ≡ length xs) → In m a.master.members →
     k ≤ length (log_of (slice_get a.world.nodes (m - 1))) → IsAgreed config (a ∷ past) (take k (log_of (slice_get a.world.nodes (m - 1))))

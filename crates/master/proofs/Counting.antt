@@ -98,7 +98,7 @@ steps_turn {S = S} {C = C} {O = O} rules old new event t e took =
         )
     by_way (inr (a, b)) = inr (subst (λ (v : Moment S C O). Happens rules old.moment event v) (sym took.moment) (node_goes t e a), b)
 
--- and so is one of the master
+-- and the same for one of the master
 pub steps_master : {S C O : Type 0} (rules : Rules S C O) (old new : GroupState S C O) (event : Event C) (o : MasterOutcome C) →
     turn rules old.moment event ≡ Some (by_master o) → MasterTook old o new → StepsBy rules old event new
 steps_master {S = S} {C = C} {O = O} rules old new event o e took =
@@ -111,14 +111,14 @@ steps_master {S = S} {C = C} {O = O} rules old new event o e took =
     by_way (inl (a, b)) = inl (a ∙ ap (behind old.moment) (sym e), b)
     by_way (inr (a, b)) = inr (subst (λ (v : Moment S C O). Happens rules old.moment event v) (sym a) (master_goes o e), b)
 
--- nothing happened, for want of memory
+-- nothing happened, because memory ran out
 pub steps_lost : {S C O : Type 0} (rules : Rules S C O) (old new : GroupState S C O) (event : Event C) →
     new ≡ record old { losses = one_more old.losses } → StepsBy rules old event new
 steps_lost {S = S} {C = C} {O = O} rules old new event e =
     subst (λ (v : GroupState S C O). StepsBy rules old event v) (sym e)
     (record { way = inr (nothing_happens, refl); freezes = inr refl })
 
--- and so is a cut
+-- and the same for a cut
 pub steps_cut : {S C O : Type 0} (rules : Rules S C O) (old new : GroupState S C O) (event : Event C) (t : NodeTurn S C O) →
     turn rules old.moment event ≡ Some (by_cut t) → TookCut rules old t new → StepsBy rules old event new
 steps_cut {S = S} {C = C} {O = O} rules old new event t e took = by_way took.way

@@ -1,5 +1,6 @@
--- EarlierMembers.antt: a message that was sent and has more than numbers does nothing, or sends something or adds to the log: a
--- NewBallot names the members of the ballot before, of whom there are some.
+-- EarlierMembers.antt: a message that was sent and has more than numbers does nothing, or sends
+-- something or adds to the log: a NewBallot names the members of the ballot before, of which there
+-- is at least one.
 use Rattle.std.proofs.Common.{◌≡◌, ℕ, ◌<◌, ◌≤◌, ◌⊎◌, inl, inr, true, false, List, [], ◌∷◌, Some, None, Option, refl, ap, sym, ◌∙◌}
 use Rattle.std.specs.Prelude.{◌==◌, ◌&&◌}
 use Rattle.std.proofs.lemmas.Bool.{cases_Bool, cases_lt}
@@ -40,7 +41,7 @@ some_in : {m : ℕ} (xs : List ℕ) → In m xs → xs ≡ [] → ⊥
 some_in [] i e = elim i [ ]
 some_in (x ∷ xs) i e = cc
 
--- by what a NewBallot says of the ballots that were given
+-- by what a NewBallot says about the ballots that were given
 said_some : {S C O : Type 0} (w : WholeWorld S C O) (h : History C) (to from b p : ℕ) (members old : List ℕ) →
     ((a : ℕ) (g : Given) → h.given a ≡ Some g → In g.primary g.members) → Says w h to from (whole_new_ballot b members p old) → old ≡ [] → ⊥
 said_some w h to from b p members old led (g, is_of, master, primary, own, before, (earlier, given, same)) none =
@@ -69,7 +70,7 @@ NamesSome (Append b place command) = Unit {0}
 NamesSome (Held b held) = Unit {0}
 NamesSome (Commit b held) = Unit {0}
 
--- so does each that was sent
+-- each that was sent does
 pub names_some : {S C O : Type 0} (rules : Rules S C O) (config : Config) (a : Moment S C O) (past : List (Moment S C O)) → Past rules config (a ∷ past) →
     (to : ℕ) (message : Message C) → In (to, message) a.world.sent → NamesSome message.body
 names_some {S = S} {C = C} {O = O} rules config a past came to message sent = by_body message.from message.body sent

@@ -1,4 +1,4 @@
--- Groups.antt: what a group counts and how it came to be, behind each thing that it does.
+-- Groups.antt: what a group counts and how it came to be, after each thing that it does.
 use Rattle.std.proofs.Common.{◌≡◌, ℕ, zero, suc, ◌+◌, ◌<◌, ◌≤◌, ◌⊎◌, inl, inr, Bool, true, false, cond, max, List, [], ◌∷◌, ◌++◌, length, map, drop, take, take_all, get_or, Some, None, Option, refl, ap, sym, ◌∙◌, subst, arith}
 use Rattle.std.specs.Prelude.{slice_get, ◌==◌, ◌&&◌}
 use Rattle.std.proofs.lemmas.Bool.{cases_eq, ne_eqb, cases_Bool, eqb-true}
@@ -54,14 +54,14 @@ most_told_more m b (x ∷ sent) more =
     ap (max (told_in m b x.1)) e
     ∙ (let f : max (told_in m b x.1) (max (most_told m b sent) (most_told m b more)) ≡ max (max (told_in m b x.1) (most_told m b sent)) (most_told m b more) = omega arith in f)
 
--- messages that tell nothing
+-- messages that say nothing
 pub most_told_none : {C : Type 0} (m b : ℕ) (sent : List (ℕ × Message C)) → ((x : ℕ × Message C) → In x sent → told_in m b x.1 ≡ 0) →
     most_told m b sent ≡ 0
 most_told_none m b [] all = refl
 most_told_none m b (x ∷ sent) all =
     let e = all x here in let f = most_told_none m b sent (λ y i. all y (there i)) in omega (arith, e, f)
 
--- what is counted stays so behind a message that tells nothing
+-- what is counted stays so after a message that says nothing
 pub counted_still : {C : Type 0} (sent : List (ℕ × Message C)) (x : ℕ × Message C) (t : ToldIn) → ((m b : ℕ) → told_in m b x.1 ≡ 0) →
     HasCounted sent t → HasCounted (sent ++ x ∷ []) t
 counted_still {C = C} sent x t none h m low =
@@ -69,7 +69,7 @@ counted_still {C = C} sent x t none h m low =
     let f : most_told m t.ballot (x ∷ []) ≡ 0 = (let z = none m t.ballot in omega (arith, z)) in
     let y = h m low in omega (arith, e, f, y)
 
--- what one body tells
+-- what one body acknowledges
 silent : {C : Type 0} (m b from : ℕ) (body : Body C) → told_by b body ≡ 0 → told_in m b (record { from = from; body = body }) ≡ 0
 silent m b from body e = by_sender (cases_Bool (from == m))
   where
@@ -77,7 +77,7 @@ silent m b from body e = by_sender (cases_Bool (from == m))
     by_sender (inl f) = ap (λ k. cond k (told_by b body) 0) f ∙ e
     by_sender (inr f) = ap (λ k. cond k (told_by b body) 0) f
 
--- the master tells no length
+-- the master acknowledges no length
 pub new_ballot_silent : (C : Type 0) (receiver from ballot previous : ℕ) (members old : List ℕ) (m b : ℕ) →
     told_in {C = C} m b (record { from = from; body = NewBallot ballot members previous old }) ≡ 0
 new_ballot_silent C receiver from ballot previous members old m b = silent {C = C} m b from (NewBallot ballot members previous old) refl
@@ -87,7 +87,7 @@ pub answer_silent : (C : Type 0) (from ballot : ℕ) (granted : Bool) (m b : ℕ
 answer_silent C from ballot true m b = silent {C = C} m b from (Activated ballot) refl
 answer_silent C from ballot false m b = silent {C = C} m b from (Superseded ballot) refl
 
--- nothing was told in the ballot that comes next
+-- nothing was acknowledged in the ballot that comes next
 pub untold_next : {S C O : Type 0} (rules : Rules S C O) (config : Config) (a : Moment S C O) (past : List (Moment S C O)) → Past rules config (a ∷ past) →
     (m : ℕ) → most_told m (a.master.given + 1) a.world.sent ≡ 0
 untold_next {S = S} {C = C} {O = O} rules config a past came m =
@@ -125,12 +125,12 @@ group_goes {S = S} {C = C} {O = O} rules a v told next told' next' g may same on
       counted_next = counted_next;
     }
 
--- messages behind those before
+-- messages after those before
 pub front_of : {X : Type 0} (n : ℕ) (xs ys more : List X) → more ≡ xs ++ ys → n ≡ length xs → take n more ≡ xs
 front_of {X = X} n xs ys more is at =
     ap (take n) is ∙ ap (λ k. take k (xs ++ ys)) at ∙ take-append-le (length xs) xs ys (omega arith) ∙ take-length xs
 
--- the master gave a ballot: its primary was told, or not
+-- the master gave a ballot: it was sent to its primary, or not
 pub group_gives : {S C O : Type 0} (rules : Rules S C O) (a v : Moment S C O) (config : Config) (told next next' : ToldIn) → IsGroup rules a told next →
     refusal a.master config ≡ None → v.master ≡ assigning a.master config →
     (v.world ≡ tells_from_master a.world (assigned C a.master config)) ⊎ (v.world ≡ a.world) →
@@ -174,7 +174,7 @@ group_gives {S = S} {C = C} {O = O} rules a v config told next next' g granted m
         (counted_still a.world.sent _ next' (λ m b. new_ballot_silent C config.primary 0 (a.master.given + 1) a.master.active config.members a.master.members m b) empty)
     by_world (inr e) = made a.world (deed_lost rules a (assigned C a.master config) deed) e g.counted empty
 
--- which ballot is active and which one waits behind an Activate
+-- which ballot is active and which one waits after an Activate
 pub record Stays (m k : MasterState) : Type 0 where
   pub same_active : k.active ≡ m.active
   pub waits : (b : ℕ) (c : Config) → k.waiting ≡ Some (b, c) → m.waiting ≡ Some (b, c)
@@ -265,7 +265,7 @@ group_answers {S = S} {C = C} {O = O} rules a v from b told next told' next' g s
         (λ t h. counted_still a.world.sent _ t (λ m x. answer_silent C 0 b _ m x) h)
     by_world (inr e) = made a.world (deed_lost rules a (activated C a.master b from a.master.waiting) deed) e (λ t h. h)
 
--- one message more is heard
+-- one message more is received
 pub counted_next : {C : Type 0} (sent : List (ℕ × Message C)) (i : ℕ) (x : ℕ × Message C) (t u : ToldIn) → i < length sent → x ≡ get_or sent i x →
     u.ballot ≡ t.ballot → ((m : ℕ) → m < 16 → get_or u.held m 0 ≡ max (get_or t.held m 0) (told_in m t.ballot x.1)) →
     HasCounted (take i sent) t → HasCounted (take (i + 1) sent) u
@@ -276,7 +276,7 @@ counted_next {C = C} sent i x t u below read ballot heard h m low =
     a ∙ (let z : max (get_or t.held m 0) (told_in m t.ballot x.1) ≡ most_told m t.ballot (take i sent ++ x ∷ []) = omega (arith, b, e) in z)
     ∙ ap (λ us. most_told m t.ballot us) (sym now) ∙ ap (λ k. most_told m k (take (i + 1) sent)) (sym ballot)
 
--- all of them were heard
+-- all of them were received
 pub counted_all : {C : Type 0} (sent : List (ℕ × Message C)) (i : ℕ) (t : ToldIn) → length sent ≤ i → HasCounted (take i sent) t → HasCounted sent t
 counted_all {C = C} sent i t past h = subst (λ us. HasCounted us t) (take_all i sent past) h
 
@@ -329,7 +329,7 @@ pub answer_is : {C : Type 0} (b : ℕ) (granted : Bool) (activation : Activation
 answer_is b true activation body e grants refuses = grants e
 answer_is b false activation body e grants refuses = refuses e
 
--- which counters stand for the active ballot behind an Activate
+-- which counters correspond to the active ballot after an Activate
 pub turned : (told next told' next' : ToldIn) (before behind : ℕ) →
     (before ≡ behind → (told' ≡ told) × (next' ≡ next)) → ((before ≡ behind → ⊥) → (told' ≡ next) × (next' ≡ told)) →
     ((behind ≡ before) × (told' ≡ told) × (next' ≡ next)) ⊎ ((behind ≡ before → ⊥) × (told' ≡ next) × (next' ≡ told))
@@ -409,7 +409,7 @@ group_stops {S = S} {C = C} {O = O} rules a v told next old new n r g is_old is_
         by_way (inl (e, f, l)) = inl (e, subst (λ (us : List (Effect C O)). Thinned us stopped.effects) (sym f) (Thinned-same stopped.effects))
         by_way (inr (l, c)) = l
 
--- the same of the group as it is seen
+-- the same for the group as it is seen
 pub took_as_seen : {S C O : Type 0} (archive : List C) (m k : MasterState) (nodes : List (CountedReplica S C)) (sent more : List (ℕ × Message C)) (left : List (Effect C O)) (losses counted : ℕ)
     (o : MasterState → MasterOutcome C) (seen : GroupState S C O) → (let z : GroupState S C O = record { moment = moment_of archive m nodes sent left; losses = losses } in z) ≡ seen →
     k ≡ (o m).state →
@@ -420,7 +420,7 @@ took_as_seen {S = S} {C = C} {O = O} archive m k nodes sent more left losses cou
     subst (λ (z : GroupState S C O). MasterTook z (o z.moment.master) (record { moment = moment_of archive k nodes more left; losses = counted })) is
     (master_took archive m k nodes sent more left losses counted (o m) state way)
 
--- the same where a ballot was given
+-- the same if a ballot was given
 pub took_given : {S C O : Type 0} (archive : List C) (m k : MasterState) (nodes : List (CountedReplica S C)) (sent more : List (ℕ × Message C)) (left : List (Effect C O)) (losses counted : ℕ)
     (config : Config) (seen : GroupState S C O) → (let z : GroupState S C O = record { moment = moment_of archive m nodes sent left; losses = losses } in z) ≡ seen →
     k ≡ assigning m config →
@@ -450,7 +450,7 @@ only_item : (m x : ℕ) → In m (x ∷ []) → m ≡ x
 only_item m x here = refl
 only_item m x (there i) = elim i [ ]
 
--- what holds of each item so far holds of one more, and in the end of all
+-- what holds for each item so far holds for one more, and in the end of all
 pub in_nothing : {P : Type 0} (m : ℕ) → In m [] → P
 in_nothing m i = elim i [ ]
 

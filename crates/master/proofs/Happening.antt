@@ -219,7 +219,7 @@ cut_is rules a (Tick node) t is = absurd (no_cut_taking rules (node - 1) (runnin
 cut_is rules a (Cut node) t is = cutting_is rules a.world node t is
 cut_is rules a (Crash node) t is = absurd (no_cut_stopping rules (node - 1) (running a.world.nodes node) t is)
 
--- such a cut may happen where its snapshot can be read
+-- such a cut may happen if its snapshot can be read
 pub cut_may : {S C O : Type 0} (rules : Rules S C O) (m : MasterState) (w : World S C O) (t : NodeTurn S C O) → IsCut rules w t →
     Freezes rules (Some (by_cut t)) →
     MayHappen rules m w m (record (moved w t.place t.outcome.state t.outcome.effects) { archive = recorded w.archive t.before })
@@ -338,7 +338,7 @@ master_may {S = S} {C = C} {O = O} rules a o (it_gives config granted is) =
 master_may {S = S} {C = C} {O = O} rules a o (it_answers from b sent is) =
     subst (λ (x : MasterOutcome C). MayHappen rules a.master a.world x.state (tells_from_master a.world x)) (sym is) (master_hears from b sent)
 
--- and so it may where its message is lost
+-- it may happen too if its message is lost
 pub deed_lost : {S C O : Type 0} (rules : Rules S C O) (a : Moment S C O) (o : MasterOutcome C) → IsDeed a o →
     MayHappen rules a.master a.world o.state a.world
 deed_lost {S = S} {C = C} {O = O} rules a o (it_gives config granted is) =

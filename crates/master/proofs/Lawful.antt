@@ -65,7 +65,7 @@ past_lawful rules config v (a ∷ past) (went_on came step) =
 past_lawful {S = S} {C = C} {O = O} rules config v (a ∷ past) (learned came learns) =
     subst (λ (u : Moment S C O). AreLawful u.master) (sym learns.becomes) (past_lawful rules config a past came)
 
--- members that rise lie above what they rise from, are at most 15, and each stands once
+-- members that rise lie above what they rise from, are at most 15, and each occurs once
 pub rising_above : (last : ℕ) (members : List ℕ) (m : ℕ) → are_rising last members ≡ true → In m members → (last < m) × (m < 16)
 rising_above last [] m e i = elim i [ ]
 rising_above last (x ∷ members) m e here =

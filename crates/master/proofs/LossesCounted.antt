@@ -69,7 +69,7 @@ pub counts_lost : {S C : Type 0} (losses counted : ℕ) (nodes : List (CountedRe
 counts_lost losses counted nodes high e all =
     let f : counted ≡ min (losses + 1) (2 ^ 64 - 1) = e in counts_more losses counted nodes (omega (arith, f, high)) all
 
--- one that may be, where the master said something
+-- one that may be, if the master said something
 pub counts_told : {S C : Type 0} (first second : Bool) (losses counted : ℕ) (nodes : List (CountedReplica S C)) → losses ≤ 2 ^ 64 - 1 →
     counted ≡ cond (first && second) losses (one_more losses) → CountsAtMost losses nodes → CountsAtMost counted nodes
 counts_told {S = S} {C = C} true true losses counted nodes high e all = subst (λ k. CountsAtMost {S = S} {C = C} k nodes) (sym e) all

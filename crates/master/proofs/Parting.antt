@@ -53,7 +53,7 @@ parted_out {C = C} {O = O} given left staying sent more whole (Out k o) is p =
       messages_are = messages-append staying (Out k o ∷ []) ∙ append-nil (messages staying) ∙ p.messages_are;
     }
 
--- a message goes behind those that were sent
+-- a message goes after those that were sent
 parted_sent : {C O : Type 0} (given left staying : List (Effect C O)) (sent more now : List (ℕ × Message C)) (whole : Bool) (e : Effect C O) →
     is_message e ≡ true → now ≡ more ++ messages (e ∷ []) → Parted given left staying sent more whole → Parted (given ++ e ∷ []) left staying sent now whole
 parted_sent given left staying sent more now whole (Out k o) is pushed p = cc

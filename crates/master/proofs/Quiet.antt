@@ -72,7 +72,7 @@ pub steps_exactly_done : {S C O : Type 0} (rules : Rules S C O) (old : GroupStat
 steps_exactly_done {S = S} {C = C} {O = O} rules old event e =
     record { way = inl (ap (λ (z : GroupState S C O). z.moment) e, ap (λ (z : GroupState S C O). z.losses) e); freezes = inr refl }
 
--- a node's turn needs no memory where it is quiet, or where the node stops
+-- a node's turn needs no memory if it is quiet, or if the node stops
 pub node_needs : {S C O : Type 0} {P : Type 0} (rules : Rules S C O) (a : Moment S C O) (event : Event C) (t : NodeTurn S C O) →
     turn rules a event ≡ Some (by_node t) → ((node : ℕ) → event ≡ Crash node → P) → (IsQuiet t.before t.outcome → P) →
     TakesNoMemory rules a event → P
@@ -124,7 +124,7 @@ tick_nothing {S = S} {C = C} {O = O} rules r quiet =
     ap (λ (s : ReplicaState S C). let o : Outcome S C O = record { state = s; effects = (replica_step rules r Ticks).effects } in o) (ticked-state O r r.role)
     ∙ ap (λ (us : List (Effect C O)). let o : Outcome S C O = record { state = r; effects = us } in o) quiet.nothing_sent
 
--- a tick, where the node would say something and where not
+-- a tick, if the node would say something and if not
 tick_goes : {S C O : Type 0} (rules : Rules S C O) (old : GroupState S C O) (node at : ℕ) (x : RunsAt old.moment.world.nodes node at) →
     turn rules old.moment (Tick node) ≡ Some (by_node (record { place = at; before = x.replica; outcome = replica_step rules x.replica Ticks }))
 tick_goes rules old node at x = takes_turn rules old.moment.world node at Ticks x refl
@@ -146,7 +146,7 @@ tick_says {S = S} {C = C} {O = O} rules old node at x seen speaks same exactly o
     (λ f. absurd (both_ways speaks
     (exactly.1 (subst (λ (r : ReplicaState S C). replica_step rules r Ticks ≡ nothing_done O r) (sym same) (tick_nothing rules x.replica f))) on))
 
--- a message that comes to a node, which does not heed it
+-- a message that comes to a node, which ignores it
 pub message_passed : {S C O : Type 0} (rules : Rules S C O) (old : GroupState S C O) (k at : ℕ) (x : ℕ × Message C) → slice_get old.moment.world.sent k ≡ Some x →
     (y : RunsAt old.moment.world.nodes x.0 at) (seen : ReplicaState S C) (heeds : Bool) → seen ≡ y.replica →
     (heeds ≡ false → replica_step rules seen (Receives x.1) ≡ nothing_done O seen) × (replica_step rules seen (Receives x.1) ≡ nothing_done O seen → heeds ≡ false) →
@@ -155,7 +155,7 @@ message_passed {S = S} {C = C} {O = O} rules old k at x found y seen heeds same 
     exactly_nothing rules old (Deliver k) at y.replica (replica_step rules y.replica (Receives x.1)) (delivers_turn rules old.moment k at x x.1 found refl y) y.stands
     (subst (λ (r : ReplicaState S C). replica_step rules r (Receives x.1) ≡ nothing_done O r) same (exactly.0 off))
 
--- one that is taken in
+-- one that is taken
 pub message_taken : {S C O : Type 0} (rules : Rules S C O) (old new : GroupState S C O) (k at : ℕ) (x : ℕ × Message C) (m : Message C) →
     slice_get old.moment.world.sent k ≡ Some x → m ≡ x.1 → (y : RunsAt old.moment.world.nodes x.0 at) →
     TookTurn rules old (record { place = at; before = y.replica; outcome = replica_step rules y.replica (Receives m) }) new →
@@ -164,7 +164,7 @@ message_taken rules old new k at x m found same y took =
     let goes = delivers_turn rules old.moment k at x m found same y in
     node_needs rules old.moment (Deliver k) _ goes (λ n f. cc) (λ quiet. turn_quiet rules old new (Deliver k) _ goes took quiet)
 
--- a copy for which there is no memory is none
+-- a copy for which there is no memory does not exist
 pub not_copied : {X E : Type 0} (result : Result X E) (error : E) → result ≡ Err error → IsOk result → ⊥
 not_copied (Ok x) error is ok = cc
 not_copied (Err e) error is ok = cc

@@ -1,4 +1,4 @@
--- Runs.antt: events one after the other, and what agreement comes of them.
+-- Runs.antt: events one after another, and the agreement after them.
 use Rattle.std.proofs.Common.{◌≡◌, ℕ, ◌+◌, ◌-◌, ◌^◌, ◌<◌, ◌≤◌, ◌⊎◌, inl, inr, min, List, [], ◌∷◌, ◌++◌, length, map, take, get_or, refl, ap, sym, ◌∙◌, subst, append_assoc, arith}
 use Rattle.std.proofs.lemmas.List.{take_more}
 use Rattle.machine.specs.Machine.{Rules}
@@ -20,7 +20,7 @@ use Rattle.master.specs.Agreement.{AgreesAfter}
 use Rattle.master.proofs.Counting.{steps_exactly}
 use Rattle.master.proofs.Happening.{step_may}
 
--- what is seen of a group behind some events
+-- what is seen of a group after some events
 pub record Ran {S C O : Type 0} (rules : Rules S C O) (old : GroupState S C O) (events : List (Event C)) (new : GroupState S C O) : Type 0 where
   pub ran : Run rules old events new
   pub counts : old.losses ≤ 2 ^ 64 - 1 → (old.losses ≤ new.losses) × (new.losses ≤ 2 ^ 64 - 1)
@@ -108,7 +108,7 @@ went {S = S} {C = C} {O = O} rules config w v past events came (goes_on {next = 
       grown = λ xs ys before behind. prefix_then (agreed_grows rules config u.moment (w.moment ∷ past) xs mid.0 before mid.1) (q.grown mid.0 ys mid.1 behind);
     }
 
--- so the nodes agree behind a run
+-- so the nodes agree after a run
 pub agrees_after : {S C O : Type 0} (rules : Rules S C O) (config : Config) (first last : GroupState S C O) (past : List (Moment S C O)) (events : List (Event C)) →
     Past rules config (first.moment ∷ past) → Run rules first events last → AgreesAfter rules config (first.moment ∷ past) last.moment
 agrees_after {S = S} {C = C} rules config first last past events came r =
@@ -129,7 +129,7 @@ agrees_after {S = S} {C = C} rules config first last past events came r =
       only_grown = λ ys before. q.grown ys xs.0 before xs.1;
     }
 
--- and behind one event
+-- and after one event
 pub agrees_next : {S C O : Type 0} (rules : Rules S C O) (config : Config) (first last : GroupState S C O) (past : List (Moment S C O)) (event : Event C) →
     Past rules config (first.moment ∷ past) → StepsBy rules first event last → AgreesAfter rules config (first.moment ∷ past) last.moment
 agrees_next rules config first last past event came s = agrees_after rules config first last past (event ∷ []) came (goes_on s ends)

@@ -189,7 +189,7 @@ crash_group {S = S} {C = C} {O = O} rules archive m nodes sent left losses n old
     (moved_is archive nodes sent sent left left [] n new (sym (append-nil sent)) (sym (append-nil (outputs left)))
     ∙ ap (λ (s : ReplicaState S C). moved (world_of archive nodes sent left) n s []) (stopped ∙ ap (halted rules) same))
 
--- a replica that is read where a node stands
+-- a replica that is read at a node's place
 pub same_replica : {S C : Type 0} (nodes : List (CountedReplica S C)) (n : ℕ) (old : CountedReplica S C) (r : ReplicaState S C) →
     old ≡ get_or nodes n old → slice_get (map (λ (z : CountedReplica S C). z.state) nodes) n ≡ Some r → old.state ≡ r
 same_replica nodes n old r read stands = let e = sym (stands_at nodes n old (below_of nodes n r stands) read) ∙ stands in cc

@@ -1,4 +1,4 @@
--- Untold.antt: nothing was told in the ballot that comes next, on whole logs.
+-- Untold.antt: nothing was acknowledged in the ballot that comes next, on whole logs.
 use Rattle.std.proofs.Common.{◌≡◌, ℕ, ◌+◌, ◌<◌, ◌≤◌, ◌⊎◌, inl, inr, true, false, cond, List, [], ◌∷◌, Some, refl, ap, ◌∙◌, arith}
 use Rattle.std.specs.Prelude.{◌==◌}
 use Rattle.std.proofs.lemmas.Bool.{cases_Bool, ne_eqb}
@@ -15,7 +15,7 @@ use Rattle.snapshots.specs.agreement.Past.{Moment, Past}
 use Rattle.snapshots.specs.agreement.World.{World}
 use Rattle.snapshots.proofs.of_agreement.Agreed.PastKnown.{past_known}
 
--- messages that tell nothing
+-- messages that say nothing
 pub told_none : {C : Type 0} (m b : ℕ) (sent : List (ℕ × Message C)) → ((x : ℕ × Message C) → In x sent → told_in m b x.1 ≡ 0) →
     most_told m b sent ≡ 0
 told_none m b [] all = refl
@@ -29,7 +29,7 @@ silent m b from body e = by_sender (cases_Bool (from == m))
     by_sender (inl f) = ap (λ k. cond k (told_by b body) 0) f ∙ e
     by_sender (inr f) = ap (λ k. cond k (told_by b body) 0) f
 
--- nothing was told in the ballot that comes next
+-- nothing was acknowledged in the ballot that comes next
 untold_body : {S C O : Type 0} (w : World S C O) (h : History C) (given to from : ℕ) (body : Body C) → Says w h to from body →
     ((b : ℕ) (g : Given) → h.given b ≡ Some g → (0 < b) × (b ≤ given)) → told_by (given + 1) body ≡ 0
 untold_body w h given to from (NewBallot b members a old) says low = refl

@@ -1,4 +1,5 @@
--- Viewed.antt: how long the agreed list of a group is and where its places stand, by the record and the logs that are kept.
+-- Viewed.antt: how long the agreed list of a group is and where its places are, by the record and
+-- the logs that are kept.
 use Rattle.std.proofs.Common.{◌≡◌, ℕ, zero, suc, Bool, false, ◌+◌, ◌-◌, ◌<◌, ◌≤◌, List, [], ◌∷◌, ◌++◌, length, map, take, get_or, Some, None, Option, refl, ap, sym, ◌∙◌, subst, arith}
 use Rattle.std.specs.Prelude.{slice_get}
 use Rattle.std.proofs.lemmas.List.{append-nil, length-take-le, take-append-le, take-take}
@@ -106,7 +107,7 @@ front_kept archive log k within high =
     front_behind (take log.base archive) log.rest k (omega (arith, long, high))
     ∙ ap (λ n. take log.base archive ++ take (k - n) log.rest) long
 
--- so it is the agreed list, where the log is a member's and as long as that
+-- so it is the agreed list, if the log is a member's and as long as that
 pub front_agreed : {S C O : Type 0} (rules : Rules S C O) (config : Config) (a : Moment S C O) (past : List (Moment S C O)) (k at : ℕ) →
     Past rules config (a ∷ past) → ((xs : List C) → IsAgreed config (map whole_moment (a ∷ past)) xs → k ≡ length xs) →
     (h : HoldsAt a.world.nodes a.master.members k at) →
@@ -127,7 +128,8 @@ front_agreed {S = S} {C = C} {O = O} rules config a past k at came is h =
     long : k ≤ length (whole_log a.world.archive h.replica.log)
     long = let e = whole_long a.world.archive h.replica.log (within_of rules config a past came at h.replica h.stands) in let l = h.long in omega (arith, e, l)
 
--- a node heeds no message exactly where it does nothing, since each snapshot that was sent can be read
+-- a node ignores a message exactly if it does nothing, since each snapshot that was sent can be
+-- read
 pub heeded : {S C O : Type 0} (rules : Rules S C O) (r seen : ReplicaState S C) (message : Message C) (heeds : Bool) → seen ≡ r →
     is_unread rules r message.body ≡ false →
     (heeds ≡ false → (replica_step rules seen (Receives message) ≡ nothing_done O seen) × (is_unread rules seen message.body ≡ false))
@@ -143,7 +145,7 @@ heeded {S = S} {C = C} {O = O} rules r seen message heeds same read exactly = by
     by_state : Exactly r → (heeds ≡ false → replica_step rules r (Receives message) ≡ nothing_done O r) × (replica_step rules r (Receives message) ≡ nothing_done O r → heeds ≡ false)
     by_state (off, on) = (λ e. (off e).0, λ e. on (e, read))
 
--- so whatever a node takes in is read
+-- so whatever a node takes is read
 pub taken_is_read : {S C O : Type 0} (rules : Rules S C O) (config : Config) (a : Moment S C O) (past : List (Moment S C O)) → Past rules config (a ∷ past) →
     (n : ℕ) (input : Input C) (r : ReplicaState S C) → MayTake a.world n input → IsRead rules r input
 taken_is_read rules config a past came n (Receives message) r sent = snapshots_are_read rules config a past came (n + 1) message sent r

@@ -1,4 +1,5 @@
--- WholeTold.antt: what nodes told, by the messages of a group, is what they told by those on whole logs.
+-- WholeTold.antt: what nodes acknowledged, by the messages of a group, is what they acknowledged by
+-- those on whole logs.
 use Rattle.std.proofs.Common.{◌≡◌, ℕ, ◌<◌, cond, max, List, [], ◌∷◌, map, get_or, refl, ap, ap₂, ◌∙◌}
 use Rattle.std.specs.Prelude.{◌==◌}
 use Rattle.ballot.specs.Body.{Body}
@@ -10,7 +11,7 @@ use Rattle.snapshots.specs.World.{whole_letter}
 use Rattle.master.specs.Inside.{HasCounted, ToldIn}
 use Rattle.master.specs.ToldLengths.{most_told, told_by}
 
--- a message tells what it tells on whole logs
+-- a message says what it acknowledges on whole logs
 told_by_whole : {C : Type 0} (b : ℕ) (archive : List C) (body : Body C) → told_by b body ≡ whole_by b (whole_body archive body)
 told_by_whole b archive (NewBallot x members a old) = refl
 told_by_whole b archive (Join x a) = refl
@@ -30,7 +31,7 @@ most_told_whole m b archive [] = refl
 most_told_whole {C = C} m b archive (x ∷ sent) =
     ap₂ max (ap (λ k. cond (x.1.from == m) k 0) (told_by_whole b archive x.1.body)) (most_told_whole m b archive sent)
 
--- so the counters count what is told on whole logs
+-- so the counters count what is acknowledged on whole logs
 pub counted_whole : {C : Type 0} (archive : List C) (sent : List (ℕ × Message C)) (t : ToldIn) → HasCounted sent t →
     (m : ℕ) → m < 16 → get_or t.held m 0 ≡ whole_most m t.ballot (map (whole_letter archive) sent)
 counted_whole archive sent t counted m low = counted m low ∙ most_told_whole m t.ballot archive sent

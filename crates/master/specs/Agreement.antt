@@ -1,4 +1,4 @@
--- Agreement.antt: what holds of a group whatever happened to it.
+-- Agreement.antt: what holds for a group whatever happened to it.
 use Rattle.std.specs.Prelude.{◌≡◌, List, ◌∷◌, ◌++◌}
 use Rattle.machine.specs.Machine.{Rules}
 use Rattle.lists.specs.Lists.{IsPrefixOf}
@@ -6,9 +6,9 @@ use Rattle.ballot.specs.Config.{Config}
 use Rattle.snapshots.specs.Agreeing.{Agrees, Holds, LeftInOrder}
 use Rattle.snapshots.specs.Past.{IsAgreed, Moment, Past}
 
--- the past has gone on up to a moment in which the nodes agree on the list that is agreed there, what
--- left is its answers in order, and what was agreed before is a beginning of it. A log is said whole,
--- by the record of places, which is a beginning of the agreed list, too
+-- the past has continued up to a moment in which the nodes agree on the list that is agreed there,
+-- the outputs that left are its answers in order, and what was agreed before is a prefix of it. A
+-- log is meant as a whole one, by the record of places, which is a prefix of the agreed list, too
 pub record AgreesAfter {S C O : Type 0} (rules : Rules S C O) (config : Config)
     (past : List (Moment S C O)) (a : Moment S C O) : Type 0 where
   pub earlier : List (Moment S C O)

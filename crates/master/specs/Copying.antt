@@ -3,7 +3,7 @@ use Rattle.std.specs.Prelude.{Bool, true, false}
 use Rattle.ballot.specs.Body.{Body}
 use Rattle.ballot.specs.Body.TheVariants.{NewBallot, Join, State, Install, Installed, Activate, Activated, Superseded, Append, Held, Commit}
 
--- whether a message has numbers alone: no members, no log and no command
+-- whether a message has only numbers: no members, no log and no command
 abbrev pub has_numbers_alone : {C : Type 0} → Body C → Bool
 has_numbers_alone (NewBallot ballot members previous previous_members) = false
 has_numbers_alone (Join ballot previous) = true

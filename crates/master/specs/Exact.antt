@@ -1,4 +1,4 @@
--- Exact.antt: what an event comes to, and what it does to a group where memory suffices.
+-- Exact.antt: what an event does to a group if memory suffices.
 use Rattle.std.specs.Prelude.{ℕ, zero, suc, Bool, true, ◌-◌, List, [], ◌∷◌, slice_get, Option, Some, None, ◌&&◌, nat_lt, if◌then◌else◌}
 use Rattle.machine.specs.Machine.{Rules}
 use Rattle.ballot.specs.Body.{Body}
@@ -21,7 +21,7 @@ use Rattle.snapshots.specs.World.{World, moved, recorded}
 use Rattle.master.specs.declared.event.Event.{Event}
 use Rattle.master.specs.declared.event.Event.TheVariants.{Propose, Assign, Deliver, Tick, Cut, Crash}
 
--- the node of a number, if it is there and has not stopped
+-- the node of a number, if it exists and has not stopped
 abbrev pub unless_stopped : {S C : Type 0} → Option (ReplicaState S C) → Option (ReplicaState S C)
 unless_stopped None = None
 unless_stopped (Some r) = if r.stopped then None else Some r
@@ -30,14 +30,14 @@ abbrev pub running : {S C : Type 0} → List (ReplicaState S C) → ℕ → Opti
 running nodes zero = None
 running nodes (suc n) = unless_stopped (slice_get nodes n)
 
--- the turn of a node: its place, what it was, and the outcome of its step
+-- the turn of a node: its index, its state before, and the outcome of its step
 pub record NodeTurn (S C O : Type 0) : Type 0 where
   pub place : ℕ
   pub before : ReplicaState S C
   pub outcome : Outcome S C O
 
--- what an event comes to: the turn of a node, a cut of its log, the turn of the master, or a message
--- that the master does not heed
+-- what an event does: the turn of a node, a cut of its log, the turn of the master, or a message
+-- that the master ignores
 pub data Turn (S C O : Type 0) : Type 0 where
   by_node : NodeTurn S C O → Turn S C O
   by_cut : NodeTurn S C O → Turn S C O
@@ -68,7 +68,7 @@ stopping rules n (Some r) =
       outcome = record { state = halted rules r; effects = [] };
     }))
 
--- a log is cut where there is something to cut; nothing is sent
+-- a log is cut if there is something to cut; nothing is sent
 abbrev pub cut_turn : {S C O : Type 0} → Rules S C O → ℕ → ReplicaState S C → NodeTurn S C O
 cut_turn rules n r =
     record { place = n; before = r; outcome = record { state = cut rules r; effects = [] } }
@@ -78,23 +78,23 @@ abbrev pub cutting : {S C O : Type 0} →
 cutting rules n None = None
 cutting rules n (Some r) = if can_cut r then Some (by_cut (cut_turn rules n r)) else None
 
--- a node takes something in
+-- a node takes an input
 abbrev pub takes : {S C O : Type 0} →
     Rules S C O → World S C O → ℕ → Input C → Option (Turn S C O)
 takes rules w node input = taking rules (node - 1) (running w.nodes node) input
 
--- the master heeds an Activate, and no other message
+-- the master answers an Activate, and ignores every other message
 abbrev pub hears : {S C O : Type 0} → Rules S C O → MasterState → ℕ → Body C → Turn S C O
 hears {C = C} rules m from (Activate ballot) = by_master (activated C m ballot from m.waiting)
 hears rules m from _ = unheeded
 
--- a message comes to the master or to a node
+-- a message reaches the master or a node
 abbrev pub comes_to : {S C O : Type 0} →
     Rules S C O → Moment S C O → ℕ → Message C → Option (Turn S C O)
 comes_to rules a zero message = Some (hears rules a.master message.from message.body)
 comes_to rules a (suc n) message = takes rules a.world (suc n) (Receives message)
 
--- a message comes to its receiver, if it was sent
+-- a message reaches its receiver, if it was sent
 abbrev pub comes : {S C O : Type 0} →
     Rules S C O → Moment S C O → Option (ℕ × Message C) → Option (Turn S C O)
 comes rules a None = None
@@ -106,7 +106,7 @@ abbrev pub gives : {S C O : Type 0} →
 gives rules m config (Some why) = None
 gives {C = C} rules m config None = Some (by_master (assigned C m config))
 
--- what an event comes to; none where it is idle
+-- what an event does; none if it is idle
 abbrev pub turn : {S C O : Type 0} → Rules S C O → Moment S C O → Event C → Option (Turn S C O)
 turn rules a (Propose node command) = takes rules a.world node (Proposes command)
 turn rules a (Assign config) = gives rules a.master config (refusal a.master config)
@@ -115,7 +115,7 @@ turn rules a (Tick node) = takes rules a.world node Ticks
 turn rules a (Cut node) = cutting rules (node - 1) (running a.world.nodes node)
 turn rules a (Crash node) = stopping rules (node - 1) (running a.world.nodes node)
 
--- the step of a group where memory suffices, and its steps one after the other
+-- the step of a group if memory suffices, and its steps one after another
 abbrev pub behind : {S C O : Type 0} → Moment S C O → Option (Turn S C O) → Moment S C O
 behind a None = a
 behind a (Some (by_node t)) =

@@ -1,9 +1,9 @@
--- Group.antt: a group as it is seen.
+-- Group.antt: the model of a group.
 use Rattle.std.specs.Prelude.{ℕ}
 use Rattle.snapshots.specs.Past.{Moment}
 
 -- a group: its moment, which is its master with the nodes, the messages and the outputs that left,
--- and the number of its steps in which memory was wanting
+-- and the number of its steps in which memory ran out
 pub record GroupState (S C O : Type 0) : Type 0 where
   pub moment : Moment S C O
   pub losses : ℕ

@@ -1,4 +1,4 @@
--- Inside.antt: what the helpers of a group say of nodes, effects, turns and counters.
+-- Inside.antt: what the helpers of a group ensure about nodes, effects, turns and counters.
 use Rattle.std.specs.Prelude.{ℕ, Bool, true, false, ◌-◌, ◌^◌, ◌<◌, ◌≤◌, ◌≡◌, ◌⊎◌, List, [], ◌∷◌, ◌++◌, length, map, min, get_or, slice_get, Option, Some, None, nat_lt, if◌then◌else◌}
 use Rattle.machine.specs.Machine.{Rules}
 use Rattle.ballot.specs.Body.{Body}
@@ -27,7 +27,7 @@ use Rattle.master.specs.Exact.{NodeTurn, behind, running}
 use Rattle.master.specs.Exact.Turn.{by_cut}
 use Rattle.master.specs.Steps.{Freezes}
 
--- the node of a number runs, at a place
+-- the node of a number runs, at an index
 pub record RunsAt {S C : Type 0} (nodes : List (ReplicaState S C)) (node at : ℕ) : Type 0 where
   pub replica : ReplicaState S C
   pub place : at ≡ node - 1
@@ -37,7 +37,7 @@ pub record RunsAt {S C : Type 0} (nodes : List (ReplicaState S C)) (node at : �
   pub runs : running nodes node ≡ Some replica
   pub going : replica.stopped ≡ false
 
--- how long the log of a node is, if it is there
+-- how long the log of a node is, if the node exists
 abbrev pub held_by : {S C : Type 0} → Option (ReplicaState S C) → ℕ
 held_by None = 0
 held_by (Some r) = places r.log
@@ -52,18 +52,18 @@ pub record HoldsAt {S C : Type 0} (nodes : List (ReplicaState S C)) (members : L
   pub stands : slice_get nodes at ≡ Some replica
   pub long : held ≤ places replica.log
 
--- the log of a node, if it is there, has fewer places
+-- the log of a node, if the node exists, has fewer places
 abbrev pub IsShort : {S C : Type 0} → Option (ReplicaState S C) → ℕ → Type 0
 IsShort None held = Unit {0}
 IsShort (Some r) held = places r.log < held
 
--- what a node takes in
+-- the input of a node
 abbrev pub input_of : {C : Type 0} → Taken C → Input C
 input_of (Received message) = Receives message
 input_of (Proposed command) = Proposes command
 input_of Ticked = Ticks
 
--- no snapshot has to be read that stands for no machine
+-- there is no snapshot that has to be read and does not thaw
 abbrev pub IsRead : {S C O : Type 0} → Rules S C O → ReplicaState S C → Input C → Type 0
 IsRead rules r (Receives message) = is_unread rules r message.body ≡ false
 IsRead rules r (Proposes command) = Unit {0}
@@ -77,9 +77,9 @@ TookExactly rules old input new given =
     × (given ≡ (replica_step rules old.state input).effects)
     × (new.losses ≡ old.losses)
 
--- a replica took its step, perhaps with losses, and without any where it was whole. A step that sends
--- nothing, leaves the log as it is and applies nothing has none; it is whole where the replica's count
--- is below its greatest number, at which it tells nothing
+-- a replica took its step, perhaps with losses: without losses if it was whole, or if it sends
+-- nothing, keeps the log and applies nothing. If the count did not change, and is below its
+-- greatest number, the step was whole
 pub record TookIn {S C O : Type 0} (rules : Rules S C O) (old : CountedReplica S C) (input : Input C)
     (new : CountedReplica S C) (before behind : List (Effect C O)) (whole : Bool) : Type 0 where
   pub given : List (Effect C O)
@@ -96,8 +96,8 @@ abbrev pub is_message : {C O : Type 0} → Effect C O → Bool
 is_message (To receiver message) = true
 is_message (Out place output) = false
 
--- messages among effects were moved behind those sent before, save some that were lost; none is lost
--- where there is none
+-- messages among effects were moved after those sent before, except some that were lost; none is
+-- lost if there is none
 pub record Parted {C O : Type 0} (given left parted : List (Effect C O))
     (sent more : List (ℕ × Message C)) (whole : Bool) : Type 0 where
   pub kept : List (Effect C O)
@@ -108,8 +108,8 @@ pub record Parted {C O : Type 0} (given left parted : List (Effect C O))
   pub outputs_are : outputs parted ≡ outputs left ++ outputs kept
   pub messages_are : messages parted ≡ messages left
 
--- a group after a turn of one node, or one with losses that was counted; none is where the node sends
--- nothing, leaves its log as it is and applies nothing
+-- a group after a turn of one node, or one with losses that was counted; no loss is counted if the
+-- node sends nothing, keeps its log and applies nothing
 pub record TookTurn {S C O : Type 0} (rules : Rules S C O) (old : GroupState S C O)
     (t : NodeTurn S C O) (new : GroupState S C O) : Type 0 where
   pub state : ReplicaState S C
@@ -137,8 +137,8 @@ pub record MasterTook {S C O : Type 0} (old : GroupState S C O) (o : MasterOutco
       ⊎ ((new.moment ≡ record old.moment { master = o.state })
       × (new.losses ≡ one_more old.losses))
 
--- what a group with this record of places, this master, these replicas, messages and effects that left
--- is seen as
+-- the world of a group with this record of places, this master, these replicas, messages and
+-- effects that left
 abbrev pub world_of : {S C O : Type 0} → List C → List (CountedReplica S C) → List (ℕ × Message C) →
     List (Effect C O) → World S C O
 world_of {S = S} {C = C} archive nodes sent left =
@@ -158,17 +158,17 @@ moment_of archive m nodes sent left =
 abbrev pub CountsAtMost : {S C : Type 0} → ℕ → List (CountedReplica S C) → Type 0
 CountsAtMost {S} {C} losses nodes = Each (λ (r : CountedReplica S C). r.losses ≤ losses) nodes
 
--- how many places the node of each number told in a ballot
+-- how many places the node of each number acknowledged in a ballot
 pub record ToldIn : Type 0 where
   pub ballot : ℕ
   pub held : List ℕ
 
--- that is what the messages say
+-- these are the numbers that the messages say
 abbrev pub HasCounted : {C : Type 0} → List (ℕ × Message C) → ToldIn → Type 0
 HasCounted sent t = (m : ℕ) → m < 16 → get_or t.held m 0 ≡ most_told m t.ballot sent
 
--- how a group came to be, and what it counts: what was told in the active ballot, and in the ballot
--- that waits
+-- how a group came about, and what it counts: what was acknowledged in the active ballot, and in
+-- the ballot that waits
 pub record IsGroup {S C O : Type 0} (rules : Rules S C O) (a : Moment S C O) (told next : ToldIn) :
     Type 0 where
   pub config : Config
@@ -179,12 +179,12 @@ pub record IsGroup {S C O : Type 0} (rules : Rules S C O) (a : Moment S C O) (to
   pub waits : (b : ℕ) (c : Config) → a.master.waiting ≡ Some (b, c) → next.ballot ≡ b
   pub counted_next : HasCounted a.world.sent next
 
--- the least and the next of two numbers and one more
+-- the two smallest of a pair and one more number
 abbrev pub next_least : ℕ → ℕ → ℕ → ℕ × ℕ
 next_least least next held = if nat_lt held least then (held, least) else (least, min next held)
 
--- the second of the least numbers that members told: a primary tells nothing by messages, so that
--- it is the least of the others
+-- the second smallest of the numbers that members acknowledged: a primary acknowledges nothing by
+-- messages, so that this is the smallest of the others
 abbrev pub least_but_one : List ℕ → ℕ → ℕ → List ℕ → ℕ
 least_but_one told least next [] = next
 least_but_one told least next (member ∷ members) =

@@ -1,4 +1,4 @@
--- Steps.antt: steps of a group in which memory may have been wanting, and how these are counted.
+-- Steps.antt: steps of a group in which memory may have run out, and how these are counted.
 use Rattle.std.specs.Prelude.{◌^◌, ◌-◌, ◌<◌, ◌≡◌, ◌⊎◌, ℕ, List, [], ◌∷◌, Option, Some, None}
 use Rattle.machine.specs.Machine.{Rules}
 use Rattle.ballot.specs.Effect.{Effect}
@@ -13,8 +13,8 @@ use Rattle.master.specs.Group.{GroupState}
 use Rattle.master.specs.Exact.{NodeTurn, Turn, turn, group_step}
 use Rattle.master.specs.Exact.Turn.{by_node, by_cut, by_master, unheeded}
 
--- what an event may do where memory runs out: nothing (no log is cut then), the step of a node that it
--- comes to with losses, or that of the master, whose message is lost
+-- what an event may do if memory runs out: nothing (then no log is cut), the step of its node with
+-- losses, or that of the master, whose message is lost
 pub data Happens {S C O : Type 0} (rules : Rules S C O) :
     Moment S C O → Event C → Moment S C O → Type 0 where
   nothing_happens : {a : Moment S C O} {e : Event C} → Happens rules a e a
@@ -25,9 +25,9 @@ pub data Happens {S C O : Type 0} (rules : Rules S C O) :
   master_goes : {a : Moment S C O} {e : Event C} (o : MasterOutcome C) →
       turn rules a e ≡ Some (by_master o) → Happens rules a e (record a { master = o.state })
 
--- an event for which no memory is needed: it comes to nobody, or to a master that does not heed it; by
--- the protocol the node that it comes to sends nothing, leaves its log as it is and applies nothing,
--- though it may learn something, as what a member holds; or the event stops a node
+-- an event that needs no memory: it reaches no node, or a master that ignores it; or, by the
+-- protocol, its node sends nothing, keeps its log and applies nothing, though it may learn
+-- something, such as what a member holds; or the event stops a node
 pub data TakesNoMemory {S C O : Type 0} (rules : Rules S C O) (a : Moment S C O) (e : Event C) :
     Type 0 where
   comes_to_nobody : turn rules a e ≡ None → TakesNoMemory rules a e
@@ -36,13 +36,13 @@ pub data TakesNoMemory {S C O : Type 0} (rules : Rules S C O) (a : Moment S C O)
       IsQuiet t.before t.outcome → TakesNoMemory rules a e
   stops_a_node : (node : ℕ) → e ≡ Crash node → TakesNoMemory rules a e
 
--- a group behind an event that was done exactly, with no loss
+-- a group after an event that was done exactly, without a loss
 abbrev pub done_exactly : {S C O : Type 0} →
     Rules S C O → GroupState S C O → Event C → GroupState S C O
 done_exactly rules old event =
     record { moment = group_step rules event old.moment; losses = old.losses }
 
--- the snapshot that a cut leaves stands for the machine that is there
+-- the snapshot of a cut thaws to the node's machine
 abbrev pub Freezes : {S C O : Type 0} → Rules S C O → Option (Turn S C O) → Type 0
 Freezes rules None = Unit {0}
 Freezes rules (Some (by_node t)) = Unit {0}
@@ -51,7 +51,7 @@ Freezes rules (Some (by_cut t)) =
 Freezes rules (Some (by_master o)) = Unit {0}
 Freezes rules (Some unheeded) = Unit {0}
 
--- the step of an event, or one with losses that was counted; where a log was cut, its snapshot can be
+-- the step of an event, or one with losses that was counted; if a log was cut, its snapshot can be
 -- read
 pub record StepsBy {S C O : Type 0} (rules : Rules S C O) (old : GroupState S C O)
     (event : Event C) (new : GroupState S C O) : Type 0 where
@@ -59,14 +59,14 @@ pub record StepsBy {S C O : Type 0} (rules : Rules S C O) (old : GroupState S C 
       ⊎ (Happens rules old.moment event new.moment × (new.losses ≡ one_more old.losses))
   pub freezes : Freezes rules (turn rules old.moment event) ⊎ (new.moment ≡ old.moment)
 
--- events one after the other, each done exactly or with losses that were counted: no loss excuses
--- an event beside it
+-- events one after another, each done exactly or with losses that were counted: no loss excuses
+-- another event
 pub data Run {S C O : Type 0} (rules : Rules S C O) :
     GroupState S C O → List (Event C) → GroupState S C O → Type 0 where
   ends : {first : GroupState S C O} → Run rules first [] first
   goes_on : {first next last : GroupState S C O} {e : Event C} {events : List (Event C)} →
       StepsBy rules first e next → Run rules next events last → Run rules first (e ∷ events) last
 
--- the count is exact as long as it stands below its greatest number
+-- the count is exact as long as it is below its greatest number
 abbrev pub LosesNothing : {S C O : Type 0} → GroupState S C O → GroupState S C O → Type 0
 LosesNothing old new = (new.losses ≡ old.losses) × (old.losses < 2 ^ 64 - 1)

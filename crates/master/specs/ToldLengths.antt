@@ -1,10 +1,11 @@
--- ToldLengths.antt: how many places each node told in a ballot, by the messages that were sent.
+-- ToldLengths.antt: how many places each node acknowledged in a ballot, by the messages that were
+-- sent.
 use Rattle.std.specs.Prelude.{ℕ, ◌==◌, List, [], ◌∷◌, max, if◌then◌else◌}
 use Rattle.ballot.specs.Body.{Body}
 use Rattle.ballot.specs.Body.TheVariants.{NewBallot, Join, State, Install, Installed, Activate, Activated, Superseded, Append, Held, Commit}
 use Rattle.ballot.specs.Message.{Message}
 
--- the length that a body tells in a ballot
+-- the length that a body acknowledges in a ballot
 abbrev pub told_by : {C : Type 0} → ℕ → Body C → ℕ
 told_by b (NewBallot x members a old) = 0
 told_by b (Join x a) = 0
@@ -18,11 +19,11 @@ told_by b (Append x place command) = 0
 told_by b (Held x held) = if x == b then held else 0
 told_by b (Commit x held) = 0
 
--- the length that a message of a node tells
+-- the length that a message of a node acknowledges
 abbrev pub told_in : {C : Type 0} → ℕ → ℕ → Message C → ℕ
 told_in m b message = if message.from == m then told_by b message.body else 0
 
--- the most that a node told among the messages
+-- the greatest length that a node acknowledged in these messages
 abbrev pub most_told : {C : Type 0} → ℕ → ℕ → List (ℕ × Message C) → ℕ
 most_told m b [] = 0
 most_told m b (x ∷ sent) = max (told_in m b x.1) (most_told m b sent)

@@ -5,6 +5,6 @@
 pub enum Activation {
     /// The ballot is the active one.
     Activated,
-    /// The ballot was put out, or a later one is active.
+    /// The ballot was superseded, or a later one is active.
     Superseded,
 }

@@ -7,7 +7,8 @@ use ballot::{Body, Config, Members, Message, copy_log};
 use machine::{Machine, Memory};
 use std::alloc::Global;
 
-/// Returns a copy of a message. The only error is want of memory; one that has numbers alone takes none.
+/// Returns a copy of a message. The only error is that memory ran out; a message that has only
+/// numbers takes none.
 pub fn copy_of<M: Machine>(
     alloc: Global,
     message: &Message<M::Command>,
@@ -36,7 +37,7 @@ pub fn copy_of<M: Machine>(
     Ok(Message { from, body })
 }
 
-// A copy of a NewBallot.
+// Returns a copy of a NewBallot.
 fn new_ballot_of<C>(
     alloc: Global,
     ballot: u64,
@@ -52,7 +53,7 @@ fn new_ballot_of<C>(
     Ok(Body::NewBallot(ballot, members, previous, previous_members))
 }
 
-/// A copy of a configuration. The only error is want of memory.
+/// Returns a copy of a configuration. The only error is that memory ran out.
 pub fn config_of(alloc: Global, config: &Config) -> Result<Config, Memory>
     ensures { IfOk result (λ copied. copied ≡ config.now) }
 {

@@ -12,12 +12,12 @@ pub enum AssignError {
     /// No member, more than 7, not strictly rising, one outside 1 to 15, or a primary that is no
     /// member.
     BadMembers,
-    /// Ballot 2^32 was given, which is the last.
+    /// Ballot 2^32, the last one, was given.
     BallotsSpent,
 }
 
 impl AssignError {
-    /// The number of this refusal, the same in every program and document of this broker.
+    /// Returns the number of this refusal, the same in every program and document of this broker.
     pub fn number(self) -> u8
         ensures { result ≡ assign_number self }
     {

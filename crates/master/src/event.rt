@@ -9,21 +9,21 @@ use std::fmt;
 /// One thing that happens in a group of replicas.
 #[derive(Drop)]
 pub enum Event<C> {
-    /// A command is proposed to a node. Idle where that node is no running active primary, or its
-    /// log is full.
+    /// A command is proposed to a node. Idle if that node is no running active primary, or its log
+    /// is full.
     Propose(u8, C),
-    /// The master gives the next ballot to a configuration. Idle where it refuses: for members or a
+    /// The master gives the next ballot to a configuration. Idle if it refuses: for members or a
     /// primary that no ballot may have, and after ballot 2^32.
     Assign(Config),
-    /// The message of this number, counted from 0 in the order of sending, comes to its receiver.
-    /// Idle where no such message was sent, or its receiver is unknown or has stopped.
+    /// The message of this number, counted from 0 in the order of sending, reaches its receiver.
+    /// Idle if no such message was sent, or its receiver is unknown or has stopped.
     Deliver(u64),
-    /// Time passes at a node. Idle where it is unknown or has stopped.
+    /// Time passes at a node. Idle if it is unknown or has stopped.
     Tick(u8),
-    /// A node cuts its log: a snapshot of its machine takes the place of the commands that it has
-    /// applied. Idle where the node is unknown or has stopped, or has applied none since its last cut.
+    /// A node cuts its log: a snapshot of its machine replaces the commands that it has applied.
+    /// Idle if the node is unknown or has stopped, or has applied none since its last cut.
     Cut(u8),
-    /// A node stops for good. Idle where it is unknown or has stopped.
+    /// A node stops for good. Idle if it is unknown or has stopped.
     Crash(u8),
 }
 
@@ -32,7 +32,7 @@ pub enum Event<C> {
 pub struct Idle;
 
 impl Idle {
-    /// The number of this refusal, the same in every program and document of this broker.
+    /// Returns the number of this refusal, the same in every program and document of this broker.
     pub fn number(self) -> u8
         ensures { result ≡ 24 }
     {

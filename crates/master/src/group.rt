@@ -33,8 +33,8 @@ use machine::{Machine, Memory};
 use std::alloc::Global;
 use std::marker::Model;
 
-/// A master and replicas of a machine that only hear of each other by their messages. All messages
-/// ever sent may come at any time, again and in any order, or never.
+/// A master and replicas of a machine that communicate only by their messages. All messages ever
+/// sent may arrive at any time, again and in any order, or never.
 #[derive(Drop)]
 pub struct Group<M: Machine> {
     alloc: Global,
@@ -44,7 +44,7 @@ pub struct Group<M: Machine> {
     left: Vec<Effect<M::Command, M::Output>>,
     // The places below the bases of all logs.
     archive: Vec<M::Command>,
-    // What was told in the active ballot, and in the one that waits.
+    // What was acknowledged in the active ballot, and in the one that waits.
     told: Told,
     next: Told,
     losses: u64,
@@ -64,7 +64,7 @@ impl<M: Machine> Model for Group<M> {
           losses = g.losses;
         } };
 
-    // Some past led up to here, and each loss of a replica was counted.
+    // Some past led to this group, and each loss of a replica was counted.
     ghost invariant = { λ g.
         (messages g.left.items ≡ []) ×
         IsGroup M.rules (moment_of g.archive.items g.master g.nodes.items g.sent.items g.left.items)
@@ -74,7 +74,7 @@ impl<M: Machine> Model for Group<M> {
 
 impl<M: Machine> Group<M> {
     /// Opens nodes 1 to `nodes` in ballot 1. [`OpeningError::BadMembers`] comes for more than 15
-    /// nodes, for a configuration that no ballot may have, and for a member over `nodes`.
+    /// nodes, for a configuration that no ballot may have, and for a member above `nodes`.
     pub fn opening(alloc: Global, nodes: u8, config: Config) -> Result<Group<M>, OpeningError>
         ensures ok { IfOk result (λ group.
             group ≡ record {
@@ -109,8 +109,8 @@ impl<M: Machine> Group<M> {
         })
     }
 
-    /// Lets one thing happen. [`Idle`] comes for what cannot happen now, and changes nothing. Where
-    /// memory is wanting, messages are lost, nothing happens, or the node stops.
+    /// Lets one event happen. [`Idle`] comes for what cannot happen now, and changes nothing. If
+    /// memory runs out, messages are lost, nothing happens, or the node stops.
     pub fn step(&mut self, event: &Event<M::Command>) -> Result<(), Idle>
         ensures step { StepsBy M.rules self.old event.now self.new }
         ensures exact { LosesNothing self.old self.new →
@@ -120,8 +120,8 @@ impl<M: Machine> Group<M> {
         // What needs no memory is done exactly, however little there is, and counts as no loss.
         ensures quiet { TakesNoMemory M.rules self.old.moment event.now →
             self.new ≡ done_exactly M.rules self.old event.now }
-        // Whatever led up to here, the nodes agree behind the event, what left is in order, and what
-        // is agreed has only grown.
+        // Whatever led to this group, the nodes agree after the event, the outputs that left are in
+        // order, and what is agreed has only grown.
         ensures agreement { (config : Config) (past : List (Moment M M.Command M.Output)) →
             Past M.rules config (self.old.moment ∷ past) →
             AgreesAfter M.rules config (self.old.moment ∷ past) self.new.moment }
@@ -136,14 +136,14 @@ impl<M: Machine> Group<M> {
         }
     }
 
-    /// Lets events happen one after the other. Idle ones are passed over.
+    /// Lets events happen one after another. Idle ones are skipped.
     pub fn run(&mut self, events: &[Event<M::Command>])
-        // Each event is done exactly, or with losses that are counted there.
+        // Each event is done exactly, or with losses that are counted for it.
         ensures run { Run M.rules self.old events.now self.new }
         ensures exact { LosesNothing self.old self.new →
             self.new.moment ≡ group_run M.rules events.now self.old.moment }
-        // Whatever led up to here, the nodes agree behind the events, what left is in order, and
-        // what is agreed has only grown.
+        // Whatever led to this group, the nodes agree after the events, the outputs that left are
+        // in order, and what is agreed has only grown.
         ensures agreement { (config : Config) (past : List (Moment M M.Command M.Output)) →
             Past M.rules config (self.old.moment ∷ past) →
             AgreesAfter M.rules config (self.old.moment ∷ past) self.new.moment }
@@ -153,8 +153,8 @@ impl<M: Machine> Group<M> {
         }
     }
 
-    /// Returns the agreed list, the longest that is chosen in a ballot that was active, in two parts:
-    /// the second goes on where the first ends.
+    /// Returns the agreed list, the longest that is chosen in a ballot that was active, in two
+    /// parts: the second continues where the first ends.
     pub fn agreed(&self) -> (&[M::Command], &[M::Command])
         ensures { (config : Config) (past : List (Moment M M.Command M.Output)) →
             Past M.rules config (self.now.moment ∷ past) →
@@ -176,7 +176,7 @@ impl<M: Machine> Group<M> {
         )
     }
 
-    /// The length of the agreed list. It takes no longer, however much was sent.
+    /// Returns the length of the agreed list. It takes no longer, however much was sent.
     pub fn agreed_len(&self) -> u64
         ensures { (config : Config) (past : List (Moment M M.Command M.Output))
             (agreed : List M.Command) →
@@ -190,22 +190,22 @@ impl<M: Machine> Group<M> {
         self.told.least_but_one(members)
     }
 
-    /// The messages that were sent, each with its receiver: the one of number n at place n. Node 0
-    /// is the master.
+    /// Returns the messages that were sent, each with its receiver: message number n is at index n.
+    /// Node 0 is the master.
     pub fn sent(&self) -> &[(u8, Message<M::Command>)]
         ensures { result.now ≡ self.now.moment.world.sent }
     {
         self.sent.as_slice()
     }
 
-    /// The outputs that left, in order: each is an [`Effect::Out`] with its place.
+    /// Returns the outputs that left, in order: each is an [`Effect::Out`] with its place.
     pub fn left(&self) -> &[Effect<M::Command, M::Output>]
         ensures { result.now ≡ map (λ left. Effect.Out left.0 left.1) self.now.moment.world.left }
     {
         self.left.as_slice()
     }
 
-    /// The active ballot and its members.
+    /// Returns the active ballot and its members.
     pub fn active(&self) -> (u64, &[u8])
         ensures ballot { result.0 ≡ self.now.moment.master.active }
         ensures members { result.1.now ≡ self.now.moment.master.members }
@@ -213,7 +213,7 @@ impl<M: Machine> Group<M> {
         self.master.active()
     }
 
-    /// In how many steps memory was wanting. The count stays at 2^64 - 1.
+    /// Returns how many steps ran out of memory (saturates at 2^64 - 1).
     pub fn losses(&self) -> u64
         ensures { result ≡ self.now.losses }
     {
@@ -260,7 +260,7 @@ impl<M: Machine> Group<M> {
         Ok(())
     }
 
-    // The master gives a ballot and tells its primary.
+    // Lets the master give a ballot and tell its primary.
     fn give(&mut self, config: &Config) -> Result<(), Memory>
         requires { refusal self.old.moment.master config.now ≡ None }
         ensures ok { OnOk result (MasterTook self.old
@@ -310,7 +310,7 @@ impl<M: Machine> Group<M> {
         Ok(())
     }
 
-    // The master answers a node that asks it to activate a ballot.
+    // Lets the master answer a node that asks it to activate a ballot.
     fn answer(&mut self, from: u8, ballot: u64)
         requires { In (0, record { from = from; body = Activate ballot })
             self.old.moment.world.sent }
@@ -359,7 +359,8 @@ impl<M: Machine> Group<M> {
         Ok(())
     }
 
-    // A node that has something to cut does so. The places that it drops are recorded first.
+    // Cuts the log of a node that has something to cut. The places that it drops are recorded
+    // first.
     fn cut_at(&mut self, at: usize)
         requires { (replica : ReplicaState M M.Command) ×
             (slice_get self.old.moment.world.nodes at ≡ Some replica) ×
@@ -406,7 +407,7 @@ impl<M: Machine> Group<M> {
         Ok(())
     }
 
-    // The place of a node that is there and has not stopped.
+    // Returns the index of a node that exists and has not stopped.
     fn running(&self, node: u8) -> Option<usize>
         ensures some { IfSome result (λ at. RunsAt self.now.moment.world.nodes node at) }
         ensures none { result ≡ None → running self.now.moment.world.nodes node ≡ None }
@@ -421,8 +422,8 @@ impl<M: Machine> Group<M> {
         Some(at)
     }
 
-    // Whether a message that was sent would do anything at a node. One that would, and has more than
-    // numbers, sends something or adds to the log.
+    // Says whether a message that was sent would have an effect at a node. A message that would,
+    // and has more than numbers, makes the node send something or add to its log.
     fn heeds(&self, at: usize, message: &Message<M::Command>) -> bool
         requires at { at < length self.now.moment.world.nodes }
         requires sent { (to : ℕ) × In (to, message.now) self.now.moment.world.sent }
@@ -438,7 +439,7 @@ impl<M: Machine> Group<M> {
         self.nodes[at].heeds(message)
     }
 
-    // A node that runs takes something in.
+    // Lets a node that runs take an input.
     fn take_turn(&mut self, at: usize, taken: Taken<M::Command>)
         requires runs { (replica : ReplicaState M M.Command) ×
             (slice_get self.old.moment.world.nodes at ≡ Some replica) ×
@@ -462,7 +463,7 @@ impl<M: Machine> Group<M> {
         self.losses = counted(self.losses, taken, kept);
     }
 
-    // How long the log of a node is; 0 where it is unknown.
+    // Returns how long the log of a node is; 0 if the node is unknown.
     fn held(&self, node: u8) -> u64
         ensures { result ≡ held_by (slice_get self.now.moment.world.nodes (node - 1)) }
     {
@@ -472,7 +473,7 @@ impl<M: Machine> Group<M> {
         }
     }
 
-    // The place of a member of the active ballot whose log has at least as many places.
+    // Returns the index of a member of the active ballot whose log has at least this many places.
     fn holder(&self, held: u64) -> Option<usize>
         ensures some { IfSome result (λ at.
             HoldsAt self.now.moment.world.nodes self.now.moment.master.members held at) }
@@ -490,7 +491,7 @@ impl<M: Machine> Group<M> {
         None
     }
 
-    // Nothing happens, for want of memory.
+    // Counts a loss: nothing happens, because memory ran out.
     fn lose(&mut self)
         ensures { self.new ≡ record self.old { losses = one_more self.old.losses } }
     {

@@ -1,4 +1,4 @@
-// Who gives ballots their configurations, and makes them active.
+// The master: it gives ballots their configurations, and makes them active.
 
 ghost use Rattle.std.specs.Prelude.{◌≡◌, ◌+◌, ◌↔◌, true, false, None, Some, IfOk, IsErrOf, if◌then◌else◌};
 ghost use Rattle.snapshots.specs.agreement.MasterState.{activating, assigning, is_granted, master_behind, opening_master, refusal};
@@ -41,8 +41,8 @@ impl Model for Master {
 }
 
 impl Master {
-    /// A master whose ballot 1 is active with these members. [`AssignError::BadMembers`] is its
-    /// only error.
+    /// Returns a master whose ballot 1 is active with these members. [`AssignError::BadMembers`] is
+    /// its only error.
     pub fn new(config: Config) -> Result<Master, AssignError>
         ensures ok { IfOk result (λ master. master ≡ opening_master config) }
         ensures bad { IsErrOf result AssignError.BadMembers
@@ -60,15 +60,15 @@ impl Master {
         })
     }
 
-    /// Whether [`Master::assign`] takes a configuration.
+    /// Says whether [`Master::assign`] accepts a configuration.
     pub fn can_assign(&self, config: &Config) -> bool
         ensures { (result ≡ true) ↔ (refusal self.now config.now ≡ None) }
     {
         config.is_lawful() && self.given < LAST_BALLOT
     }
 
-    /// Gives the next ballot to a configuration and lets it wait. A ballot that waited is put out
-    /// for good. The new ballot is the result.
+    /// Gives the next ballot to a configuration and lets it wait. A ballot that waited is
+    /// superseded for good. Returns the new ballot.
     pub fn assign(&mut self, config: Config) -> Result<u64, AssignError>
         ensures ok { IfOk result (λ ballot. ballot ≡ self.old.given + 1) }
         ensures bad { IsErrOf result AssignError.BadMembers
@@ -76,7 +76,7 @@ impl Master {
         ensures spent { IsErrOf result AssignError.BallotsSpent
             ↔ (refusal self.old config ≡ Some ballots_spent) }
 
-        // Where it is refused, nothing changes.
+        // If it is refused, nothing changes.
         ensures state { self.new ≡ master_behind self.old config (refusal self.old config) }
     {
         if !config.is_lawful() {
@@ -90,7 +90,7 @@ impl Master {
         Ok(self.given)
     }
 
-    /// The same for a configuration that is not refused.
+    /// Does the same for a configuration that is not refused.
     pub(crate) fn give(&mut self, config: Config) -> u64
         requires { refusal self.old config ≡ None }
         ensures ballot { result ≡ self.old.given + 1 }
@@ -126,7 +126,7 @@ impl Master {
         }
     }
 
-    /// The active ballot and its members.
+    /// Returns the active ballot and its members.
     pub fn active(&self) -> (u64, &[u8])
         ensures ballot { result.0 ≡ self.now.active }
         ensures members { result.1.now ≡ self.now.members }

@@ -1,4 +1,4 @@
-// What a group keeps of the places that its nodes cut off their logs.
+// The record of the places that nodes of a group cut from their logs.
 
 ghost use Rattle.std.specs.Prelude.{◌≡◌, ◌≤◌, ◌-◌, ◌++◌, length, take, drop, OnOk, OnErr};
 ghost use Rattle.lists.specs.Lists.{IsPrefixOf};
@@ -6,8 +6,8 @@ ghost use Rattle.lists.specs.Lists.{IsPrefixOf};
 use machine::{Machine, Memory};
 use std::alloc::Global;
 
-/// Adds to the record the places of a log below `committed`, as far as they are not there yet. The log is kept from
-/// its base on. Where memory runs out, some of the places may stand at the record's end.
+/// Adds to the record the places of a log below `committed` that are not yet there. The log is kept
+/// from its base on. If memory runs out, some of the places may have been appended to the record.
 pub fn record<M: Machine>(
     alloc: Global,
     archive: &mut Vec<M::Command>,
@@ -29,7 +29,7 @@ pub fn record<M: Machine>(
     append_copies::<M>(alloc, archive, &rest[from..to])
 }
 
-/// Appends copies of commands to a list. Where memory runs out, some of them may stand at its end.
+/// Appends copies of commands to a list. If memory runs out, some of them may have been appended.
 fn append_copies<M: Machine>(
     alloc: Global,
     list: &mut Vec<M::Command>,

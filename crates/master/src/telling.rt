@@ -1,4 +1,4 @@
-// What the master says.
+// The messages of the master.
 
 ghost use Rattle.std.specs.Prelude.{◌≡◌, ◌++◌, ◌∷◌, [], Option, Some, None, if◌then◌else◌};
 ghost use Rattle.std.specs.Bool.{OnTrue, OnFalse};
@@ -7,8 +7,8 @@ ghost use Rattle.master.specs.Inside.{asks_for};
 use crate::activation::Activation;
 use ballot::{Body, Message};
 
-/// Puts a message of the master behind those that were sent. Whether there was memory for it is the
-/// result.
+/// Appends a message of the master to those that were sent. Returns whether there was memory for
+/// it.
 pub fn tell<C: Drop>(sent: &mut Vec<(u8, Message<C>)>, receiver: u8, body: Body<C>) -> bool
     ensures told { OnTrue result
         (sent.new.items ≡ sent.old.items ++ (receiver, record { from = 0; body = body }) ∷ []) }
@@ -17,7 +17,7 @@ pub fn tell<C: Drop>(sent: &mut Vec<(u8, Message<C>)>, receiver: u8, body: Body<
     sent.push((receiver, Message { from: 0, body })).is_ok()
 }
 
-/// What the master answers of a ballot.
+/// Returns what the master answers about a ballot.
 pub fn answer_of<C>(activation: Activation, ballot: u64) -> Body<C>
     ensures granted { activation ≡ Activation.Activated → result ≡ Body.Activated ballot }
     ensures refused { activation ≡ Activation.Superseded → result ≡ Body.Superseded ballot }
@@ -28,7 +28,7 @@ pub fn answer_of<C>(activation: Activation, ballot: u64) -> Body<C>
     }
 }
 
-/// The ballot that a message asks the master to activate, if it does.
+/// Returns the ballot that a message asks the master to activate, if it does.
 pub fn asks_for<C>(message: &Message<C>) -> Option<u64>
     ensures { result ≡ asks_for message.now.body }
 {

@@ -1,4 +1,4 @@
-// How many places the nodes told in a ballot, counted at each message.
+// How many places the nodes acknowledged in a ballot, counted at each message.
 
 ghost use Rattle.std.specs.Prelude.{ℕ, ◌^◌, ◌-◌, ◌≡◌, ◌<◌, ◌≤◌, IfOk, take, length, max, get_or};
 ghost use Rattle.master.specs.ToldLengths.{told_in};
@@ -11,8 +11,8 @@ use std::alloc::Global;
 use std::marker::Model;
 use std::mem::swap;
 
-/// How many places the node of each number told in one ballot: the greatest number that stands in a
-/// Held or an Installed of the node. Its calls but `new` take no memory.
+/// How many places the node of each number acknowledged in one ballot: the greatest number in a
+/// Held or an Installed of the node. Its calls take no memory, except `new`.
 #[derive(Drop)]
 pub struct Told {
     ballot: u64,
@@ -35,7 +35,8 @@ impl Model for Told {
 }
 
 impl Told {
-    /// Nothing was told in the ballot. The only error is want of memory.
+    /// Returns counters for a ballot in which nothing was acknowledged. The only error is that
+    /// memory ran out.
     pub fn new(alloc: Global, ballot: u64) -> Result<Told, Memory>
         ensures ballot { IfOk result (λ told. told.ballot ≡ ballot) }
         ensures counted { IfOk result (λ told. (m : ℕ) → get_or told.held m 0 ≡ 0) }
@@ -44,7 +45,7 @@ impl Told {
         Ok(Told { ballot, held })
     }
 
-    /// Goes over to a ballot in which nothing was told.
+    /// Resets the counters for a ballot in which nothing was acknowledged.
     pub fn begin(&mut self, ballot: u64)
         ensures ballot { self.new.ballot ≡ ballot }
         ensures counted { (m : ℕ) → get_or self.new.held m 0 ≡ 0 }
@@ -53,7 +54,7 @@ impl Told {
         self.held.as_mut_slice().fill(0);
     }
 
-    /// Counts what a message tells.
+    /// Counts what a message acknowledges.
     pub fn hear<C>(&mut self, message: &Message<C>)
         ensures ballot { self.new.ballot ≡ self.old.ballot }
         ensures counted { (m : ℕ) → m < 16 →
@@ -70,7 +71,7 @@ impl Told {
         }
     }
 
-    /// Counts what the messages from a place on tell.
+    /// Counts what the messages from an index on acknowledge.
     pub fn hear_from<C>(&mut self, sent: &[(u8, Message<C>)], from: usize)
         requires { from ≤ length sent.now }
         ensures ballot { self.new.ballot ≡ self.old.ballot }
@@ -81,7 +82,7 @@ impl Told {
         }
     }
 
-    /// The second of the least numbers that these nodes told.
+    /// Returns the second smallest of the numbers that these nodes acknowledged.
     pub fn least_but_one(&self, members: &[u8]) -> u64
         requires { (m : ℕ) → In m members.now → m < 16 }
         ensures least { result
@@ -92,7 +93,7 @@ impl Told {
     }
 }
 
-// The second of the least numbers that stand at some places.
+// Returns the second smallest of the numbers at some indices.
 fn second_least(told: &[u64], places: &[u8]) -> u64
     requires { (m : ℕ) → In m places.now → m < length told.now }
     ensures least { result ≡ least_but_one told.now (2 ^ 64 - 1) (2 ^ 64 - 1) places.now }
@@ -105,8 +106,8 @@ fn second_least(told: &[u64], places: &[u8]) -> u64
     pair.1
 }
 
-/// Where another ballot has become active, its counters take the place of those of the ballot
-/// before.
+/// If another ballot has become active, replaces the counters of the ballot before by those of the
+/// new one.
 pub fn turn_over(told: &mut Told, next: &mut Told, before: u64, behind: u64)
     ensures stays { before ≡ behind → (told.new ≡ told.old) × (next.new ≡ next.old) }
     ensures turns { (before ≡ behind → ⊥) → (told.new ≡ next.old) × (next.new ≡ told.old) }
@@ -116,7 +117,7 @@ pub fn turn_over(told: &mut Told, next: &mut Told, before: u64, behind: u64)
     }
 }
 
-// The two least of a pair and one number more.
+// Returns the two smallest of a pair and one more number.
 fn next_least(least: u64, next: u64, held: u64) -> (u64, u64)
     ensures { result ≡ next_least least next held }
 {

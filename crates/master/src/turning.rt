@@ -1,4 +1,4 @@
-// The turn of one replica, and what becomes of its effects.
+// The turn of one replica, and what happens to its effects.
 
 ghost use Rattle.std.specs.Prelude.{◌≡◌, ◌≤◌, false, [], ◌∷◌, ◌++◌, length, take, drop, ◌&&◌, if◌then◌else◌};
 ghost use Rattle.ballot.specs.Losses.{one_more};
@@ -9,7 +9,7 @@ ghost use Rattle.master.specs.Inside.{Parted, TookIn, input_of, is_message};
 use ballot::{Effect, Message, Replica};
 use machine::Machine;
 
-/// What a node takes in.
+/// An input of a node.
 #[derive(Drop)]
 pub enum Taken<C> {
     /// A message of another node.
@@ -20,7 +20,7 @@ pub enum Taken<C> {
     Ticked,
 }
 
-/// A replica that runs takes something in. Whether memory sufficed is the result.
+/// Lets a replica that runs take an input. Returns whether memory sufficed.
 pub fn take_in<M: Machine>(
     replica: &mut Replica<M>,
     taken: Taken<M::Command>,
@@ -43,14 +43,14 @@ pub fn take_in<M: Machine>(
     replica.losses() == before && before < u64::MAX
 }
 
-/// Whether an effect is a message.
+/// Says whether an effect is a message.
 fn is_message<C, O>(effect: &Effect<C, O>) -> bool
     ensures { result ≡ is_message effect.now }
 {
     matches!(effect, Effect::To(_, _))
 }
 
-/// Puts a message behind those that were sent. Whether there was memory for it is the result.
+/// Appends a message to those that were sent. Returns whether there was memory for it.
 fn keep<C: Drop, O: Drop>(effect: Effect<C, O>, sent: &mut Vec<(u8, Message<C>)>) -> bool
     ensures kept { OnTrue result (sent.new.items ≡ sent.old.items ++ messages (effect ∷ [])) }
     ensures lost { OnFalse result (sent.new.items ≡ sent.old.items) }
@@ -61,8 +61,8 @@ fn keep<C: Drop, O: Drop>(effect: Effect<C, O>, sent: &mut Vec<(u8, Message<C>)>
     }
 }
 
-/// Moves the messages that stand among effects from a place on behind those that were sent. One
-/// that finds no memory is lost; whether none was is the result.
+/// Moves the messages among effects, from an index on, after those that were sent. A message for
+/// which there is no memory is lost; returns whether none was lost.
 pub fn part<C: Drop, O: Drop>(
     effects: &mut Vec<Effect<C, O>>,
     sent: &mut Vec<(u8, Message<C>)>,
@@ -85,8 +85,8 @@ pub fn part<C: Drop, O: Drop>(
     whole
 }
 
-/// The count of losses behind a step of two parts, each of which was whole or not. It stays at
-/// 2^64 - 1.
+/// Returns the count of losses after a step of two parts, each of which was whole or not. It
+/// saturates at 2^64 - 1.
 pub fn counted(losses: u64, first: bool, second: bool) -> u64
     ensures { result ≡ (if first && second then losses else one_more losses) }
 {

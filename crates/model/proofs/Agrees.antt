@@ -1,4 +1,4 @@
--- What every world keeps, where one more command is agreed.
+-- What every world keeps, if one more command is agreed.
 use Rattle.std.proofs.Common.{◌≡◌, ◌<◌, ℕ, zero, suc, Bool, true, false, ◌||◌, List, [], ◌∷◌, ◌++◌, set, Some, refl, ap, ap₂, sym, ◌∙◌, subst, inl, inr, ◌⊎◌}
 use Rattle.std.specs.Prelude.{slice_get}
 use Rattle.std.proofs.lemmas.Bool.{both_ways, cases_Bool}
@@ -34,7 +34,7 @@ use Rattle.model.proofs.Parted.{Parted, IsSameParty, is_named_by, same_parted, f
 use Rattle.model.proofs.Holds.{IsTold, HasPipes, IsOnce, Holds}
 use Rattle.model.proofs.OneConnect.{none_more, once_other, once_own, once_longer}
 
--- a story that went on by one place is the story of the longer list
+-- a story that continued by one place is the story of the longer list
 pub told_longer : (agreed : List Command) (command : Command) (c : ClientEnds) (d : Client)
     → Lived usual_limits d (let s : Story = record { past = place_of usual_limits (past_of usual_limits agreed) command ∷ past_of usual_limits agreed; connections = c.connections; keeper = c.keeper } in s)
     → Lived usual_limits d (story_of (agreed ++ command ∷ []) c)
@@ -63,7 +63,7 @@ else_named : (command : Command) (connections : List Connection) → is_of_conne
 else_named command [] e = refl
 else_named command (κ ∷ connections) e = ap₂ (λ a b. a || b) (else_of command κ.name e) (else_named command connections e)
 
--- an Expel of the client itself is of its life, and any other command is none of its own
+-- an Expel of the client itself belongs to its life, and any other command is not its own
 else_told : (agreed : List Command) (command : Command) (c : ClientEnds) → IsTold agreed c → is_of_connection command ≡ false → any_named (is_packet_of command) c.connections ≡ false → IsTold (agreed ++ command ∷ []) c
 else_told agreed (commands.Connect y d clean) c told e none = absurd (both_ways true e refl)
 else_told agreed (commands.Packet y packet) c told e none = absurd (both_ways true e refl)

@@ -1,4 +1,5 @@
--- The answers to a connection grow with the list, and there are none before a packet of it stands there.
+-- The answers to a connection grow with the list, and there are none before a packet of it is
+-- there.
 use Rattle.std.proofs.Common.{◌≡◌, ◌≤◌, ◌+◌, suc, Bool, true, false, if◌then◌else◌, List, [], ◌∷◌, ◌++◌, length, filter, refl, ap, ap₂, sym, ◌∙◌, subst, arith, inl, inr}
 use Rattle.story.specs.packet.declared.packet.Packet.{Packet}
 use Rattle.story.specs.broker_base.Connection.{ConnectionName, same_connection}
@@ -36,7 +37,7 @@ pub put_place : (limits : Limits) (past : Past) (command : Command) (x : Connect
 unfolding put_to
 put_place limits past command x = refl
 
--- the answers at one more place come behind
+-- the answers at one more place come after
 pub put_push : (limits : Limits) (xs : List Command) (command : Command) (x : ConnectionName)
     → put_to limits (past_of limits (xs ++ command ∷ [])) x ≡ put_to limits (past_of limits xs) x ++ sends_to x (answers_of limits (past_of limits xs) command)
 put_push limits xs command x = ap (λ past. put_to limits past x) (past_push limits xs command) ∙ put_place limits (past_of limits xs) command x
@@ -47,7 +48,7 @@ put_from limits past [] x = prefix_same (put_to limits past x)
 put_from limits past (y ∷ ys) x =
     prefix_then (record { rest = sends_to x (answers_of limits past y); is = put_place limits past y x }) (put_from limits (place_of limits past y ∷ past) ys x)
 
--- those to a beginning of a list are a beginning of those to the whole
+-- those to a prefix of a list are a prefix of those to the whole
 pub put_front : (limits : Limits) (xs ys : List Command) (x : ConnectionName) → IsPrefixOf xs ys → IsPrefixOf (put_to limits (past_of limits xs) x) (put_to limits (past_of limits ys) x)
 put_front limits xs ys x front =
     subst (λ (past : Past). IsPrefixOf (put_to limits (past_of limits xs) x) (put_to limits past x))
@@ -72,11 +73,11 @@ count_from limits x past (command ∷ xs) = by (is_packet_of command x) refl (co
         let none : count_of x (place_of limits past command ∷ past) ≡ count_of x past = ap (λ b. if b then suc (count_of x past) else count_of x past) e in
         omega (arith, ih, none)
 
--- they are counted as they stand in the list
+-- they are counted as they are in the list
 pub counted_in : (limits : Limits) (x : ConnectionName) (xs : List Command) → count_of x (past_of limits xs) ≡ length (filter (of_name x) xs)
 counted_in limits x xs = let c = count_from limits x [] xs in omega (arith, c)
 
--- ---- nothing is sent to a connection of which no packet stands in the list
+-- ---- nothing is sent to a connection of which no packet is in the list
 
 in_sent : (x : ConnectionName) (p : Packet) (outputs : List Output) → In p (sends_to x outputs) → In (Send x p) outputs
 in_sent x p [] i = elim i [ ]
@@ -95,7 +96,7 @@ none_of : {X : Type 0} (xs : List X) → ((x : X) → In x xs → ⊥) → xs �
 none_of [] h = refl
 none_of (x ∷ xs) h = absurd (h x here)
 
--- at a place below which, and at which, no packet of it stands
+-- at a place below which, and at which, there is no packet of it
 none_sent : (limits : Limits) (past : Past) (command : Command) (x : ConnectionName) → count_of x (place_of limits past command ∷ past) ≡ 0 → sends_to x (answers_of limits past command) ≡ []
 none_sent limits past command x none = none_of (sends_to x (answers_of limits past command)) (λ p i. by (sent_at limits past command x p (in_sent x p (answers_of limits past command) i)))
   where

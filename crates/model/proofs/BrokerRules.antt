@@ -1,4 +1,4 @@
--- The broker's machine gives what the model answers, behind each list of commands.
+-- The broker's machine gives what the model answers, after each list of commands.
 use Rattle.std.proofs.Common.{◌≡◌, ℕ, Bool, true, false, if◌then◌else◌, List, [], ◌∷◌, refl, ap, ◌∙◌}
 use Rattle.machine.specs.Machine.{replay, replay_from}
 use Rattle.story.specs.broker_base.Commands.{is_start, past_of, usual_limits}

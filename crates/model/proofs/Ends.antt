@@ -1,4 +1,5 @@
--- What holds of the two ends of a connection, and that it is kept where more is written, read, put out, taken or agreed.
+-- What holds for the two ends of a connection, and that it is kept if more is written, read, sent,
+-- taken or agreed.
 use Rattle.std.proofs.Common.{◌≡◌, ◌≤◌, ◌<◌, ℕ, zero, suc, false, List, [], ◌∷◌, ◌++◌, length, filter, set, take, Some, refl, ap, ap₂, sym, ◌∙◌, subst, arith}
 use Rattle.std.specs.Prelude.{slice_get}
 use Rattle.std.proofs.lemmas.List.{take-append-le, length-append}
@@ -103,7 +104,7 @@ end_closed agreed κ e h = record { read = h.read; within = h.within; up = h.up;
 
 -- ---- the client's end
 
--- with more written, and so many handled
+-- with more written, and this many handled
 pub more_written : (agreed : List Command) (κ after : Connection) (e : End) (n : ℕ) (more : List Written) → after.name ≡ κ.name → after.taken ≡ κ.taken → after.handled ≡ n
     → after.written ≡ κ.written ++ more → n ≤ length e.put → PipeHolds agreed κ e → PipeHolds agreed after e
 more_written agreed κ after e n more name taken handled written few h =

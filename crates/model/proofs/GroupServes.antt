@@ -67,7 +67,7 @@ row_of [] command i = elim i [ ]
 row_of (row ∷ rows) command here = (row, here, refl)
 row_of (row ∷ rows) command (there i) = let z = row_of rows command i in (z.0, there z.1, z.2)
 
--- commands that are named in one ballot alone stand among the rows of that ballot
+-- commands that are named in only one ballot are among the rows of that ballot
 named_in : (names : Command → Bool) (ballot : ℕ) (rows : List (ℕ × Command)) → ((row : ℕ × Command) → In row rows → names row.1 ≡ true → row.0 ≡ ballot)
     → filter names (commands_of rows) ≡ filter names (commands_of (rows_in ballot rows))
 named_in names ballot [] only = refl

@@ -1,4 +1,4 @@
--- What a node of a group gives while it leads a ballot may be put out on its open ends.
+-- What a node of a group gives while it leads a ballot may be sent on its open ends.
 use Rattle.std.proofs.Common.{◌≡◌, ℕ, List, [], ◌∷◌, ◌++◌, set, ap, sym, ◌∙◌, subst, arith}
 use Rattle.snapshots.specs.agreement.whole.Applying.{outputs_between}
 use Rattle.snapshots.specs.Giving.{given_of}

@@ -1,4 +1,4 @@
--- What every world keeps, where what is agreed stays as it is.
+-- What every world keeps, if what is agreed stays as it is.
 use Rattle.std.proofs.Common.{◌≡◌, ◌≤◌, ℕ, false, List, [], ◌∷◌, filter, map, set, Some, refl, sym, ◌∙◌, subst, arith}
 use Rattle.std.specs.Prelude.{slice_get}
 use Rattle.story.specs.broker_base.Connection.{ConnectionName, same_connection}
@@ -16,14 +16,14 @@ use Rattle.model.proofs.Answers.{of_name}
 use Rattle.model.proofs.Ends.{PipesHold}
 use Rattle.model.proofs.Parted.{AllParted, IsSameParty, is_named_by, opening_parted, same_parted, fresh_before}
 
--- its life is told, over all its sessions
+-- its life, over all its sessions
 abbrev pub IsTold : List Command → ClientEnds → Type 0
 IsTold agreed c = Lived usual_limits c.keeper.client (story_of agreed c)
 
 abbrev pub HasPipes : List Command → ClientEnds → Type 0
 HasPipes agreed c = PipesHold agreed c.connections c.ends
 
--- a name has one Connect at most, and none while no packet of it stands there
+-- a name has one Connect at most, and none while no packet of it is there
 abbrev pub IsOnce : Past → ConnectionName → Type 0
 IsOnce past x = (count_of x past ≡ 0 → connects_of x past ≡ 0) × (connects_of x past ≤ 1)
 
@@ -57,7 +57,7 @@ opening_holds cs apart =
       once = λ x. subst (λ (past : Past). IsOnce past x) (sym empty_past) ((λ e. refl), omega arith);
     }
 
--- ---- one client goes on
+-- ---- one client continues
 
 pub keeps_client : (w : World) (i : ℕ) (c later : ClientEnds) → Holds w → slice_get w.clients i ≡ Some c → IsTold w.agreed later → HasPipes w.agreed later
     → AllParted (set w.clients i later) → ((x : ConnectionName) → is_named_by x later ≡ false → is_named_by x c ≡ false) → Holds (with_client i later w)

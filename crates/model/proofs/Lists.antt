@@ -1,4 +1,4 @@
--- Lists: one that is written at a place, and what holds of each place.
+-- Lists: one that is written at a place, and what holds for each place.
 use Rattle.std.proofs.Common.{◌≡◌, ◌≤◌, ◌==◌, ℕ, zero, suc, Bool, true, false, if◌then◌else◌, List, [], ◌∷◌, ◌++◌, length, set, take, filter, Some, refl, ap, sym, ◌∙◌, subst, arith, inl, inr, ◌⊎◌}
 use Rattle.std.specs.Prelude.{slice_get}
 use Rattle.std.proofs.lemmas.Bool.{cases_Bool, both_ways}
@@ -36,7 +36,7 @@ same_or_other n m = by (cases_Bool (n == m))
 some_is : {X : Type 0} (x y : X) → Some x ≡ Some y → x ≡ y
 some_is x y e = cc
 
--- what stands at a place behind a write is what was written, or stood there before
+-- what is at a place after a write is what was written, or was there before
 pub set_get : {X : Type 0} (xs : List X) (i k : ℕ) (x y z : X) → slice_get xs i ≡ Some x → slice_get (set xs i y) k ≡ Some z
     → ((k ≡ i) × (y ≡ z)) ⊎ ((k ≡ i → ⊥) × (slice_get xs k ≡ Some z))
 set_get {X} xs i k x y z there' e = by (same_or_other k i)

@@ -1,4 +1,4 @@
--- A name has one Connect at most, where one more command is agreed.
+-- A name has one Connect at most, if one more command is agreed.
 use Rattle.std.proofs.Common.{◌≡◌, ◌≤◌, ◌+◌, ℕ, zero, suc, Bool, true, false, if◌then◌else◌, List, [], ◌∷◌, ◌++◌, filter, refl, ap, ap₂, sym, ◌∙◌, subst, arith}
 use Rattle.std.proofs.lemmas.Bool.{both_ways}
 use Rattle.story.specs.packet.declared.packet.Packet.{Packet}
@@ -46,7 +46,7 @@ later_connect : (x y : ConnectionName) (n : ℕ) (packet : Packet) → is_connec
 later_connect x y n (packets.Connect q) = refl
 later_connect x y n _ = refl
 
--- the name whose command it is, where so many of it stand there
+-- the name whose command it is, if this many of it are there
 pub once_own : (past : Past) (x : ConnectionName) (n : ℕ) (packet : Packet) → count_of x past ≡ n → IsOnce past x → IsOnce (place_of usual_limits past (command_of x n packet) ∷ past) x
 once_own past x n packet counted o =
     let mine : is_packet_of (command_of x n packet) x ≡ true = command_is_of x x n packet ∙ same_itself x in

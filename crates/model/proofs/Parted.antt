@@ -100,7 +100,7 @@ opened_parted clients i c x seen all there' fresh =
     differs y d none named (inl e) = absurd (both_ways (is_named_by x d) none (subst (λ (z : ConnectionName). is_named_by z d ≡ true) (same_name y x e) named))
     differs y d none named (inr e) = e
 
--- what is fresh behind it was fresh before
+-- what is fresh after it was fresh before
 pub fresh_before : (x : ConnectionName) (clients : List ClientEnds) (i : ℕ) (c later : ClientEnds) → slice_get clients i ≡ Some c → (is_named_by x later ≡ false → is_named_by x c ≡ false)
     → IsFresh x (set clients i later) → IsFresh x clients
 fresh_before x [] i c later e less fresh = tt

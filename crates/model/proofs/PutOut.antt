@@ -74,7 +74,7 @@ given_more agreed first place command low within e =
     ∙ map-append (λ (row : ℕ × Output). row.1) (between agreed first place) (between agreed place (suc place))
     ∙ ap (λ us. answered (between agreed first place) ++ us) (place_gives agreed place command e)
 
--- the end goes on by a place
+-- the end continues by a place
 end_more : (agreed : List Command) (x : ConnectionName) (place : ℕ) (command : Command) (e : End) → e.seen ≤ place → place ≤ length agreed
     → slice_get agreed place ≡ Some command → shown agreed x command (end_given x place (between agreed e.seen place) e) ≡ end_given x (suc place) (between agreed e.seen (suc place)) e
 end_more agreed x place command e low within at =

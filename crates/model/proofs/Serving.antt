@@ -25,7 +25,7 @@ use Rattle.model.proofs.WorldsExact.{reached_holds}
 use Rattle.model.proofs.NextPackets.{next_of}
 use Rattle.model.proofs.TakenOn.{IsKept, counted_back, counted_on, counted_untaken, map_set}
 
--- ---- the world behind it
+-- ---- the world after it
 
 abbrev after : World → ℕ → ℕ → ClientEnds → Connection → Written → World
 after w i j c κ v =
@@ -37,7 +37,7 @@ after w i j c κ v =
 some_is : {X : Type 0} (x y : X) → Some x ≡ Some y → x ≡ y
 some_is x y e = cc
 
--- a connection behind it was there before
+-- a connection after it was there before
 pub record WasPipe (w : World) (κ : Connection) (e : End) : Type 0 where
   pub i : ℕ
   pub j : ℕ

@@ -1,4 +1,5 @@
--- What the agreement of nodes says of the order in which a connection's packets stand in the agreed list.
+-- What the agreement of nodes says about the order in which a connection's packets are in the
+-- agreed list.
 use Rattle.std.specs.Prelude.{ℕ, Bool, List, ◌∷◌, filter}
 use Rattle.machine.specs.Machine.{Rules}
 use Rattle.lists.specs.Lists.{IsPrefixOf}
@@ -7,8 +8,8 @@ use Rattle.snapshots.specs.Past.{Moment, Past, IsAgreed}
 use Rattle.snapshots.specs.agreement.Proposals.{IsOfBallot, IsPartOf, commands_of}
 use Rattle.snapshots.specs.Proposals.{proposals_of, taken_of}
 
--- Of the commands that were taken in one ballot only, as those of one connection, the agreed list has a beginning in the
--- order of proposing.
+-- Of the commands that were taken only in one ballot, such as those of one connection, the agreed
+-- list has a prefix in the order of proposing.
 abbrev pub AgreedKeepsTheOrder : {S C O : Type 0} → Rules S C O → Type 0
 AgreedKeepsTheOrder {S} {C} {O} rules =
     (config : Config) (a : Moment S C O) (past : List (Moment S C O)) (agreed : List C) →

@@ -1,4 +1,4 @@
--- What holds of every world of clients and nodes.
+-- What holds for every world of clients and nodes.
 use Rattle.std.specs.Prelude.{◌≤◌, ℕ, suc, List, [], ◌∷◌, length, filter}
 use Rattle.story.specs.broker_base.Connection.{ConnectionName}
 use Rattle.story.specs.broker_base.Place.{Client}
@@ -20,8 +20,8 @@ abbrev pub commands_from : ConnectionName → ℕ → List Written → List Comm
 commands_from x n (w ∷ more) = command_of x n w.packet ∷ commands_from x (suc n) more
 commands_from x n [] = []
 
--- A connection's commands in the agreed list are a beginning of what its client wrote, in order; what its node put out
--- is a beginning of the answers to it; and its client handled a beginning of that.
+-- A connection's commands in the agreed list are a prefix of what its client wrote, in order; what
+-- its node sent is a prefix of the answers to it; and its client handled a prefix of that.
 pub record PipeInOrder (agreed : List Command) (κ : Connection) (e : End) : Type 0 where
   pub up : IsPrefixOf (filter (λ command. is_packet_of command κ.name) agreed) (commands_from κ.name 0 κ.written)
   pub down : IsPrefixOf e.put (put_to usual_limits (past_of usual_limits agreed) κ.name)
@@ -40,12 +40,13 @@ IsExactInStep agreed c = IsInStep (story_of agreed c) → ExactlyOnceOverSession
 pub record WorldIsExact (w : World) : Type 0 where
   -- connections carry packets in order, both ways
   pub pipes : Each (λ (c : ClientEnds). PipesInOrder w.agreed c.connections c.ends) w.clients
-  -- the publications of each client that is in step are published once, and it accepts in order in each of its sessions
+  -- the publications of each client that is in step are published once, and it accepts in order in
+  -- each of its sessions
   pub clients : Each (IsExactInStep w.agreed) w.clients
   -- an ended session gets nothing more, since each connection has a name of its own
   pub names : (x : ConnectionName) → connects_of x (past_of usual_limits w.agreed) ≤ 1
   pub sessions : EndsWithTheSession usual_limits (past_of usual_limits w.agreed)
 
--- so every world is that clients with identifiers of their own reach
+-- this holds for every world that clients with identifiers of their own reach
 abbrev pub WorldsAreExact : Type 0
 WorldsAreExact = (cs : List Client) (w : World) → AreApart cs → Reached cs w → WorldIsExact w

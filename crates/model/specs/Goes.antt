@@ -16,7 +16,7 @@ use Rattle.story.specs.Story.{Story, Happens, command_of, counted_at}
 use Rattle.story.specs.Story.Happens.{takes, others_take, receives, opens_anew, loses, disconnects, publishes_one, subscribes, unsubscribes}
 use Rattle.model.specs.World.{End, ClientEnds, World, new_end, story_of, opening, IsFresh, with_client}
 
--- what a client does by itself: it publishes, subscribes, unsubscribes, disconnects, or loses its connection
+-- what a client does: it publishes, subscribes, unsubscribes, disconnects, or loses its connection
 abbrev pub is_call : {limits : Limits} {s t : Story} → Happens limits s t → Bool
 is_call (takes i κ w stands next) = false
 is_call (others_take command other none) = false
@@ -28,17 +28,18 @@ is_call (publishes_one p needs) = true
 is_call (subscribes p on id) = true
 is_call (unsubscribes p on id) = true
 
--- whether a command is a packet of some connection; else it is the loss of one, the start of a ballot, or an Expel
+-- whether a command is a packet of some connection; otherwise it is the loss of one, the start of a
+-- ballot, or an Expel
 abbrev pub is_of_connection : Command → Bool
 is_of_connection (commands.Connect x c clean) = true
 is_of_connection (commands.Packet x packet) = true
 is_of_connection _ = false
 
--- the client behind a packet that it handled on its newest connection
+-- the client after a packet that it handled on its newest connection
 abbrev pub after_packet : List Connection → List End → Side → ClientEnds
 after_packet others ends side = record { keeper = side.keeper; connections = side.connection ∷ others; ends = ends }
 
--- the client opens a connection of this name, at a node that applied so many places
+-- the client opens a connection of this name, at a node that applied this many places
 abbrev pub after_opening : ConnectionName → ℕ → ClientEnds → ClientEnds
 after_opening x seen c =
     record {
@@ -47,7 +48,7 @@ after_opening x seen c =
       ends = new_end seen ∷ c.ends;
     }
 
--- what a place of the list makes of a connection's end
+-- what a place of the list does to a connection's end
 abbrev pub shown : List Command → ConnectionName → Command → End → End
 shown agreed x command e =
     record e {
@@ -65,10 +66,10 @@ pub data Goes (w : World) : World → Type 0 where
   -- a client calls, or loses its connection
   calls : (i : ℕ) (c : ClientEnds) (t : Story) (h : Happens usual_limits (story_of w.agreed c) t) → slice_get w.clients i ≡ Some c → is_call h ≡ true →
       Goes w (with_client i (record c { keeper = t.keeper; connections = t.connections }) w)
-  -- a client opens a connection, which gets a name that none ever had
+  -- a client opens a connection, which gets a name that no connection ever had
   opens : (i : ℕ) (c : ClientEnds) (x : ConnectionName) (seen : ℕ) → slice_get w.clients i ≡ Some c → IsFresh x w.clients → seen ≤ length w.agreed →
       Goes w (with_client i (after_opening x seen c) w)
-  -- a client handles the next packet that was put out on the connection that it holds
+  -- a client handles the next packet that was sent on the connection that it holds
   handles : (i : ℕ) (c : ClientEnds) (κ : Connection) (e : End) (others : List Connection) (ends : List End) (packet : Packet) →
       slice_get w.clients i ≡ Some c → c.connections ≡ κ ∷ others → c.ends ≡ e ∷ ends → c.keeper.is_open ≡ true →
       slice_get e.put κ.handled ≡ Some packet →
@@ -76,11 +77,12 @@ pub data Goes (w : World) : World → Type 0 where
   -- a node reads the next packet of an open connection, and proposes it
   reads : (i j : ℕ) (c : ClientEnds) (κ : Connection) (e : End) → HasPipe w i c j κ e → e.is_open ≡ true → e.read < length κ.written →
       Goes w (with_client i (record c { ends = set c.ends j (record e { read = suc e.read }) }) w)
-  -- a node applies its next place of the agreed list, and puts out what the broker answers on an open connection
+  -- a node applies its next place of the agreed list, and sends what the broker answers on an open
+  -- connection
   answers : (i j : ℕ) (c : ClientEnds) (κ : Connection) (e : End) (command : Command) → HasPipe w i c j κ e → e.is_open ≡ true →
       slice_get w.agreed e.seen ≡ Some command →
       Goes w (with_client i (record c { ends = set c.ends j (shown w.agreed κ.name command e) }) w)
-  -- a node's end is closed, by itself or with its node
+  -- a node's end is closed, alone or with its node
   closes : (i j : ℕ) (c : ClientEnds) (κ : Connection) (e : End) → HasPipe w i c j κ e →
       Goes w (with_client i (record c { ends = set c.ends j (record e { is_open = false }) }) w)
   -- of what was proposed for a connection, the next comes next in the agreed list

@@ -1,4 +1,4 @@
--- What a node gives is put out on the ends of its connections.
+-- The outputs of a node are sent on the ends of its connections.
 use Rattle.std.specs.Prelude.{◌≡◌, ◌≤◌, ℕ, true, List, ◌∷◌, ◌++◌, length, map, set, slice_get, Some}
 use Rattle.machine.specs.Machine.{Rules}
 use Rattle.snapshots.specs.agreement.whole.Applying.{outputs_between}
@@ -37,20 +37,20 @@ broker_rules =
 abbrev pub answered : List (ℕ × Output) → List Output
 answered given = map (λ (row : ℕ × Output). row.1) given
 
--- the end of a connection whose node has applied the list up to a place and gave this, of which it put out what is for the
--- connection
+-- the end of a connection whose node has applied the list up to a place and output this, of which
+-- it sent what is for the connection
 abbrev pub end_given : ConnectionName → ℕ → List (ℕ × Output) → End → End
 end_given x past given e = record e { seen = past; put = e.put ++ sends_to x (answered given) }
 
--- What the machine gives at the next places of the agreed list, none left out, may be put out on an open end: the world comes
--- to have it.
+-- The outputs of the machine at the next places of the agreed list, none left out, may be sent on
+-- an open end: the world reaches a state that has them.
 abbrev pub GivenIsPutOut : Type 0
 GivenIsPutOut = (cs : List Client) (w : World) (i j : ℕ) (c : ClientEnds) (κ : Connection) (e : End) (past : ℕ) → Reached cs w → HasPipe w i c j κ e →
     e.is_open ≡ true → e.seen ≤ past → past ≤ length w.agreed →
     Reached cs (with_client i (record c { ends = set c.ends j (end_given κ.name past (outputs (outputs_between broker_rules w.agreed e.seen past)) e) }) w)
 
--- So may all that a node of a group gives between two moments of a ballot that it leads, on an open end that has what the
--- node gave before.
+-- The same holds for all outputs of a node of a group between two moments of a ballot that it
+-- leads, on an open end that has what the node output before.
 abbrev pub GroupsPutOut : Type 0
 GroupsPutOut = (config : Config) (a b : Moment State Command Output) (past later : List (Moment State Command Output))
     (came : Past broker_rules config (a ∷ past)) (more : Past broker_rules config (b ∷ later)) (n ballot : ℕ) → LeadsOn n ballot came b later more →

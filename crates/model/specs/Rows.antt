@@ -1,4 +1,5 @@
--- A short run of a world, computed to its end: another node takes over while a publication is under way.
+-- A short run of a world, computed to its end: another node takes over while a publication is in
+-- transit.
 use Rattle.std.specs.Prelude.{◌≡◌, List, [], ◌∷◌, map, reverse}
 use Rattle.story.specs.session_base.declared.publication.Publication.{Publication}
 use Rattle.story.specs.Headline.{accepted_on}

@@ -1,4 +1,5 @@
--- How the agreed list of a world goes on where nodes agree: what is said of a later list, and that a world comes to it.
+-- How the agreed list of a world continues if nodes agree: what is said about a later list, and
+-- that a world comes to it.
 use Rattle.std.specs.Prelude.{◌≡◌, ℕ, true, List, map, filter, take}
 use Rattle.story.specs.broker_base.Place.{Client}
 use Rattle.story.specs.broker_base.Command.{Command}
@@ -19,15 +20,15 @@ pub record IsOfPipe (w : World) (command : Command) : Type 0 where
   pub pipe : HasPipe w i client j connection end
   pub named : is_packet_of command connection.name ≡ true
 
--- The list only grew; of each connection it has a beginning of the packets that the node read and proposed, in their
--- order; and it has packets of such connections alone.
+-- The list only grew; for each connection it has a prefix of the packets that the node read and
+-- proposed, in order; and it has packets only of such connections.
 pub record IsServed (w : World) (later : List Command) : Type 0 where
   pub grows : IsPrefixOf w.agreed later
   pub order : (i j : ℕ) (c : ClientEnds) (κ : Connection) (e : End) → HasPipe w i c j κ e →
       IsPrefixOf (filter (λ command. is_packet_of command κ.name) later) (commands_from κ.name 0 (take e.read κ.written))
   pub known : (command : Command) → In command later → is_of_connection command ≡ true → IsOfPipe w command
 
--- a client, but for how much of what it wrote stands in the list
+-- a client, except how much of what it wrote is in the list
 abbrev pub untaken : ClientEnds → ClientEnds
 untaken c = record c { connections = map (λ (κ : Connection). record κ { taken = 0 }) c.connections }
 

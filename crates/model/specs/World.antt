@@ -1,4 +1,5 @@
--- Clients and nodes as the two ends of their connections, over the list of commands that the nodes agree on.
+-- Clients and nodes as the two ends of their connections, over the list of commands that the nodes
+-- agree on.
 use Rattle.std.specs.Prelude.{◌≡◌, ℕ, Bool, true, false, List, [], ◌∷◌, map, set}
 use Rattle.story.specs.packet.declared.packet.Packet.{Packet}
 use Rattle.story.specs.broker_base.Connection.{ConnectionName, same_connection}
@@ -12,9 +13,9 @@ use Rattle.story.specs.Story.{Story, any_named}
 
 -- the node's end of a connection
 pub record End : Type 0 where
-  pub read : ℕ  -- how many packets it read off the connection and proposed as commands
+  pub read : ℕ  -- how many packets it read from the connection and proposed as commands
   pub seen : ℕ  -- how many places of the agreed list its node applied
-  pub put : List Packet  -- what it put out on the connection
+  pub put : List Packet  -- what it sent on the connection
   pub is_open : Bool
 
 abbrev pub new_end : ℕ → End
@@ -33,11 +34,11 @@ pub record World : Type 0 where
   pub agreed : List Command
   pub clients : List ClientEnds
 
--- nothing is agreed, and nobody has a connection
+-- nothing is agreed, and no client has a connection
 abbrev pub opening : List Client → World
 opening cs = record { agreed = []; clients = map new_client cs }
 
--- no two are one
+-- no two are equal
 abbrev pub AreApart : List Client → Type 0
 AreApart (c ∷ cs) = Each (λ d. c ≡ d → ⊥) cs × AreApart cs
 AreApart [] = Unit {0}
@@ -50,6 +51,6 @@ story_of agreed c = record { past = past_of usual_limits agreed; connections = c
 abbrev pub IsFresh : ConnectionName → List ClientEnds → Type 0
 IsFresh x = Each (λ (c : ClientEnds). any_named (same_connection x) c.connections ≡ false)
 
--- the client at this place becomes another
+-- the client at this place is changed
 abbrev pub with_client : ℕ → ClientEnds → World → World
 with_client i c w = record w { clients = set w.clients i c }

@@ -1,5 +1,5 @@
-//! Clients and nodes as the two ends of their connections, over one list of commands that only grows: what holds of every
-//! such world. Its functions do nothing; their contracts are the laws.
+//! Clients and nodes as the two ends of their connections, over one list of commands that only
+//! grows: what holds for every such world. Its functions do nothing; their contracts are the laws.
 #![tactic(auto)]
 
 mod laws;

@@ -1,4 +1,5 @@
--- ItsLanes.antt: lanes are all lanes of a node exactly where each has the number of its inbox and of its place.
+-- ItsLanes.antt: lanes are all lanes of a node exactly if each has the number of its inbox and of
+-- its place.
 use Rattle.std.proofs.Common.{◌≡◌, ℕ, ◌<◌, List, length}
 use Rattle.std.specs.Prelude.{slice_index_or}
 use Rattle.mailbox.specs.Ends.{Sender}

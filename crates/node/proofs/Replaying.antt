@@ -1,4 +1,4 @@
--- Replaying.antt: a replay goes on.
+-- Replaying.antt: a replay continues.
 use Rattle.std.proofs.Common.{◌≡◌, ℕ, List, [], ◌∷◌, ◌++◌, Ok, Err, OnOk, OnErr, sym, subst}
 use Rattle.std.specs.Prelude.{Result}
 use Rattle.mailbox.specs.Ends.{Taker}
@@ -31,7 +31,7 @@ stepped first_of old new taken core next before behind is replays step =
     subst (λ (t : Taker Item). Replays (first_of t.inbox) t.taken next) (sym is)
     (steps taken next before behind replays step)
 
--- what was put out for a port was handed over, or memory was wanting
+-- what was queued for a port was handed over, or memory ran out
 pub handed : {E : Type 0} (first_of : ℕ → CountedCore) (taker : Taker Item) (port : Port) (core new : CountedCore)
     (result : Result Handed E)
     → OnOk result (new ≡ record core { core = hands_over port core.core })

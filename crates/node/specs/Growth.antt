@@ -1,4 +1,5 @@
--- How much what a node takes adds to its log, and when the log is to be cut for its size.
+-- How much the items that a node takes add to its log, and when the log is to be cut because of its
+-- size.
 use Rattle.std.specs.Prelude.{ℕ, ◌+◌, ◌*◌, ◌-◌, ◌^◌, Bool, ◌&&◌, not, nat_lt, max, min, List, length, fold, sum_by}
 use Rattle.packet.specs.declared.packet.Packet.{Packet}
 use Rattle.packet.specs.declared.packet.Packet.TheVariants as packets
@@ -11,7 +12,7 @@ use Rattle.world_base.specs.declared.Body.TheVariants.{Append, State, Install}
 use Rattle.world_base.specs.declared.item.Item.{Item}
 use Rattle.world_base.specs.declared.item.Item.TheVariants.{Peer, Bytes, Cut}
 
--- what a packet has beside its fixed part: topic and payload, or filters
+-- the size of a packet apart from its fixed part: topic and payload, or filters
 abbrev pub bytes_of_packet : Packet → ℕ
 bytes_of_packet (packets.Publish publish) = length publish.topic + length publish.payload
 bytes_of_packet (packets.Subscribe subscribe) =
@@ -24,7 +25,7 @@ abbrev pub bytes_of_command : Command → ℕ
 bytes_of_command (commands.Packet connection packet) = bytes_of_packet packet
 bytes_of_command _ = 0
 
--- of the commands that a message of another node brings
+-- the bytes of the commands that a message of another node brings
 abbrev pub bytes_of_body : Body Command → ℕ
 bytes_of_body (Append ballot place command) = bytes_of_command command
 bytes_of_body (State ballot log) = sum_by bytes_of_command log.rest
@@ -36,12 +37,12 @@ bytes_of_item (Peer message) = bytes_of_body message.body
 bytes_of_item (Bytes port piece now) = length piece
 bytes_of_item _ = 0
 
--- what items brought since the last cut, after one item more
+-- the bytes that items brought since the last cut, after one more item
 abbrev pub grown : ℕ → Item → ℕ
 grown bytes Cut = 0
 grown bytes item = bytes + bytes_of_item item
 
--- the bytes that these items brought, each with its lane, since the last cut among them
+-- the bytes that these items, each with its lane, brought since the last cut among them
 abbrev pub bytes_since_cut : List (ℕ × Item) → ℕ
 bytes_since_cut taken = fold (λ bytes (one : ℕ × Item). grown bytes one.1) 0 taken
 
@@ -49,14 +50,15 @@ bytes_since_cut taken = fold (λ bytes (one : ℕ × Item). grown bytes one.1) 0
 abbrev pub can_drop : CoreState → Bool
 can_drop core = not core.replica.state.stopped && nat_lt core.replica.state.log.base core.replica.state.committed
 
--- Whether the log of a node that took these items is to be cut for its size: there are commands to drop, and what was taken since
--- the last cut counts more than 16 MiB and more than the snapshot has bytes. Each command to drop counts 128 bytes more.
+-- Whether the log of a node that took these items is to be cut because of its size: there are
+-- commands to drop, and what was taken since the last cut counts more than 16 MiB and more than the
+-- snapshot has bytes. Each command to drop counts another 128 bytes.
 abbrev pub wants_cut : List (ℕ × Item) → CoreState → Bool
 wants_cut taken core =
     can_drop core
     && nat_lt (max 16777216 (length core.replica.state.log.snapshot))
     (bytes_since_cut taken + 128 * (core.replica.state.committed - core.replica.state.log.base))
 
--- a count of bytes that stays at 2^64 - 1
+-- a count of bytes that saturates at 2^64 - 1
 abbrev pub counted : ℕ → ℕ
 counted bytes = min bytes (2 ^ 64 - 1)

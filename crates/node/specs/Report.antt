@@ -1,17 +1,17 @@
--- The room that a node's report takes, and what it tells of a lane.
+-- The capacity that a node's report needs, and what it says about a lane.
 use Rattle.std.specs.Prelude.{◌≡◌, ℕ, ◌≤◌, List, [], ◌++◌, length, vec_capacity}
 use Rattle.mailbox.specs.Delivery.{items_of}
 use Rattle.mailbox.specs.Ends.{Sender}
 use Rattle.world_base.specs.declared.item.Item.{Item}
 use Rattle.node.specs.declared.report.Report.{Report}
 
--- nothing is left over yet, and there is room for what an inbox of so many lanes holds
+-- nothing is left over yet, and there is capacity for what an inbox of this many lanes holds
 abbrev pub HasRoom : ℕ → Report → Type 0
 HasRoom lanes report =
     (length report.taken.items ≡ lanes)
     × (report.left.items ≡ [])
     × (1024 ≤ vec_capacity report.left)
 
--- what was taken of a lane and what is left over of it are, in order, all that it sent
+-- what was taken from a lane followed by what is left over of it is, in order, all that it sent
 abbrev pub TellsAll : List (ℕ × Item) → List (ℕ × Item) → Sender Item → Type 0
 TellsAll taken left lane = items_of lane.lane taken ++ items_of lane.lane left ≡ lane.sent

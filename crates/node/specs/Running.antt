@@ -8,15 +8,15 @@ use Rattle.node.specs.Report.{TellsAll}
 use Rattle.node.specs.State.{Replays, Seen, next_turn}
 use Rattle.node.specs.declared.report.Report.{Report}
 
--- what a node shows beside its lock: its number, how many lanes its inbox has, and whether a gate
+-- what a node shows outside its lock: its number, how many lanes its inbox has, and whether a gate
 -- is asked before each taking
 pub record Running : Type 0 where
   pub number : ℕ
   pub lanes : ℕ
   pub is_gated : Bool
 
--- leave to take so many items; where there is a gate, the number of the taking, and whether the
--- gate opened for it
+-- a permit to take this many items; with a gate, the number of the taking, and whether the gate
+-- opened for it
 pub record Permit : Type 0 where
   pub taking : Option ℕ
   pub most : ℕ
@@ -33,7 +33,7 @@ pub record WasAsked {G : Type 0}
   pub gate : G
   pub answered : answers gate node taking answer
 
--- a gate heard that the node of this number has done its taking of this number
+-- a gate was informed that the node of this number has done its taking of this number
 pub record WasTold {G : Type 0} (hears : G → ℕ → ℕ → Type 0) (node taking : ℕ) : Type 0 where
   pub gate : G
   pub heard : hears gate node taking
@@ -47,8 +47,8 @@ pub record AreItsLanes (node : Running) (lanes : List (Sender Item)) : Type 0 wh
       (slice_index_or lanes place other).lane ≡ place
 
 -- The report is of a node that was the replay of what it took, from this first state on. What it
--- took of each lane and what is left over are, in order, all that the lane sent. The report tells
--- how many items of each lane it took, and where the node's log begins.
+-- took from each lane followed by what is left over is, in order, all that the lane sent. The
+-- report says how many items of each lane it took, and where the node's log begins.
 pub record ReportsOn (first : CountedCore) (lanes : List (Sender Item)) (report : Report)
     : Type 0 where
   pub taken : List (ℕ × Item)

@@ -10,8 +10,8 @@ use Rattle.world_base.specs.Core.{CountedCore, opening_core}
 use Rattle.world_base.specs.Handing.{hands_over}
 use Rattle.world_base.specs.Losses.{Stepped}
 
--- A chain from the first state of a node: one step for each item, in their order, each with the lane that it
--- came by; in between what was put out may have been handed over.
+-- A chain from the first state of a node: one step for each item, in order, each with the lane from
+-- which it came; in between, queued bytes may have been handed over.
 pub data Replays (first : CountedCore) : List (ℕ × Item) → CountedCore → Type 0 where
   opens : Replays first [] first
   steps : {history : List (ℕ × Item)} {core : CountedCore}
@@ -22,14 +22,14 @@ pub data Replays (first : CountedCore) : List (ℕ × Item) → CountedCore → 
       → Replays first history core
       → Replays first history (record core { core = hands_over port core.core })
 
--- what a node shows: its inbox with all that was taken from it, itself, and how often an item was
--- asked for
+-- the model of a node: its inbox with all that was taken from it, the node itself, and how often an
+-- item was asked for
 pub record Seen : Type 0 where
   pub taker : Taker Item
   pub node : CountedCore
   pub turns : ℕ
 
--- the number of the next asking, from 1; it stays at 2^64 - 1
+-- the number of the next taking, from 1; it saturates at 2^64 - 1
 abbrev pub next_turn : ℕ → ℕ
 next_turn turns = min (turns + 1) (2 ^ 64 - 1)
 
@@ -40,6 +40,6 @@ pub record TakesOne (old new : Seen) (before behind : List (Effect Command Outpu
   pub taken : new.taker ≡ record old.taker { taken = old.taker.taken ++ (lane, item) ∷ [] }
   pub stepped : Stepped old.node item new.node before behind
 
--- what a number stands for where no node was picked
+-- the node of a number for which none was chosen
 abbrev pub no_core : CountedCore
 no_core = record { core = opening_core 0 (record { members = []; primary = 0 }); losses = 0 }

@@ -1,4 +1,4 @@
-// How many bytes the items bring that a node takes.
+// How many bytes are brought by the items that a node takes.
 
 ghost use Rattle.std.specs.Prelude.{◌≡◌, ◌+◌, ◌*◌, ℕ, length, max, nat_lt, sum_by};
 ghost use Rattle.node.specs.Growth.{bytes_of_body, bytes_of_command, bytes_of_packet, counted, grown};
@@ -6,14 +6,14 @@ ghost use Rattle.node.specs.Growth.{bytes_of_body, bytes_of_command, bytes_of_pa
 use packet::{Packet, Subscribe, Unsubscribe};
 use world_base::{Body, Command, Item};
 
-/// What counts as many bytes, at the least, when a log is cut for its size.
+/// The least that counts as many bytes when a log is cut because of its size.
 const LEAST: u64 = 16_777_216;
 
-/// What a command of the log counts beside the bytes of its packet.
+/// What a command of the log counts in addition to the bytes of its packet.
 const COMMAND_BYTES: u64 = 128;
 
-/// Returns whether items that brought these bytes and commands count more than 16 MiB and more than the snapshot has
-/// bytes.
+/// Says whether items that brought these bytes and commands count more than 16 MiB and more than
+/// the snapshot has bytes.
 pub(crate) fn is_large(bytes: u64, commands: u64, snapshot: &[u8]) -> bool
     ensures { (all : ℕ) → bytes ≡ counted all →
         result ≡ nat_lt (max 16777216 (length snapshot.now)) (all + 128 * commands) }
@@ -22,7 +22,8 @@ pub(crate) fn is_large(bytes: u64, commands: u64, snapshot: &[u8]) -> bool
     size > LEAST.max(snapshot.len() as u64)
 }
 
-/// Returns how many bytes items brought since the last cut, after one item more. The count stays at 2^64 - 1.
+/// Returns how many bytes items brought since the last cut, after one more item. The count
+/// saturates at 2^64 - 1.
 pub(crate) fn grown(bytes: u64, item: &Item) -> u64
     ensures { result ≡ counted (grown bytes item.now) }
 {
@@ -34,7 +35,7 @@ pub(crate) fn grown(bytes: u64, item: &Item) -> u64
     }
 }
 
-// Adds the bytes of what a message of another node brings.
+// Adds the bytes of a message of another node.
 fn add_body(bytes: u64, body: &Body<Command>) -> u64
     ensures { result ≡ counted (bytes + bytes_of_body body.now) }
 {
@@ -81,7 +82,7 @@ fn add_packet(bytes: u64, packet: &Packet) -> u64
     }
 }
 
-// Adds the bytes of the filters that a client asks for.
+// Adds the bytes of the filters that a client subscribes to.
 fn add_subscribe(bytes: u64, subscribe: &Subscribe) -> u64
     ensures { result ≡ counted (bytes + sum_by (λ (wish : _). length wish.filter) subscribe.now.filters) }
 {
@@ -93,7 +94,7 @@ fn add_subscribe(bytes: u64, subscribe: &Subscribe) -> u64
     bytes
 }
 
-// Adds the bytes of the filters that a client gives up.
+// Adds the bytes of the filters that a client unsubscribes from.
 fn add_unsubscribe(bytes: u64, unsubscribe: &Unsubscribe) -> u64
     ensures { result ≡ counted (bytes + sum_by (λ (filter : _). length filter) unsubscribe.now.filters) }
 {

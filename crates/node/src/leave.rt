@@ -1,4 +1,4 @@
-// Leave to take items of a node.
+// The permit to take items of a node.
 
 ghost use Rattle.std.specs.Prelude.{◌≡◌, ◌↔◌, None, Some, IfSome, IsTrue, true};
 ghost use Rattle.node.specs.Running.{IsNext};
@@ -11,8 +11,8 @@ use std::sync::MutexGuard;
 /// How many items may be taken at once if there is no gate.
 const AT_ONCE: u32 = 16;
 
-/// Leave to take items of a node. Only a node's `pass` gives it: where there is a gate after asking
-/// that, for one item.
+/// The permit to take items of a node. Only a node's `pass` gives it: with a gate after asking it,
+/// for one item.
 #[derive(Drop)]
 pub struct Leave<'n> {
     /// The number of the taking, if there is a gate.
@@ -20,7 +20,7 @@ pub struct Leave<'n> {
     most: u32,
     /// The gate opened for it, or there is none.
     is_open: bool,
-    /// Until this is let go no other turn begins.
+    /// Until this is dropped no other turn begins.
     turn: Option<MutexGuard<'n, ()>>,
 }
 
@@ -40,7 +40,7 @@ impl<'n> Model for Leave<'n> {
 }
 
 impl<'n> Leave<'n> {
-    // Leave without a gate.
+    // Returns a permit without a gate.
     pub(crate) fn free() -> Leave<'n>
         ensures { result ≡ record { taking = None; most = 16; is_open = true } }
     {
@@ -52,7 +52,7 @@ impl<'n> Leave<'n> {
         }
     }
 
-    // Leave for the taking of this number, which keeps other turns off.
+    // Returns a permit for the taking of this number, which keeps other turns from beginning.
     pub(crate) fn after(taking: u64, is_open: bool, turn: MutexGuard<'n, ()>) -> Leave<'n>
         ensures { result ≡ record { taking = Some taking; most = 1; is_open = is_open } }
     {
@@ -79,8 +79,8 @@ impl<'n> Leave<'n> {
         self.taking
     }
 
-    /// Returns whether the node's next taking is the one that a gate was asked for. Without a gate
-    /// it is.
+    /// Says whether the node's next taking is the one that a gate was asked for. Without a gate it
+    /// is.
     pub fn is_for<J: NodeNaming>(&self, state: &NodeState<J>) -> bool
         ensures { IsTrue result ↔ IsNext self.now state.now }
     {

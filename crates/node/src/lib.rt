@@ -1,4 +1,4 @@
-//! A node: a replica with its connections and the inbox that its items come by.
+//! A node: a replica with its connections and the inbox from which its items come.
 #![tactic(auto)]
 
 mod growth;

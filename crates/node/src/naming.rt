@@ -1,10 +1,10 @@
-// Which node a number stands for.
+// Which node a number means.
 
 use mailbox::Naming;
 use std::marker::Brand;
 
-/// Which node each number of an inbox began with, in a run, fixed before the first is served. Its caller
-/// passes [`Brand`] and picks the nodes that it opened.
+/// Which node each number of an inbox began with, in a run, fixed before the first is served. Its
+/// caller passes [`Brand`] and chooses the nodes that it opened.
 pub trait NodeNaming: Naming {
     ghost use Rattle.std.specs.Prelude.{ℕ};
     ghost use Rattle.world_base.specs.Core.{CountedCore};

@@ -19,8 +19,8 @@ use std::marker::Model;
 use std::sync::Wait;
 use world_base::{Command, Effect, Handed, Item, Memory, NodeCore, Output, Port, Standing, Status};
 
-/// A node with the receiver of its inbox. Whatever calls come, the node is what its first state became
-/// by one step for each item that was taken, in their order.
+/// A node with the receiver of its inbox. Whatever calls come, the node is what its first state
+/// became by one step for each item that was taken, in order.
 #[derive(Drop)]
 pub struct NodeState<J: NodeNaming> {
     receiver: Receiver<Item, J>,
@@ -50,7 +50,7 @@ impl<J: NodeNaming> Model for NodeState<J> {
 }
 
 impl<J: NodeNaming> NodeState<J> {
-    /// A node of whose inbox nothing was taken.
+    /// Returns a node from whose inbox nothing was taken.
     pub fn new(receiver: Receiver<Item, J>, core: NodeCore) -> NodeState<J>
         requires fresh { receiver.taken ≡ [] }
         requires first { core ≡ J.first_of receiver.inbox }
@@ -64,28 +64,29 @@ impl<J: NodeNaming> NodeState<J> {
         }
     }
 
-    /// The number of its inbox.
+    /// Returns the number of its inbox.
     pub fn number(&self) -> u8
         ensures { result ≡ self.now.taker.inbox }
     {
         self.receiver.number()
     }
 
-    /// How many lanes its inbox has.
+    /// Returns how many lanes its inbox has.
     pub fn lanes(&self) -> usize
         ensures { result ≡ self.now.taker.lanes }
     {
         self.receiver.lanes()
     }
 
-    /// Whether these are all lanes of its inbox, in the order of their numbers.
+    /// Says whether these are all lanes of its inbox, in the order of their numbers.
     pub fn has_all(&self, lanes: &[Lane<Item, J>]) -> bool
         ensures { IsTrue result ↔ AreAllLanes self.now.taker lanes.now }
     {
         self.receiver.has_all(lanes)
     }
 
-    /// Returns a receipt of how many items it took so far, and that each lane sends at most 2^55.
+    /// Returns a receipt of how many items it has taken so far, and that each lane sends at most
+    /// 2^55.
     pub fn receipt(&mut self) -> Receipt<Item, J>
         ensures tells { result ≡ record {
           inbox = self.old.taker.inbox;
@@ -99,17 +100,18 @@ impl<J: NodeNaming> NodeState<J> {
         self.receiver.receipt()
     }
 
-    /// Returns the number of the next call of [`NodeState::take_one`], from 1. It stays at 2^64 -
-    /// 1.
+    /// Returns the number of the next call of [`NodeState::take_one`], from 1. It saturates at 2^64
+    /// - 1.
     pub fn next_turn(&self) -> u64
         ensures { result ≡ next_turn self.now.turns }
     {
         self.turns.saturating_add(1)
     }
 
-    /// Takes the item that came first and does the node's step with it. Returns whether there was one. There is none only
-    /// if the inbox was empty at some moment of the call. Then every item that was sent, as the receipt tells, was taken before.
-    /// Each call is counted, whether an item waited or not.
+    /// Takes the item that came first and does the node's step with it. Returns whether there was
+    /// one. There is none only if the inbox was empty at some moment of the call. Then every item
+    /// that was sent, as far as the receipt says, was taken before. Each call is counted, whether
+    /// an item waited or not.
     pub fn take_one<R: Wait>(
         &mut self,
         rt: &R,
@@ -126,7 +128,8 @@ impl<J: NodeNaming> NodeState<J> {
 
         ensures turns { self.new.turns ≡ next_turn self.old.turns }
 
-        // No item waited, and nothing else changed: all was taken of which the receipt tells.
+        // No item waited, and nothing else changed: everything was taken that the receipt knows
+        // about.
         ensures empty { result ≡ false → WasEmpty self.old.taker receipt }
         ensures arrived { result ≡ false → HasArrived receipt self.old.taker.taken }
         ensures same { result ≡ false →
@@ -144,7 +147,7 @@ impl<J: NodeNaming> NodeState<J> {
         }
     }
 
-    /// How many items of a lane of this inbox were taken. The lane then knows it too.
+    /// Returns how many items of a lane of this inbox were taken. The lane then knows it, too.
     pub fn meet(&mut self, lane: &mut Lane<Item, J>) -> u64
         requires { lane.old.inbox ≡ self.old.taker.inbox }
         ensures exact { result ≡ length (items_of lane.old.lane self.old.taker.taken) }
@@ -163,8 +166,8 @@ impl<J: NodeNaming> NodeState<J> {
         self.receiver.meet(lane)
     }
 
-    /// Appends what was put out for a port and not handed over before, and tells whether more may
-    /// come, as [`NodeCore::outgoing`]. Nothing is taken.
+    /// Appends what was queued for a port and not yet handed over, and says whether more may come,
+    /// as [`NodeCore::outgoing`]. Nothing is taken.
     pub fn outgoing(&mut self, port: Port, out: &mut Vec<u8>) -> Result<Handed, Memory>
         ensures bytes { OnOk result
             (out.new.items ≡ out.old.items ++ bytes_of (listed_at port self.old.node.core)) }
@@ -178,7 +181,7 @@ impl<J: NodeNaming> NodeState<J> {
         ensures replays { Replays
             (J.first_of self.old.taker.inbox) self.old.taker.taken self.old.node }
 
-        // Want of memory changes nothing.
+        // Running out of memory changes nothing.
         ensures same { OnErr result (self.new ≡ self.old) }
         ensures err { OnErr result (out.new.items ≡ out.old.items) }
     {
@@ -195,22 +198,23 @@ impl<J: NodeNaming> NodeState<J> {
         self.core.idle_ports(ports)
     }
 
-    /// Returns how the connection of a port stands, as [`NodeCore::standing`].
+    /// Returns the state of a port's connection, as [`NodeCore::standing`].
     pub fn standing(&self, port: Port) -> Standing
         ensures { result ≡ standing_of (listed_at port self.now.node.core) }
     {
         self.core.standing(port)
     }
 
-    /// What the node's replica shows of itself.
+    /// Returns what the node's replica shows of itself.
     pub fn status(&self) -> Status
         ensures { result ≡ status_of self.now.node.core.replica.state }
     {
         self.core.status()
     }
 
-    /// Returns whether the log is to be cut for its size: whether it has commands to drop, and what was taken since the last
-    /// cut counts more than 16 MiB and more than the snapshot has bytes.
+    /// Says whether the log is to be cut because of its size: whether it has commands to drop, and
+    /// what was taken since the last cut counts more than 16 MiB and more than the snapshot has
+    /// bytes.
     pub fn wants_cut(&self) -> bool
         ensures { result ≡ wants_cut self.now.taker.taken self.now.node.core }
     {
@@ -219,15 +223,16 @@ impl<J: NodeNaming> NodeState<J> {
         self.core.can_cut() && is_large(self.grown, commands, snapshot)
     }
 
-    /// In how many steps memory was wanting. The count stays at 2^64 - 1.
+    /// Returns how many steps ran out of memory (saturates at 2^64 - 1).
     pub fn losses(&self) -> u64
         ensures { result ≡ self.now.node.losses }
     {
         self.core.losses()
     }
 
-    /// Ends the node, once its lanes send no more, and tells what became of all that they sent. It takes
-    /// no memory: the report has its room beforehand. `gate_missed` is what it is to say of the gate.
+    /// Ends the node, once its lanes send no more, and reports what happened to everything that
+    /// they sent. Takes no memory: the report's capacity was allocated before. `gate_missed` is
+    /// what it has to say about the gate.
     pub fn close<R: Wait>(
         self,
         rt: &R,
@@ -242,10 +247,10 @@ impl<J: NodeNaming> NodeState<J> {
         ensures whole { All (ArrivesWhole result.taken.items result.left.items) lanes.new }
         ensures lanes { map unmet lanes.new ≡ map unmet lanes.old }
 
-        // The same of what the node replayed.
+        // The same for what the node replayed.
         ensures all { All (TellsAll self.taker.taken result.left.items) lanes.new }
 
-        // Of each lane so many items were taken as the node replayed.
+        // For each lane, the count of taken items is that of the replay.
         ensures counted { EachIndex result.taken.items (λ lane.
             slice_index result.taken.items lane ≡ length (items_of lane self.taker.taken)) }
         ensures each { length result.taken.items ≡ self.taker.lanes }

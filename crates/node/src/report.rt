@@ -1,4 +1,4 @@
-// What became of the items that were sent to a node.
+// What happened to the items that were sent to a node.
 
 ghost use Rattle.std.specs.Prelude.{IfOk};
 ghost use Rattle.node.specs.Report.{HasRoom};
@@ -7,22 +7,22 @@ use mailbox::INBOX_ITEMS;
 use std::alloc::Global;
 use world_base::{Item, Memory};
 
-/// What became of the items that were sent to a node, once it takes no more.
+/// What happened to the items that were sent to a node, once it takes no more.
 #[derive(Drop)]
 pub struct Report {
     /// How many items of each lane the node took.
     pub taken: Vec<u64>,
     /// The items that it did not take, in order, each with its lane.
     pub left: Vec<(u8, Item)>,
-    /// The place at which its log begins: of the commands below it a snapshot is kept.
+    /// The place at which its log begins: a snapshot replaces the commands below it.
     pub base: u64,
-    /// How many times the node went on though its gate had not opened.
+    /// How many times the node continued though its gate had not opened.
     pub gate_missed: u64,
 }
 
 impl Report {
-    /// A report of nothing, with the room that closing a node takes whose inbox has so many lanes. The
-    /// only error is want of memory.
+    /// Returns an empty report, with capacity for closing a node whose inbox has this many lanes.
+    /// The only error is that memory ran out.
     pub fn with_room(alloc: Global, lanes: usize) -> Result<Report, Memory>
         ensures { IfOk result (λ report. HasRoom lanes report) }
     {

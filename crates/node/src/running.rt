@@ -23,8 +23,8 @@ const ASKS: u32 = 10_000;
 
 const ASK_MILLIS: u64 = 1;
 
-/// What the lock of a node holds. Whether it may be handed from thread to thread is asked of it as
-/// a whole, and not of all that a node is made of at each thread that is started.
+/// What the lock of a node holds. Whether it may be handed from thread to thread is proved for it
+/// as a whole, and not for everything that a node consists of at each thread that is started.
 pub trait Stated<J: NodeNaming>: Drop {
     /// Returns the node's state.
     fn state(&mut self) -> &mut NodeState<J>;
@@ -37,17 +37,17 @@ impl<J: NodeNaming> Stated<J> for NodeState<J> {
 }
 
 /// A node that runs: its state behind a lock, and the gate before each of its takings. It has no
-/// thread of its own: whoever sent it an item takes what waits, one thread after the other.
+/// thread of its own: whoever sent it an item takes what waits, one thread after another.
 #[derive(Drop)]
 pub struct Node<'g, J: NodeNaming, S: Stated<J>, G: Gate> {
     state: Mutex<S>,
     number: u8,
     gate: Option<&'g G>,
-    /// Whoever has this asks the gate, takes, and tells the gate.
+    /// The holder of this asks the gate, takes, and informs the gate.
     turn: Mutex<()>,
-    /// For how many takings the gate did not open, at most 2^64 - 1.
+    /// The number of takings for which the gate did not open, at most 2^64 - 1.
     missed: Mutex<u64>,
-    /// The room for what it reports at its end.
+    /// The allocated report for its end.
     room: Report,
     naming: PhantomData<J>,
 }
@@ -69,8 +69,8 @@ impl<'g, J: NodeNaming, S: Stated<J>, G: Gate> Model for Node<'g, J, S, G> {
 }
 
 impl<'g, J: NodeNaming, G: Gate> Node<'g, J, NodeState<J>, G> {
-    /// Starts a node, with a gate before each of its takings or without one. The room for its
-    /// report is made now. The only error is that memory runs out: the state is dropped then.
+    /// Starts a node, with a gate before each of its takings or without one. Its report is
+    /// allocated now. The only error is that memory runs out: then the state is dropped.
     pub fn start(
         alloc: Global,
         state: NodeState<J>,
@@ -93,8 +93,8 @@ impl<'g, J: NodeNaming, G: Gate> Node<'g, J, NodeState<J>, G> {
         })
     }
 
-    /// Ends the node, once its lanes send no more, and reports what became of all that they sent.
-    /// It takes no memory.
+    /// Ends the node, once its lanes send no more, and reports what happened to everything that
+    /// they sent. Takes no memory.
     pub fn close<R: Wait>(self, rt: &R, lanes: &mut [Lane<Item, J>]) -> Report
         requires lanes { AreItsLanes self lanes.old }
 
@@ -102,8 +102,8 @@ impl<'g, J: NodeNaming, G: Gate> Node<'g, J, NodeState<J>, G> {
         ensures whole { All (ArrivesWhole result.taken.items result.left.items) lanes.new }
         ensures lanes { map unmet lanes.new ≡ map unmet lanes.old }
 
-        // It tells of a node that was the replay of what was taken: how many items of each lane
-        // these were, the first that the lane sent, and where its log begins.
+        // It is about a node that was the replay of what was taken: how many items of each lane
+        // these were, which are the first that the lane sent, and where its log begins.
         ensures tells { ReportsOn (J.first_of self.entry.number) lanes.new result }
     {
         let Node {
@@ -114,7 +114,7 @@ impl<'g, J: NodeNaming, G: Gate> Node<'g, J, NodeState<J>, G> {
             ..
         } = self;
         let state = state.into_inner();
-        // They are all its lanes, but of what stood behind a lock no clause tells that.
+        // They are all its lanes, but no clause is about what was behind a lock.
         if state.number() == number && state.lanes() == room.taken.len() && state.has_all(lanes) {
             return state.close(rt, lanes, room, missed.into_inner());
         }
@@ -131,7 +131,7 @@ impl<'g, J: NodeNaming, S: Stated<J>, G: Gate> Node<'g, J, S, G> {
         self.number
     }
 
-    /// Returns whether these are all lanes of the node's inbox, in the order of their numbers.
+    /// Says whether these are all lanes of the node's inbox, in the order of their numbers.
     pub fn has_all(&self, lanes: &[Lane<Item, J>]) -> bool
         ensures { IsTrue result ↔ AreItsLanes self.now lanes.now }
     {
@@ -146,18 +146,18 @@ impl<'g, J: NodeNaming, S: Stated<J>, G: Gate> Node<'g, J, S, G> {
         true
     }
 
-    /// Locks the node's state. While it is locked nobody takes an item.
+    /// Locks the node's state. While it is locked, no item is taken.
     pub fn lock<R: Wait>(&self, rt: &R) -> MutexGuard<'_, S> {
         self.state.lock(rt)
     }
 
     /// Begins a turn: waits until the gate opens for the node's next taking, if it opens in time.
-    /// Without a gate it does not wait. Where there is one, turns come one after the other: until
-    /// this one is done no other begins.
+    /// Without a gate it does not wait. With a gate, turns come one after another: until this one
+    /// is done no other begins.
     pub fn pass<R: Wait + Clock>(&self, rt: &R) -> Leave<'_>
         ensures one { IfSome result.taking (λ _. result.most ≡ 1) }
 
-        // A gate was asked for this node and the number of the taking, and leave tells what it
+        // A gate was asked for this node and the number of the taking, and the permit says what it
         // answered.
         ensures asked { self.now.is_gated ≡ true → IsSomeAnd result.taking (λ taking.
             WasAsked G.answers self.now.number taking result.is_open) }
@@ -190,7 +190,7 @@ impl<'g, J: NodeNaming, S: Stated<J>, G: Gate> Node<'g, J, S, G> {
         is_open
     }
 
-    /// Ends a turn: tells the gate that the taking is done.
+    /// Ends a turn: informs the gate that the taking is done.
     pub fn done<R: Wait>(&self, rt: &R, leave: Leave<'_>)
         ensures { self.now.is_gated ≡ true → IfSome leave.entry.taking (λ taking.
             WasTold G.hears self.now.number taking) }

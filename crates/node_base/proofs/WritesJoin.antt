@@ -1,4 +1,4 @@
--- Two writes, one behind the other, are one write of both pieces.
+-- Two writes, one after another, are one write of both pieces.
 use Rattle.std.specs.Prelude.{◌≡◌, ℕ, ◌+◌, ◌-◌, ◌≤◌, zero, suc, Option, None, Some, List, [], ◌∷◌, ◌++◌, length, take, drop, refl}
 use Rattle.std.proofs.Common.{sym, ◌∙◌, ap, arith, zero-add, append_assoc, length-drop}
 use Rattle.std.proofs.lemmas.List.{take_all}

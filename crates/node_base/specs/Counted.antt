@@ -1,4 +1,4 @@
--- What is known of a device whose failed calls are counted.
+-- What is known about a device whose failed calls are counted.
 use Rattle.std.specs.Prelude.{ℕ, ◌+◌, ◌-◌, ◌^◌, min}
 
 -- a device, and how many of its calls have failed

@@ -1,4 +1,5 @@
--- What a whole write, the write of one piece and the read of one piece do to the bytes of a device, where those are known.
+-- What a whole write, the write of one piece and the read of one piece do to the bytes of a device,
+-- if those are known.
 use Rattle.std.specs.Prelude.{ℕ, ◌<◌, ◌≤◌, Option, List, length, take}
 use Rattle.std.specs.Io.KnownBytes.{Appends, Consumes, IsAtEnd, Keeps}
 use Rattle.node_base.specs.Counted.{counted_once}
@@ -7,12 +8,12 @@ use Rattle.node_base.specs.declared.read_outcome.ReadOutcome.TheVariants.{Bytes,
 use Rattle.node_base.specs.declared.write_outcome.WriteOutcome.{WriteOutcome}
 use Rattle.node_base.specs.declared.write_outcome.WriteOutcome.TheVariants as writes
 
--- what joined the device's bytes is a beginning of these, or all of them
+-- what was added to the device's bytes is a prefix of these, or all of them
 abbrev pub WritesBeginning : Option (List ℕ) → Option (List ℕ) → List ℕ → Type 0
 WritesBeginning old new bytes =
     (count : ℕ) × (count ≤ length bytes) × Appends old new (take count bytes)
 
--- what joined the device's bytes is a beginning of these, and not all of them
+-- what was added to the device's bytes is a prefix of these, and not all of them
 abbrev pub WritesShort : Option (List ℕ) → Option (List ℕ) → List ℕ → Type 0
 WritesShort old new bytes =
     (count : ℕ) × (count < length bytes) × Appends old new (take count bytes)
@@ -26,7 +27,7 @@ abbrev pub counted_write : WriteOutcome → ℕ → ℕ
 counted_write writes.Fault faults = counted_once faults
 counted_write _ faults = faults
 
--- the first bytes of the piece joined the device's, or none
+-- the first bytes of the piece were added to the device's, or none
 abbrev pub WritesPiece : WriteOutcome → Option (List ℕ) → Option (List ℕ) → List ℕ → Type 0
 WritesPiece (writes.Bytes count) old new bytes =
     (count ≤ length bytes) × Appends old new (take count bytes)

@@ -3,7 +3,7 @@ use Rattle.std.specs.Prelude.{◌≡◌, ℕ, ◌≤◌, Option, List, length, t
 use Rattle.std.specs.Io.KnownBytes.{Appends, Keeps}
 use Rattle.node_base.specs.Counted.{Watched, counted_once}
 
--- so many bytes joined the device's, or the call failed, was counted, and changed nothing
+-- this many bytes were added to the device's, or the call failed, was counted, and changed nothing
 abbrev pub WritesOnce :
     {D : Type 0} → (D → Option (List ℕ)) → Watched D → Watched D → Option ℕ → List ℕ → Type 0
 WritesOnce contents old new None bytes =

@@ -12,7 +12,7 @@ use crate::written::Written;
 use std::io::{ErrorKind, Read, Write};
 use std::marker::Model;
 
-/// The room that a caller of [`Counted::read_piece`] does well to lend, in bytes.
+/// A good size of the buffer for [`Counted::read_piece`], in bytes.
 pub const PIECE_BYTES: usize = 65_536;
 
 /// A device together with the number of its calls that failed. The count stays at 2^64 - 1.
@@ -31,21 +31,21 @@ impl<D> Model for Counted<D> {
 }
 
 impl<D> Counted<D> {
-    /// A device of which no call has failed yet.
+    /// Returns a device; no call of it has failed yet.
     pub fn new(device: D) -> Self
         ensures { result ≡ record { device = device; faults = 0 } }
     {
         Counted { device, faults: 0 }
     }
 
-    /// How many calls of the device have failed, at most 2^64 - 1.
+    /// Returns how many calls of the device have failed, at most 2^64 - 1.
     pub fn faults(&self) -> u64
         ensures { result ≡ self.now.faults }
     {
         self.faults
     }
 
-    /// The device itself. Its count is forgotten.
+    /// Returns the device itself. Its count is forgotten.
     pub fn into_device(self) -> D
         ensures { result ≡ self.device }
     {
@@ -54,8 +54,8 @@ impl<D> Counted<D> {
 }
 
 impl<W: Write> Counted<W> {
-    /// Writes all bytes and flushes the device, in as many calls as it takes. What stands written
-    /// is always a beginning of `bytes`.
+    /// Writes all bytes and flushes the device, in as many calls as needed. What is written is
+    /// always a prefix of `bytes`.
     pub fn write_whole(&mut self, bytes: &[u8]) -> Written
         ensures beginning { WritesBeginning
             (W.contents self.old.device) (W.contents self.new.device) bytes.now }
@@ -64,7 +64,7 @@ impl<W: Write> Counted<W> {
         ensures stopped { result ≡ Written.Stopped → WritesShort
             (W.contents self.old.device) (W.contents self.new.device) bytes.now }
 
-        // A fault is told exactly where one more call of the device failed.
+        // A fault is reported exactly if one more call of the device failed.
         ensures fault { result ≡ Written.Fault → self.new.faults
             ≡ counted_once self.old.faults }
         ensures no_fault { result ≢ Written.Fault → self.new.faults ≡ self.old.faults }
@@ -84,13 +84,14 @@ impl<W: Write> Counted<W> {
         }
     }
 
-    /// Writes a piece, by one call of the device, which may take a beginning of it. A call that was interrupted took
-    /// nothing, and one that would have to wait, or did so for too long, says that the device is full: neither is a fault.
+    /// Writes a piece, by one call of the device, which may take a prefix of it. A call that was
+    /// interrupted took nothing, and one that would have to wait, or did so for too long, says that
+    /// the device is full: neither is a fault.
     pub fn write_piece(&mut self, bytes: &[u8]) -> WriteOutcome
         ensures piece { WritesPiece
             result (W.contents self.old.device) (W.contents self.new.device) bytes.now }
 
-        // A fault is told exactly where one more call of the device failed.
+        // A fault is reported exactly if one more call of the device failed.
         ensures faults { self.new.faults ≡ counted_write result self.old.faults }
     {
         let error = match self.device.write(bytes) {
@@ -108,7 +109,7 @@ impl<W: Write> Counted<W> {
         }
     }
 
-    // One call of the device: how many bytes it took, or that it failed.
+    // Makes one call of the device. Returns how many bytes it took, or none if it failed.
     fn write_once(&mut self, bytes: &[u8]) -> Option<usize>
         ensures { WritesOnce W.contents self.old self.new result bytes.now }
     {
@@ -121,7 +122,7 @@ impl<W: Write> Counted<W> {
         }
     }
 
-    // Hands on what the device may have kept back: whether it did not fail.
+    // Flushes the device. Says whether that did not fail.
     fn flush(&mut self) -> bool
         ensures kept { Keeps (W.contents self.old.device) (W.contents self.new.device) }
         ensures fault { self.new.faults
@@ -142,7 +143,7 @@ impl<R: Read> Counted<R> {
         ensures piece { ReadsPiece
             result (R.remaining self.old.device) (R.remaining self.new.device) room.new }
 
-        // A fault is told exactly where one more call of the device failed.
+        // A fault is reported exactly if one more call of the device failed.
         ensures faults { self.new.faults ≡ counted_read result self.old.faults }
     {
         match self.device.read(room) {

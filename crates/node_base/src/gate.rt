@@ -2,21 +2,21 @@
 
 use std::sync::Wait;
 
-/// What is asked before a node takes an item. Whoever holds nodes at it sees which of them go on
-/// without the others. Several nodes may ask it at once, and the lock of a node's state is not held
-/// meanwhile.
+/// What is asked before a node takes an item. A test that holds nodes at it sees which of them
+/// continue without the others. Several nodes may ask it at once, and the lock of a node's state is
+/// not held meanwhile.
 pub trait Gate {
     ghost use Rattle.std.specs.Prelude.{ℕ, Bool};
 
-    // Asked whether the node of this number may go on to its taking of this number, it answered
+    // It was asked whether the node of this number may do its taking of this number, and answered
     // this.
     ghost answers: { Self → ℕ → ℕ → Bool → Type 0 };
 
-    // It heard that the node of this number has done its taking of this number.
+    // It was told that the node of this number has done its taking of this number.
     ghost hears: { Self → ℕ → ℕ → Type 0 };
 
-    /// Returns whether the node of this number may go on to its taking of this number, from 1. If
-    /// not, it is asked again, a while later.
+    /// Says whether the node of this number may do its taking of this number, from 1. If not, it is
+    /// asked again a while later.
     fn open<R: Wait>(&self, rt: &R, node: u8, taking: u64) -> bool
         ensures { answers self.now node taking result };
 
@@ -25,7 +25,7 @@ pub trait Gate {
         ensures { hears self.now node taking };
 }
 
-/// Stands for no gate where a type is asked for. As a gate it is always open.
+/// The type to use if there is no gate. As a gate it is always open.
 #[derive(Clone, Copy, Debug, PartialEq, Eq)]
 pub struct NoGate;
 

@@ -1,6 +1,6 @@
 //! Reading from and writing to devices that may fail: streams, files, or bytes in memory. Each
-//! device stands in a [`Counted`], which counts its failed calls, so that a fault is told only
-//! where the device had one. And the gate at which a test holds nodes before they take an item.
+//! device is in a [`Counted`], which counts its failed calls, so that a fault is reported only if
+//! the device had one. Also the gate at which a test holds nodes before they take an item.
 #![tactic(auto)]
 
 mod counted;

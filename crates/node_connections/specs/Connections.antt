@@ -1,4 +1,5 @@
--- The connections of a node, in the order in which they were opened, and what becomes of one (MQTT 3.1.2.10, 3.2.2.3).
+-- The connections of a node, in the order in which they were opened, and what happens to one (MQTT
+-- 3.1.2.10, 3.2.2.3).
 use Rattle.std.specs.Prelude.{ℕ, ◌+◌, ◌*◌, Bool, true, false, not, ◌&&◌, ◌||◌, ◌==◌, nat_lt, nat_le, if◌then◌else◌, List, [], ◌∷◌, ◌++◌, length}
 use Rattle.broker_model.specs.Connection.{ConnectionName, same_connection}
 use Rattle.node_connections.specs.declared.port.Port.{Port}
@@ -26,7 +27,7 @@ is_proposed Proposed = true
 is_proposed Over = false
 is_proposed Failed = false
 
--- closed as lost, of which the broker is still to hear
+-- closed as lost, and the loss is still to be reported to the broker
 abbrev pub is_failed : Stage → Bool
 is_failed Awaits = false
 is_failed Proposed = false
@@ -46,12 +47,12 @@ is_open_at port c = not (is_over c.stage) && is_at port c
 abbrev pub is_open_named : ConnectionName → Connection → Bool
 is_open_named name c = not (is_over c.stage) && same_connection c.name name
 
--- a connection is listed while it is open, and until all that was put out for it was handed over
+-- a connection is listed while it is open, and until all that was queued for it was handed over
 abbrev pub is_listed : Connection → Bool
 is_listed c = not (is_over c.stage) || not (length c.pending == 0)
 
--- it is open, has a keep alive, and no packet came whole for more than one and a half times of it (MQTT 3.1.2.10);
--- a keep alive counts seconds, times count milliseconds
+-- it is open, has a keep alive, and no whole packet came for more than one and a half times of it
+-- (MQTT 3.1.2.10); a keep alive counts seconds, times count milliseconds
 abbrev pub is_silent : ℕ → Connection → Bool
 is_silent now c = (not (is_over c.stage) && nat_lt 0 c.keep_alive) && nat_lt (c.last_packet + 1500 * c.keep_alive) now
 
@@ -64,7 +65,7 @@ fresh port name =
 abbrev pub holding : List ℕ → Connection → Connection
 holding piece c = record c { unread = c.unread ++ piece }
 
--- a packet was read, which was whole at this time; these bytes came behind it
+-- a packet was read, which was whole at this time; these bytes came after it
 abbrev pub left_with : ℕ → List ℕ → Connection → Connection
 left_with now rest c = record c { unread = rest; last_packet = now }
 
@@ -72,11 +73,11 @@ left_with now rest c = record c { unread = rest; last_packet = now }
 abbrev pub asked : ℕ → Connection → Connection
 asked keep_alive c = record c { stage = Proposed; keep_alive = keep_alive }
 
--- closed: nothing more is read or waited for, and what was put out before is still handed over
+-- closed: nothing more is read or waited for, and what was queued before is still handed over
 abbrev pub closed : Connection → Connection
 closed c = record c { stage = Over; keep_alive = 0; last_packet = 0; unread = [] }
 
--- bytes are put out
+-- bytes are queued
 abbrev pub putting : List ℕ → Connection → Connection
 putting bytes c = record c { pending = c.pending ++ bytes }
 
@@ -84,15 +85,15 @@ putting bytes c = record c { pending = c.pending ++ bytes }
 abbrev pub most_pending : ℕ
 most_pending = 134217728
 
--- closed as lost: the broker is to hear of it, where it heard of its CONNECT
+-- closed as lost: the loss is to be reported to the broker, if its CONNECT was proposed
 abbrev pub failing : Connection → Connection
 failing c = record (closed c) { stage = if is_proposed c.stage then Failed else Over }
 
--- bytes are put out where there is room for them; else the connection is closed as lost
+-- bytes are queued if there is room for them; otherwise the connection is closed as lost
 abbrev pub put_out : List ℕ → Connection → Connection
 put_out bytes c = if nat_le (length c.pending + length bytes) most_pending then putting bytes c else failing c
 
--- what was put out is handed over
+-- what was queued is handed over
 abbrev pub handed : Connection → Connection
 handed c = record c { pending = [] }
 

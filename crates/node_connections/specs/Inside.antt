@@ -16,7 +16,7 @@ abbrev pub IsFault : Result (Packet × List ℕ) Stop → Type 0
 IsFault (Err (stops.Malformed kind)) = Unit {0}
 IsFault _ = ⊥
 
--- what stands at the front of the bytes of a connection, and what is left of them
+-- what is at the front of the bytes of a connection, and what is left of them
 abbrev pub Reads : List ℕ → Front → List ℕ → Type 0
 Reads bytes fronts.More left = (verdict bytes ≡ Err stops.More) × (left ≡ bytes)
 Reads bytes (fronts.Packet packet) left = (verdict bytes ≡ Ok (packet, left)) × IsSized packet
@@ -24,7 +24,7 @@ Reads bytes (fronts.Refused code) left = verdict bytes ≡ Err (stops.Refused co
 Reads bytes fronts.Fault left = IsFault (verdict bytes)
 Reads bytes fronts.Wanting left = Unit {0}
 
--- what reading on at this time makes of a connection
+-- what reading the next packet at this time does to a connection
 abbrev pub TakesFront : ℕ → Connection → Front → Connection → Type 0
 TakesFront now old fronts.More new = (verdict old.unread ≡ Err stops.More) × (new ≡ old)
 TakesFront now old (fronts.Packet packet) new =

@@ -5,12 +5,12 @@ use Rattle.node_connections.specs.declared.handed.Handed.TheVariants as answers
 use Rattle.node_connections.specs.declared.connection.Connection.{Connection}
 use Rattle.node_connections.specs.Connections.{is_over}
 
--- all that was put out and not handed over before
+-- everything that was queued and not yet handed over
 abbrev pub bytes_of : Option Connection → List ℕ
 bytes_of None = []
 bytes_of (Some c) = c.pending
 
--- whether more may come: not where the connection is over, or was never opened
+-- whether more may come: not if the connection is over, or was never opened
 abbrev pub answer_of : Option Connection → Handed
 answer_of None = answers.Closed
 answer_of (Some c) = if is_over c.stage then answers.Closed else answers.Open

@@ -1,4 +1,4 @@
--- What becomes of a connection whose CONNECT is refused with a code.
+-- What happens to a connection whose CONNECT is refused with a code.
 use Rattle.cutter.specs.packet.RefusalCode.{RefusalCode}
 use Rattle.cutter.specs.packet.declared.packet.Packet.TheVariants as packets
 use Rattle.cutter.specs.packet.declared.connack.Connack.TheVariants as connacks

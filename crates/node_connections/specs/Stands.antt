@@ -1,4 +1,4 @@
--- How a connection stands, for whoever serves its stream.
+-- The state of a connection, for the code that serves its stream.
 use Rattle.std.specs.Prelude.{Option, Some, None}
 use Rattle.node_connections.specs.declared.connection.Connection.{Connection}
 use Rattle.node_connections.specs.declared.connection.Stage.{Stage}
@@ -12,7 +12,7 @@ standing_at stages.Proposed = Open
 standing_at stages.Over = Closed
 standing_at stages.Failed = Closed
 
--- where there is no connection it is closed
+-- if there is no connection it is closed
 abbrev pub standing_of : Option Connection → Standing
 standing_of None = Closed
 standing_of (Some c) = standing_at c.stage

@@ -18,7 +18,8 @@ use cutter::packet::{Connack, Packet, RefusalCode};
 use piece::{Memory, Piece};
 use std::alloc::Global;
 
-/// How many bytes may wait to be handed over on one connection: more than a client is sent again.
+/// How many bytes may wait to be handed over on one connection: more than a client can be sent
+/// again.
 const MOST_PENDING: usize = 134_217_728;
 
 /// How far a connection is.
@@ -30,19 +31,19 @@ pub enum Stage {
     Proposed,
     /// It is closed.
     Over,
-    /// It is closed as lost, of which the broker is still to hear.
+    /// It is closed as lost, and the loss is still to be reported to the broker.
     Failed,
 }
 
 impl Stage {
-    /// Whether the first packet of the connection is awaited.
+    /// Says whether the first packet of the connection is awaited.
     pub fn is_first(self) -> bool
         ensures { result ≡ is_first self }
     {
         self == Stage::Awaits
     }
 
-    /// Whether the CONNECT of the connection became a command, and it is open.
+    /// Says whether the CONNECT of the connection became a command, and it is open.
     pub fn is_proposed(self) -> bool
         ensures { result ≡ is_proposed self }
     {
@@ -50,13 +51,14 @@ impl Stage {
     }
 }
 
-/// A connection of a node. It stays listed until all that was put out for it was handed over.
+/// A connection of a node. It stays listed until everything that was queued for it was handed over.
 #[derive(Drop)]
 pub struct Connection {
     pub port: Port,
     pub name: ConnectionId,
     pub stage: Stage,
-    /// The most seconds between two packets of its client, by its CONNECT; 0 for no limit (MQTT 3.1.2.10).
+    /// The most seconds between two packets of its client, by its CONNECT; 0 for no limit (MQTT
+    /// 3.1.2.10).
     pub keep_alive: u16,
     /// When its last packet was whole, in milliseconds; 0 before the first.
     pub last_packet: u64,
@@ -65,7 +67,7 @@ pub struct Connection {
 }
 
 impl Connection {
-    /// A connection that was just opened.
+    /// Returns a connection that was just opened.
     pub fn new(alloc: Global, port: Port, name: ConnectionId) -> Connection
         ensures { result ≡ fresh port name }
     {
@@ -80,57 +82,57 @@ impl Connection {
         }
     }
 
-    /// Whether it is of this port.
+    /// Says whether it is of this port.
     pub fn is_at(&self, port: Port) -> bool
         ensures { result ≡ is_at port self.now }
     {
         self.port.0 == port.0
     }
 
-    /// Whether this is the open connection of a port.
+    /// Says whether this is the open connection of a port.
     pub fn is_open_at(&self, port: Port) -> bool
         ensures { result ≡ is_open_at port self.now }
     {
         !self.is_over() && self.port.0 == port.0
     }
 
-    /// Whether this is the open connection of a name.
+    /// Says whether this is the open connection of a name.
     pub fn is_open_named(&self, name: ConnectionId) -> bool
         ensures { result ≡ is_open_named name self.now }
     {
         !self.is_over() && self.name == name
     }
 
-    /// Whether it is closed.
+    /// Says whether it is closed.
     pub fn is_over(&self) -> bool
         ensures { result ≡ is_over self.now.stage }
     {
         matches!(self.stage, Stage::Over | Stage::Failed)
     }
 
-    /// Whether it is closed as lost, of which the broker is still to hear.
+    /// Says whether it is closed as lost, and the loss is still to be reported to the broker.
     pub fn has_failed(&self) -> bool
         ensures { result ≡ has_failed self.now }
     {
         self.stage == Stage::Failed
     }
 
-    /// Whether its first packet is awaited.
+    /// Says whether its first packet is awaited.
     pub fn is_first(&self) -> bool
         ensures { result ≡ is_first self.now.stage }
     {
         self.stage.is_first()
     }
 
-    /// Whether its CONNECT became a command, and it is open.
+    /// Says whether its CONNECT became a command, and it is open.
     pub fn is_proposed(&self) -> bool
         ensures { result ≡ is_proposed self.now.stage }
     {
         self.stage.is_proposed()
     }
 
-    /// Whether it is open, and no packet came whole for more than one and a half times of its keep alive
-    /// (MQTT 3.1.2.10).
+    /// Says whether it is open, and no whole packet came for more than one and a half times of its
+    /// keep alive (MQTT 3.1.2.10).
     pub fn is_silent(&self, now: u64) -> bool
         ensures { result ≡ is_silent now self.now }
     {
@@ -138,21 +140,21 @@ impl Connection {
         !self.is_over() && self.keep_alive > 0 && now.saturating_sub(self.last_packet) > allowed
     }
 
-    /// Whether it is listed: it is open, or has bytes to hand over.
+    /// Says whether it is listed: it is open, or has bytes to hand over.
     pub fn is_listed(&self) -> bool
         ensures { result ≡ is_listed self.now }
     {
         !self.is_over() || !self.pending.is_empty()
     }
 
-    /// Whether it is open, and has nothing to hand over.
+    /// Says whether it is open, and has nothing to hand over.
     pub fn is_idle(&self) -> bool
         ensures { result ≡ is_idle self.now }
     {
         !self.is_over() && self.pending.is_empty()
     }
 
-    /// Whether more may be put out for it.
+    /// Says whether more may be queued for it.
     pub fn answer(&self) -> Handed
         ensures { result ≡ answer_of (Some self.now) }
     {
@@ -163,7 +165,7 @@ impl Connection {
         }
     }
 
-    /// Returns how it stands.
+    /// Returns its status.
     pub fn standing(&self) -> Standing
         ensures { result ≡ standing_of (Some self.now) }
     {
@@ -174,7 +176,7 @@ impl Connection {
         }
     }
 
-    /// Holds bytes that came. Where memory is wanting nothing changes.
+    /// Holds bytes that came. If memory runs out nothing changes.
     pub fn hold(&mut self, piece: &Piece) -> Result<(), Memory>
         ensures ok { OnOk result (self.new ≡ holding piece.now self.old) }
         ensures err { OnErr result (self.new ≡ self.old) }
@@ -182,8 +184,8 @@ impl Connection {
         self.unread.add(piece)
     }
 
-    /// Reads the next packet, which is whole at this time. All but a packet or less than one closes it; a
-    /// first CONNECT that is refused with a code is answered before.
+    /// Reads the next packet, which is whole at this time. Anything except a packet or less than
+    /// one closes the connection; a first CONNECT that is refused with a code is answered before.
     pub fn next(&mut self, now: u64) -> Front
         ensures { TakesFront now self.old result self.new }
     {
@@ -203,7 +205,7 @@ impl Connection {
         front
     }
 
-    /// Its CONNECT, which has this keep alive, becomes a command.
+    /// Notes that its CONNECT, which has this keep alive, became a command.
     pub fn ask(&mut self, keep_alive: u16)
         ensures { self.new ≡ asked keep_alive self.old }
     {
@@ -211,7 +213,8 @@ impl Connection {
         self.keep_alive = keep_alive;
     }
 
-    /// Puts a packet out: whether it was. Where it has no bytes or memory is wanting nothing changes.
+    /// Queues a packet, and says whether it did. If the packet has no bytes or memory runs out,
+    /// nothing changes.
     pub fn put(&mut self, packet: &Packet) -> bool
         ensures whole { result ≡ true → self.new ≡ putting (spelling packet.now) self.old }
         ensures same { result ≡ false → self.new ≡ self.old }
@@ -219,7 +222,8 @@ impl Connection {
         self.pending.put(packet)
     }
 
-    /// Refuses its CONNECT with a code: whether the answer found memory. It is closed in any case.
+    /// Refuses its CONNECT with a code, and says whether there was memory for the answer. It is
+    /// closed in any case.
     pub fn refuse(&mut self, code: RefusalCode) -> bool
         ensures whole { result ≡ true → self.new ≡ refused code self.old }
         ensures lost { result ≡ false → self.new ≡ closed self.old }
@@ -229,8 +233,8 @@ impl Connection {
         put
     }
 
-    /// Puts a packet out, or closes the connection as lost where there is no room for it, or no memory:
-    /// whether there was memory.
+    /// Queues a packet, or closes the connection as lost if there is no room for it, or no memory.
+    /// Says whether there was memory.
     pub fn put_or_fail(&mut self, packet: &Packet) -> bool
         ensures whole { result ≡ true → self.new ≡ put_out (spelling packet.now) self.old }
         ensures lost { result ≡ false → self.new ≡ failing self.old }
@@ -248,7 +252,7 @@ impl Connection {
         }
     }
 
-    /// Closes it as lost: the broker is to hear of it, where it heard of its CONNECT.
+    /// Closes it as lost: the loss is to be reported to the broker, if its CONNECT was proposed.
     pub fn fail(&mut self)
         ensures { self.new ≡ failing self.old }
     {
@@ -259,8 +263,8 @@ impl Connection {
         }
     }
 
-    /// Hands over what was put out, after what `out` holds. Where `out` is empty no byte is copied. If memory runs out,
-    /// nothing changes; it does not where nothing was put out.
+    /// Hands over what was queued, after what `out` holds. If `out` is empty no byte is copied. If
+    /// memory runs out, nothing changes; it does not run out if nothing was queued.
     pub fn outgoing(&mut self, out: &mut Vec<u8>) -> Result<(), Memory>
         ensures bytes { OnOk result (out.new.items ≡ out.old.items ++ self.old.pending) }
         ensures ok { OnOk result (self.new ≡ handed self.old) }
@@ -271,7 +275,7 @@ impl Connection {
         self.pending.move_to(out)
     }
 
-    /// Closes it. What was put out before is still handed over.
+    /// Closes it. What was queued before is still handed over.
     pub fn close(&mut self)
         ensures { self.new ≡ closed self.old }
     {

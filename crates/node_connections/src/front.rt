@@ -1,8 +1,8 @@
-// What stands at the front of a connection's bytes.
+// What is at the front of a connection's bytes.
 
 use cutter::packet::{Packet, RefusalCode};
 
-/// What stands at the front of a connection's bytes.
+/// What is at the front of a connection's bytes.
 #[derive(Drop)]
 pub enum Front {
     /// Less than a packet.

@@ -12,14 +12,14 @@ use crate::connection::Connection;
 use crate::port::Port;
 use piece::Memory;
 
-/// Whether a connection of this port is listed.
+/// Says whether a connection of this port is listed.
 pub fn has_port(connections: &[Connection], port: Port) -> bool
     ensures { result ≡ list_any (is_at port) connections.now }
 {
     connections.iter().any(|c| c.is_at(port))
 }
 
-/// The lowest port of the connections that are silent at this time.
+/// Returns the lowest port of the connections that are silent at this time.
 pub fn lowest_silent(connections: &[Connection], now: u64) -> Option<Port>
     ensures { result ≡ lowest_silent now connections.now }
 {
@@ -32,7 +32,7 @@ pub fn lowest_silent(connections: &[Connection], now: u64) -> Option<Port>
     lowest
 }
 
-// The lower of two ports.
+// Returns the lower of two ports.
 fn lower(low: Option<Port>, port: Port) -> Port
     ensures { result ≡ lower low port }
 {
@@ -42,8 +42,8 @@ fn lower(low: Option<Port>, port: Port) -> Port
     }
 }
 
-/// Appends the ports of the connections that are open and have nothing to hand over. Where memory is wanting
-/// some of them may be appended.
+/// Appends the ports of the connections that are open and have nothing to hand over. If memory runs
+/// out some of them may be appended.
 pub fn push_idle(connections: &[Connection], ports: &mut Vec<Port>) -> Result<(), Memory>
     ensures ok { OnOk result (ports.new.items ≡ ports.old.items
         ++ map (λ (c : Connection). c.port) (filter is_idle connections.now)) }
@@ -57,7 +57,7 @@ pub fn push_idle(connections: &[Connection], ports: &mut Vec<Port>) -> Result<()
     Ok(())
 }
 
-/// Adds a connection at the end: whether there was memory.
+/// Adds a connection at the end, and says whether there was memory.
 pub fn push(connections: &mut Vec<Connection>, connection: Connection) -> bool
     ensures ok { result ≡ true → connections.new.items ≡ connections.old.items ++ connection ∷ [] }
     ensures same { result ≡ false → connections.new.items ≡ connections.old.items }
@@ -74,7 +74,7 @@ pub fn close_each(connections: &mut Vec<Connection>)
     }
 }
 
-/// Takes closed connections with nothing to hand over off the list.
+/// Removes closed connections with nothing to hand over from the list.
 pub fn keep_listed(connections: &mut Vec<Connection>)
     ensures { connections.new.items ≡ filter is_listed connections.old.items }
 {

@@ -1,6 +1,6 @@
-// How a connection stands, for whoever serves its stream.
+// The state of a connection, for the code that serves its stream.
 
-/// How a connection of a node stands.
+/// The state of a node's connection.
 #[derive(Clone, Copy, Debug, PartialEq, Eq)]
 pub enum Standing {
     /// It is open, and its first packet is awaited.

@@ -29,7 +29,7 @@ impl Model for Unread {
 }
 
 impl Unread {
-    /// No bytes.
+    /// Returns an empty buffer.
     pub fn new(alloc: Global) -> Unread
         ensures { result ≡ [] }
     {
@@ -39,7 +39,7 @@ impl Unread {
         }
     }
 
-    /// Adds bytes that came. Where memory is wanting nothing changes.
+    /// Adds bytes that came. If memory runs out nothing changes.
     pub fn add(&mut self, piece: &Piece) -> Result<(), Memory>
         ensures ok { OnOk result (self.new ≡ self.old ++ piece.now) }
         ensures err { OnErr result (self.new ≡ self.old) }
@@ -59,7 +59,7 @@ impl Unread {
             Ok(Some(packet)) => Front::Packet(packet),
             Err(CutError::Memory) => Front::Wanting,
             Err(error) => {
-                // The stream has failed: nothing more is read of it.
+                // The stream has failed: nothing more is read from it.
                 self.cutter = Cutter::new(self.alloc);
                 match error {
                     CutError::Decode(DecodeFault::Refused(code)) => Front::Refused(code),
@@ -69,7 +69,7 @@ impl Unread {
         }
     }
 
-    /// How many bytes there are.
+    /// Returns how many bytes there are.
     pub fn len(&self) -> usize
         ensures { result ≡ length self.now }
     {

@@ -1,4 +1,4 @@
-//! Inboxes and nodes to which memory is refused. Tests alone stand here.
+//! Inboxes and nodes that run out of memory. It has only tests.
 #![tactic(auto)]
 
 #[cfg(test)]

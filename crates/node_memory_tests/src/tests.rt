@@ -1,5 +1,5 @@
-// Memory that is refused to an inbox, and to a node with its inbox. Run with each allocation
-// failing in turn.
+// An inbox, and a node with its inbox, that run out of memory. Each test runs with each of its
+// allocations failing in turn.
 
 mod inbox_memory;
 mod node_memory;

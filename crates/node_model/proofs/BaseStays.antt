@@ -1,5 +1,5 @@
--- A move in which a replica hears nothing leaves its log at the base that it has, also one in which something is lost; a cut moves it
--- to what was applied.
+-- A move in which a replica receives nothing leaves its log at the base that it has, also one in
+-- which something is lost; a cut moves it to what was applied.
 use Rattle.std.proofs.Common.{◌≡◌, Bool, true, false, if◌then◌else◌, refl, ap, ◌∙◌, subst}
 use Rattle.world_base.specs.ballot.Cutting.{can_cut}
 use Rattle.world_base.specs.ballot.Protocol.Input.{Receives, Proposes, Ticks}
@@ -78,7 +78,7 @@ begins_cut : {core : CoreState} {turn : Turn} (run : Runs core turn) → BeginsW
 begins_cut rests_exactly begins = absurd cc
 begins_cut (goes_exactly m run) begins = bare_base run begins.1 ∙ cut_moves m begins.0
 
--- a step that takes a cut, where there is something to cut
+-- a step that takes a cut, if there is something to cut
 pub cut_step_base : (core : CoreState) → can_cut core.replica.state ≡ true → (node_step Cut core).core.replica.state.log.base ≡ core.replica.state.committed
 cut_step_base core can =
     let r = subst (λ (b : Bool). First (if b then Part.cut else Part.nothing) core (node_step Cut core)) can (deeds_begin (takes Cut) core) in

@@ -1,4 +1,5 @@
--- What closing a connection and putting out on it keep holds of each connection still, whatever is proposed.
+-- What closing a connection and putting out on it keep holds for each connection still, whatever is
+-- proposed.
 use Rattle.std.proofs.Common.{ℕ, zero, suc, Bool, true, false, if◌then◌else◌, List, [], ◌∷◌, Option, Some, None, map, filter}
 use Rattle.std.specs.List.{find, fold}
 use Rattle.packet.specs.Spelling.{spelling}

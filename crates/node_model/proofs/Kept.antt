@@ -1,4 +1,5 @@
--- What moves that read nothing leave of a connection: it stays as it is, but for what is put out on it, or is closed.
+-- What moves that read nothing leave of a connection: it stays as it is, except what is queued on
+-- it, or is closed.
 use Rattle.std.proofs.Common.{◌≡◌, ◌⊎◌, inl, inr, ◌≤◌, ℕ, Bool, true, false, not, ◌&&◌, ◌||◌, ◌==◌, ◌+◌, nat_le, length, if◌then◌else◌, List, [], ◌∷◌, Option, Some, None, refl, sym, ap, ◌∙◌, subst, filter, map, arith}
 use Rattle.std.specs.List.{find, fold}
 use Rattle.packet.specs.Spelling.{spelling}
@@ -183,7 +184,7 @@ stays_moved outcome core up o =
     let s = stays_delivered hears outcome.effects (record { names = o.names; given = o.given; within = omega (arith, within, up) }) in
     record { kept = s.kept; last = s.last; orderly = s.orderly }
 
--- what is heard leaves no later ballot either
+-- what is received leaves no later ballot either
 pub heard_up : (input : Input Command) (core : CoreState) → Up core.replica.state (heard input core.replica.state)
 heard_up input core =
     up_if core.replica.state core.replica.state.stopped (nothing_done Output core.replica.state) (replica_step rules core.replica.state input)
@@ -207,7 +208,7 @@ stays_cut core o = record { kept = λ x. kept_same (open_named x core); last = r
 pub stays_crashed : (core : CoreState) → IsOrderly core → Stays core (crashed core)
 stays_crashed core o = record { kept = λ x. kept_same (open_named x core); last = refl; orderly = record { names = o.names; given = o.given; within = o.within } }
 
--- ---- a connection that failed is not live, before it is closed for good and behind that
+-- ---- a connection that failed is not live, before it is closed for good and after that
 
 failed_over : (s : Stage) → is_failed s ≡ true → not (is_over s) ≡ false
 failed_over Awaits e = absurd cc
@@ -240,7 +241,7 @@ stays_failed core o =
       orderly = changed_orderly core (closes_failed core) has_failed closed o refl refl (same_le core.replica.state.joined) (λ d. refl);
     }
 
--- ---- connections that are closed and done are gone
+-- ---- connections that are closed and done are removed
 
 neither : (a b : Bool) → (a || b) ≡ false → a ≡ false
 neither true b e = cc
@@ -282,7 +283,7 @@ stays_settled core o = by (serves core)
         (λ x. one_mapped (named x) closed core.connections (λ d. refl) (o.names x))
         (each_mapped (λ (c : Connection). IsGiven core.last_name c.name) closed core.connections (λ d within. within) o.given)
 
--- ---- what was put out is handed over
+-- ---- what was queued is handed over
 
 kept_handed : (x : ConnectionName) (test : Connection → Bool) (cs : List Connection) → Kept (view live (named x) cs) (view live (named x) (changed test handed cs))
 kept_handed x test [] = never

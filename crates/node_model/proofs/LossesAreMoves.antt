@@ -1,4 +1,4 @@
--- All that a node does with an item, where memory may be wanting, is a run of moves.
+-- All that a node does with an item, when memory may run out, is a run of moves.
 use Rattle.std.proofs.Common.{◌≡◌, inl, inr, ℕ, Bool, true, false, List, [], ◌∷◌, length, refl, sym, ap, subst, append_assoc}
 use Rattle.std.proofs.lemmas.List.{append-nil}
 use Rattle.world_base.specs.ballot.Protocol.{Input}
@@ -24,7 +24,7 @@ use Rattle.node_model.specs.Moves.{and_then}
 use Rattle.node_model.specs.Moves.Moves.{holds, opens_one, cuts_log, crashes, settles}
 use Rattle.node_model.proofs.LossyRuns.{Calm, First, Given, Still, all_failed, calm_join, calm_move, first_calm, first_move, still_ends, still_expelled, still_lost, still_reads, still_repeated, still_silent}
 
--- what was done is such a run, whatever calm one comes behind it
+-- what was done is such a run, whatever calm one comes after it
 abbrev Before : CoreState → Account → List (Input Command) → Bool → (ConnectionName → List ℕ) → Type 0
 Before core did inputs may_cut bytes = (next : Turn) → Calm did.core next → First core (and_then (turn_of did) next) inputs may_cut bytes
 
@@ -90,7 +90,7 @@ taken_in Crash core did is =
 
 -- ---- a step
 
--- the broker hears of the failed ones, and connections are settled
+-- the failed ones are reported to the broker, and connections are settled
 tail_of : (core : CoreState) (did : Account) → LosesAllFailed core did → Calm core (let t : Turn = record { core = settled did.core; messages = did.messages } in t)
 tail_of core did runs =
     subst (λ (given : Given). Calm core (let t : Turn = record { core = settled did.core; messages = given } in t)) (append-nil did.messages)

@@ -1,4 +1,5 @@
--- No step leaves a loss of which the broker is still to hear: each of which it hears is one fewer.
+-- After no step a loss is still to be reported to the broker: each loss that is reported leaves one
+-- fewer.
 use Rattle.std.proofs.Common.{◌≡◌, ◌⊎◌, inl, inr, ◌≤◌, ◌<◌, ℕ, Bool, true, false, if◌then◌else◌, length, List, [], ◌∷◌, Option, Some, None, refl, arith}
 use Rattle.std.specs.List.{find}
 use Rattle.story.specs.broker_base.Command.TheVariants as commands

@@ -1,4 +1,5 @@
--- Where memory may be wanting nothing more is put out on a connection that is closed, and new ones have a name of the ballot.
+-- If memory may run out nothing more is queued on a connection that is closed, and new ones have a
+-- name of the ballot.
 use Rattle.std.proofs.Common.{◌≡◌, true, Option, Some, None, refl, sym, ap, ◌∙◌}
 use Rattle.std.proofs.lemmas.Bool.{both_ways}
 use Rattle.story.specs.broker_base.Connection.{ConnectionName}
@@ -22,7 +23,7 @@ use Rattle.node_model.proofs.Shut.{Shuts, listed_open}
 use Rattle.node_model.proofs.Shut.Shuts.{nobody, stays_open, is_shut, was_shut}
 use Rattle.node_model.proofs.Views.{same_some}
 
--- ---- nothing more is put out
+-- ---- nothing more is queued
 
 closed_by : (x : ConnectionName) (core : CoreState) (turn : Turn) (m : LossyMoves core turn) (d : Connection) (o p : Option Connection) → Shuts (sent_in x m) o p
     → listed_named x core ≡ o → p ≡ Some d → is_over d.stage ≡ true → IsClosedBy x m d

@@ -1,4 +1,4 @@
--- Where memory may be wanting each open connection has a name of the ballot that its node leads.
+-- If memory may run out each open connection has a name of the ballot that its node leads.
 use Rattle.std.proofs.Common.{◌≡◌, inl, inr, ℕ, true, false, not, List, Some, refl, sym, ap, ◌∙◌, subst}
 use Rattle.std.proofs.lemmas.Bool.{both_ways}
 use Rattle.world_base.specs.ballot.Effect.{Effect}
@@ -65,13 +65,13 @@ taken_same command core did t =
     ∙ t.done.state))
     (added_same rules core.replica.state command)
 
--- a command is taken behind a change of a connection
+-- a command is taken after a change of a connection
 pub taken_behind : (command : Command) (core between : CoreState) (did : Account) → between.replica ≡ core.replica → Takes command between did
     → Same core.replica.state did.core.replica.state
 taken_behind command core between did same t =
     same_then core between did.core (same_state core between (state_of between core same)) (taken_same command between did t)
 
--- ---- a move in which it hears nothing
+-- ---- a move in which it receives nothing
 
 by_same : (core : CoreState) (turn : Turn) (m : LossyMoves core turn) → IsOrderly core → Loses m → Same core.replica.state turn.core.replica.state
     → AreWhereItServes core → AreWhereItServes turn.core
@@ -82,7 +82,7 @@ exact_calm : (core : CoreState) (turn : Turn) (m : Moves core turn) → IsOrderl
 exact_calm core turn m o calm of serving =
     names_keep_their_ballot.moves core turn m o calm (of (sym (serves_same core turn.core (move_same core turn m calm)) ∙ serving))
 
--- who has stopped serves nobody
+-- a node that has stopped serves no client
 stopped_not : (core : CoreState) → AreWhereItServes (halting core)
 stopped_not core serving = absurd (both_ways (serves (halting core)) (and_false (is_active core.replica.state.role)) serving)
 
@@ -106,7 +106,7 @@ calm_keeps core turn unheard o calm of = by_same core turn unheard o tt (record 
 calm_keeps core turn (drops port piece) o calm of =
     by_same core turn (drops port piece) o tt (same_state core (changes port closed core) (state_of (changes port closed core) core (at_replica port closed core))) of
 
--- ---- a move in which it hears something
+-- ---- a move in which it receives something
 
 lossy_stays : (old new : CountedReplica State Command) (outcome : Outcome State Command Output) (given : List (Effect Command Output)) →
     StaysOr old.state outcome.state → Steps rules old outcome new given → StaysOr old.state new.state

@@ -1,4 +1,4 @@
--- What the outputs of a replica make of a node's connections where memory may be wanting for them.
+-- What the outputs of a replica make of a node's connections when memory may run out for them.
 use Rattle.std.proofs.Common.{◌≡◌, inl, inr, ℕ, Bool, true, false, if◌then◌else◌, not, List, [], ◌∷◌, Option, Some, None, refl, sym, ap, ◌∙◌, subst}
 use Rattle.std.specs.List.{find}
 use Rattle.std.proofs.lemmas.List.{append-nil}
@@ -65,7 +65,7 @@ stays_delivers _ core new _ (does {place} {output} {core = k} {next = next} {giv
 stays_delivers _ core new _ (tells {receiver} {message} {given = given} more) o = stays_delivers given core new _ more o
 stays_delivers _ core new _ (loses {receiver} {message} {given = given} more) o = stays_delivers given core new _ more o
 
--- ---- what is put out on one that may be closed
+-- ---- what is queued on one that may be closed
 
 pub failing_shuts : (bytes : List ℕ) (c : Connection) → live c ≡ true → Shuts bytes (Some c) (Some (failing c))
 failing_shuts bytes c lives = is_shut [] lives (ap not (failing_over c)) (sym (append-nil c.pending)) (record { rest = bytes; is = refl })

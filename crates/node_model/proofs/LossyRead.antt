@@ -1,5 +1,5 @@
--- All that a node ever does where memory may be wanting: what it proposes for a connection is a beginning of what its client
--- writes, and each packet that is read stands in its log at once.
+-- All that a node ever does when memory may run out: what it proposes for a connection is a prefix
+-- of what its client writes, and each packet that is read is in its log at once.
 use Rattle.std.proofs.Common.{◌≡◌, ℕ, List, [], ◌++◌, length, refl, sym, ap, ◌∙◌, subst, filter, append_assoc}
 use Rattle.std.proofs.lemmas.List.{append-nil, length-append}
 use Rattle.std.proofs.lemmas.List.Elements.{filter-append}

@@ -1,4 +1,4 @@
--- Each move in which memory may be wanting reads on in order, on each of a node's connections.
+-- Each move in which memory may run out reads on in order, on each of a node's connections.
 use Rattle.std.proofs.Common.{◌≡◌, ◌≤◌, ℕ, Bool, true, false, if◌then◌else◌, List, [], ◌∷◌, ◌++◌, length, Option, Some, None, Ok, refl, sym, ap, ◌∙◌, subst, filter, arith}
 use Rattle.std.proofs.lemmas.List.{append-nil}
 use Rattle.packet.specs.declared.packet.Packet.{Packet}

@@ -1,4 +1,4 @@
--- Each step in which memory may be wanting is a run of moves.
+-- Each step in which memory may run out is a run of moves.
 use Rattle.std.proofs.Common.{◌≡◌, inl, inr, ℕ, zero, suc, Bool, true, false, not, ◌&&◌, List, [], ◌++◌, length, Some, Ok, refl, sym, ap, ◌∙◌, subst, append_assoc}
 use Rattle.std.proofs.lemmas.List.{append-nil}
 use Rattle.packet.specs.declared.packet.Packet.{Packet}
@@ -37,7 +37,7 @@ use Rattle.node_model.proofs.StepsMove.{twice}
 abbrev pub Given : Type 0
 Given = List (Effect Command Output)
 
--- ---- moves in which nothing is heard, nothing comes, and nothing is handed over
+-- ---- moves in which nothing is received, nothing comes, and nothing is handed over
 
 abbrev pub IsStill : {core : CoreState} {turn : Turn} → LossyMoves core turn → Type 0
 IsStill m = (hears_in m ≡ false) × (is_handing m ≡ false) × (inputs_in m ≡ []) × ((x : ConnectionName) → came_on x m ≡ [])
@@ -84,7 +84,7 @@ pub still_repeated : (n : ℕ) (Next : CoreState → Account → Type 0) → ((k
 still_repeated zero Next on core did none = by_none core did none
 still_repeated (suc n) Next on core did done = still_then Next (Repeated n Next) on (still_repeated n Next on) core did done
 
--- behind a change in which the replica gives nothing
+-- after a change in which the replica gives nothing
 still_behind : (core between : CoreState) (did : Account) → Calm core (quiet between) → Still between did → Still core did
 still_behind core between did change more = calm_join change more
 
@@ -279,7 +279,7 @@ all_freeze : {core : CoreState} {turn : Turn} (run : LossyRuns core turn) → Ar
 all_freeze rests still = tt
 all_freeze (goes_on m run) still = (still_freezes m still.0.0, all_freeze run still.1)
 
--- a run in which these are heard, at first, or a log is cut where it may be, and these bytes come
+-- a run in which these are received, at first, or a log is cut if it may be, and these bytes come
 pub record First (core : CoreState) (turn : Turn) (inputs : List (Input Command)) (may_cut : Bool) (bytes : ConnectionName → List ℕ) : Type 0 where
   pub run : LossyRuns core turn
   pub first : HearsAtFirst run

@@ -1,4 +1,4 @@
--- What each move in which memory may be wanting makes of a connection that may be closed.
+-- What each move in which memory may run out does to a connection that may be closed.
 use Rattle.std.proofs.lemmas.Bool.{both_ways}
 use Rattle.std.proofs.Common.{◌≡◌, ◌≤◌, ℕ, true, List, [], ◌++◌, Option, Some, None, refl, sym, ap, ◌∙◌, subst}
 use Rattle.world_base.specs.ballot.Protocol.{Input}
@@ -31,7 +31,7 @@ use Rattle.node_model.proofs.ShutByChanges.{asked_shuts, at_orderly, at_shuts, l
 use Rattle.node_model.proofs.ShutByOutputs.{bytes_for, right_true}
 use Rattle.node_model.proofs.Views.{found_passes, same_some, some_none, view_of_changed}
 
--- what a move puts out for a name
+-- what a move queues for a name
 abbrev pub sent_in : ConnectionName → {core : CoreState} {turn : Turn} → LossyMoves core turn → List ℕ
 sent_in x m = spelled (refusal_in x m ++ sends_to x (outputs_of (given_in m)))
 
@@ -79,7 +79,7 @@ lossy_shuts core turn unheard o x may =
     shuts_tested x has_failed closed core.connections (o.names x) (λ z. refl) (λ z failed. was_shut (failed_dead z failed) refl refl)
 lossy_shuts core turn (drops port piece) o x may = at_shuts x port closed core o (λ z. refl) (λ z lives. shuts_closed z)
 
--- ---- what is put out on an open connection
+-- ---- what is queued on an open connection
 
 listed_of : (x : ConnectionName) (core : CoreState) (c : Connection) → IsOrderly core → open_named x core ≡ Some c → listed_named x core ≡ Some c
 listed_of x core c o found =

@@ -1,4 +1,4 @@
--- What a move leaves of the replica, where it hears nothing and does not stop.
+-- What a move leaves of the replica, if it receives nothing and does not stop.
 use Rattle.std.proofs.Common.{◌≡◌, Bool, true, false, not, ◌&&◌, if◌then◌else◌, List, [], ◌∷◌, ◌++◌, Option, Some, None, refl, sym, ap, ◌∙◌, subst}
 use Rattle.std.specs.List.{find, fold, list_any}
 use Rattle.packet.specs.Spelling.{spelling}

@@ -1,4 +1,4 @@
--- Names keep their ballot in each move in which the replica hears nothing and does not stop.
+-- Names keep their ballot in each move in which the replica receives nothing and does not stop.
 use Rattle.std.proofs.Common.{◌≡◌, ℕ, Bool, true, false, not, ◌&&◌, if◌then◌else◌, List, [], ◌∷◌, ◌++◌, Option, Some, None, refl, sym, ap, ◌∙◌}
 use Rattle.std.specs.List.{list_any}
 use Rattle.story.specs.broker_base.Connection.{ConnectionName, is_connection_name}

@@ -46,7 +46,7 @@ not_named last x name below given = by (cases_Bool (same_connection name x))
     by (inl e) = absurd (not_both last x below (subst (IsGiven last) (same_name name x e) given))
     by (inr e) = e
 
--- the next name comes behind all others
+-- the next name comes after all others
 pub next_precedes : (core : CoreState) → core.last_name.ballot ≤ core.replica.state.joined → Precedes core.last_name (next_name core)
 next_precedes core within = by (cases_Bool (core.last_name.ballot == core.replica.state.joined))
   where

@@ -1,4 +1,5 @@
--- Names keep their ballot: from the opening of a node on, in each move, and with the settling behind what its replica hears.
+-- Names keep their ballot: from the opening of a node on, in each move, and with the settling after
+-- what its replica receives.
 use Rattle.std.proofs.Common.{◌≡◌, inl, inr, Bool, true, false, not, ◌&&◌, if◌then◌else◌, [], ◌∷◌, Some, refl, sym, ap, ◌∙◌}
 use Rattle.std.proofs.lemmas.Bool.{both_ways}
 use Rattle.world_base.specs.ballot.Protocol.{Input, replica_step}
@@ -33,7 +34,7 @@ use Rattle.node_model.proofs.Shut.{all}
 use Rattle.node_model.proofs.ShutByOutputs.{bytes_for, driven_shuts}
 use Rattle.node_model.proofs.NamesInMoves.{move_of}
 
--- ---- what the replica hears
+-- ---- what the replica receives
 
 pub drives_state : (input : Input Command) (core : CoreState) → (drives input core).core.replica.state ≡ (heard input core.replica.state).state
 unfolding drives

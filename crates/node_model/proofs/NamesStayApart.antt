@@ -1,4 +1,4 @@
--- Names stay apart in each step of a node, also where memory may be wanting.
+-- Names stay apart in each step of a node, also when memory may run out.
 use Rattle.std.proofs.Common.{◌≡◌, inl, inr, ◌≤◌, ◌<◌, ℕ, zero, suc, Bool, true, false, not, ◌&&◌, if◌then◌else◌, List, [], ◌∷◌, ◌++◌, length, Option, Some, None, refl, sym, ap, ◌∙◌, subst, arith}
 use Rattle.std.specs.List.{find, list_any}
 use Rattle.packet.specs.Spelling.{spelling}
@@ -167,7 +167,7 @@ keep_taken command core did t =
     (keep_replica core t.replica (subst (λ (n : ℕ). core.replica.state.joined ≤ n) (sym same) (same_le core.replica.state.joined)))
     (keep_delivered did.given (record core { replica = t.replica }) did.core did.messages t.delivers)
 
--- ---- what was done, one thing behind the other
+-- ---- what was done, one thing after the other
 
 by_account : (core new : CoreState) (did : Account) → did ≡ quietly new → Keep core new → Keep core did.core
 by_account core new did is keep = subst (λ (d : Account). Keep core d.core) (sym is) keep
@@ -250,7 +250,7 @@ keep_read now port core did (ends runs) = keep_ended port core did runs
 
 -- ---- a connection is opened
 
--- who is not found where it would be taken for one that came
+-- one that is not found where it would be taken for one that came
 never_found : (found : Option Connection) → ((d : Connection) → found ≡ Some d → ⊥) → found ≡ None
 never_found None never = refl
 never_found (Some d) never = absurd (never d refl)

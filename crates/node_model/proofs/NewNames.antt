@@ -1,4 +1,5 @@
--- A connection that is new behind a move was opened in it, and has the next name of the ballot that its node leads.
+-- A connection that is new after a move was opened in it, and has the next name of the ballot that
+-- its node leads.
 use Rattle.std.proofs.Common.{◌≡◌, ◌⊎◌, inl, inr, ℕ, Bool, true, false, not, ◌&&◌, if◌then◌else◌, List, [], ◌∷◌, ◌++◌, Option, Some, None, refl, sym, ap, ◌∙◌, filter, map}
 use Rattle.std.specs.List.{find, list_any}
 use Rattle.story.specs.broker_base.Connection.{ConnectionName, is_connection_name}

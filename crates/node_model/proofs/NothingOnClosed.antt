@@ -1,4 +1,5 @@
--- A connection that is closed behind a move was so before, or got a beginning of what the move sends to it.
+-- A connection that is closed after a move was closed before, or got a prefix of what the move
+-- sends to it.
 use Rattle.std.proofs.Common.{◌≡◌, ◌⊎◌, inl, inr, ℕ, Bool, true, false, not, ◌&&◌, ◌||◌, ◌==◌, if◌then◌else◌, List, [], ◌∷◌, ◌++◌, Option, Some, None, refl, sym, ap, ◌∙◌, subst, filter, map, length}
 use Rattle.std.specs.List.{find, list_any}
 use Rattle.std.proofs.lemmas.List.{append-nil}
@@ -36,11 +37,11 @@ pub open_if : (b : Bool) → not b ≡ true → b ≡ false
 open_if true e = cc
 open_if false e = refl
 
--- what a move puts out for a name
+-- what a move queues for a name
 abbrev pub sent_in : ConnectionName → {core : CoreState} {turn : Turn} → Moves core turn → List ℕ
 sent_in x m = spelled (refusal_in x m ++ sends_to x (outputs_of (given_in m)))
 
--- from what becomes of a connection to how it came to be closed
+-- from what happens to a connection to how it came to be closed
 closed_by : (x : ConnectionName) (core : CoreState) (turn : Turn) (m : Moves core turn) (d : Connection) (o p : Option Connection) → Shuts (sent_in x m) o p
     → listed_named x core ≡ o → p ≡ Some d → is_over d.stage ≡ true → IsClosedBy x m d
 closed_by x core turn m d o None nobody before after over = cc
@@ -82,7 +83,7 @@ opened_closed x port core d e over =
     by true f = old (found_pushed (named x) core.connections (fresh port (next_name core)) d f)
     by false f = f
 
--- ---- all connections are closed, or those that are done are gone
+-- ---- all connections are closed, or those that are done are removed
 
 settled_closed : (x : ConnectionName) (core : CoreState) (d : Connection) → IsOrderly core → listed_named x (settled core) ≡ Some d → is_over d.stage ≡ true
     → IsClosedBy x (let m : Moves core _ = settles in m) d

@@ -1,4 +1,4 @@
--- A connection that is open behind a move was open before, but for one that is opened.
+-- A connection that is open after a move was open before, except one that is opened.
 use Rattle.std.proofs.Common.{◌≡◌, ℕ, Bool, true, false, not, if◌then◌else◌, List, [], ◌∷◌, ◌++◌, Option, Some, None, refl, sym, ap, ◌∙◌, filter, map}
 use Rattle.std.specs.List.{find}
 use Rattle.std.proofs.lemmas.Bool.{both_ways}
@@ -44,7 +44,7 @@ found_front test (d ∷ cs) z c e = by (test d) (found_front test cs z c) e
     by true ih f = f
     by false ih f = ih f
 
--- of what is open behind the settling
+-- of what is open after the settling
 pub settled_open : (x : ConnectionName) (core : CoreState) (d : Connection) → IsOrderly core → listed_named x (settled core) ≡ Some d → is_over d.stage ≡ false
     → (serves core ≡ true) × (listed_named x core ≡ Some d)
 unfolding settled

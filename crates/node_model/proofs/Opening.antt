@@ -98,7 +98,7 @@ opened_end x port core later written read under_way o h end = by end (cases_Bool
     by (is_open c given is first piped) (inr other) = is_open c (given_now given) (as_before other ∙ is) first piped
     by (is_over given is front) (inr other) = is_over (given_now given) (as_before other ∙ is) front
 
--- what holds behind an opening, whether it was refused or not
+-- what holds after an opening, whether it was refused or not
 pub record OpensWell (core later : CoreState) : Type 0 where
   pub orderly : IsOrderly later
   pub end : (x : ConnectionName) (written read : List Packet) (under_way : List ℕ) → IsEnd x core written read under_way → IsEnd x later written read under_way
@@ -116,7 +116,7 @@ opens_well port core o = by ((serves core && not (list_any (is_at port) core.con
         record { orderly = opened_orderly port core opened o h; end = λ x written read under_way end. opened_end x port core opened written read under_way o h end }
     by false = record { orderly = o; end = λ x written read under_way end. end }
 
--- an open connection stays as it is where another is opened
+-- an open connection stays as it is if another is opened
 pub open_stays : (x : ConnectionName) (port : Port) (core : CoreState) (c : Connection) → IsOrderly core → open_named x core ≡ Some c
     → open_named x (opens port core) ≡ Some c
 unfolding opens

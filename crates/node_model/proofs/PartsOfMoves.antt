@@ -1,5 +1,5 @@
--- What a deed of a node has to do with others: a message that is heard, bytes that come in, bytes that are handed over. And
--- whether its log is cut.
+-- The part of a call of a node that concerns others: a message that is received, bytes that come
+-- in, bytes that are handed over. And whether its log is cut.
 use Rattle.std.proofs.Common.{◌≡◌, false, if◌then◌else◌, ℕ, List}
 use Rattle.world_base.specs.ballot.Cutting.{can_cut}
 use Rattle.world_base.specs.ballot.Message.{Message}
@@ -36,7 +36,7 @@ part_of (takes Cut) core = if can_cut core.replica.state then Part.cut else Part
 part_of (gives port) core = Part.bytes_out port
 part_of _ core = Part.nothing
 
--- a move in which the replica hears nothing and does not stop, and no bytes are carried
+-- a move in which the replica receives nothing and does not stop, and no bytes are carried
 abbrev pub IsBareMove : {core : CoreState} {turn : Turn} → Moves core turn → Type 0
 IsBareMove m = (moves_replica m ≡ false) × (part_in m ≡ Part.nothing)
 

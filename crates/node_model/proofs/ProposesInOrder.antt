@@ -1,4 +1,5 @@
--- All that a node ever does: what it proposes for a connection is a beginning of what its client writes.
+-- All that a node ever does: what it proposes for a connection is a prefix of what its client
+-- writes.
 use Rattle.std.proofs.Common.{◌≡◌, ◌⊎◌, inl, inr, ◌≤◌, ◌<◌, ◌+◌, ℕ, suc, List, [], ◌∷◌, ◌++◌, length, refl, sym, ap, ◌∙◌, subst, filter, append_assoc, arith}
 use Rattle.std.proofs.lemmas.Bool.{cases_lt}
 use Rattle.std.proofs.lemmas.List.{append-nil, length-append}

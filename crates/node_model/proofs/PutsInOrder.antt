@@ -1,4 +1,4 @@
--- What a node puts out on a connection are the packets that name it, in order.
+-- What a node queues on a connection are the packets that name it, in order.
 use Rattle.std.proofs.Common.{◌≡◌, ◌+◌, ℕ, nat_le, length, Bool, true, false, ◌&&◌, if◌then◌else◌, List, [], ◌∷◌, ◌++◌, Option, Some, None, refl, sym, ap, ◌∙◌, subst, filter, map, append_assoc, arith}
 use Rattle.std.specs.List.{find, fold}
 use Rattle.std.proofs.lemmas.List.{append-nil}
@@ -36,7 +36,7 @@ use Rattle.node_model.proofs.Kept.{live, named, named_kept, left_true, stays_ser
 use Rattle.node_model.proofs.JoinedGrows.{Up, up_proposed}
 use Rattle.node_model.proofs.NamesInOrder.{same_le}
 
--- these bytes are put out behind, if the connection stays open
+-- these bytes are queued after, if the connection stays open
 pub data Puts (bytes : List ℕ) : Option Connection → Option Connection → Type 0 where
   nobody : Puts bytes None None
   put : {c d : Connection} → d.pending ≡ c.pending ++ bytes → Puts bytes (Some c) (Some d)
@@ -70,7 +70,7 @@ puts_others : (x : ConnectionName) (test : Connection → Bool) (f : Connection 
 puts_others x test f cs c name found other =
     subst (Puts [] (view live (named x) cs)) (sym (view_of_others live (named x) test f cs c (named_kept x f name) found other)) (puts_none (view live (named x) cs))
 
--- a change that puts out nothing
+-- a change that queues nothing
 puts_nothing : (x : ConnectionName) (test : Connection → Bool) (f : Connection → Connection) (cs : List Connection) → AtMostOne (named x) cs
     → ((d : Connection) → test d ≡ true → live d ≡ true) → ((d : Connection) → (f d).name ≡ d.name) → ((d : Connection) → (f d).pending ≡ d.pending)
     → Puts [] (view live (named x) cs) (view live (named x) (changed test f cs))
@@ -86,7 +86,7 @@ puts_nothing x test f cs one lives name pending = by (find test cs) refl
 
 -- ---- one output
 
--- bytes are put out, where the connection stays open
+-- bytes are queued, if the connection stays open
 put_out_pending : (bytes : List ℕ) (c : Connection) → live (put_out bytes c) ≡ true → (put_out bytes c).pending ≡ c.pending ++ bytes
 put_out_pending bytes c = by (nat_le (length c.pending + length bytes) most_pending)
   where
@@ -235,7 +235,7 @@ at_replica : (port : Port) (f : Connection → Connection) (core : CoreState) �
 unfolding changes
 at_replica port f core = refl
 
--- a proposal behind a change of connections
+-- a proposal after a change of connections
 behind_puts : (x : ConnectionName) (command : Command) (core between : CoreState) → Puts [] (open_named x core) (open_named x between) → IsOrderly between
     → between.replica ≡ core.replica → Puts (bytes_for x (given_by command (serves core) core.replica.state)) (open_named x core) (open_named x (proposes command between).core)
 behind_puts x command core between first o same =

@@ -64,7 +64,7 @@ none_more : (x : ConnectionName) {core : CoreState} {turn : Turn} (m : Moves cor
 none_more x {turn = turn} m written read later end none =
     record { more = []; end = subst (λ (ps : List Packet). IsEnd x turn.core written ps later) (sym (append-nil read)) end; proposed = none }
 
--- what holds of each connection in a move
+-- what holds for each connection in a move
 abbrev ReadsAll : {core : CoreState} {turn : Turn} → Moves core turn → Type 0
 ReadsAll {core = core} {turn = turn} m = IsOrderly turn.core
     × ((x : ConnectionName) (written read : List Packet) (under_way later : List ℕ) → IsEnd x core written read under_way → under_way ≡ came_on x m ++ later
@@ -113,7 +113,7 @@ change_there x core later port c f o h is =
     ∙ (view_of_changed live (named x) (is_open_at port) f core.connections c (o.names x) (λ d e. left_true (live d) (is_at port d) e) (named_kept x f h.name) h.at is).1
     ∙ rw h.lives refl
 
--- of the open connection: what is known of it, for it is given and not closed
+-- of the open connection: what is known about it, for it is given and not closed
 record WasOpen (x : ConnectionName) (core : CoreState) (c : Connection) (written read : List Packet) (under_way : List ℕ) : Type 0 where
   given : IsGiven core.last_name x
   first : is_first c.stage ≡ is_nothing read

@@ -1,4 +1,5 @@
--- What a step of a replica makes of the ballot that it leads: it stays the same, or the replica leads none.
+-- What a step of a replica does to the ballot that it leads: it stays the same, or the replica
+-- leads none.
 use Rattle.std.proofs.Common.{◌≡◌, ◌⊎◌, inl, inr, ℕ, Bool, true, false, if◌then◌else◌, Option, Some, None, List, [], ◌∷◌, length, refl, sym, subst}
 use Rattle.std.specs.Prelude.{nat_lt, nat_le, ◌&&◌, ◌==◌}
 use Rattle.std.specs.List.{list_any}

@@ -1,4 +1,5 @@
--- What becomes of a connection that may be closed: what a change of one connection of a list makes of it.
+-- What happens to a connection that may be closed: what a change of one connection of a list does
+-- to it.
 use Rattle.std.proofs.Common.{◌≡◌, ℕ, ◌+◌, nat_le, length, not, Bool, true, false, ◌&&◌, if◌then◌else◌, List, [], ◌∷◌, ◌++◌, Option, Some, None, refl, sym, ap, ◌∙◌, subst, filter, map, append_assoc}
 use Rattle.std.specs.List.{find}
 use Rattle.std.proofs.lemmas.List.{append-nil}
@@ -16,7 +17,7 @@ use Rattle.node_model.proofs.Kept.{failing_over, live, named, named_kept}
 abbrev pub all : Connection → Bool
 all c = true
 
--- these bytes are put out behind while it is open, and a beginning of them where it is closed
+-- these bytes are queued after while it is open, and a prefix of them if it is closed
 pub data Shuts (bytes : List ℕ) : Option Connection → Option Connection → Type 0 where
   nobody : {o : Option Connection} → Shuts bytes o None
   stays_open : {c d : Connection} → live c ≡ true → live d ≡ true → d.pending ≡ c.pending ++ bytes → Shuts bytes (Some c) (Some d)
@@ -57,7 +58,7 @@ shuts_closed c = by (live c) refl
     by true e = is_shut [] e refl (sym (append-nil c.pending)) (record { rest = []; is = refl })
     by false e = was_shut e refl refl
 
--- bytes are put out where there is room for them, and else it is closed
+-- bytes are queued if there is room for them, and otherwise it is closed
 pub put_out_shuts : (bytes : List ℕ) (c : Connection) → live c ≡ true → Shuts bytes (Some c) (Some (put_out bytes c))
 put_out_shuts bytes c lives = by (nat_le (length c.pending + length bytes) most_pending)
   where
@@ -85,7 +86,7 @@ pub shuts_unchanged : (x : ConnectionName) (test : Connection → Bool) (f : Con
 shuts_unchanged x test f cs none =
     subst (λ (l : List Connection). Shuts [] (view all (named x) cs) (view all (named x) l)) (sym (none_changes test f cs none)) (shuts_same (view all (named x) cs))
 
--- a change that puts out nothing
+-- a change that queues nothing
 pub shuts_tested : (x : ConnectionName) (test : Connection → Bool) (f : Connection → Connection) (cs : List Connection) → AtMostOne (named x) cs
     → ((d : Connection) → (f d).name ≡ d.name) → ((d : Connection) → test d ≡ true → Shuts [] (Some d) (Some (f d)))
     → Shuts [] (view all (named x) cs) (view all (named x) (changed test f cs))
@@ -99,7 +100,7 @@ shuts_tested x test f cs one name each = by (find test cs) refl
     by None e = shuts_unchanged x test f cs e
     by (Some c) e = on c e (named x c) refl
 
--- a change of an open connection that puts out nothing
+-- a change of an open connection that queues nothing
 pub shuts_nothing : (x : ConnectionName) (test : Connection → Bool) (f : Connection → Connection) (cs : List Connection) → AtMostOne (named x) cs
     → ((d : Connection) → test d ≡ true → live d ≡ true) → ((d : Connection) → (f d).name ≡ d.name)
     → ((d : Connection) → live d ≡ true → Shuts [] (Some d) (Some (f d))) → Shuts [] (view all (named x) cs) (view all (named x) (changed test f cs))
@@ -123,7 +124,7 @@ listed_open x (d ∷ cs) c e lives = by (named x d) refl (λ f. listed_open x cs
         rw (ap live same ∙ lives, is) (ap Some same)
     by false is ih f = let apart = and_false (live d) (named x d) is in rw apart (ih f)
 
--- where none is open the one of that name is closed
+-- if none is open the one of that name is closed
 pub listed_closed : (x : ConnectionName) (cs : List Connection) (c : Connection) → view live (named x) cs ≡ None → view all (named x) cs ≡ Some c → live c ≡ false
 listed_closed x cs c none there = by (live c) refl
   where

@@ -1,4 +1,5 @@
--- What changes of the open connection of a port, and proposals behind them, make of a connection that may be closed.
+-- What changes of the open connection of a port, and proposals after them, make of a connection
+-- that may be closed.
 use Rattle.std.proofs.Common.{◌≡◌, ℕ, Bool, true, false, if◌then◌else◌, List, [], ◌∷◌, Some, refl, sym, ap, subst}
 use Rattle.std.proofs.lemmas.List.{append-nil}
 use Rattle.packet.specs.declared.packet.Packet.TheVariants as packets
@@ -53,7 +54,7 @@ left_shuts now rest d e = stays_open e e (sym (append-nil d.pending))
 pub asked_shuts : (keep_alive : ℕ) (d : Connection) → live d ≡ true → Shuts [] (Some d) (Some (asked keep_alive d))
 asked_shuts keep_alive d e = stays_open e refl (sym (append-nil d.pending))
 
--- a proposal behind a change of connections
+-- a proposal after a change of connections
 pub behind_shuts : (x : ConnectionName) (command : Command) (core between : CoreState) → Shuts [] (listed_named x core) (listed_named x between) → IsOrderly between
     → between.replica ≡ core.replica
     → Shuts (bytes_for x (given_by command (serves core) core.replica.state)) (listed_named x core) (listed_named x (proposes command between).core)

@@ -122,7 +122,7 @@ lowest_there now port low (c ∷ cs) e = by (lowest_there now port (lower_silent
     by (inl is) = by_test (is_silent now c) refl is
     by (inr has) = inr (open_later port c cs has)
 
--- where there is none, none is silent
+-- if there is none, none is silent
 lowest_none : (now : ℕ) (low : Option Port) (cs : List Connection) → fold (lower_silent now) low cs ≡ None
     → (low ≡ None) × Each (λ (c : Connection). is_silent now c ≡ false) cs
 lowest_none now low [] e = (e, tt)

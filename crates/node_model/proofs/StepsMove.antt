@@ -200,7 +200,7 @@ next_runs : (now : ℕ) (port : Port) (core : CoreState) → Calm core (reads_ne
 unfolding reads_next
 next_runs now port core = read_runs now port core (open_at port core) refl
 
--- ---- so many times
+-- ---- this many times
 
 repeated_runs : (next : CoreState → Turn) → ((core : CoreState) → Calm core (next core)) → (times : ℕ) (core : CoreState) → Calm core (repeated times next core)
 unfolding repeated
@@ -269,7 +269,7 @@ step_runs item core =
     subst (λ (given : Given). First (part_of (takes item) core) core (let t : Turn = record { core = settled (acts_on item core).core; messages = given } in t))
     (append-nil (acts_on item core).messages) (first_join (acted_on item core) (calm_move settles (refl, refl)))
 
--- a deed begins with its part, and the moves behind it are bare
+-- a call begins with its part, and the moves after it are bare
 pub deeds_begin : (deed : Deed) (core : CoreState) → First (part_of deed core) core (done deed core)
 deeds_begin (takes item) core = step_runs item core
 deeds_begin (gives port) core = first_move (hands port)

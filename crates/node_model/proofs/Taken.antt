@@ -65,7 +65,7 @@ changed_replica : (port : Port) (f : Connection → Connection) (core : CoreStat
 unfolding changes
 changed_replica port f core = refl
 
--- a command is taken behind a change of a connection
+-- a command is taken after a change of a connection
 taken_behind : (command : Command) (core between : CoreState) → between.replica ≡ core.replica → has_room core ≡ true
     → (proposes command between).core.replica.state.log ≡ pushed core.replica.state.log command
 taken_behind command core between same room =

@@ -1,4 +1,5 @@
--- The live one of a name in a list, and what a change of one of the list makes of it.
+-- The open connection of a name in a list, and what a change of one connection of the list does to
+-- it.
 use Rattle.std.proofs.Common.{◌≡◌, ◌⊎◌, inl, inr, Bool, true, false, ◌&&◌, if◌then◌else◌, List, [], ◌∷◌, ◌++◌, Option, Some, None, refl, sym, ap, ◌∙◌, subst, filter, map}
 use Rattle.std.specs.List.{find}
 use Rattle.std.proofs.lemmas.Bool.{cases_Bool, both_ways}
@@ -35,7 +36,7 @@ found_passes test (d ∷ cs) c e = by (test d) refl (found_passes test cs c) e
     by true is ih f = subst (λ (z : Connection). test z ≡ true) (same_some d c f) is
     by false is ih f = ih f
 
--- what holds of each holds of what is found
+-- what holds for each holds for what is found
 pub found_each : (P : Connection → Type 0) (test : Connection → Bool) (cs : List Connection) (c : Connection) → Each P cs → find test cs ≡ Some c → P c
 found_each P test [] c all e = cc
 found_each P test (d ∷ cs) c all e = by (test d) (found_each P test cs c all.1) e
@@ -44,12 +45,12 @@ found_each P test (d ∷ cs) c all e = by (test d) (found_each P test cs c all.1
     by true ih f = subst P (same_some d c f) all.0
     by false ih f = ih f
 
--- where none passes none is found
+-- if none passes none is found
 pub none_in_view : (live named : Connection → Bool) (cs : List Connection) → Each (λ c. named c ≡ false) cs → view live named cs ≡ None
 none_in_view live named [] all = refl
 none_in_view live named (c ∷ cs) all = rw (and_no (live c) (named c) all.0) (none_in_view live named cs all.1)
 
--- nothing is changed where none passes
+-- nothing is changed if none passes
 pub none_changes : (test : Connection → Bool) (f : Connection → Connection) (cs : List Connection) → find test cs ≡ None → changed test f cs ≡ cs
 none_changes test f [] e = refl
 none_changes test f (c ∷ cs) e = by (test c) (none_changes test f cs) e

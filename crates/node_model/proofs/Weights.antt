@@ -50,7 +50,7 @@ total_lowered w test f (c ∷ cs) d found less = by (test c) (λ g. total_lowere
 
 -- ---- what is proposed
 
--- what holds where bytes are put out, and where the connection is closed as lost
+-- what holds where bytes are queued, and if the connection is closed as lost
 pub put_or_failing : (P : Connection → Type 0) (bytes : List ℕ) (c : Connection) → P (putting bytes c) → P (failing c) → P (put_out bytes c)
 put_or_failing P bytes c p q = by (nat_le (length c.pending + length bytes) most_pending)
   where
@@ -96,7 +96,7 @@ total_proposed w light command core = by (serves core)
     by true = total_moved w light (proposed rules core.replica.state command) core
     by false = same_le (total w core.connections)
 
--- ---- so many times
+-- ---- this many times
 
 module _ (next : CoreState → Turn) (Done : CoreState → Type 0) where
   stays_done : (n : ℕ) (core : CoreState) → Done core → next core ≡ quiet core → Done (repeated n next core).core
@@ -105,7 +105,7 @@ module _ (next : CoreState → Turn) (Done : CoreState → Type 0) where
   stays_done (suc n) core done idle =
       subst (λ (t : Turn). Done (repeated n next t.core).core) (sym idle) (stays_done n core done idle)
 
-  -- it does nothing where it is done, and lowers the total elsewhere
+  -- it does nothing if it is done, and lowers the total elsewhere
   pub comes_to_end : (w : Connection → ℕ)
       → ((core : CoreState) → (Done core × (next core ≡ quiet core)) ⊎ (total w (next core).core.connections < total w core.connections))
       → (n : ℕ) (core : CoreState) → total w core.connections ≤ n → Done (repeated n next core).core

@@ -1,4 +1,5 @@
--- Names where memory may be wanting: no two connections of a node have one, and none comes twice.
+-- Names when memory may run out: no two connections of a node have the same name, and no name comes
+-- twice.
 use Rattle.std.specs.Prelude.{◌≡◌, ℕ, List, None}
 use Rattle.world_base.specs.ballot.Config.{Config}
 use Rattle.world_base.specs.ballot.Effect.{Effect}
@@ -13,13 +14,15 @@ use Rattle.world_base.specs.LossyStep.{RunsOn}
 use Rattle.node_model.specs.Closed.{listed_named}
 use Rattle.node_model.specs.Ends.{IsGiven, IsOrderly}
 
--- No two connections have one name. One that was given stays so, and if no connection has it, none gets it any more.
+-- No two connections have one name. One that was given stays so, and if no connection has it, none
+-- gets it any more.
 pub record KeepsNames (core later : CoreState) : Type 0 where
   pub orderly : IsOrderly later
   pub given : (x : ConnectionName) → IsGiven core.last_name x → IsGiven later.last_name x
   pub gone : (x : ConnectionName) → IsGiven core.last_name x → listed_named x core ≡ None → listed_named x later ≡ None
 
--- so it is from the opening on, in each step, whatever memory does, and where bytes are handed over
+-- that holds from the opening on, in each step, even if memory runs out, and when bytes are handed
+-- over
 pub record NamesStayApart : Type 0 where
   pub opens : (id : ℕ) (config : Config) → IsOrderly (opening_core id config)
   pub steps : (item : Item) (core later : CoreState) (messages : List (Effect Command Output)) →

@@ -1,4 +1,4 @@
--- What a node puts out on a connection that it has closed: nothing more.
+-- What a node sends on a connection that it has closed: nothing more.
 use Rattle.std.specs.Prelude.{◌≡◌, ℕ, true, if◌then◌else◌, List, [], ◌∷◌, ◌++◌, Option, Some}
 use Rattle.std.specs.List.{find}
 use Rattle.packet.specs.declared.packet.Packet.{Packet}
@@ -24,14 +24,15 @@ abbrev pub refusal_in : ConnectionName → {core : CoreState} {turn : Turn} → 
 refusal_in x (refuses port c code at first is) = if same_connection c.name x then packets.Connack (connacks.Refused code) ∷ [] else []
 refusal_in x _ = []
 
--- how a connection comes to be closed behind a move: it was closed before, with the same bytes to hand over; or it was open,
--- and got no more in this move than a beginning of what is sent to it
+-- how a connection that is closed after a move was closed: it was closed before, with the same
+-- bytes to hand over; or it was open, and got no more in this move than a prefix of what is sent to
+-- it
 pub data IsClosedBy (x : ConnectionName) {core : CoreState} {turn : Turn} (m : Moves core turn) (d : Connection) : Type 0 where
   was_closed : (c : Connection) → listed_named x core ≡ Some c → is_over c.stage ≡ true → d.pending ≡ c.pending → IsClosedBy x m d
   closes_now : (c : Connection) (front : List ℕ) → open_named x core ≡ Some c → d.pending ≡ c.pending ++ front →
       IsPrefixOf front (spelled (refusal_in x m ++ sends_to x (outputs_of (given_in m)))) → IsClosedBy x m d
 
--- so it is of each connection that is closed behind a move
+-- the same holds for each connection that is closed after a move
 abbrev pub NothingOnClosed : Type 0
 NothingOnClosed = (core : CoreState) (turn : Turn) (m : Moves core turn) → IsOrderly core → (x : ConnectionName) (d : Connection) →
     listed_named x turn.core ≡ Some d → is_over d.stage ≡ true → IsClosedBy x m d

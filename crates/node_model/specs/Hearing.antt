@@ -1,20 +1,20 @@
--- What a replica hears in a deed of its node comes before all else.
+-- What a replica receives in a call of its node comes before everything else.
 use Rattle.std.specs.Prelude.{◌≡◌, false}
 use Rattle.world_base.specs.Core.{CoreState, Turn}
 use Rattle.node_model.specs.Keeping.{moves_replica}
 use Rattle.node_model.specs.Moves.{Deed, Runs, done}
 use Rattle.node_model.specs.Moves.Runs.{rests, goes_on}
 
--- in no move of a run the replica hears something, or stops
+-- in no move of a run the replica receives something, or stops
 abbrev pub IsCalm : {core : CoreState} {turn : Turn} → Runs core turn → Type 0
 IsCalm rests = Unit {0}
 IsCalm (goes_on m run) = (moves_replica m ≡ false) × IsCalm run
 
--- in none but the first
+-- in none except the first
 abbrev pub HearsAtFirst : {core : CoreState} {turn : Turn} → Runs core turn → Type 0
 HearsAtFirst rests = Unit {0}
 HearsAtFirst (goes_on m run) = IsCalm run
 
--- each deed is such a run
+-- each call is such a run
 abbrev pub DeedsHearAtFirst : Type 0
 DeedsHearAtFirst = (deed : Deed) (core : CoreState) → (run : Runs core (done deed core)) × HearsAtFirst run

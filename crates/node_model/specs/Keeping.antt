@@ -1,4 +1,4 @@
--- Of which ballot the names of a node's open connections are.
+-- Which ballot the names of a node's open connections have.
 use Rattle.std.specs.Prelude.{◌≡◌, ℕ, Bool, true, false, Some}
 use Rattle.world_base.specs.ballot.Config.{Config}
 use Rattle.world_base.specs.ballot.Protocol.{Input}
@@ -21,15 +21,17 @@ pub record AreOfTheBallot (core : CoreState) : Type 0 where
   pub each : (x : ConnectionName) (c : Connection) → listed_named x core ≡ Some c → is_over c.stage ≡ false →
       (serves core ≡ true) × (x.ballot ≡ core.replica.state.joined)
 
--- a move in which the replica hears something, cuts its log, or stops
+-- a move in which the replica receives something, cuts its log, or stops
 abbrev pub moves_replica : {core : CoreState} {turn : Turn} → Moves core turn → Bool
 moves_replica (hears input other) = true
 moves_replica (cuts_log can) = true
 moves_replica crashes = true
 moves_replica _ = false
 
--- So it is from the opening on. Each move keeps it, but that in which the replica hears something, cuts its log, or stops, keeps it with
--- the settling behind it, as each step of a node ends. And then a node proposes under a name in the ballot of that name alone.
+-- This holds from the opening on. Each move preserves it, except that a move in which the replica
+-- receives something, cuts its log, or stops preserves it only together with the settling move
+-- after it, with which each step of a node ends. And then a node proposes under a name only in the
+-- ballot of that name.
 pub record NamesKeepTheirBallot : Type 0 where
   pub opens : (id : ℕ) (config : Config) → AreOfTheBallot (opening_core id config)
   pub moves : (core : CoreState) (turn : Turn) (m : Moves core turn) → IsOrderly core → moves_replica m ≡ false → AreOfTheBallot core → AreOfTheBallot turn.core

@@ -1,4 +1,5 @@
--- What moves are for one connection of a node where memory may be wanting: as exact ones, but that it may come to be closed.
+-- What moves do to one connection of a node when memory may run out: the same as exact ones, except
+-- that it may be closed.
 use Rattle.std.specs.Prelude.{◌≡◌, ◌<◌, ℕ, true, false, List, ◌++◌, length, filter, Some, None}
 use Rattle.packet.specs.declared.packet.Packet.{Packet}
 use Rattle.world_base.specs.ballot.Config.{Config}
@@ -21,39 +22,42 @@ use Rattle.node_model.specs.Puts.{outputs_of, spelled}
 
 -- ---- what is read
 
--- what more is read in a move: the next of the packets that were written, each of which is proposed under the name
+-- what is newly read in a move: the next of the packets that were written, each of which is
+-- proposed under the name
 pub record ReadsOn (x : ConnectionName) {core : CoreState} {turn : Turn} (m : LossyMoves core turn) (written read : List Packet) (later : List ℕ) : Type 0 where
   pub more : List Packet
   pub end : IsEnd x turn.core written (read ++ more) later
   pub proposed : filter (λ command. is_packet_of command x) (proposal_of m) ≡ commands_of x (length read) more
 
--- so it is of each connection in each move; none is skipped while the connection is open
+-- the same holds for each connection in each move; none is skipped while the connection is open
 abbrev pub LossesReadInOrder : Type 0
 LossesReadInOrder = (core : CoreState) (turn : Turn) (m : LossyMoves core turn) → IsOrderly core → IsOrderly turn.core
     × ((x : ConnectionName) (written read : List Packet) (under_way later : List ℕ) → IsEnd x core written read under_way →
     under_way ≡ came_on x m ++ later → ReadsOn x m written read later)
 
--- from the opening on the commands that are proposed under a name are those of a beginning of what is written
+-- from the opening on the commands that are proposed under a name are those of a prefix of what is
+-- written
 abbrev pub LossesProposeInOrder : Type 0
 LossesProposeInOrder = (id : ℕ) (config : Config) (turn : Turn) (run : LossyRuns (opening_core id config) turn) (x : ConnectionName)
     (written : List Packet) (later : List ℕ) → 0 < x.count → Joins written (bytes_on x run ++ later) → Proposes x turn.core (proposals_of run) written later
 
--- each packet that is read stands in the log at once, behind all that stood there
+-- each packet that is read is in the log at once, after everything that was there
 abbrev pub LossesAreTaken : Type 0
 LossesAreTaken = (core : CoreState) (turn : Turn) (m : LossyMoves core turn) → is_read m ≡ true →
     turn.core.replica.state.log
     ≡ record core.replica.state.log { rest = core.replica.state.log.rest ++ proposal_of m }
 
--- ---- what is put out
+-- ---- what is sent
 
--- on a connection that stays open all that the outputs of a move send to it, in order, behind what was put out before
+-- on a connection that stays open a move queues all that its outputs send to it, in order, after
+-- what was queued before
 abbrev pub LossesPutInOrder : Type 0
 LossesPutInOrder = (core : CoreState) (turn : Turn) (m : LossyMoves core turn) → IsOrderly core → is_handing m ≡ false →
     (x : ConnectionName) (c d : Connection) → open_named x core ≡ Some c → open_named x turn.core ≡ Some d →
     d.pending ≡ c.pending ++ spelled (sends_to x (outputs_of (given_in m)))
 
--- one that is closed behind a move was so before, with the same bytes to hand over, or was open, and got a beginning of what is
--- sent to it
+-- one that is closed after a move was closed before, with the same bytes to hand over, or was open,
+-- and got a prefix of what is sent to it
 pub data IsClosedBy (x : ConnectionName) {core : CoreState} {turn : Turn} (m : LossyMoves core turn) (d : Connection) : Type 0 where
   was_closed : (c : Connection) → listed_named x core ≡ Some c → is_over c.stage ≡ true → d.pending ≡ c.pending → IsClosedBy x m d
   closes_now : (c : Connection) (front : List ℕ) → open_named x core ≡ Some c → d.pending ≡ c.pending ++ front →
@@ -65,17 +69,18 @@ LossesPutNothingOnClosed = (core : CoreState) (turn : Turn) (m : LossyMoves core
 
 -- ---- names
 
--- a connection that is new behind a move has the next name of the ballot that the node leads
+-- a connection that is new after a move has the next name of the ballot that the node leads
 abbrev pub LossyNamesAreOfTheBallot : Type 0
 LossyNamesAreOfTheBallot = (core : CoreState) (turn : Turn) (m : LossyMoves core turn) → IsOrderly core → (x : ConnectionName) (d : Connection) →
     listed_named x core ≡ None → listed_named x turn.core ≡ Some d → IsNextName core x
 
--- where a node serves each open connection has a name of the ballot that it leads
+-- if a node serves, each open connection has a name of the ballot that it leads
 abbrev pub AreWhereItServes : CoreState → Type 0
 AreWhereItServes core = serves core ≡ true → AreOfTheBallot core
 
--- So it is behind each move in which the replica hears nothing, and behind one in which it does, where that began as a step does.
--- And a node proposes under a name in the ballot of that name alone.
+-- This holds after each move in which the replica receives nothing, and after one in which it does,
+-- if that move began as a step does. And a node proposes under a name only in the ballot of that
+-- name.
 pub record LossyNamesKeepTheirBallot : Type 0 where
   pub moves : (core : CoreState) (turn : Turn) (m : LossyMoves core turn) → IsOrderly core → hears_in m ≡ false → AreWhereItServes core → AreWhereItServes turn.core
   pub hears : (core : CoreState) (turn : Turn) (m : LossyMoves core turn) → IsOrderly core → AreOfTheBallot core → AreWhereItServes turn.core

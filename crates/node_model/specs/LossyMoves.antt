@@ -1,4 +1,5 @@
--- What a node may do in a step where memory may be wanting, move by move: one of its moves, or one in which something is lost.
+-- What a node may do in a step when memory may run out, move by move: one of its moves, or one in
+-- which something is lost.
 use Rattle.std.specs.Prelude.{◌≡◌, ℕ, Bool, true, false, List, [], ◌∷◌, Some, Ok}
 use Rattle.packet.specs.declared.packet.Packet.{Packet}
 use Rattle.packet.specs.declared.packet.Packet.TheVariants as packets
@@ -28,7 +29,7 @@ use Rattle.node_model.specs.Puts.{given_in as exact_given, is_handing as exact_h
 
 -- ---- one move
 
--- what became of a node, and the messages that were handed out
+-- what happened to a node, and the messages that were sent
 abbrev pub turn_of : Account → Turn
 turn_of did = record { core = did.core; messages = did.messages }
 
@@ -43,9 +44,10 @@ halting core =
 
 pub data LossyMoves (core : CoreState) : Turn → Type 0 where
   exactly : {turn : Turn} → Moves core turn → LossyMoves core turn
-  -- the replica hears a message or a tick, perhaps with losses; of what it gives messages may be lost, and connections closed
+  -- the replica receives a message or a tick, perhaps with losses; some of the messages that it
+  -- gives may be lost, and connections closed
   hears_losing : (input : Input Command) (did : Account) → is_proposal input ≡ false → Drives input core did → LossyMoves core (turn_of did)
-  -- so it is where a CONNECT, the first packet of an open connection, is read and taken
+  -- the same if a CONNECT, the first packet of an open connection, is read and taken
   first_losing : (now : ℕ) (port : Port) (c : Connection) (connect : Connect) (rest : List ℕ) (did : Account) → open_at port core ≡ Some c →
       is_first c.stage ≡ true → verdict c.unread ≡ Ok (packets.Connect connect, rest) →
       Takes (commands.Connect c.name connect.client connect.clean) (changes port (asked connect.keep_alive) (changes port (left_with now rest) core)) did →
@@ -58,18 +60,19 @@ pub data LossyMoves (core : CoreState) : Turn → Type 0 where
   tells_losing : (name : ConnectionName) (did : Account) → Takes (commands.Lost name) core did → LossyMoves core (turn_of did)
   -- .. or an Expel
   expels_losing : (client : List ℕ) (did : Account) → Takes (commands.Expel client) core did → LossyMoves core (turn_of did)
-  -- the replica does not take what comes to it, and counts that; or it stops
+  -- the replica does not take what it receives, and counts that; or it stops
   forgets : LossyMoves core (quiet (forgetful core))
   halts : LossyMoves core (quiet (halting core))
-  -- a connection is closed as lost, of which the broker is still to hear; or it will not hear of it
+  -- a connection is closed as lost, and the loss is still to be reported to the broker; or it will
+  -- not be reported
   fails : (port : Port) → LossyMoves core (quiet (changes port failing core))
   unheard : LossyMoves core (quiet (closes_failed core))
   -- bytes come in on an open connection that is closed, since there is no memory for them
   drops : (port : Port) (piece : List ℕ) → LossyMoves core (quiet (changes port closed core))
 
--- ---- what a move is
+-- ---- what a move does
 
--- what its replica gives in a move
+-- the effects of its replica in a move
 abbrev pub given_in : {core : CoreState} {turn : Turn} → LossyMoves core turn → List (Effect Command Output)
 given_in (exactly m) = exact_given m
 given_in (hears_losing input did other drives) = did.given
@@ -119,7 +122,7 @@ is_read (first_losing now port c connect rest did at first is taken) = true
 is_read (later_losing now port c packet rest did at later is taken) = true
 is_read _ = false
 
--- what the replica hears in it
+-- what the replica receives in it
 abbrev pub inputs_of : {core : CoreState} {turn : Turn} → Moves core turn → List (Input Command)
 inputs_of (hears input other) = input ∷ []
 inputs_of _ = []
@@ -129,7 +132,7 @@ inputs_in (exactly m) = inputs_of m
 inputs_in (hears_losing input did other drives) = input ∷ []
 inputs_in _ = []
 
--- whether it does, or the node crashes
+-- whether it receives something, or the node crashes
 abbrev pub hears_in : {core : CoreState} {turn : Turn} → LossyMoves core turn → Bool
 hears_in (exactly m) = moves_replica m
 hears_in (hears_losing input did other drives) = true

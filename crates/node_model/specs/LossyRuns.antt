@@ -1,4 +1,4 @@
--- What a node may do in a step where memory may be wanting: a run of moves, one behind the other.
+-- What a node may do in a step when memory may run out: a run of moves, one after another.
 use Rattle.std.specs.Prelude.{◌≡◌, ℕ, Bool, true, false, List, [], ◌∷◌, ◌++◌, Some}
 use Rattle.world_base.specs.ballot.Effect.{Effect}
 use Rattle.world_base.specs.ballot.Protocol.{Input}
@@ -18,22 +18,23 @@ use Rattle.node_model.specs.LossyMoves.LossyMoves.{exactly}
 use Rattle.node_model.specs.Moves.{Moves, and_then}
 use Rattle.node_model.specs.Moves.Moves.{cuts_log}
 
--- moves one behind the other
+-- moves one after another
 pub data LossyRuns : CoreState → Turn → Type 0 where
   rests : {core : CoreState} → LossyRuns core (quiet core)
   goes_on : {core : CoreState} {first next : Turn} → LossyMoves core first → LossyRuns first.core next → LossyRuns core (and_then first next)
 
--- in no move of a run the replica hears something
+-- in no move of a run the replica receives something
 abbrev pub IsCalm : {core : CoreState} {turn : Turn} → LossyRuns core turn → Type 0
 IsCalm rests = Unit {0}
 IsCalm (goes_on m run) = (hears_in m ≡ false) × IsCalm run
 
--- in none but the first
+-- in none except the first
 abbrev pub HearsAtFirst : {core : CoreState} {turn : Turn} → LossyRuns core turn → Type 0
 HearsAtFirst rests = Unit {0}
 HearsAtFirst (goes_on m run) = IsCalm run
 
--- the commands that a node proposes in a run, in order, and the bytes that come on the connection of a name
+-- the commands that a node proposes in a run, in order, and the bytes that come on the connection
+-- of a name
 abbrev pub proposals_of : {core : CoreState} {turn : Turn} → LossyRuns core turn → List Command
 proposals_of rests = []
 proposals_of (goes_on m run) = proposal_of m ++ proposals_of run
@@ -60,12 +61,12 @@ abbrev pub cuts_in : {core : CoreState} {turn : Turn} → LossyMoves core turn �
 cuts_in (exactly m) = exactly_cuts m
 cuts_in _ = false
 
--- in no move of a run one is
+-- in no move of a run a log is cut
 abbrev pub CutsNothing : {core : CoreState} {turn : Turn} → LossyRuns core turn → Type 0
 CutsNothing rests = Unit {0}
 CutsNothing (goes_on m run) = (cuts_in m ≡ false) × CutsNothing run
 
--- the bytes to which a log is cut stand for its machine
+-- the bytes to which a log is cut thaw to its machine
 abbrev pub Freezes : {core : CoreState} {turn : Turn} → LossyMoves core turn → Type 0
 Freezes {core = core} (exactly (cuts_log can)) =
     rules.thawed (rules.frozen core.replica.state.machine) ≡ Some core.replica.state.machine
@@ -75,9 +76,10 @@ abbrev pub AllFreeze : {core : CoreState} {turn : Turn} → LossyRuns core turn 
 AllFreeze rests = Unit {0}
 AllFreeze (goes_on m run) = Freezes m × AllFreeze run
 
--- ---- what a node does at the wish of others
+-- ---- what a node does for an item
 
--- what the replica hears with an item, and the bytes that come with it on the connection of a name
+-- what the replica receives with an item, and the bytes that come with it on the connection of a
+-- name
 abbrev pub heard_with : Item → List (Input Command)
 heard_with (Peer message) = Receives message ∷ []
 heard_with (Tick now) = Ticks ∷ []
@@ -91,9 +93,9 @@ abbrev pub is_cut : Item → Bool
 is_cut Cut = true
 is_cut _ = false
 
--- Each step that takes an item with losses is a run of such moves: the replica hears what comes with the item, in the first of them,
--- on each connection the bytes of the item come, nothing is handed over, no log is cut but where the item is a cut, and what is
--- frozen can be read.
+-- Each step that takes an item with losses is a run of such moves: the replica receives what comes
+-- with the item, in the first of them, on each connection the bytes of the item come, nothing is
+-- handed over, no log is cut unless the item is a cut, and what is frozen can be read.
 pub record IsRunOn (item : Item) (core : CoreState) (turn : Turn) : Type 0 where
   pub run : LossyRuns core turn
   pub first : HearsAtFirst run

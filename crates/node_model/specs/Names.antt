@@ -8,13 +8,13 @@ use Rattle.node_model.specs.Closed.{listed_named}
 use Rattle.node_model.specs.Ends.{IsOrderly}
 use Rattle.node_model.specs.Moves.{Moves}
 
--- Of the ballot that its replica leads as the active primary, and the next number there.
+-- A name of the ballot that its replica leads as the active primary, with the next number there.
 pub record IsNextName (core : CoreState) (x : ConnectionName) : Type 0 where
   pub leads : serves core ≡ true
   pub ballot : x.ballot ≡ core.replica.state.joined
   pub count : x.count ≡ accepted core + 1
 
--- so it is of each connection that is new behind a move
+-- the same holds for each connection that is new after a move
 abbrev pub NewNamesAreOfTheBallot : Type 0
 NewNamesAreOfTheBallot = (core : CoreState) (turn : Turn) (m : Moves core turn) → IsOrderly core → (x : ConnectionName) (d : Connection) →
     listed_named x core ≡ None → listed_named x turn.core ≡ Some d → IsNextName core x

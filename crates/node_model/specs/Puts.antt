@@ -1,4 +1,4 @@
--- What a node puts out on a connection in a move.
+-- What a node queues on a connection in a move.
 use Rattle.std.specs.Prelude.{◌≡◌, ℕ, Bool, true, false, if◌then◌else◌, List, [], ◌∷◌, ◌++◌, Some}
 use Rattle.packet.specs.declared.packet.Packet.{Packet}
 use Rattle.packet.specs.Spelling.{spelling}
@@ -17,7 +17,7 @@ use Rattle.node_model.specs.Moves.{Moves}
 use Rattle.node_model.specs.Moves.Moves.{hears, reads_first, reads_later, loses_one, loses_next, expels_one, hands}
 use Rattle.node_model.specs.Ends.{IsOrderly, open_named}
 
--- what its replica gives in a move
+-- the effects of its replica in a move
 abbrev pub given_in : {core : CoreState} {turn : Turn} → Moves core turn → List (Effect Command Output)
 given_in {core = core} (hears input is) = (heard input core.replica.state).effects
 given_in {core = core} (reads_first now port c connect rest at first is room) =
@@ -43,8 +43,9 @@ abbrev pub is_handing : {core : CoreState} {turn : Turn} → Moves core turn →
 is_handing (hands port) = true
 is_handing _ = false
 
--- On a connection that stays open a move puts out the packets that the outputs of this move send to it, in order, behind
--- what was put out before; handing over aside, nothing else changes what is put out.
+-- On a connection that stays open a move queues the packets that the outputs of this move send to
+-- it, in order, after what was queued before; except for handing over, nothing else changes what is
+-- queued.
 abbrev pub PutsInOrder : Type 0
 PutsInOrder = (core : CoreState) (turn : Turn) (m : Moves core turn) → IsOrderly core → is_handing m ≡ false →
     (x : ConnectionName) (c d : Connection) → open_named x core ≡ Some c → open_named x turn.core ≡ Some d →

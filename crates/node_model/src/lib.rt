@@ -1,5 +1,5 @@
-//! What a node does, in the terms of the model of clients and nodes: all it does as moves, and what these are for one of its
-//! connections. Its functions do nothing; their contracts are the laws.
+//! What a node does, in the terms of the model of clients and nodes: all it does as moves, and what
+//! these do to one of its connections. Its functions do nothing; their contracts are the laws.
 #![tactic(auto)]
 
 mod laws;

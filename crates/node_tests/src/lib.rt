@@ -1,4 +1,4 @@
-//! Nodes, the inboxes that their items come by, their connections, and devices that fail. Tests alone stand here.
+//! Nodes, their inboxes, their connections, and devices that fail. It has only tests.
 #![tactic(auto)]
 
 #[cfg(test)]

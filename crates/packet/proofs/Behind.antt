@@ -1,5 +1,5 @@
--- What is left behind a Remaining Length and a body is the end of the bytes, and what this says of
--- the answers of `decode`.
+-- What is left after a Remaining Length and a body is the end of the bytes, and what this says
+-- about the answers of `decode`.
 use Rattle.std.proofs.Common.{◌≡◌, ℕ, suc, ◌+◌, ◌-◌, ◌≤◌, List, [], ◌∷◌, ◌++◌, length, get_or, take, drop, Result, Ok, Err, refl, sym, ap, subst, ◌∙◌, arith, append_assoc}
 use Rattle.std.specs.Prelude.{IfOk}
 use Rattle.std.proofs.lemmas.Bool.{le-leb}
@@ -40,7 +40,7 @@ rest_dropped bytes rest n len e =
     h.1 ∙ ap (λ (x : List ℕ). h.0 ++ x) (sym (take-append-drop len rest)) ∙ sym (append_assoc h.0 (take len rest) (drop len rest)) in
     end_rest bytes (drop len rest) (h.0 ++ take len rest) parts
 
--- the verdict where each step goes on
+-- the verdict if each step continues
 pub verdict_whole : (first : ℕ) (bytes rest front after : List ℕ) (h : Header) (n : ℕ) (p : Packet) → header_of first ≡ Ok h → length_at 3 bytes ≡ Ok (n, rest) → n ≤ longest_body → n ≤ length rest
     → front ≡ take n rest → after ≡ drop n rest → body_of h front ≡ Ok p → verdict (first ∷ bytes) ≡ Ok (p, drop (length bytes - length after) bytes)
 unfolding verdict
@@ -94,7 +94,7 @@ is_read bytes (Err (faults.Refused code)) given within p front rest whole spelle
     let again : verdict bytes ≡ Ok (p, rest) = ap verdict parts ∙ verdict_again p front rest whole spelled in
     absurd cc
 
--- a slice is its first byte and those behind it
+-- a slice is its first byte and those after it
 pub verdict_behind : (bytes : List ℕ) (p : Packet) (n : ℕ) → 1 ≤ length bytes
     → verdict (get_or bytes 0 0 ∷ take (length bytes - 1) (drop 1 bytes)) ≡ Ok (p, drop n (take (length bytes - 1) (drop 1 bytes)))
     → verdict bytes ≡ Ok (p, drop (1 + n) bytes)

@@ -28,7 +28,7 @@ use Rattle.packet.proofs.PublishReads.{IsPublish, publish_found, publish_again}
 use Rattle.packet.proofs.IdAloneReads.{id_alone_found, id_alone_again}
 use Rattle.packet.proofs.ListPacketsRead.{subscribe_found, subscribe_again, suback_found, suback_again, unsubscribe_found, unsubscribe_again}
 
--- the packet behind this first byte that these bytes are the body of
+-- the packet after this first byte that these bytes are the body of
 pub record IsBody (h : Header) (bytes : List ℕ) (p : Packet) : Type 0 where
   pub said : header p ≡ h
   pub spelled : bytes ≡ body p

@@ -19,7 +19,7 @@ joined true true len a b t l = absurd cc
 joined false null len a b t l = absurd cc
 joined true false false a b t l = absurd cc
 
--- and so is a text that was read, and has that length
+-- a text that was read, and has that length, is one too
 pub client_checked : (text : List ℕ) → is_text text ≡ true → has_client_length text ≡ true → is_client text ≡ true
 client_checked text good len = joined (is_utf8 text) (has_null text) (has_client_length text) kinds.Identifier kinds.Text good len
 

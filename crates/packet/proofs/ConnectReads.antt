@@ -29,7 +29,7 @@ protocol_found body fits named = record {
   left = IsBytes-drop 6 body fits;
 }
 
--- all fields one after the other
+-- all fields one after another
 whole : (body rest l2 l3 client : List ℕ) (level flags keep_alive : ℕ) → Splits body protocol rest → Splits rest (level ∷ flags ∷ []) l2 → Splits l2 (number keep_alive) l3 → Splits l3 (text client) []
     → level ≡ 4 → flags ≡ 2 * bit (eqb flags 2) → body ≡ protocol ++ (4 ∷ 2 * bit (eqb flags 2) ∷ []) ++ number keep_alive ++ text client
 whole body rest l2 l3 client level flags keep_alive a b c d is_level is_flags =

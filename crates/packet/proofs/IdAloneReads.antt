@@ -1,4 +1,4 @@
--- A Packet Identifier alone that is read is spelled so, and one that is spelled is read.
+-- A Packet Identifier alone: the bytes that are read are its spelling, and what is spelled is read.
 use Rattle.std.proofs.Common.{◌≡◌, ℕ, ◌^◌, ◌<◌, List, [], Ok, refl, sym, ap, subst, ◌∙◌}
 use Rattle.std.specs.Prelude.{IfOk}
 use Rattle.std.proofs.lemmas.List.{append-nil}

@@ -15,7 +15,7 @@ use Rattle.packet.specs.Laws.{FrontsAreUnfinished, FaultsStay}
 use Rattle.packet.proofs.PacketReads.{verdict_again}
 use Rattle.packet.proofs.Behind.{ok_is}
 
--- a body that is there, with more bytes behind it
+-- a body that is there, with more bytes after it
 body_there : (more : List ℕ) (h : Header) (n : ℕ) (rest : List ℕ) → n ≤ length rest
     → StandsWithMore more
     (body_of h (take n rest) >>= (λ p. Ok (p, drop n rest)))
@@ -59,7 +59,7 @@ fault_grows more (Err (stops.Refused code)) longer stop grows fault e = grows �
 pub faults_stay_so : FaultsStay
 faults_stay_so bytes more stop fault e = fault_grows more (verdict bytes) (verdict (bytes ++ more)) stop (verdict_grows bytes more) fault e
 
--- what becomes a packet with nothing behind it, once more bytes have come, is unfinished
+-- what becomes a packet with nothing after it, once more bytes have come, is unfinished
 unfinished : (next : ℕ) (more : List ℕ) (p : Packet) (r longer : Result (Packet × List ℕ) Stop) → StandsWithMore (next ∷ more) r longer → longer ≡ Ok (p, []) → r ≡ Err stops.More
 unfinished next more p (Ok x) longer grows whole =
     let same = ok_is (x.0, x.1 ++ next ∷ more) (p, []) (sym grows ∙ whole) in

@@ -16,7 +16,7 @@ use Rattle.packet.specs.Spelling.{header, body, Spells, IsPacket, longest_body}
 use Rattle.packet.specs.Verdict.{body_of, verdict}
 use Rattle.packet.proofs.BodyReads.{IsBody, body_found, body_again}
 
--- the packet's spelling stands before the rest
+-- the packet's spelling is before the rest
 pub record Begins (bytes : List ℕ) (p : Packet) (rest : List ℕ) : Type 0 where
   pub front : List ℕ
   pub spelled : Spells p front

@@ -9,12 +9,12 @@ use Rattle.packet_base.specs.Reading.{◌>>=◌, ◌>>◌, malformed, byte_at, e
 use Rattle.packet.specs.declared.connack.Connack.{Connack}
 use Rattle.packet.specs.declared.connack.Connack.TheVariants as connacks
 
--- session present, which goes with code 0 alone, and the code (MQTT 3.2.2)
+-- session present, which goes only with code 0, and the code (MQTT 3.2.2)
 abbrev pub connack : Connack → List ℕ
 connack (connacks.Accepted present) = bit present ∷ 0 ∷ []
 connack (connacks.Refused code) = 0 ∷ code_number code ∷ []
 
--- what a code says where no session is present (MQTT 3.2.2.3, table 3.1)
+-- what a code says if no session is present (MQTT 3.2.2.3, table 3.1)
 abbrev pub coded : ℕ → Result Connack Stop
 coded code =
     if code == 0 then Ok (connacks.Accepted false) else

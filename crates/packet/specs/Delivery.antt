@@ -15,7 +15,7 @@ delivery_qos deliveries.AtMostOnce = levels.AtMostOnce
 delivery_qos (deliveries.AtLeastOnce dup id) = levels.AtLeastOnce
 delivery_qos (deliveries.ExactlyOnce dup id) = levels.ExactlyOnce
 
--- the identifier, where the QoS has one
+-- the identifier, if the QoS has one
 abbrev pub id_of : Delivery → Option ℕ
 id_of deliveries.AtMostOnce = None
 id_of (deliveries.AtLeastOnce dup id) = Some id

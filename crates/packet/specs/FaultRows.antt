@@ -1,4 +1,4 @@
--- Bytes with two faults, and the one that counts: `decode` looks at them in one order.
+-- Bytes with two faults, and the one that counts: `decode` checks in one order.
 use Rattle.std.specs.Prelude.{◌≡◌, ℕ, List, [], ◌∷◌, Err}
 use Rattle.std.specs.List.{AllByRecursion}
 use Rattle.packet_base.specs.topics.declared.malformed.MalformedKind.TheVariants as kinds
@@ -7,11 +7,11 @@ use Rattle.packet_base.specs.declared.stop.Stop.{Stop}
 use Rattle.packet_base.specs.declared.stop.Stop.TheVariants as stops
 use Rattle.packet.specs.Verdict.{verdict}
 
--- bytes, and the fault that counts
+-- bytes, and the fault that counts for them
 abbrev pub Row : Type 0
 Row = List ℕ × Stop
 
--- each of these counts
+-- each of these faults counts
 abbrev pub AllCount : List Row → Type 0
 AllCount rows = AllByRecursion (λ row. verdict row.0 ≡ Err row.1) rows
 
@@ -26,7 +26,8 @@ first_byte_rows =
     ∷ (0x3E ∷ 0x80 ∷ 0x00 ∷ [], stops.Malformed kinds.Qos)
     ∷ []
 
--- the length comes before the limit, the limit before what is missing, and that before the fields (MQTT 2.2.3)
+-- the length comes before the limit, the limit before what is missing, and that before the fields
+-- (MQTT 2.2.3)
 abbrev pub length_rows : List Row
 length_rows =
     (0x30 ∷ 0xFF ∷ 0xFF ∷ 0xFF ∷ 0xFF ∷ [], stops.Malformed kinds.Length)
@@ -37,7 +38,7 @@ length_rows =
     ∷ (0x10 ∷ 0x0D ∷ 0x58 ∷ [], stops.More)
     ∷ []
 
--- a topic that does not fit, its bytes, what it says, its levels, the identifier (MQTT 3.3)
+-- a topic that does not fit, its bytes, its text, its levels, the identifier (MQTT 3.3)
 abbrev pub publish_rows : List Row
 publish_rows =
     (0x30 ∷ 0x03 ∷ 0x00 ∷ 0x05 ∷ 0x00 ∷ [], stops.Malformed kinds.Shape)
@@ -71,7 +72,8 @@ list_rows =
     ∷ (0xA2 ∷ 0x08 ∷ 0x00 ∷ 0x01 ∷ 0x00 ∷ 0x02 ∷ 0x61 ∷ 0x23 ∷ 0x00 ∷ 0x00 ∷ [], stops.Malformed kinds.Filter)
     ∷ []
 
--- name, level and flags there, level, flags, keep alive, identifier, what is left over, the identifier's length (MQTT 3.1)
+-- the name, that level and flags are present, the level, the flags, keep alive, identifier, what is
+-- left over, the identifier's length (MQTT 3.1)
 abbrev pub connect_rows : List Row
 connect_rows =
     (0x10 ∷ 0x07 ∷ 0x00 ∷ 0x04 ∷ 0x4D ∷ 0x51 ∷ 0x54 ∷ 0x58 ∷ 0x05 ∷ [], stops.Malformed kinds.Protocol)

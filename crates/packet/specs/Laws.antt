@@ -16,12 +16,12 @@ abbrev pub SpellingSpells : Type 0
 SpellingSpells = (p : Packet) → IsPacket p →
     Spells p (spelling p) × ((other : List ℕ) → Spells p other → other ≡ spelling p)
 
--- where two spellings begin the same bytes, they are one, and of one packet
+-- if two spellings are prefixes of the same bytes, they are equal, and spell the same packet
 abbrev pub NoneBeginsAnother : Type 0
 NoneBeginsAnother = (p q : Packet) (a b x y : List ℕ) → IsPacket p → IsPacket q
     → Spells p a → Spells q b → a ++ x ≡ b ++ y → (p ≡ q) × (a ≡ b)
 
--- a spelling of which bytes are missing is less than a packet
+-- a spelling whose last bytes are missing is less than a packet
 abbrev pub FrontsAreUnfinished : Type 0
 FrontsAreUnfinished = (p : Packet) (front more : List ℕ) (next : ℕ) → IsPacket p
     → Spells p (front ++ next ∷ more) → IsUnfinished front

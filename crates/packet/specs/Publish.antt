@@ -8,7 +8,7 @@ use Rattle.packet_base.specs.Reading.{◌>>=◌, topic_at}
 use Rattle.packet.specs.declared.publish.Publish.{Publish}
 use Rattle.packet.specs.Delivery.{delivery_id, FitsDelivery, delivery_at}
 
--- topic, identifier where the QoS has one, payload
+-- topic, identifier if the QoS has one, payload
 abbrev pub publish : Publish → List ℕ
 publish p = text p.topic ++ delivery_id p.delivery ++ p.payload
 
@@ -16,7 +16,7 @@ publish p = text p.topic ++ delivery_id p.delivery ++ p.payload
 abbrev pub FitsPublish : Publish → Type 0
 FitsPublish p = IsTrue (is_topic p.topic) × FitsDelivery p.delivery
 
--- a body behind these flags, or its first fault; the payload is all that is left
+-- a body after these flags, or its first fault; the payload is all that is left
 unfoldable pub publish_of : DeliveryFlags → Bool → List ℕ → Result Publish Stop
 publish_of flags retain body = do
   topic ← topic_at body

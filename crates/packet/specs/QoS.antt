@@ -12,7 +12,7 @@ qos_number levels.AtMostOnce = 0
 qos_number levels.AtLeastOnce = 1
 qos_number levels.ExactlyOnce = 2
 
--- the level of a number, of which there are three
+-- the level of a number; there are three levels
 abbrev pub qos_of : ℕ → Result QoS Stop
 qos_of number =
     if number == 0 then Ok levels.AtMostOnce else

@@ -31,7 +31,7 @@ header packets.Pingreq = headers.Pingreq
 header packets.Pingresp = headers.Pingresp
 header packets.Disconnect = headers.Disconnect
 
--- what stands behind the Remaining Length: variable header and payload (MQTT 3)
+-- what comes after the Remaining Length: variable header and payload (MQTT 3)
 abbrev pub body : Packet → List ℕ
 body (packets.Connect c) = connect c
 body (packets.Connack c) = connack c
@@ -58,7 +58,7 @@ Spells p bytes =
 unfoldable pub spelling : Packet → List ℕ
 spelling p = first_byte (header p) ∷ remaining_length (length (body p)) ++ body p
 
--- how many bytes that are: the first one, those of the Remaining Length, and the body's
+-- the length of the spelling: the first byte, the bytes of the Remaining Length, and the body
 abbrev pub spelled_len : Packet → ℕ
 spelled_len p = 1 + length_bytes (length (body p)) + length (body p)
 
@@ -86,7 +86,7 @@ IsListed (packets.Suback s) = 0 < length s.codes
 IsListed (packets.Unsubscribe u) = 0 < length u.filters
 IsListed _ = Unit {0}
 
--- the most bytes behind the Remaining Length, this broker's own limit
+-- the most bytes after the Remaining Length, this broker's own limit
 abbrev pub longest_body : ℕ
 longest_body = 1048572
 
@@ -98,6 +98,6 @@ IsTooLarge p = longest_body < length (body p)
 abbrev pub IsPacket : Packet → Type 0
 IsPacket p = Fits p × IsListed p × (length (body p) ≤ longest_body)
 
--- new is old with the spelling of the packet at its end
+-- new is old with the spelling of the packet appended
 abbrev pub AppendsSpelling : List ℕ → List ℕ → Packet → Type 0
 AppendsSpelling old new p = (bytes : List ℕ) × Spells p bytes × (new ≡ old ++ bytes)

@@ -1,4 +1,4 @@
--- What bytes begin with: a packet, less than one, or the first fault from the left.
+-- What is at the front of bytes: a packet, less than one, or the first fault from the left.
 use Rattle.std.specs.Prelude.{◌≡◌, ℕ, ◌≤◌, nat_le, Bool, true, false, is_ok, List, [], ◌∷◌, ◌++◌, length, take, drop, Result, Ok, Err}
 use Rattle.packet_base.specs.topics.declared.malformed.MalformedKind.TheVariants as kinds
 use Rattle.packet_base.specs.declared.stop.Stop.{Stop}
@@ -28,7 +28,7 @@ use Rattle.packet.specs.Unsubscribe.{unsubscribe_of}
 abbrev pub empty_of : Packet → List ℕ → Result Packet Stop
 empty_of packet body = ended body >> Ok packet
 
--- the body behind a first byte that says this
+-- the body after a first byte that says this
 abbrev pub body_of : Header → List ℕ → Result Packet Stop
 body_of headers.Connect body = connect_of body >>= (λ c. Ok (packets.Connect c))
 body_of headers.Connack body = connack_of body >>= (λ c. Ok (packets.Connack c))
@@ -46,8 +46,8 @@ body_of headers.Pingreq body = empty_of packets.Pingreq body
 body_of headers.Pingresp body = empty_of packets.Pingresp body
 body_of headers.Disconnect body = empty_of packets.Disconnect body
 
--- The packet at the front, and the bytes after it. First byte, length, limit, the whole body and
--- what stands in it are looked at in this order.
+-- The packet at the front, and the bytes after it. First byte, length, limit, the presence of the
+-- whole body and its contents are checked in this order.
 unfoldable pub verdict : List ℕ → Result (Packet × List ℕ) Stop
 verdict [] = Err stops.More
 verdict (first ∷ bytes) = do
@@ -62,8 +62,9 @@ verdict (first ∷ bytes) = do
 abbrev pub IsUnfinished : List ℕ → Type 0
 IsUnfinished bytes = verdict bytes ≡ Err stops.More
 
--- Whether memory is asked for, and so whether what comes before is right: all of a CONNECT, the topic
--- of a PUBLISH, the identifier of a packet with a list, which is not empty. No other packet has a text or a list.
+-- Whether memory is needed, and so whether the fields before the first text or list are right: all
+-- of a CONNECT, the topic of a PUBLISH, the identifier of a packet with a list, which is not empty.
+-- No other packet has a text or a list.
 abbrev pub asks_in_body : Header → List ℕ → Bool
 asks_in_body headers.Connect body = is_ok (connect_of body)
 asks_in_body (headers.Publish flags retain) body = is_ok (topic_at body)
@@ -72,7 +73,7 @@ asks_in_body headers.Suback body = begins_list body
 asks_in_body headers.Unsubscribe body = begins_list body
 asks_in_body header body = false
 
--- the same behind a first byte and a length, once the whole body is there
+-- the same after a first byte and a length, once the whole body is there
 unfoldable pub asks_memory : List ℕ → Result Bool Stop
 asks_memory [] = Err stops.More
 asks_memory (first ∷ bytes) = do
@@ -82,11 +83,11 @@ asks_memory (first ∷ bytes) = do
   check (nat_le len.0 (length len.1)) stops.More
   Ok (asks_in_body header (take len.0 len.1))
 
--- memory may be wanting for the packet at the front
+-- memory may run out for the packet at the front
 abbrev pub MayWantMemory : List ℕ → Type 0
 MayWantMemory bytes = asks_memory bytes ≡ Ok true
 
--- the answer of `decode` is the verdict, but that memory may be wanting
+-- the answer of `decode` is the verdict, except that memory may run out
 abbrev pub Decodes : List ℕ → Result Step DecodeFault → Type 0
 Decodes bytes (Ok (steps.Whole packet len)) = verdict bytes ≡ Ok (packet, drop len bytes)
 Decodes bytes (Ok steps.More) = verdict bytes ≡ Err stops.More
@@ -98,12 +99,12 @@ abbrev pub IsWithin : List ℕ → Step → Type 0
 IsWithin bytes (steps.Whole packet len) = len ≤ length bytes
 IsWithin bytes steps.More = Unit {0}
 
--- a packet that was read is spelled so
+-- a packet that was read has this spelling
 abbrev pub IsSpelledSo : List ℕ → Step → Type 0
 IsSpelledSo bytes (steps.Whole packet len) = Spells packet (take len bytes) × IsPacket packet
 IsSpelledSo bytes steps.More = Unit {0}
 
--- the answer is this packet with this length, but that memory may be wanting
+-- the answer is this packet with this length, except that memory may run out
 abbrev pub ReadsWhole : Packet → ℕ → Result Step DecodeFault → Type 0
 ReadsWhole p len (Ok step) = step ≡ steps.Whole p len
 ReadsWhole p len (Err fault) = fault ≡ faults.Malformed kinds.Memory

@@ -1,4 +1,4 @@
-// The name by which a client's session is found again.
+// The Client Identifier, by which the server finds a client's session.
 
 ghost use Rattle.std.specs.Prelude.{◌≡◌, None, Some, IfOk, OnOk, IfErr, IsTrue, true};
 ghost use Rattle.packet.specs.ClientId.{client_fault, has_client_length, is_client};
@@ -12,8 +12,8 @@ use std::marker::Model;
 /// The most bytes of a Client Identifier.
 const MAX_BYTES: usize = 64;
 
-/// A Client Identifier of 1 to 64 bytes (MQTT 3.1.3.1). Compared and ordered by its bytes, which
-/// are what a contract sees.
+/// A Client Identifier of 1 to 64 bytes (MQTT 3.1.3.1). It is compared and ordered by its bytes,
+/// which are its value in contracts.
 #[derive(Debug, PartialEq, Eq, PartialOrd, Ord, Drop)]
 pub struct ClientId {
     text: Text,
@@ -33,14 +33,14 @@ impl Model for ClientId {
 }
 
 impl ClientId {
-    /// The Client Identifier of this text. In this order: `Identifier` where it has not 1 to 64
-    /// bytes, `Text` where U+0000 stands in it, `Memory`.
+    /// Returns the Client Identifier of this text. In this order: `Identifier` if it does not have
+    /// 1 to 64 bytes, `Text` if it contains U+0000, `Memory`.
     #[tactic(auto, using(crate::proofs::Clients::is_client_none))]
     pub fn new(alloc: Global, text: &str) -> Result<ClientId, MalformedKind>
         ensures value { IfOk result (λ client. client ≡ text.now) }
         ensures ok { OnOk result (client_fault text.now ≡ None) }
 
-        // Memory may be wanting for a text without a fault only.
+        // Memory may run out only for a text without a fault.
         ensures err { IfErr result (RefusesBy (client_fault text.now)) }
     {
         if !has_client_length(text) {
@@ -52,7 +52,7 @@ impl ClientId {
         Ok(ClientId::of_checked(alloc, text)?)
     }
 
-    // The Client Identifier of a text without a fault.
+    // Returns the Client Identifier of a text without a fault.
     pub(crate) fn of_checked(alloc: Global, text: &str) -> Result<ClientId, AllocError>
         requires { is_client text.now ≡ true }
         ensures { IfOk result (λ client. client ≡ text.now) }
@@ -61,7 +61,7 @@ impl ClientId {
         Ok(ClientId { text })
     }
 
-    /// The text of this identifier.
+    /// Returns the text of this identifier.
     pub fn as_str(&self) -> &str
         ensures value { result.now ≡ self.now }
         ensures checked { IsTrue (is_client self.now) }
@@ -70,7 +70,7 @@ impl ClientId {
     }
 }
 
-/// Whether a text has 1 to 64 bytes.
+/// Says whether a text has 1 to 64 bytes.
 pub(crate) fn has_client_length(text: &str) -> bool
     ensures { result ≡ has_client_length text.now }
 {

@@ -10,7 +10,7 @@ use packet_base::{Reader, RefusalCode, Stop, put_byte};
 /// The answer to a CONNECT (MQTT 3.2).
 #[derive(Clone, Copy, Debug, PartialEq, Eq)]
 pub enum Connack {
-    /// The connection is accepted; whether the server kept a session of the client.
+    /// The connection is accepted; the flag says whether the server kept a session of the client.
     Accepted(bool),
     /// The connection is refused, and no session is present (MQTT 3.2.2.2).
     Refused(RefusalCode),
@@ -30,7 +30,7 @@ impl Connack {
         Ok(connack)
     }
 
-    // How many bytes the body has.
+    // Returns how many bytes the body has.
     pub(crate) fn body_len(self) -> usize
         ensures { result ≡ min (length (connack self)) usize.MAX }
     {
@@ -55,7 +55,7 @@ impl Connack {
     }
 }
 
-// The two bytes of a body.
+// Returns the answer with these two bytes as its body.
 fn answer(present: u8, code: u8) -> Result<Connack, Stop>
     ensures exact { result ≡ answer_of present code }
     ensures memory { TakesNoMemory result }

@@ -24,7 +24,7 @@ const CLEAN_SESSION: u8 = 2;
 pub struct Connect {
     /// The client that asks.
     pub client: ClientId,
-    /// CleanSession: whether the session begins anew, and ends with the connection.
+    /// CleanSession: whether the session begins afresh, and ends with the connection.
     pub clean: bool,
     /// The most seconds between two packets of the client; 0 for no limit (MQTT 3.1.2.10).
     pub keep_alive: u16,
@@ -65,7 +65,7 @@ impl Connect {
         })
     }
 
-    // How many bytes the body has.
+    // Returns how many bytes the body has.
     pub(crate) fn body_len(&self) -> usize
         ensures { result ≡ min (length (connect self.now)) usize.MAX }
     {
@@ -84,7 +84,7 @@ impl Connect {
         put_text(out, self.client.as_str());
     }
 
-    // The fields are in their ranges.
+    // Ensures that the fields are in their ranges.
     pub(crate) fn known(&self)
         ensures { FitsConnect self.now }
     {

@@ -10,7 +10,7 @@ use packet_base::topics::MalformedKind;
 use packet_base::{Header, Reader, Stop, take_length};
 use std::alloc::Global;
 
-/// What stands at the front of a slice.
+/// What is at the front of a slice.
 #[derive(Debug, PartialEq, Eq, Drop)]
 pub enum Step {
     /// A whole packet, and how many bytes it takes.
@@ -22,26 +22,26 @@ pub enum Step {
 /// Reads the packet at the front of the bytes; bytes may follow it.
 ///
 /// The first fault from the left is answered: `PacketType`, `Qos` or `Flags` of the first byte,
-/// `Length` of the Remaining Length, `TooLarge` where it is over 1,048,572; then, once the whole
+/// `Length` of the Remaining Length, `TooLarge` if it is over 1,048,572; then, once the whole
 /// body is there, `Protocol`, `Text`, `Identifier`, `Shape` and `Refused` of its fields in their
-/// order. `Memory` may come once the whole body is there, and only in a packet with a text or a list:
-/// behind all fields of a CONNECT, the topic of a PUBLISH, the identifier of SUBSCRIBE, SUBACK and
-/// UNSUBSCRIBE.
+/// order. `Memory` may come once the whole body is there, and only for a packet with a text or a
+/// list: after all fields of a CONNECT, the topic of a PUBLISH, the identifier of SUBSCRIBE, SUBACK
+/// and UNSUBSCRIBE.
 pub fn decode(alloc: Global, bytes: &[u8]) -> Result<Step, DecodeFault>
     ensures exact { Decodes bytes.now result }
     ensures within { IfOk result (IsWithin bytes.now) }
 
-    // What is read is spelled so, and what is spelled is read.
+    // What is read has that spelling, and what is spelled is read.
     ensures found { IfOk result (IsSpelledSo bytes.now) }
     ensures only { ReadsWhatIsSpelled bytes.now result }
 
-    // Memory is wanting only where it is asked for.
+    // Memory runs out only if it is needed.
     ensures memory { IsErrOf result (DecodeFault.Malformed MalformedKind.Memory) → MayWantMemory bytes.now }
 {
     front_step(alloc, bytes)
 }
 
-// The same with the exact answer alone.
+// Does the same; its clause gives only the exact answer.
 #[tactic(auto, unfolding(crate::specs::Verdict::verdict))]
 fn front_step(alloc: Global, bytes: &[u8]) -> Result<Step, DecodeFault>
     ensures exact { Decodes bytes.now result }
@@ -59,7 +59,7 @@ fn front_step(alloc: Global, bytes: &[u8]) -> Result<Step, DecodeFault>
     }
 }
 
-// The packet of a first byte and what stands behind it, and how many bytes it takes of these.
+// Returns the packet of a first byte and the bytes after it, and how many of these it takes.
 #[tactic(auto, unfolding(crate::specs::Verdict::verdict, crate::specs::Verdict::asks_memory))]
 fn front_packet(alloc: Global, first: u8, behind: &[u8]) -> Result<(Packet, usize), Stop>
     ensures exact { Gives (λ x. (x.0, drop x.1 behind.now)) result (verdict (first ∷ behind.now)) }

@@ -14,11 +14,11 @@ ghost use Rattle.packet.specs.Delivery.{
 use crate::qos::QoS;
 use packet_base::{DeliveryFlags, PacketId, Reader, Stop, put_number};
 
-/// The QoS of a PUBLISH, with DUP and the Packet Identifier where its QoS has them (MQTT 3.3.1,
-/// 3.3.2.2). A bool is DUP: whether this may be another try of an earlier delivery.
+/// The QoS of a PUBLISH, with DUP and the Packet Identifier if its QoS has them (MQTT 3.3.1,
+/// 3.3.2.2). The bool is DUP: whether this may be a repeat of an earlier delivery.
 #[derive(Clone, Copy, Debug, PartialEq, Eq)]
 pub enum Delivery {
-    /// QoS 0: no identifier, and no further try.
+    /// QoS 0: no identifier, and no repeat.
     AtMostOnce,
     /// QoS 1.
     AtLeastOnce(bool, PacketId),
@@ -27,7 +27,7 @@ pub enum Delivery {
 }
 
 impl Delivery {
-    /// The QoS.
+    /// Returns the QoS.
     pub fn qos(self) -> QoS
         ensures { result ≡ delivery_qos self }
     {
@@ -38,7 +38,7 @@ impl Delivery {
         }
     }
 
-    /// The Packet Identifier, which QoS 0 has not.
+    /// Returns the Packet Identifier, which QoS 0 does not have.
     pub fn id(self) -> Option<PacketId>
         ensures { result ≡ id_of self }
     {
@@ -49,7 +49,7 @@ impl Delivery {
         }
     }
 
-    // The flags of the first byte.
+    // Returns the flags of the first byte.
     pub(crate) fn flags(self) -> DeliveryFlags
         ensures { result ≡ delivery_flags self }
     {
@@ -73,7 +73,7 @@ impl Delivery {
         }
     }
 
-    // How many bytes the identifier takes.
+    // Returns how many bytes the identifier takes.
     pub(crate) fn id_len(self) -> usize
         ensures { result ≡ length (delivery_id self) }
     {
@@ -97,7 +97,7 @@ impl Delivery {
         }
     }
 
-    // The identifier is in its range.
+    // Ensures that the identifier is in its range.
     pub(crate) fn known(self)
         ensures { FitsDelivery self }
     {

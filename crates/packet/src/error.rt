@@ -12,14 +12,14 @@ use std::fmt;
 /// Why no packet is read from the front of a slice.
 #[derive(Clone, Copy, Debug, PartialEq, Eq)]
 pub enum DecodeFault {
-    /// The bytes begin no packet, or memory was wanting.
+    /// The bytes begin no packet, or memory ran out.
     Malformed(MalformedKind),
     /// A CONNECT that is to be answered by a CONNACK with this code.
     Refused(RefusalCode),
 }
 
 impl DecodeFault {
-    /// The number of the refusal; a CONNECT that is answered with a code has none.
+    /// Returns the number of the refusal; a CONNECT that is answered with a code has none.
     pub fn number(self) -> Option<u8>
         ensures { result ≡ decode_number self }
     {
@@ -46,12 +46,12 @@ impl Error for DecodeFault {}
 pub enum EncodeFault {
     /// The packet is over this broker's limit of 1,048,576 bytes.
     TooLarge,
-    /// No memory was found.
+    /// Memory ran out.
     Memory,
 }
 
 impl EncodeFault {
-    /// The number of the refusal.
+    /// Returns the number of the refusal.
     pub fn number(self) -> u8
         ensures { result ≡ encode_number self }
     {

@@ -18,12 +18,12 @@ pub fn spelling_spells()
     ensures { SpellingSpells }
 {}
 
-/// No spelling is a beginning of another one, so packets that are joined can be told apart.
+/// No spelling is a prefix of another one, so packets that are joined can be told apart.
 pub fn no_spelling_begins_another()
     ensures { NoneBeginsAnother }
 {}
 
-/// Each proper front of a spelling is less than a packet, so it has no fault.
+/// Each proper prefix of a spelling is less than a packet, so it has no fault.
 pub fn fronts_are_unfinished()
     ensures { FrontsAreUnfinished }
 {}

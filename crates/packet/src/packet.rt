@@ -29,10 +29,10 @@ use crate::unsubscribe::Unsubscribe;
 use packet_base::{Header, PacketId, Reader, Stop, put_number};
 use std::alloc::{AllocError, Global};
 
-/// The most bytes behind the Remaining Length.
+/// The most bytes after the Remaining Length.
 pub(crate) const MAX_REMAINING: usize = 1_048_572;
 
-/// A Control Packet (MQTT 2). What MQTT's table of packets does not allow cannot be built, but for
+/// A Control Packet (MQTT 2). What MQTT's table of packets does not allow cannot be built, except
 /// empty lists.
 #[derive(Clone, Debug, PartialEq, Eq, Drop)]
 pub enum Packet {
@@ -50,15 +50,15 @@ pub enum Packet {
     Pubrel(PacketId),
     /// The answer to PUBREL (MQTT 3.7).
     Pubcomp(PacketId),
-    /// A client asks for publications (MQTT 3.8).
+    /// A client subscribes (MQTT 3.8).
     Subscribe(Subscribe),
     /// The answer to SUBSCRIBE (MQTT 3.9).
     Suback(Suback),
-    /// A client gives up subscriptions (MQTT 3.10).
+    /// A client unsubscribes (MQTT 3.10).
     Unsubscribe(Unsubscribe),
     /// The answer to UNSUBSCRIBE (MQTT 3.11).
     Unsuback(PacketId),
-    /// A client shows that it lives (MQTT 3.12).
+    /// A client shows that it is alive (MQTT 3.12).
     Pingreq,
     /// The answer to PINGREQ (MQTT 3.13).
     Pingresp,
@@ -67,14 +67,15 @@ pub enum Packet {
 }
 
 impl Packet {
-    /// A packet equal to this one.
+    /// Returns a packet equal to this one.
     pub fn copy(&self) -> Result<Packet, AllocError>
         ensures { IfOk result (λ packet. packet ≡ self.now) }
     {
         self.clone()
     }
 
-    /// Tells a proof that the fields of a packet in hand are in their ranges; it does nothing else.
+    /// Ensures, for a proof, that the fields of this packet are in their ranges; it does nothing
+    /// else.
     pub fn known(&self)
         ensures { Fits self.now }
     {
@@ -93,14 +94,15 @@ impl Packet {
         }
     }
 
-    /// Whether `encode` would answer `TooLarge`: whether the body has more than 1,048,572 bytes.
+    /// Says whether `encode` would answer `TooLarge`: whether the body has more than 1,048,572
+    /// bytes.
     pub fn is_too_large(&self) -> bool
         ensures { IsTrue result ↔ IsTooLarge self.now }
     {
         self.body_len() > MAX_REMAINING
     }
 
-    /// Whether no list of the packet is empty, which `encode` asks for.
+    /// Says whether no list of the packet is empty, which `encode` requires.
     pub fn has_no_empty_list(&self) -> bool
         ensures { IsTrue result ↔ IsListed self.now }
     {
@@ -112,7 +114,7 @@ impl Packet {
         }
     }
 
-    // What the first byte says.
+    // Returns what the first byte says.
     pub(crate) fn header(&self) -> Header
         ensures { result ≡ header self.now }
     {
@@ -159,7 +161,7 @@ impl Packet {
         })
     }
 
-    // How many bytes the body has, as far as a `usize` counts.
+    // Returns how many bytes the body has, as far as a `usize` counts.
     pub(crate) fn body_len(&self) -> usize
         ensures { result ≡ min (length (body self.now)) usize.MAX }
     {
@@ -201,14 +203,14 @@ impl Packet {
     }
 }
 
-// The identifier is in its range.
+// Ensures that the identifier is in its range.
 fn known_id(id: PacketId)
     ensures { IsId id }
 {
     let _number = id.number();
 }
 
-// A packet whose body is empty.
+// Returns a packet whose body is empty.
 fn empty(packet: Packet, body: &mut Reader) -> Result<Packet, Stop>
     ensures exact { Gives (λ x. x) result (empty_of packet body.old) }
     ensures memory { TakesNoMemory result }

@@ -8,9 +8,9 @@ use std::alloc::{AllocError, Global};
 use std::marker::Model;
 use std::sync::ArcSlice;
 
-/// The payload of a publication: any bytes (MQTT 3.3.3), never changed. A contract sees its bytes. A
-/// copy is one more owner of them: it takes no memory, and fails only where the owners can no longer
-/// be counted.
+/// The payload of a publication: any bytes (MQTT 3.3.3), never changed. Its value in contracts is
+/// its bytes. A copy is one more reference to them: it takes no memory, and fails only if the
+/// references can no longer be counted.
 #[derive(Debug, Drop)]
 pub struct Payload {
     bytes: ArcSlice<u8>,
@@ -26,7 +26,7 @@ impl Model for Payload {
 }
 
 impl Payload {
-    /// A payload of these bytes, which are copied once.
+    /// Returns a payload of these bytes, which are copied once.
     pub fn new(alloc: Global, bytes: &[u8]) -> Result<Payload, AllocError>
         ensures { IfOk result (λ payload. payload ≡ bytes.now) }
     {
@@ -34,7 +34,7 @@ impl Payload {
         Ok(Payload { bytes })
     }
 
-    /// The bytes.
+    /// Returns the bytes.
     pub fn as_slice(&self) -> &[u8]
         ensures { result.now ≡ self.now }
     {

@@ -1,4 +1,4 @@
-// PUBLISH: a publication on its way (MQTT 3.3).
+// PUBLISH: a publication in transit (MQTT 3.3).
 
 ghost use Rattle.std.specs.Prelude.{
   ◌≡◌,
@@ -21,22 +21,22 @@ use packet_base::topics::TopicName;
 use packet_base::{DeliveryFlags, Reader, Stop, put_bytes, put_text};
 use std::alloc::Global;
 
-/// A publication on its way to the server or to a subscriber (MQTT 3.3).
+/// A publication sent to the server or to a subscriber (MQTT 3.3).
 #[derive(Clone, Debug, PartialEq, Eq, Drop)]
 pub struct Publish {
-    /// What it is about.
+    /// The topic of the publication.
     pub topic: TopicName,
     /// QoS, DUP and Packet Identifier.
     pub delivery: Delivery,
-    /// RETAIN: to the server, that it is to be kept for later subscribers; from the server, that
-    /// it was kept (MQTT 3.3.1.3).
+    /// RETAIN: to the server, that it is to be kept for later subscribers; from the server, that it
+    /// was kept (MQTT 3.3.1.3).
     pub retain: bool,
-    /// What it carries.
+    /// The payload.
     pub payload: Payload,
 }
 
 impl Publish {
-    // Reads a body, behind a first byte with these flags.
+    // Reads a body, after a first byte with these flags.
     #[tactic(auto, unfolding(crate::specs::Publish::publish_of))]
     pub(crate) fn read(
         alloc: Global,
@@ -58,7 +58,7 @@ impl Publish {
         })
     }
 
-    // How many bytes the body has.
+    // Returns how many bytes the body has.
     pub(crate) fn body_len(&self) -> usize
         ensures { result ≡ min (length (publish self.now)) usize.MAX }
     {
@@ -76,7 +76,7 @@ impl Publish {
         put_bytes(out, self.payload.as_slice());
     }
 
-    // The fields are in their ranges.
+    // Ensures that the fields are in their ranges.
     pub(crate) fn known(&self)
         ensures { FitsPublish self.now }
     {

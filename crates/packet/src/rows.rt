@@ -13,7 +13,7 @@ ghost use Rattle.packet.specs.FaultRows.{
   connect_rows,
 };
 
-/// Shows which fault counts where bytes have two.
+/// Shows which fault counts if bytes have two.
 pub fn first_fault_counts()
     ensures first_byte { AllCount first_byte_rows }
     ensures length { AllCount length_rows }
@@ -23,8 +23,8 @@ pub fn first_fault_counts()
     ensures connect { AllCount connect_rows }
 {}
 
-/// Shows the limits of this broker on a packet's body, 1,048,572 bytes, and on a Client Identifier, 1 to
-/// 64 bytes.
+/// Shows the limits of this broker on a packet's body, 1,048,572 bytes, and on a Client Identifier,
+/// 1 to 64 bytes.
 pub fn numbers_of_packets()
     ensures body { longest_body ≡ 1048572 }
     ensures empty { (text : List ℕ) → length text ≡ 0 → has_client_length text ≡ false }

@@ -30,14 +30,14 @@ use std::alloc::Global;
 /// The answer to one filter of a SUBSCRIBE (MQTT 3.9.3).
 #[derive(Clone, Copy, Debug, PartialEq, Eq)]
 pub enum SubackCode {
-    /// The subscription stands, at this QoS at most.
+    /// The subscription is granted, at most at this QoS.
     Granted(QoS),
-    /// It does not stand.
+    /// It is not granted.
     Failure,
 }
 
 impl SubackCode {
-    /// The byte of this answer: 0 to 2, or 0x80.
+    /// Returns the byte of this answer: 0 to 2, or 0x80.
     pub fn number(self) -> u8
         ensures { result ≡ granted_number self }
     {
@@ -47,7 +47,7 @@ impl SubackCode {
         }
     }
 
-    // The answer of a byte.
+    // Returns the answer of a byte.
     fn of(byte: u8) -> Result<SubackCode, Stop>
         ensures { result ≡ granted_of byte }
     {
@@ -82,13 +82,13 @@ impl Item for SubackCode {
     fn known(&self) {}
 }
 
-/// The answer to a SUBSCRIBE (MQTT 3.9). The list is not empty in a packet that is read, and has
-/// not to be in one that is written.
+/// The answer to a SUBSCRIBE (MQTT 3.9). The list is not empty in a packet that was read, and must
+/// not be empty in one that is written.
 #[derive(Clone, Debug, PartialEq, Eq, Drop)]
 pub struct Suback {
     /// The identifier of the SUBSCRIBE.
     pub id: PacketId,
-    /// An answer to each of its filters, in their order.
+    /// An answer to each of its filters, in order.
     pub codes: PacketList<SubackCode>,
 }
 
@@ -104,7 +104,7 @@ impl Suback {
         Ok(Suback { id, codes })
     }
 
-    // How many bytes the body has.
+    // Returns how many bytes the body has.
     pub(crate) fn body_len(&self) -> usize
         ensures { result ≡ min (length (suback self.now)) usize.MAX }
     {
@@ -120,7 +120,7 @@ impl Suback {
         self.codes.put(out);
     }
 
-    // The fields are in their ranges.
+    // Ensures that the fields are in their ranges.
     pub(crate) fn known(&self)
         ensures { FitsSuback self.now }
     {

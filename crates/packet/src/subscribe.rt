@@ -1,4 +1,4 @@
-// SUBSCRIBE: a client asks for publications (MQTT 3.8).
+// SUBSCRIBE: a client subscribes (MQTT 3.8).
 
 ghost use Rattle.std.specs.Prelude.{
   ◌≡◌,
@@ -26,11 +26,11 @@ use packet_base::topics::Filter;
 use packet_base::{Item, PacketId, PacketList, Reader, Stop, put_byte, put_number, put_text};
 use std::alloc::{AllocError, Global};
 
-/// A filter that a client subscribes to, and the greatest QoS at which it wants to get publications
-/// (MQTT 3.8.3).
+/// A filter that a client subscribes to, and the greatest QoS at which it is to be sent
+/// publications (MQTT 3.8.3).
 #[derive(Debug, PartialEq, Eq, Drop)]
 pub struct Subscription {
-    /// Which topics.
+    /// The filter.
     pub filter: Filter,
     /// The greatest QoS.
     pub qos: QoS,
@@ -77,13 +77,13 @@ impl Item for Subscription {
     }
 }
 
-/// A client asks for publications (MQTT 3.8). The list is not empty in a packet that is read, and
-/// has not to be in one that is written.
+/// A client subscribes (MQTT 3.8). The list is not empty in a packet that was read, and must not be
+/// empty in one that is written.
 #[derive(Clone, Debug, PartialEq, Eq, Drop)]
 pub struct Subscribe {
     /// The identifier that the SUBACK will have.
     pub id: PacketId,
-    /// What is asked for, in the order in which it is answered.
+    /// The subscriptions that are asked for, in the order in which they are answered.
     pub filters: PacketList<Subscription>,
 }
 
@@ -99,7 +99,7 @@ impl Subscribe {
         Ok(Subscribe { id, filters })
     }
 
-    // How many bytes the body has.
+    // Returns how many bytes the body has.
     pub(crate) fn body_len(&self) -> usize
         ensures { result ≡ min (length (subscribe self.now)) usize.MAX }
     {
@@ -115,7 +115,7 @@ impl Subscribe {
         self.filters.put(out);
     }
 
-    // The fields are in their ranges.
+    // Ensures that the fields are in their ranges.
     pub(crate) fn known(&self)
         ensures { FitsSubscribe self.now }
     {

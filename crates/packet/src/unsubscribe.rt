@@ -1,4 +1,4 @@
-// UNSUBSCRIBE: a client gives up subscriptions (MQTT 3.10).
+// UNSUBSCRIBE: a client unsubscribes (MQTT 3.10).
 
 ghost use Rattle.std.specs.Prelude.{
   ◌≡◌,
@@ -19,13 +19,13 @@ use packet_base::topics::Filter;
 use packet_base::{PacketId, PacketList, Reader, Stop, put_number};
 use std::alloc::Global;
 
-/// A client gives up subscriptions (MQTT 3.10). The list is not empty in a packet that is read, and
-/// has not to be in one that is written.
+/// A client unsubscribes (MQTT 3.10). The list is not empty in a packet that was read, and must not
+/// be empty in one that is written.
 #[derive(Clone, Debug, PartialEq, Eq, Drop)]
 pub struct Unsubscribe {
     /// The identifier that the UNSUBACK will have.
     pub id: PacketId,
-    /// The filters that are given up.
+    /// The filters to unsubscribe from.
     pub filters: PacketList<Filter>,
 }
 
@@ -41,7 +41,7 @@ impl Unsubscribe {
         Ok(Unsubscribe { id, filters })
     }
 
-    // How many bytes the body has.
+    // Returns how many bytes the body has.
     pub(crate) fn body_len(&self) -> usize
         ensures { result ≡ min (length (unsubscribe self.now)) usize.MAX }
     {
@@ -57,7 +57,7 @@ impl Unsubscribe {
         self.filters.put(out);
     }
 
-    // The fields are in their ranges.
+    // Ensures that the fields are in their ranges.
     pub(crate) fn known(&self)
         ensures { FitsUnsubscribe self.now }
     {

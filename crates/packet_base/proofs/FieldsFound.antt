@@ -1,4 +1,4 @@
--- Each field that is read stands so in the bytes.
+-- The bytes that are read as a field are its spelling.
 use Rattle.std.proofs.Common.{◌≡◌, ℕ, suc, ◌+◌, ◌^◌, ◌<◌, ◌≤◌, Bool, true, false, ltb, List, [], ◌∷◌, ◌++◌, length, get_or, take, drop, Option, Some, None, Ok, refl, sym, ap, subst, ◌∙◌, append_assoc, arith, inl, inr}
 use Rattle.std.specs.Prelude.{IfOk, not, ◌&&◌}
 use Rattle.std.specs.Int.{w16, from_be_bytes}
@@ -16,7 +16,7 @@ use Rattle.packet_base.proofs.Steps.{then_if, check_if, cond_if}
 abbrev pub IsBytes : List ℕ → Type 0
 IsBytes bytes = (i : ℕ) → get_or bytes i 0 < 256
 
--- the front stands before the rest
+-- the front is before the rest
 pub record Splits (bytes front rest : List ℕ) : Type 0 where
   pub parts : bytes ≡ front ++ rest
   pub left : IsBytes rest
@@ -27,7 +27,7 @@ Splits-then a x b y c p q = record {
   left = q.left;
 }
 
--- where nothing is left, the front is all
+-- if nothing is left, the front is all
 pub Splits-all : (bytes front : List ℕ) → Splits bytes front [] → bytes ≡ front
 Splits-all bytes front s = s.parts ∙ append-nil front
 

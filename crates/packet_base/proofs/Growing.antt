@@ -4,7 +4,7 @@ use Rattle.packet_base.specs.declared.stop.Stop.{Stop}
 use Rattle.packet_base.specs.declared.stop.Stop.TheVariants as stops
 use Rattle.packet_base.specs.Reading.{◌>>=◌, ◌>>◌, check, length_at}
 
--- the outcome with more bytes behind
+-- the outcome with more bytes after
 abbrev pub StandsWithMore : {A : Type 0} → List ℕ → Result (A × List ℕ) Stop → Result (A × List ℕ) Stop → Type 0
 StandsWithMore more (Ok x) longer = longer ≡ Ok (x.0, x.1 ++ more)
 StandsWithMore more (Err stops.More) longer = Unit {0}
@@ -27,7 +27,7 @@ pub grows_check : {A : Type 0} (more : List ℕ) (b : Bool) (stop : Stop) (x x' 
 grows_check more true stop x x' go = go refl
 grows_check {A = A} more false stop x x' go = grows_fault A more stop
 
--- a step that does not look at the bytes behind
+-- a step that does not look at the bytes after
 pub grows_same : {A B : Type 0} (more : List ℕ) (r : Result B Stop) (f f' : B → Result (A × List ℕ) Stop)
     → ((y : B) → r ≡ Ok y → StandsWithMore more (f y) (f' y)) → StandsWithMore more (r >>= f) (r >>= f')
 grows_same more (Ok y) f f' go = go y refl

@@ -28,18 +28,18 @@ stops_at (stops.Malformed kinds.Memory) read e = tt
 stops_at (stops.Malformed kind) read e = e
 stops_at (stops.Refused code) read e = e
 
--- want of memory, or the stop that reading gives
+-- running out of memory, or the stop that reading gives
 pub stops_cases : {Y : Type 0} (stop : Stop) (read : Result Y Stop) → StopsBy stop read → (stop ≡ stops.Malformed kinds.Memory) ⊎ (read ≡ Err stop)
 stops_cases stops.More read h = inr h
 stops_cases (stops.Malformed kinds.Memory) read h = inl refl
 stops_cases (stops.Malformed kind) read h = inr h
 stops_cases (stops.Refused code) read h = inr h
 
--- items that are left after so many turns of so many
+-- items that are left after this many turns of this many
 abbrev pub left_after : {A : Type 0} → ItemAt A → ℕ → ℕ → List ℕ → Result (List A) Stop
 left_after item most turns bytes = items_of item (most - turns) bytes
 
--- a turn, where bytes are left
+-- a turn, if bytes are left
 turn : {A : Type 0} (item : ItemAt A) (most turns : ℕ) (bytes : List ℕ) → turns < most → eqb (length bytes) 0 ≡ false
     → left_after item most turns bytes ≡ (item bytes >>= (λ first. left_after item most (turns + 1) first.1 >>= (λ others. Ok (first.0 ∷ others))))
 unfolding items_of
@@ -47,7 +47,7 @@ turn item most turns bytes less some =
     let e : most - turns ≡ suc (most - (turns + 1)) = omega (arith, less) in
     ap (λ (n : ℕ). items_of item n bytes) e ∙ rw some refl
 
--- one more item, where the loop goes on
+-- one more item, if the loop continues
 pub items_next : {A : Type 0} (item : ItemAt A) (front next : List A) (most turns : ℕ) (bytes : List ℕ) (x : A) (rest : List ℕ) (total : Result (List A) Stop) → turns < most
     → eqb (length bytes) 0 ≡ false → item bytes ≡ Ok (x, rest) → next ≡ front ++ x ∷ [] → prefixed front (left_after item most turns bytes) ≡ total
     → prefixed next (left_after item most (turns + 1) rest) ≡ total
@@ -76,12 +76,12 @@ none item (suc n) bytes empty = rw empty refl
 ended : {A : Type 0} (front : List A) (read total : Result (List A) Stop) → read ≡ Ok [] → prefixed front read ≡ total → total ≡ Ok front
 ended {A = A} front read total e so_far = sym so_far ∙ ap (prefixed front) e ∙ ap (λ (xs : List A). Ok xs) (append-nil front)
 
--- all items, where no bytes are left
+-- all items, if no bytes are left
 pub items_all : {A : Type 0} (item : ItemAt A) (front : List A) (most turns : ℕ) (bytes : List ℕ) (total : Result (List A) Stop) → eqb (length bytes) 0 ≡ true
     → prefixed front (left_after item most turns bytes) ≡ total → total ≡ Ok front
 items_all item front most turns bytes total empty so_far = ended front (left_after item most turns bytes) total (none item (most - turns) bytes empty) so_far
 
--- all items, where no turns are left
+-- all items, if no turns are left
 pub items_most : {A : Type 0} (item : ItemAt A) (front : List A) (most turns : ℕ) (bytes : List ℕ) (total : Result (List A) Stop) → most ≤ turns
     → prefixed front (left_after item most turns bytes) ≡ total → total ≡ Ok front
 unfolding items_of
@@ -89,7 +89,7 @@ items_most item front most turns bytes total past so_far =
     let e : most - turns ≡ 0 = omega (arith, past) in
     ended front (left_after item most turns bytes) total (ap (λ (n : ℕ). items_of item n bytes) e) so_far
 
--- all are left, where the loop begins
+-- all are left, if the loop begins
 pub items_begin : {A : Type 0} (item : ItemAt A) (front : List A) (most : ℕ) (bytes : List ℕ) → front ≡ [] → most ≡ length bytes
     → prefixed front (left_after item most 0 bytes) ≡ items_at item bytes
 items_begin {A = A} item front most bytes empty all =
@@ -97,7 +97,7 @@ items_begin {A = A} item front most bytes empty all =
     ap (λ (xs : List A). prefixed xs (left_after item most 0 bytes)) empty
     ∙ prefixed_nil (left_after item most 0 bytes) ∙ ap (λ (n : ℕ). items_of item n bytes) e
 
--- where there is a turn, there is a byte
+-- if there is a turn, there is a byte
 pub a_byte : (turns most : ℕ) (bytes : List ℕ) → turns < most → most ≡ length bytes → IsOk (byte_at bytes)
 a_byte turns most [] less all = absurd (omega (arith, less, all))
 a_byte turns most (b ∷ rest) less all = refl

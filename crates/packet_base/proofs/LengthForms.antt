@@ -10,7 +10,7 @@ use Rattle.packet_base.proofs.Steps.{then_if, check_if, cond_if}
 use Rattle.packet_base.proofs.Lengths.{length_longer}
 use Rattle.packet_base.proofs.FieldsFound.{IsBytes}
 
--- the form of a length stands before the rest
+-- the form of a length is before the rest
 pub record Heads (bytes : List ℕ) (n : ℕ) (rest : List ℕ) : Type 0 where
   pub form : List ℕ
   pub spelled : IsLength form n
@@ -103,7 +103,7 @@ one_form (x ∷ c ∷ cs) (y ∷ d ∷ ds) n p q =
     let rest : c ∷ cs ≡ d ∷ ds = one_form (c ∷ cs) (d ∷ ds) p.2 p.5 (subst (λ (m : ℕ). IsLength (d ∷ ds) m) high q.5) in
     ap (λ (z : ℕ). z ∷ c ∷ cs) low ∙ ap (λ (z : List ℕ). y ∷ z) rest
 
--- what is left behind a length is the end of the bytes
+-- what is left after a length is the end of the bytes
 pub length_left : (follow : ℕ) (bytes : List ℕ) → IfOk (length_at follow bytes) (λ x. (front : List ℕ) × (bytes ≡ front ++ x.1))
 unfolding length_at
 length_left follow [] = tt

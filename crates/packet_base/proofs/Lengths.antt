@@ -40,7 +40,7 @@ bytes_step n high small =
       ]
     ]
 
--- what is left of a length stands behind its low seven bits
+-- what is left of a length comes after its low seven bits
 pub length_longer : (n : ℕ) (tail : List ℕ) → 128 ≤ n → IsLength tail (n / 128) → IsLength ((n % 128 + 128) ∷ tail) n
 length_longer n [] high spelled = absurd spelled
 length_longer n (b ∷ bs) high spelled = (omega arith, omega arith, n / 128, omega arith, omega arith, spelled)

@@ -1,4 +1,4 @@
--- A list of items that is read stands so in the bytes, and one that is spelled is read.
+-- The bytes that are read as a list of items are its spelling, and one that is spelled is read.
 use Rattle.std.proofs.Common.{◌≡◌, ℕ, zero, suc, ◌<◌, ◌≤◌, true, false, eqb, List, [], ◌∷◌, ◌++◌, length, Ok, refl, ap, ◌∙◌, arith}
 use Rattle.std.specs.Prelude.{IfOk, not}
 use Rattle.std.specs.List.{flat_map, All}
@@ -10,8 +10,8 @@ use Rattle.packet_base.specs.Lists.{ItemAt, items_of, items_at, list_of}
 use Rattle.packet_base.proofs.Steps.{then_if, check_if, cond_if}
 use Rattle.packet_base.proofs.FieldsFound.{IsBytes, Splits}
 
--- each item that is read stands so at the front of the bytes, each that is spelled is read, and
--- it has a byte at least
+-- the front of the bytes that is read as an item is its spelling, each item that is spelled is
+-- read, and it has at least one byte
 pub record IsItem {A : Type 0} (item : ItemAt A) (spelled : A → List ℕ) (Fits : A → Type 0) : Type 0 where
   pub found : (bytes : List ℕ) → IsBytes bytes → IfOk (item bytes) (λ x. Splits bytes (spelled x.0) x.1 × Fits x.0)
   pub again : (x : A) (rest : List ℕ) → Fits x → item (spelled x ++ rest) ≡ Ok (x, rest)

@@ -44,7 +44,7 @@ room_more {X = X} f xs i x there is =
     ap (λ (ys : List X). length (flat_map f ys)) (drop_more xs i x there ∙ ap (λ (y : X). y ∷ drop (i + 1) xs) (sym is))
     ∙ length-append (f x) (flat_map f (drop (i + 1) xs))
 
--- what holds of the items so far
+-- what holds for the items so far
 pub seen_more : {X : Type 0} (P : X → Type 0) (xs : List X) (i : ℕ) (x : X) → i < length xs → x ≡ get_or xs i x → All P (take i xs) → P x → All P (take (i + 1) xs)
 seen_more P xs i x there is so_far here = All-more P xs i x there so_far (subst P is here)
 

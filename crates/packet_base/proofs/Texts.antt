@@ -1,4 +1,4 @@
--- When bytes are a text, and how a text that is none of its kind is refused.
+-- When bytes are a text, and how a text that is not of its kind is refused.
 use Rattle.std.proofs.Common.{◌≡◌, ℕ, Bool, true, false, List, Option, None, Result, Ok, Err, refl, ◌∙◌, sym, subst, inl, inr}
 use Rattle.std.specs.Prelude.{◌==◌, not}
 use Rattle.std.specs.List.{list_any}
@@ -74,7 +74,7 @@ pub ruleset name_tests = (name_unformed, name_refused, name_taken)
 
 pub ruleset pattern_tests = (pattern_unformed, pattern_refused, pattern_taken)
 
--- the bytes that are left behind a text which its own checks refuse or pass
+-- the bytes that are left after a text which its own checks refuse or pass
 passed : (read : Result (List ℕ) Stop) (checks : List ℕ → Result (List ℕ) Stop) (rest : List ℕ)
     → ((read >>= (λ text. let pair : Result (List ℕ × List ℕ) Stop = Ok (text, rest) in pair)) >>= (λ text. checks text.0 >>= (λ y. let pair : Result (List ℕ × List ℕ) Stop = Ok (y, text.1) in pair)))
     ≡ ((read >>= checks) >>= (λ y. let pair : Result (List ℕ × List ℕ) Stop = Ok (y, rest) in pair))

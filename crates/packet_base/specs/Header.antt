@@ -37,7 +37,7 @@ abbrev pub plain_header : Header → ℕ → ℕ → Result Header Stop
 plain_header header wanted flags =
     if flags == wanted then Ok header else Err (stops.Malformed kinds.Flags)
 
--- QoS at the second and third bit, DUP from 8 on, RETAIN where the number is odd (MQTT 3.3.1)
+-- QoS at the second and third bit, DUP from 8 on, RETAIN if the number is odd (MQTT 3.3.1)
 abbrev pub publish_header : ℕ → Result Header Stop
 publish_header flags =
     let dup = nat_lt 7 flags in

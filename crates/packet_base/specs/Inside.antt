@@ -1,9 +1,9 @@
--- Words of private clauses.
+-- Definitions for private clauses.
 use Rattle.std.specs.Prelude.{ℕ, ◌+◌, ◌^◌, List, Result}
 use Rattle.packet_base.specs.declared.stop.Stop.{Stop}
 use Rattle.packet_base.specs.Reading.{◌>>=◌, text_of, topic_of, filter_of}
 
--- what so many more bytes of a Remaining Length cannot reach
+-- a bound that this many more bytes of a Remaining Length cannot reach
 abbrev pub length_limit : ℕ → ℕ
 length_limit follow = 128 ^ (follow + 1)
 

@@ -9,7 +9,7 @@ use Rattle.packet_base.specs.Reading.{◌>>=◌, ◌>>◌, check, byte_at, id_at
 abbrev pub ItemAt : Type 0 → Type 0
 ItemAt A = List ℕ → Result (A × List ℕ) Stop
 
--- at most so many items, one after the other, to the end of the bytes
+-- at most this many items, one after another, to the end of the bytes
 unfoldable pub items_of : {A : Type 0} → ItemAt A → ℕ → List ℕ → Result (List A) Stop
 items_of item zero bytes = Ok []
 items_of item (suc most) bytes =
@@ -17,17 +17,17 @@ items_of item (suc most) bytes =
     item bytes >>= (λ first.
     items_of item most first.1 >>= (λ others. Ok (first.0 ∷ others)))
 
--- all the items to the end of the bytes, each of which has a byte at least
+-- all the items to the end of the bytes, each of at least one byte
 abbrev pub items_at : {A : Type 0} → ItemAt A → List ℕ → Result (List A) Stop
 items_at item bytes = items_of item (length bytes) bytes
 
--- the same where there has to be one (MQTT 3.8.3, 3.9.3, 3.10.3)
+-- the same if there has to be one (MQTT 3.8.3, 3.9.3, 3.10.3)
 abbrev pub list_of : {A : Type 0} → ItemAt A → List ℕ → Result (List A) Stop
 list_of item bytes = do
   items ← items_at item bytes
   check (not (length items == 0)) (stops.Malformed kinds.Shape)
   Ok items
 
--- whether an identifier stands at the front, and something of a list after it
+-- whether an identifier is at the front, with at least one byte of a list after it
 abbrev pub begins_list : List ℕ → Bool
 begins_list body = is_ok (id_at body >>= (λ id. byte_at id.1))

@@ -1,18 +1,18 @@
--- How the outcome of a call agrees with what reading gives. Want of memory may come in place of that,
--- but where a clause of its own says when.
+-- How the outcome of a call corresponds to what reading gives. Memory may run out instead, except
+-- where another clause says when.
 use Rattle.std.specs.Prelude.{◌≡◌, ◌≢◌, ℕ, List, Result, Ok, Err}
 use Rattle.topics.specs.declared.malformed.MalformedKind.TheVariants as kinds
 use Rattle.packet_base.specs.declared.stop.Stop.{Stop}
 use Rattle.packet_base.specs.declared.stop.Stop.TheVariants as stops
 
--- reading stops so, unless memory was wanting
+-- reading stops in this way, unless memory ran out
 abbrev pub StopsBy : {Y : Type 0} → Stop → Result Y Stop → Type 0
 StopsBy stops.More read = read ≡ Err stops.More
 StopsBy (stops.Malformed kinds.Memory) read = Unit {0}
 StopsBy (stops.Malformed kind) read = read ≡ Err (stops.Malformed kind)
 StopsBy (stops.Refused code) read = read ≡ Err (stops.Refused code)
 
--- what a call returned, seen by view, is what reading gives
+-- what a call returned is, after this conversion, what reading gives
 abbrev pub Gives : {X Y : Type 0} → (X → Y) → Result X Stop → Result Y Stop → Type 0
 Gives view (Ok x) read = read ≡ Ok (view x)
 Gives view (Err stop) read = StopsBy stop read
@@ -23,10 +23,10 @@ abbrev pub Reads : {X Y : Type 0} → (X → Y) → Result X Stop → List ℕ
 Reads view (Ok x) rest read = read ≡ Ok (view x, rest)
 Reads view (Err stop) rest read = StopsBy stop read
 
--- memory was wanting
+-- memory ran out
 abbrev pub WantsMemory : {X : Type 0} → Result X Stop → Type 0
 WantsMemory result = result ≡ Err (stops.Malformed kinds.Memory)
 
--- no memory is asked for, so none is wanting
+-- no memory is needed, so it does not run out
 abbrev pub TakesNoMemory : {X : Type 0} → Result X Stop → Type 0
 TakesNoMemory result = result ≢ Err (stops.Malformed kinds.Memory)

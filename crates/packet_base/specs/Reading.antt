@@ -21,7 +21,7 @@ abbrev pub ◌>>◌ : {A B : Type 0} → Result A Stop → Result B Stop → Res
 (Ok x) >> next = next
 (Err stop) >> next = Err stop
 
--- goes on where the test is true, and stops so where it is not
+-- continues if the test is true, and stops in this way if it is not
 abbrev pub check : Bool → Stop → Result (Unit {0}) Stop
 check true stop = Ok tt
 check false stop = Err stop
@@ -35,7 +35,7 @@ abbrev pub byte_at : List ℕ → Result (ℕ × List ℕ) Stop
 byte_at [] = malformed kinds.Shape
 byte_at (b ∷ rest) = Ok (b, rest)
 
--- so many bytes, and those after them
+-- this many bytes, and those after them
 abbrev pub front_at : ℕ → List ℕ → Result (List ℕ × List ℕ) Stop
 front_at len bytes =
     if nat_lt (length bytes) len then malformed kinds.Shape else Ok (take len bytes, drop len bytes)
@@ -53,7 +53,7 @@ id_at bytes = do
   check (nat_lt 0 id.0) (stops.Malformed kinds.Identifier)
   Ok id
 
--- whether U+0000 stands in the text
+-- whether U+0000 is in the text
 abbrev pub has_null : List ℕ → Bool
 has_null bytes = list_any (λ b. b == 0) bytes
 
@@ -67,7 +67,7 @@ text_of bytes = do
   check (is_text bytes) (stops.Malformed kinds.Text)
   Ok bytes
 
--- a text of the length that stands before it (MQTT 1.5.3)
+-- a text with its length before it (MQTT 1.5.3)
 unfoldable pub text_at : List ℕ → Result (List ℕ × List ℕ) Stop
 text_at bytes = do
   len ← number_at bytes
@@ -80,7 +80,7 @@ abbrev pub ended : List ℕ → Result (Unit {0}) Stop
 ended [] = Ok tt
 ended (b ∷ bytes) = malformed kinds.Shape
 
--- A Remaining Length, of which so many bytes may follow the next one (MQTT 2.2.3).
+-- A Remaining Length; this many bytes may follow the next one (MQTT 2.2.3).
 unfoldable pub length_at : ℕ → List ℕ → Result (ℕ × List ℕ) Stop
 length_at follow [] = Err stops.More
 length_at follow (b ∷ rest) =

@@ -32,8 +32,8 @@ number n = to_be_bytes w16 n
 abbrev pub text : List ℕ → List ℕ
 text bytes = number (length bytes) ++ bytes
 
--- Seven bits in each byte, the low ones first, and 128 more where another byte follows (MQTT
--- 2.2.3). The last byte of several is not 0, so each number has one form.
+-- Seven bits in each byte, the low ones first, and 128 more if another byte follows (MQTT 2.2.3).
+-- The last byte of several is not 0, so each number has one form.
 abbrev pub IsLength : List ℕ → ℕ → Type 0
 IsLength [] n = ⊥
 IsLength (b ∷ []) n = (b < 128) × (n ≡ b)
@@ -41,7 +41,7 @@ IsLength (b ∷ c ∷ bs) n =
     (128 ≤ b) × (b < 256) × (high : ℕ) × (0 < high) × (n + 128 ≡ b + 128 * high)
     × IsLength (c ∷ bs) high
 
--- the bytes of a length, of which at most so many stand behind the first
+-- the bytes of a length, at most this many after the first
 abbrev pub length_digits : ℕ → ℕ → List ℕ
 length_digits zero n = n ∷ []
 length_digits (suc more) n =
@@ -58,7 +58,7 @@ length_bytes n =
     if nat_lt n 16384 then 2 else
     if nat_lt n 2097152 then 3 else 4
 
--- new is old with the bytes of a length at its end
+-- new is old with the bytes of a length appended
 abbrev pub AppendsLength : List ℕ → List ℕ → ℕ → Type 0
 AppendsLength old new n = (bytes : List ℕ) × IsLength bytes n × (new ≡ old ++ bytes)
 

@@ -25,7 +25,7 @@ pub enum DeliveryFlags {
 }
 
 impl DeliveryFlags {
-    // The bits of these flags in the first byte.
+    // Returns the bits of these flags in the first byte.
     fn bits(self) -> u8
         ensures { result ≡ delivery_bits self }
     {
@@ -71,9 +71,9 @@ pub enum Header {
 }
 
 impl Header {
-    /// What a first byte says. A reserved type answers `PacketType`; a PUBLISH of QoS 3 answers
-    /// `Qos`, and one of QoS 0 with DUP `Flags`; for another type flags that are not its own
-    /// answer `Flags`.
+    /// Returns what a first byte says. A reserved type answers `PacketType`; a PUBLISH of QoS 3
+    /// answers `Qos`, and one of QoS 0 with DUP `Flags`; for any other type, flags that are not
+    /// those of the type answer `Flags`.
     pub fn of(first: u8) -> Result<Header, Stop>
         ensures exact { result ≡ header_of first }
         ensures memory { TakesNoMemory result }
@@ -98,7 +98,7 @@ impl Header {
         }
     }
 
-    /// The first byte that says this.
+    /// Returns the first byte that says this.
     pub fn first_byte(self) -> u8
         ensures { result ≡ first_byte self }
     {
@@ -121,7 +121,7 @@ impl Header {
     }
 }
 
-// A type whose flags are always the same.
+// Returns a type whose flags are always the same.
 fn plain(header: Header, wanted: u8, flags: u8) -> Result<Header, Stop>
     ensures exact { result ≡ plain_header header wanted flags }
     ensures memory { TakesNoMemory result }
@@ -132,7 +132,7 @@ fn plain(header: Header, wanted: u8, flags: u8) -> Result<Header, Stop>
     Err(Stop::Malformed(MalformedKind::Flags))
 }
 
-// The flags of a PUBLISH: DUP, two bits of QoS, RETAIN.
+// Returns the flags of a PUBLISH: DUP, two bits of QoS, RETAIN.
 fn publish(flags: u8) -> Result<Header, Stop>
     ensures exact { result ≡ publish_header flags }
     ensures memory { TakesNoMemory result }

@@ -1,4 +1,4 @@
-// What lists in packets are made of.
+// The items of lists in packets.
 
 ghost use Rattle.std.specs.Prelude.{
   ◌≡◌,
@@ -20,11 +20,11 @@ use crate::writing::put_text;
 use std::alloc::Global;
 use topics::Filter;
 
-/// An item of a list that goes to the end of a body, as a filter of an UNSUBSCRIBE (MQTT 3.8.3,
-/// 3.9.3, 3.10.3). Each is read and written by itself, and takes a byte at least.
+/// An item of a list that fills the rest of a body, such as a filter of an UNSUBSCRIBE (MQTT 3.8.3,
+/// 3.9.3, 3.10.3). Each is read and written on its own, and takes at least one byte.
 pub trait Item: Drop {
-    // The bytes of an item, how one is read from the front of bytes, and what holds of each that a
-    // program has in hand.
+    // The bytes of an item, how one is read from the front of bytes, and what holds for each item
+    // in a program.
     ghost spelled: { Self → List ℕ };
 
     ghost item_at: { ItemAt Self };
@@ -35,18 +35,18 @@ pub trait Item: Drop {
     fn read(alloc: Global, body: &mut Reader) -> Result<Self, Stop>
         ensures { Reads (λ x. x) result body.new (item_at body.old) };
 
-    /// How many bytes it takes.
+    /// Returns how many bytes it takes.
     fn spelled_len(&self) -> usize
         ensures { result ≡ length (spelled self.now) };
 
-    /// Writes it, into room that was reserved before.
+    /// Writes it, into capacity that was reserved before.
     fn put(&self, out: &mut Vec<u8>)
         requires { vec_len out.old + length (spelled self.now) ≤ vec_capacity out.old }
         ensures items { out.new.items ≡ out.old.items ++ spelled self.now }
         ensures len { vec_len out.new ≡ vec_len out.old + length (spelled self.now) }
         ensures capacity { vec_capacity out.old ≤ vec_capacity out.new };
 
-    /// Tells a proof that an item in hand is in its range; it does nothing else.
+    /// Ensures, for a proof, that this item is in its range; it does nothing else.
     fn known(&self)
         ensures { Fits self.now };
 }

@@ -1,5 +1,5 @@
-//! The fields that MQTT packets are made of (MQTT 3.1.1, sections 1.5 and 2): a reader over the
-//! bytes that are left, and the calls that write a field at the end of a vector.
+//! The fields of MQTT packets (MQTT 3.1.1, sections 1.5 and 2): a reader over the bytes that are
+//! left, and the calls that append a field to a vector.
 #![tactic(auto)]
 
 mod header;

@@ -1,11 +1,11 @@
-// The number that ties an answer to its packet.
+// The number that an answer and its packet share.
 
 ghost use Rattle.std.specs.Prelude.{◌≡◌, ◌<◌, ◌^◌};
 
 use std::fmt;
 use std::marker::Model;
 
-/// A Packet Identifier: 1 to 65,535 (MQTT 2.3.1). A contract sees its number.
+/// A Packet Identifier: 1 to 65,535 (MQTT 2.3.1). Its value in contracts is its number.
 #[derive(Clone, Copy, Debug, PartialEq, Eq, PartialOrd, Ord, Hash)]
 pub struct PacketId {
     number: u16,
@@ -24,7 +24,7 @@ impl Model for PacketId {
 }
 
 impl PacketId {
-    /// The identifier of this number.
+    /// Returns the identifier of this number.
     pub fn new(number: u16) -> PacketId
         requires { 0 < number }
         ensures { result ≡ number }
@@ -32,7 +32,7 @@ impl PacketId {
         PacketId { number }
     }
 
-    /// The number of this identifier.
+    /// Returns the number of this identifier.
     pub fn number(self) -> u16
         ensures value { result ≡ self }
         ensures positive { 0 < self }

@@ -25,8 +25,8 @@ use std::alloc::{AllocError, Global};
 use std::marker::Model;
 use topics::MalformedKind;
 
-/// A list in a packet, as the filters of a SUBSCRIBE. A contract sees its items. It is made from a
-/// vector and gives it back, and neither takes memory.
+/// A list in a packet, such as the filters of a SUBSCRIBE. Its value in contracts is the list of
+/// its items. Making it from a vector and getting the vector back take no memory.
 #[derive(Debug, Drop)]
 pub struct PacketList<T> {
     items: Vec<T>,
@@ -41,14 +41,14 @@ impl<T> Model for PacketList<T> {
 }
 
 impl<T> PacketList<T> {
-    /// The list of these items.
+    /// Returns the list of these items.
     pub fn new(items: Vec<T>) -> PacketList<T>
         ensures { result ≡ items.items }
     {
         PacketList { items }
     }
 
-    /// The items.
+    /// Returns the items.
     pub fn as_slice(&self) -> &[T]
         ensures { result.now ≡ self.now }
     {
@@ -57,7 +57,7 @@ impl<T> PacketList<T> {
 }
 
 impl<T: Item> PacketList<T> {
-    /// Reads items to the end of the body. A list without any is `Shape`, and takes no memory (MQTT
+    /// Reads items to the end of the body. An empty list is `Shape`, and takes no memory (MQTT
     /// 3.8.3, 3.9.3, 3.10.3).
     pub fn read(alloc: Global, body: &mut Reader) -> Result<PacketList<T>, Stop>
         ensures exact { Gives (λ x. x) result (list_of T.item_at body.old) }
@@ -70,7 +70,7 @@ impl<T: Item> PacketList<T> {
         Ok(PacketList { items })
     }
 
-    /// How many bytes stand behind `before` others with the list, as far as a `usize` counts.
+    /// Returns how many bytes the list has after `before` others, as far as a `usize` counts.
     pub fn len_behind(&self, before: usize) -> usize
         ensures { result ≡ min (before + length (flat_map T.spelled self.now)) usize.MAX }
     {
@@ -81,7 +81,7 @@ impl<T: Item> PacketList<T> {
         len
     }
 
-    /// Writes the items one behind the other, into room that was reserved before.
+    /// Writes the items one after another, into capacity that was reserved before.
     pub fn put(&self, out: &mut Vec<u8>)
         requires { vec_len out.old + length (flat_map T.spelled self.now) ≤ vec_capacity out.old }
         ensures { out.new.items ≡ out.old.items ++ flat_map T.spelled self.now }
@@ -91,7 +91,7 @@ impl<T: Item> PacketList<T> {
         }
     }
 
-    /// Tells a proof that the items of a list in hand are in their ranges; it does nothing else.
+    /// Ensures, for a proof, that the items of this list are in their ranges; it does nothing else.
     pub fn known(&self)
         ensures { All T.Fits self.now }
     {
@@ -107,7 +107,7 @@ fn read_items<T: Item>(alloc: Global, body: &mut Reader) -> Result<Vec<T>, Stop>
     ensures memory { WantsMemory result → IsOk (byte_at body.old) }
 {
     let mut items = Vec::new(alloc);
-    // Each takes a byte at least, so there are no more than bytes.
+    // Each takes at least one byte, so there are no more items than bytes.
     for _ in 0..body.len() {
         if body.is_empty() {
             return Ok(items);

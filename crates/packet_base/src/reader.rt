@@ -23,8 +23,8 @@ use std::alloc::Global;
 use std::marker::Model;
 use topics::{Filter, MalformedKind, TopicName};
 
-/// The bytes of a packet that are not read yet, which is how a contract sees it. A field that does
-/// not fit into them is `Shape`; after an error the reader is not to be used.
+/// The bytes of a packet that are not yet read, which are its value in contracts. A field that does
+/// not fit into them is `Shape`; after an error the reader must not be used.
 #[derive(Drop)]
 pub struct Reader<'a> {
     rest: &'a [u8],
@@ -39,28 +39,28 @@ impl<'a> Model for Reader<'a> {
 }
 
 impl<'a> Reader<'a> {
-    /// A reader at the front of the bytes.
+    /// Returns a reader at the front of the bytes.
     pub fn new(bytes: &'a [u8]) -> Reader<'a>
         ensures { result ≡ bytes.now }
     {
         Reader { rest: bytes }
     }
 
-    /// Whether all bytes are read.
+    /// Says whether all bytes are read.
     pub fn is_empty(&self) -> bool
         ensures { result ≡ (length self.now == 0) }
     {
         self.rest.is_empty()
     }
 
-    /// How many bytes are left.
+    /// Returns how many bytes are left.
     pub fn len(&self) -> usize
         ensures { result ≡ length self.now }
     {
         self.rest.len()
     }
 
-    /// Goes past these bytes where the bytes left begin with them, and tells whether they do.
+    /// Skips these bytes if the bytes left begin with them. Returns whether they do.
     pub fn skip(&mut self, prefix: &[u8]) -> bool
         ensures found { result ≡ starts_with nat_eq self.old prefix.now }
         ensures past { IsTrue result → self.new ≡ drop (length prefix.now) self.old }
@@ -72,7 +72,7 @@ impl<'a> Reader<'a> {
         true
     }
 
-    /// The next byte.
+    /// Reads the next byte.
     pub fn byte(&mut self) -> Result<u8, Stop>
         ensures exact { Reads (λ x. x) result self.new (byte_at self.old) }
         ensures memory { TakesNoMemory result }
@@ -86,7 +86,7 @@ impl<'a> Reader<'a> {
         }
     }
 
-    /// The next `len` bytes.
+    /// Reads the next `len` bytes.
     pub fn front(&mut self, len: usize) -> Result<&'a [u8], Stop>
         ensures exact { Reads (λ x. x.now) result self.new (front_at len self.old) }
         ensures memory { TakesNoMemory result }
@@ -100,7 +100,7 @@ impl<'a> Reader<'a> {
         Ok(front)
     }
 
-    /// A number of two bytes, the high one first (MQTT 1.5.2).
+    /// Reads a number of two bytes, the high one first (MQTT 1.5.2).
     #[tactic(auto, unfolding(crate::specs::Reading::number_at))]
     pub fn number(&mut self) -> Result<u16, Stop>
         ensures exact { Reads (λ x. x) result self.new (number_at self.old) }
@@ -110,7 +110,7 @@ impl<'a> Reader<'a> {
         Ok(u16::from_be_bytes([front[0], front[1]]))
     }
 
-    /// A Packet Identifier; zero is `Identifier` (MQTT 2.3.1).
+    /// Reads a Packet Identifier; zero is `Identifier` (MQTT 2.3.1).
     #[tactic(auto, unfolding(crate::specs::Reading::id_at))]
     pub fn id(&mut self) -> Result<PacketId, Stop>
         ensures exact { Reads (λ x. x) result self.new (id_at self.old) }
@@ -123,8 +123,8 @@ impl<'a> Reader<'a> {
         Ok(PacketId::new(number))
     }
 
-    /// A text with its length before it (MQTT 1.5.3). What is no well-formed UTF-8, or has U+0000,
-    /// is `Text`.
+    /// Reads a text with its length before it (MQTT 1.5.3). Bytes that are not well-formed UTF-8,
+    /// or contain U+0000, are `Text`.
     #[tactic(auto, unfolding(crate::specs::Reading::text_at))]
     pub fn text(&mut self) -> Result<&'a str, Stop>
         ensures exact { Reads (λ x. x.now) result self.new (text_at self.old) }
@@ -136,13 +136,13 @@ impl<'a> Reader<'a> {
         checked_text(bytes)
     }
 
-    /// A Topic Name with its length before it. A text with a fault is `Text`, `Topic` or
+    /// Reads a Topic Name with its length before it. A text with a fault is `Text`, `Topic` or
     /// `TooDeep` (MQTT 4.7).
     #[tactic(auto, unfolding(crate::specs::Reading::topic_at, crate::specs::Reading::text_at), using(crate::proofs::Texts::topic_ends))]
     pub fn topic(&mut self, alloc: Global) -> Result<TopicName, Stop>
         ensures exact { Reads (λ x. x) result self.new (topic_at self.old) }
 
-        // Memory may be wanting for a text without a fault only.
+        // Memory may run out only for a text without a fault.
         ensures memory { WantsMemory result → IsOk (topic_at self.old) }
     {
         let len = self.number()?;
@@ -150,13 +150,13 @@ impl<'a> Reader<'a> {
         topic_name(alloc, bytes)
     }
 
-    /// A Topic Filter with its length before it. A text with a fault is `Text`, `Filter` or
+    /// Reads a Topic Filter with its length before it. A text with a fault is `Text`, `Filter` or
     /// `TooDeep` (MQTT 4.7.1).
     #[tactic(auto, unfolding(crate::specs::Reading::filter_at, crate::specs::Reading::text_at), using(crate::proofs::Texts::filter_ends))]
     pub fn filter(&mut self, alloc: Global) -> Result<Filter, Stop>
         ensures exact { Reads (λ x. x) result self.new (filter_at self.old) }
 
-        // Memory may be wanting for a text without a fault only.
+        // Memory may run out only for a text without a fault.
         ensures memory { WantsMemory result → IsOk (filter_at self.old) }
     {
         let len = self.number()?;
@@ -164,14 +164,14 @@ impl<'a> Reader<'a> {
         topic_filter(alloc, bytes)
     }
 
-    /// All the bytes that are left.
+    /// Returns all the bytes that are left.
     pub fn rest(&self) -> &'a [u8]
         ensures { result.now ≡ self.now }
     {
         self.rest
     }
 
-    /// Bytes that are left over are `Shape`.
+    /// Checks that no bytes are left over; if some are, that is `Shape`.
     pub fn end(&self) -> Result<(), Stop>
         ensures exact { Gives (λ x. x) result (ended self.now) }
         ensures memory { TakesNoMemory result }
@@ -183,7 +183,7 @@ impl<'a> Reader<'a> {
     }
 }
 
-// The bytes as a text, if they are one.
+// Returns the bytes as a text, if they are one.
 #[tactic(auto, using(crate::proofs::Texts::text_tests))]
 fn checked_text(bytes: &[u8]) -> Result<&str, Stop>
     ensures exact { Gives (λ x. x.now) result (text_of bytes.now) }
@@ -199,7 +199,7 @@ fn checked_text(bytes: &[u8]) -> Result<&str, Stop>
     Ok(text)
 }
 
-// The bytes as a Topic Name. That U+0000 does not stand in them is left to the name's own checks.
+// Returns the bytes as a Topic Name. The name's own checks make sure that it has no U+0000.
 #[tactic(auto, using(crate::proofs::Texts::name_tests))]
 fn topic_name(alloc: Global, bytes: &[u8]) -> Result<TopicName, Stop>
     ensures exact { Gives (λ x. x) result (name_of bytes.now) }
@@ -211,7 +211,7 @@ fn topic_name(alloc: Global, bytes: &[u8]) -> Result<TopicName, Stop>
     Ok(TopicName::new(alloc, text)?)
 }
 
-// The bytes as a Topic Filter. That U+0000 does not stand in them is left to its own checks.
+// Returns the bytes as a Topic Filter. Its own checks make sure that it has no U+0000.
 #[tactic(auto, using(crate::proofs::Texts::pattern_tests))]
 fn topic_filter(alloc: Global, bytes: &[u8]) -> Result<Filter, Stop>
     ensures exact { Gives (λ x. x) result (pattern_of bytes.now) }

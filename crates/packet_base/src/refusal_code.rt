@@ -21,7 +21,7 @@ pub enum RefusalCode {
 }
 
 impl RefusalCode {
-    /// The code in a CONNACK, 1 to 5.
+    /// Returns the code in a CONNACK, 1 to 5.
     pub fn number(self) -> u8
         ensures { result ≡ code_number self }
     {

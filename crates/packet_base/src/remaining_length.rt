@@ -9,9 +9,9 @@ ghost use Rattle.packet_base.specs.Inside.{length_limit};
 use crate::stop::Stop;
 use topics::MalformedKind;
 
-/// The Remaining Length at the front, and the bytes after it. A fourth byte that another would
-/// follow, or a longer spelling than is needed, is `Length`; bytes that end before it does are
-/// `More`.
+/// Returns the Remaining Length at the front, and the bytes after it. A fourth byte after which
+/// another would follow, or a longer spelling than needed, is `Length`; bytes that end before the
+/// length does are `More`.
 pub fn take_length(bytes: &[u8]) -> Result<(u32, &[u8]), Stop>
     ensures exact { Gives (λ x. (x.0, x.1.now)) result (length_at 3 bytes.now) }
     ensures small { IfOk result (λ x. x.0 < 2 ^ 28) }
@@ -20,7 +20,7 @@ pub fn take_length(bytes: &[u8]) -> Result<(u32, &[u8]), Stop>
     length_from(bytes, 3)
 }
 
-// The same where at most `follow` bytes may follow the next one.
+// The same if at most `follow` bytes may follow the next one.
 #[tactic(auto, unfolding(crate::specs::Reading::length_at), using(crate::proofs::Lengths::limits))]
 fn length_from(bytes: &[u8], follow: u8) -> Result<(u32, &[u8]), Stop>
     requires { follow < 4 }
@@ -46,7 +46,7 @@ fn length_from(bytes: &[u8], follow: u8) -> Result<(u32, &[u8]), Stop>
     }
 }
 
-/// How many bytes the Remaining Length takes.
+/// Returns how many bytes the Remaining Length takes.
 pub fn length_size(length: u32) -> usize
     ensures { result ≡ length_bytes length }
 {

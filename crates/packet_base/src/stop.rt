@@ -11,7 +11,7 @@ use topics::MalformedKind;
 pub enum Stop {
     /// The bytes end before the packet does.
     More,
-    /// No packet begins with these bytes, or memory was wanting.
+    /// No packet begins with these bytes, or memory ran out.
     Malformed(MalformedKind),
     /// A CONNECT that is answered with this code.
     Refused(RefusalCode),

@@ -1,5 +1,5 @@
-// The fields of a packet, written behind what a vector holds. Their room is reserved before, so
-// that none of these calls asks for memory.
+// Appending the fields of a packet to a vector. Their capacity is reserved before, so that none of
+// these calls needs memory.
 
 ghost use Rattle.std.specs.Prelude.{
   ◌≡◌,

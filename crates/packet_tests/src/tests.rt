@@ -1,4 +1,5 @@
-//! Byte strings written by hand from the standard, what each fault is, and what happens out of memory.
+//! Byte strings written by hand from the standard, what each fault is, and what happens out of
+//! memory.
 
 mod answers;
 mod connecting;

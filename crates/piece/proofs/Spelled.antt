@@ -6,7 +6,7 @@ use Rattle.packet.specs.declared.packet.Packet.{Packet}
 use Rattle.packet.specs.Spelling.{IsPacket, AppendsSpelling, spelling}
 use Rattle.packet.specs.Laws.{SpellingSpells}
 
--- what holds on success holds of an answer that is one
+-- what holds on success holds for an answer that is one
 pub when_ok : {A E : Type 0} (P : Type 0) (r : Result A E) → OnOk r P → is_ok r ≡ true → P
 when_ok P (Ok a) holds is = holds
 when_ok P (Err e) holds is = cc

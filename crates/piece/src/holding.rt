@@ -1,4 +1,4 @@
-// Bytes in their order.
+// Bytes in order.
 
 ghost use Rattle.std.specs.Prelude.{◌≡◌, ◌==◌, ◌+◌, ◌++◌, true, false, [], length, nat_le, if◌then◌else◌, IfOk, IsOk, OnErr, OnOk};
 ghost use Rattle.packet.specs.Spelling.{IsPacket, spelling};
@@ -9,7 +9,7 @@ use std::alloc::Global;
 use std::marker::Model;
 use std::mem;
 
-/// Bytes in their order: what came at once, or what waits to be handed over.
+/// Bytes in order: what came at once, or what waits to be handed over.
 #[derive(Drop)]
 pub struct Piece {
     bytes: Vec<u8>,
@@ -24,7 +24,7 @@ impl Model for Piece {
 }
 
 impl Piece {
-    /// No bytes.
+    /// Returns a piece without bytes.
     pub fn new(alloc: Global) -> Piece
         ensures { result ≡ [] }
     {
@@ -33,7 +33,7 @@ impl Piece {
         }
     }
 
-    /// A copy of the bytes. The only error is want of memory.
+    /// Returns a copy of the bytes. The only error is that memory ran out.
     pub fn from_slice(alloc: Global, bytes: &[u8]) -> Result<Piece, Memory>
         ensures { IfOk result (λ piece. piece ≡ bytes.now) }
     {
@@ -41,22 +41,22 @@ impl Piece {
         Ok(Piece { bytes })
     }
 
-    /// The bytes.
+    /// Returns the bytes.
     pub fn as_slice(&self) -> &[u8]
         ensures { result.now ≡ self.now }
     {
         self.bytes.as_slice()
     }
 
-    /// Whether there is no byte.
+    /// Says whether there is no byte.
     pub fn is_empty(&self) -> bool
         ensures { result ≡ (length self.now == 0) }
     {
         self.bytes.is_empty()
     }
 
-    /// Adds the bytes of a packet at the end: whether they were added. They are not where memory is
-    /// wanting, and for a packet that has none: one with an empty list, or over the size limit.
+    /// Adds the bytes of a packet at the end, and says whether they were added. They are not if
+    /// memory runs out, or if the packet has none: it has an empty list, or is over the size limit.
     pub fn put(&mut self, packet: &Packet) -> bool
         ensures whole { result ≡ true → self.new ≡ self.old ++ spelling packet.now }
         ensures packet { result ≡ true → IsPacket packet.now }
@@ -69,8 +69,8 @@ impl Piece {
         encode(packet, &mut self.bytes).is_ok()
     }
 
-    /// Adds the bytes of a packet at the end, where there are no more than `most` then: whether they were
-    /// added. The only error is want of memory, as in [`Piece::put`].
+    /// Adds the bytes of a packet at the end, if there are no more than `most` then, and says
+    /// whether they were added. The only error is that memory ran out, as in [`Piece::put`].
     pub fn put_within(&mut self, packet: &Packet, most: usize) -> Result<bool, Memory>
         ensures fits { IfOk result (λ put.
             put ≡ nat_le (length self.old + length (spelling packet.now)) most) }
@@ -89,8 +89,9 @@ impl Piece {
         Ok(true)
     }
 
-    /// Moves all bytes to the end of `out`. Where `out` is empty no byte is copied: the two change places. The only error is
-    /// that memory runs out, and then nothing changes. No bytes take no memory.
+    /// Moves all bytes to the end of `out`. If `out` is empty, no byte is copied: the two vectors
+    /// are swapped. The only error is that memory runs out, and then nothing changes. No bytes take
+    /// no memory.
     pub fn move_to(&mut self, out: &mut Vec<u8>) -> Result<(), Memory>
         ensures moved { OnOk result (out.new.items ≡ out.old.items ++ self.old) }
         ensures emptied { OnOk result (self.new ≡ []) }
@@ -110,7 +111,7 @@ impl Piece {
         Ok(())
     }
 
-    /// Takes all bytes away.
+    /// Removes all bytes.
     pub fn clear(&mut self)
         ensures { self.new ≡ [] }
     {

@@ -1,5 +1,5 @@
-//! Bytes in their order, to which packets are added: what came on a connection at once, and what
-//! waits on it to be handed over.
+//! Bytes in order, to which packets are added: what came on a connection at once, and what waits on
+//! it to be handed over.
 #![tactic(auto)]
 
 mod holding;

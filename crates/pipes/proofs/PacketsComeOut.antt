@@ -1,4 +1,4 @@
--- Packets that are written into a pipe come out of the cutter in their order, however the bytes are cut.
+-- Packets that are written into a pipe come out of the cutter in order, however the bytes are cut.
 use Rattle.std.proofs.Common.{◌≡◌, ℕ, List, [], ◌∷◌, ◌++◌, length, Some, Result, Ok, Err, refl, ap, sym, ◌∙◌, subst, append_assoc}
 use Rattle.std.specs.Prelude.{slice_get}
 use Rattle.std.proofs.lemmas.List.{append-nil, append_cancel_left}
@@ -70,7 +70,7 @@ pipe_gives written handled s t under_way p h takes = by h.rest h.is h.joined tak
 
 -- ---- no fault
 
--- it is the one that stands behind those handled
+-- it is the one that comes after those handled
 stands_next : (ps rest : List Packet) (p : Packet) → slice_get ((ps ++ p ∷ []) ++ rest) (length ps) ≡ Some p
 stands_next [] rest p = refl
 stands_next (q ∷ ps) rest p = stands_next ps rest p

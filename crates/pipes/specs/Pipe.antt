@@ -11,8 +11,8 @@ abbrev pub Joins : List Packet → List ℕ → Type 0
 Joins [] bytes = bytes ≡ []
 Joins (p ∷ ps) bytes = (front : List ℕ) × (rest : List ℕ) × Spells p front × IsPacket p × (bytes ≡ front ++ rest) × Joins ps rest
 
--- The packets written on one side are those handled on the other, and then those of the bytes that the cutter
--- holds and that are still under way; no fault was met.
+-- The packets written on one side are those handled on the other, followed by those in the bytes
+-- that the cutter holds and that are still in transit; no fault was found.
 pub record IsPiped (written handled : List Packet) (s : Stream) (under_way : List ℕ) : Type 0 where
   pub rest : List Packet
   pub is : written ≡ handled ++ rest
@@ -23,7 +23,7 @@ pub record IsPiped (written handled : List Packet) (s : Stream) (under_way : Lis
 abbrev pub PipeOpens : Type 0
 PipeOpens = IsPiped [] [] (record { held = []; failed = false }) []
 
--- a packet is written: its spelling goes in at the far end
+-- a packet is written: its spelling is added at the far end
 abbrev pub PipeGrows : Type 0
 PipeGrows = (written handled : List Packet) (s : Stream) (under_way bytes : List ℕ) (p : Packet) → IsPiped written handled s under_way
     → Spells p bytes → IsPacket p → IsPiped (written ++ p ∷ []) handled s (under_way ++ bytes)
@@ -38,7 +38,7 @@ abbrev pub PipeGives : Type 0
 PipeGives = (written handled : List Packet) (s t : Stream) (under_way : List ℕ) (p : Packet) → IsPiped written handled s under_way
     → Takes s (Ok (Some p)) t → IsPiped written (handled ++ p ∷ []) t under_way
 
--- it stands at its place in what was written
+-- it is at its place in what was written
 abbrev pub PipeGivesNext : Type 0
 PipeGivesNext = (written handled : List Packet) (s t : Stream) (under_way : List ℕ) (p : Packet) → IsPiped written handled s under_way
     → Takes s (Ok (Some p)) t → slice_get written (length handled) ≡ Some p

@@ -2,8 +2,8 @@
 
 ghost use Rattle.pipes.specs.Pipe.{PipeCarries, PipeGives, PipeGivesNext, PipeGrows, PipeHasNoFault, PipeOpens};
 
-/// Packets that are written into a pipe come out of the cutter at its other end in their order, none lost, changed or
-/// twice, however the bytes between are cut; and the cutter meets no fault.
+/// Packets that are written into a pipe come out of the cutter at its other end in order, none
+/// lost, changed or twice, however the bytes in between are cut; and the cutter finds no fault.
 pub fn pipes_are_in_order()
     ensures opens { PipeOpens }
     ensures grows { PipeGrows }

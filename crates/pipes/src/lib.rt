@@ -1,5 +1,5 @@
-//! What comes out of a pipe of bytes is a beginning of what was written into it, packet by packet, however the bytes are
-//! cut. Its function does nothing; its contract is the law.
+//! What comes out of a pipe of bytes is a prefix of what was written into it, packet by packet,
+//! however the bytes are cut. Its function does nothing; its contract is the law.
 #![tactic(auto)]
 
 mod laws;

@@ -1,4 +1,4 @@
--- LinesAppended.antt: what clients newly took in, line by line, and the lines of one order.
+-- LinesAppended.antt: what clients newly accepted, line by line, and the lines of one order.
 use Rattle.std.proofs.Common.{◌≡◌, ◌<◌, ◌+◌, ℕ, zero, suc, List, [], ◌∷◌, Option, Some, None, Result, Ok, Err, OnOk, ◌++◌, length, take, drop, get_or, map, ap, refl, sym, ◌∙◌, subst, arith}
 use Rattle.std.specs.List.{position}
 use Rattle.std.proofs.lemmas.List.{append-nil, append_assoc, take_more}
@@ -51,14 +51,14 @@ one_more_client w ls i one old mid new below is before more =
     (sym (untold_join w (take i ls) one)
     ∙ ap (λ (l : List Listener). lines_untold l w) (sym (take_more ls i one below ∙ ap (λ (z : Listener). take i ls ++ z ∷ []) (sym is))))
 
--- an element that was not reached yet stands as it stood
+-- an element that was not reached yet is as it was
 pub not_reached : (w : WorldState) (ls : List Listener) (i : ℕ) (d : Listener) → get_or (map (told_at w) (take i ls) ++ drop i ls) i d ≡ get_or ls i d
 not_reached w [] zero d = refl
 not_reached w [] (suc i) d = refl
 not_reached w (l ∷ ls) zero d = refl
 not_reached w (l ∷ ls) (suc i) d = not_reached w ls i d
 
--- what is not told yet is what is new
+-- what is not written yet is what is new
 pub untold_is_new : (ls : List Listener) (old new : WorldState) → AreTold ls old → lines_untold ls new ≡ told_lines (names_of ls) old new
 untold_is_new [] old new told = refl
 untold_is_new (l ∷ ls) old new (told, more) =
@@ -88,7 +88,7 @@ none_of : (clients : List (List ℕ)) (o : Option ℕ) → accepted_by (core_at 
 none_of clients None = refl
 none_of clients (Some at) = none_at clients at
 
--- nobody has taken in anything
+-- no client has accepted anything
 pub none_told : (all clients : List (List ℕ)) (w : WorldState) → w.clients ≡ map new_world_client all → AreTold (map new_listener clients) w
 none_told all [] w is = tt
 none_told all (c ∷ cs) w is = (sym (ap length none), none_told all cs w is)
@@ -123,7 +123,7 @@ happened order old event result new is happens goes reached asks =
       exact = asks.3;
     }
 
--- an order, its line, and where the last call succeeds, what clients took in
+-- an order, its line, and if the last call succeeds, what clients accepted
 pub appends : {E : Type 0} (end : Result (Unit {0}) E) (clients : List (List ℕ)) (index : ℕ) (order : Order) (result : Result (Unit {0}) Idle) (before after : WorldState) (ls : List Listener)
     (a b c : List ℕ) → Comes order before result after → Written index result after a b → names_of ls ≡ clients → AreTold ls before → OnOk end (c ≡ b ++ lines_untold ls after)
     → OnOk end (Appends clients index order before after a c)
@@ -147,7 +147,7 @@ appends (Ok done) clients index order result before after ls a b c comes written
           ∙ ap (λ (l : List ℕ). l ++ told_lines clients before after) written.is ∙ append_assoc a written.line (told_lines clients before after);
     }
 
--- and then all is told
+-- and then all is written
 pub told_after : {E : Type 0} (end : Result (Unit {0}) E) (w : WorldState) (old new : List Listener) → OnOk end (new ≡ map (told_at w) old) → OnOk end (AreTold new w)
 told_after (Ok done) w old new is = subst (λ (l : List Listener). AreTold l w) (sym is) (all_told w old)
 told_after (Err error) w old new is = is

@@ -1,4 +1,5 @@
--- PlayedToTheEnd.antt: orders one after the other make a transcript, and at their end the nodes agree, and each client is exact.
+-- PlayedToTheEnd.antt: orders one after another make a transcript, and at their end the nodes
+-- agree, and each client is exact.
 use Rattle.std.proofs.Common.{◌≡◌, ◌<◌, ◌≤◌, ◌+◌, ℕ, List, [], ◌∷◌, Result, Ok, Err, OnOk, ◌++◌, length, take, get_or, ap, subst, refl, sym, ◌∙◌, arith}
 use Rattle.std.proofs.lemmas.List.{append-nil, append_assoc, length-take-le, take_more}
 use Rattle.world.specs.ballot.Config.{Config}
@@ -63,7 +64,7 @@ exact_on nodes config cs clients first _ _ last (goes_on {orders} {lines} {more}
 
 -- ---- the whole
 
--- where the last line was written, no memory was wanting
+-- if the last line was written, memory suffices
 pub plays_on : {E : Type 0} (result : Result (Unit {0}) E) (clients : List (List ℕ)) (orders : List Order) (first last : WorldState) (old mid new : List ℕ)
     → AppendsAll clients orders first last old mid → OnOk result (Ends last mid new) → OnOk result (last.losses ≡ 0)
     → OnOk result (PlaysOn clients orders first old new 0)

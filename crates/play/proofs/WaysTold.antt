@@ -1,4 +1,5 @@
--- WaysTold.antt: lines of events and numbers of members one after the other, and the world where a script ends.
+-- WaysTold.antt: lines of events and numbers of members one after another, and the world in which a
+-- script ends.
 use Rattle.std.proofs.Common.{◌≡◌, ◌<◌, ◌+◌, ℕ, List, [], ◌∷◌, ◌++◌, Result, Ok, Err, IsErrOf, OnOk, length, take, get_or, decimal, ap, refl, sym, ◌∙◌, subst}
 use Rattle.std.specs.Result.{IsErrAnd}
 use Rattle.std.proofs.lemmas.List.{append-nil, append_assoc, take_more}
@@ -45,7 +46,7 @@ one_more_member xs i d old mid new below before one =
     one ∙ ap (λ (l : List ℕ). l ++ 44 ∷ decimal (get_or xs i d)) before ∙ append_assoc old (more_members (take i xs)) (44 ∷ decimal (get_or xs i d))
     ∙ ap (λ (l : List ℕ). old ++ l) (sym (members_join (take i xs) (get_or xs i d)) ∙ ap more_members (sym (take_more xs i d below)))
 
--- ---- the world where a script ends
+-- ---- the world in which a script ends
 
 pub ends_in : (text old new : List ℕ) (script : Script) (first last : WorldState) (clients : List (List ℕ)) (orders : List Order) → IsScript (lines_of text) script
     → AreReached script.opening.nodes script.opening.config first.nodes

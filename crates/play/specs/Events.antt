@@ -18,18 +18,18 @@ is_small number = nat_le number 255
 abbrev pub node_of : ℕ → Option ℕ
 node_of number = if is_small number then Some number else None
 
--- a configuration is assigned, where each number can be a node's
+-- a configuration is assigned, if each number can be a node's
 abbrev pub assign_of : List ℕ → ℕ → Option Event
 assign_of members primary =
     if list_all is_small members && is_small primary
     then Some (events.Assign (record { members = members; primary = primary })) else None
 
--- how many bytes are carried where so many wait
+-- how many bytes are carried when this many wait
 abbrev pub count_of : ℕ → Amount → ℕ
 count_of waiting amounts.All = waiting
 count_of waiting (amounts.Bytes count) = count
 
--- where so many bytes wait on the connection that it names
+-- the event of an order, when this many bytes wait on the connection that it names
 abbrev pub event_of : ℕ → Order → Option Event
 event_of waiting (orders.Assign members primary) = assign_of members primary
 event_of waiting (orders.Deliver message) = Some (events.Deliver message)

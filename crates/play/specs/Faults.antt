@@ -1,4 +1,4 @@
--- How other errors become those of a script that is played.
+-- How other errors become those of a played script.
 use Rattle.world.specs.ballot.declared.error.OpeningError.{OpeningError}
 use Rattle.world.specs.ballot.declared.error.OpeningError.TheVariants as openings
 use Rattle.script.specs.declared.error.ScriptError.{ScriptError}
@@ -8,17 +8,17 @@ use Rattle.world.specs.declared.escape_error.EscapeError.TheVariants as escapes
 use Rattle.play.specs.declared.error.PlayError.{PlayError}
 use Rattle.play.specs.declared.error.PlayError.TheVariants as faults
 
--- of a text that is no script
+-- for a text that is no script
 abbrev pub fault_of : ScriptError → PlayError
 fault_of (scripts.Line number) = faults.Line number
 fault_of scripts.Memory = faults.Memory
 
--- of a world that does not open
+-- for a world that does not open
 abbrev pub opening_fault_of : OpeningError → PlayError
 opening_fault_of openings.BadMembers = faults.Line 1
 opening_fault_of openings.Memory = faults.Memory
 
--- of a way out that is not told
+-- for a way out that is not returned
 abbrev pub escape_fault_of : EscapeError → PlayError
 escape_fault_of escapes.Idle = faults.Idle
 escape_fault_of escapes.Memory = faults.Memory

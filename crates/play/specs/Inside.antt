@@ -1,4 +1,4 @@
--- Auxiliary words.
+-- Auxiliary definitions.
 use Rattle.std.specs.Prelude.{◌≡◌, ℕ, List, [], ◌∷◌, ◌++◌, Some, Result, length, map}
 use Rattle.world.specs.master.declared.event.Idle.{Idle}
 use Rattle.session_base.specs.declared.publication.Publication.{Publication}
@@ -13,11 +13,11 @@ use Rattle.play.specs.declared.stage.Listener.{Listener}
 use Rattle.play.specs.Events.{asked_in, event_of}
 use Rattle.play.specs.Transcripts.{ComesTo, IsAskedIn, IsLine, Played, Step, accepted_in, lines_after}
 
--- what a client is to do, whatever waits on connections
+-- what an order asks of a client, whatever waits on connections
 abbrev pub IsCallOf : Order → Event → Type 0
 IsCallOf order event = (waiting : ℕ) → event_of waiting order ≡ Some event
 
--- what an order asks for came to this result
+-- what an order asks for had this result
 pub record Comes (order : Order) (old : WorldState) (result : Result (Unit {0}) Idle) (new : WorldState) : Type 0 where
   pub comes : ComesTo (asked_in old order) old result new
   pub goes : WorldGoesOn old new
@@ -43,21 +43,21 @@ pub record Ends (world : WorldState) (old new : List ℕ) : Type 0 where
 abbrev pub names_of : List Listener → List (List ℕ)
 names_of listeners = map (λ (l : Listener). l.client) listeners
 
--- all that they show is told
+-- everything that they show is written
 abbrev pub AreTold : List Listener → WorldState → Type 0
 AreTold [] w = Unit {0}
 AreTold (one ∷ more) w = (one.told ≡ length (accepted_in one.client w)) × AreTold more w
 
--- the lines of what is not told yet
+-- the lines of what is not yet written
 abbrev pub lines_untold : List Listener → WorldState → List ℕ
 lines_untold [] w = []
 lines_untold (one ∷ more) w = lines_after one.told one.client w ++ lines_untold more w
 
--- all that it shows is told now
+-- everything that it shows is now written
 abbrev pub told_at : WorldState → Listener → Listener
 told_at w listener = record listener { told = length (accepted_in listener.client w) }
 
--- a client of whom nothing is told
+-- a client of which nothing is written
 abbrev pub new_listener : List ℕ → Listener
 new_listener name = record { client = name; told = 0 }
 
@@ -69,7 +69,7 @@ pub record Appends (clients : List (List ℕ)) (index : ℕ) (order : Order) (be
   pub step : Step clients index order before after lines
   pub is : new ≡ old ++ lines
 
--- those of these orders were
+-- the lines of these orders were appended
 pub record AppendsAll (clients : List (List ℕ)) (orders : List Order) (first last : WorldState) (old new : List ℕ) : Type 0 where
   pub lines : List ℕ
   pub played : Played clients first orders lines last

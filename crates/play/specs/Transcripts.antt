@@ -1,4 +1,5 @@
--- The transcript of a script: the worlds that its orders lead through, and what is written of each.
+-- The transcript of a script: the worlds that its orders lead through, and what is written for
+-- each.
 use Rattle.std.specs.Prelude.{◌≡◌, ℕ, List, [], ◌∷◌, ◌++◌, Option, Some, None, Result, Ok, Err, IsErr, drop, length}
 use Rattle.world.specs.client.Core.{Core}
 use Rattle.transcript.specs.client_base.declared.accepted.Accepted.{Accepted}
@@ -18,7 +19,7 @@ use Rattle.world.specs.World.{WorldState}
 use Rattle.world.specs.world_nodes.Agreed.{AgreeOnSoMany}
 use Rattle.play.specs.Events.{asked_in}
 
--- ---- what clients took in
+-- ---- what clients accepted
 
 abbrev pub accepted_by : Option Core → List Accepted
 accepted_by None = []
@@ -44,7 +45,7 @@ told_lines (name ∷ names) old new = lines_after (length (accepted_in name old)
 
 -- ---- one order
 
--- its event came to this result, as `World::step` says; where it names no event, it is idle
+-- its event had this result, as `World::step` says; an order that names no event is idle
 abbrev pub ComesTo : Option Event → WorldState → Result (Unit {0}) Idle → WorldState → Type 0
 ComesTo None old result new = IsErr result × (new ≡ old)
 ComesTo (Some event) old result new = Happens event old result new
@@ -54,14 +55,16 @@ abbrev pub IsAskedIn : Option Event → WorldState → Result (Unit {0}) Idle �
 IsAskedIn None old result asked new = asked ≡ []
 IsAskedIn (Some event) old result asked new = IsAsked event old result asked new
 
--- the line of event `index`: it was idle, or the line counts the messages sent so far and the agreed commands
+-- the line of event `index`: it was idle, or the line counts the messages sent so far and the
+-- agreed commands
 abbrev pub IsLine : ℕ → Result (Unit {0}) Idle → WorldState → List ℕ → Type 0
 IsLine index (Err idle) new line = line ≡ idle_line index
 IsLine index (Ok done) new line =
     (agreed : ℕ) × AgreeOnSoMany new.nodes agreed × (line ≡ done_line index (length new.nodes.sent) agreed)
 
--- One order: its line, and a line for each publication that a client newly took in. Whatever memory did in it, the nodes did what
--- they may do, and agree as before, and each client stays exact, by what it was asked to publish.
+-- One order: its line, and a line for each publication that a client newly accepted. Even if memory
+-- ran out in it, the nodes did what they may do, and agree as before, and each client stays exact,
+-- by what it was asked to publish.
 pub record Step (clients : List (List ℕ)) (index : ℕ) (order : Order) (old new : WorldState) (lines : List ℕ) : Type 0 where
   pub result : Result (Unit {0}) Idle
   pub comes : ComesTo (asked_in old order) old result new
@@ -82,7 +85,8 @@ pub data Played (clients : List (List ℕ)) (first : WorldState) : List Order �
   goes_on : {orders : List Order} {lines more : List ℕ} {old new : WorldState} → Played clients first orders lines old → (order : Order)
       → Step clients (length orders) order old new more → Played clients first (orders ++ order ∷ []) (lines ++ more) new
 
--- each order of a script has its event, these are the lines of its transcript, and the last line says how many commands are agreed
+-- each order of a script has its event, these are the lines of its transcript, and the last line
+-- says how many commands are agreed
 pub record IsTranscript (script : Script) (last : WorldState) (transcript : List ℕ) : Type 0 where
   pub first : WorldState
   pub opened : AreReached script.opening.nodes script.opening.config first.nodes
@@ -95,8 +99,8 @@ pub record IsTranscript (script : Script) (last : WorldState) (transcript : List
   pub are_agreed : AgreeOnSoMany last.nodes agreed
   pub is : transcript ≡ lines ++ end_line agreed last.nodes.master.active
 
--- A text is a script that was played to its end, by which its transcript was appended; memory was wanting in so many events.
--- Whatever it did, at the end the nodes agree, and the headline holds of each client.
+-- A text is a script that was played to its end, and its transcript was appended; memory ran out in
+-- this many events. Even so, at the end the nodes agree, and the headline holds for each client.
 pub record Plays (text old new : List ℕ) (losses : ℕ) : Type 0 where
   pub script : Script
   pub is_script : IsScript (lines_of text) script

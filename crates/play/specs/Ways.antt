@@ -1,4 +1,4 @@
--- The way out of the world where a script ends, and its lines.
+-- The way out of the world in which a script ends, and its lines.
 use Rattle.std.specs.Prelude.{◌≡◌, ℕ, List, [], ◌∷◌, ◌++◌, codes}
 use Rattle.std.specs.Fmt.{decimal}
 use Rattle.script.specs.Scripts.{IsScript, lines_of}
@@ -44,9 +44,10 @@ abbrev pub event_lines : List Event → List ℕ
 event_lines [] = []
 event_lines (event ∷ more) = event_line event ++ event_lines more
 
--- ---- the world where a script ends
+-- ---- the world in which a script ends
 
--- a text is a script, whose orders lead from the world that it opens to this one, and memory was wanting in none of them
+-- a text is a script, whose orders lead from the world that it opens to this one, and memory ran
+-- out in none of them
 pub record EndsIn (text : List ℕ) (last : WorldState) : Type 0 where
   pub script : Script
   pub is_script : IsScript (lines_of text) script
@@ -57,7 +58,7 @@ pub record EndsIn (text : List ℕ) (last : WorldState) : Type 0 where
   pub played : Played script.opening.clients.items first script.orders.items lines last
   pub whole : last.losses ≡ 0
 
--- the lines were appended of events that lead out of that world
+-- the lines of events that lead out of that world were appended
 pub record TellsWay (text members : List ℕ) (client : List ℕ) (old new : List ℕ) : Type 0 where
   pub last : WorldState
   pub ends : EndsIn text last
@@ -66,7 +67,7 @@ pub record TellsWay (text members : List ℕ) (client : List ℕ) (old new : Lis
   pub leads : LeadsOut client last events
   pub is : new ≡ old ++ event_lines events
 
--- there are none
+-- there is no way out
 pub record HasNoWay (text members : List ℕ) (client : List ℕ) : Type 0 where
   pub last : WorldState
   pub ends : EndsIn text last

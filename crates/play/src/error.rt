@@ -9,14 +9,14 @@ use world::{EscapeError, Memory, OpeningError};
 /// Why a script was not played as it should be.
 #[derive(Clone, Copy, Debug, PartialEq, Eq)]
 pub enum PlayError {
-    /// The text is no script: the first of its lines that has not its form, counted from 1. Nothing was
-    /// played.
+    /// The text is no script. This is the first of its lines that does not have its form, counted
+    /// from 1. Nothing was played.
     Line(u64),
-    /// No memory was found. The transcript ends before its last line, maybe within a line.
+    /// Memory ran out. The transcript ends before its last line, maybe within a line.
     Memory,
-    /// It was played to its end, and in some event memory was wanting.
+    /// It was played to its end, and memory ran out in some event.
     Losses,
-    /// The world where it ends has no way out for these members and this client.
+    /// The world in which it ends has no way out for these members and this client.
     Idle,
 }
 

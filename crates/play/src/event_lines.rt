@@ -8,7 +8,7 @@ use packet::ClientId;
 use std::alloc::{AllocError, Global};
 use world::{Config, Event};
 
-/// Appends the line of an event, as a script writes it; nothing for one that no way out has.
+/// Appends the line of an event, as a script writes it; nothing for an event that no way out has.
 pub(crate) fn write_event(
     alloc: Global,
     event: &Event,

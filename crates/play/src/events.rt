@@ -15,8 +15,8 @@ use script::{Amount, Numbers, Order};
 use std::alloc::Global;
 use world::{Event, World};
 
-/// The event that an order asks for in a world; none where it names a number that no node can have.
-/// The only error is want of memory.
+/// Returns the event that an order asks for in a world; none if it names a number that no node can
+/// have. The only error is that memory ran out.
 pub(crate) fn event_of(
     alloc: Global,
     world: &World,
@@ -46,7 +46,7 @@ pub(crate) fn event_of(
     }
 }
 
-// What a client is to do.
+// Returns what a client has to do.
 fn call(order: &Order) -> Result<Event, PlayError>
     ensures event { IfOk result (λ event. IsCallOf order.now event) }
     ensures memory { OnErr result (IsErrOf result PlayError.Memory) }
@@ -79,14 +79,14 @@ fn assign(alloc: Global, members: &Numbers, primary: u64) -> Result<Option<Event
     Ok(Some(Event::Assign(Config { members, primary })))
 }
 
-// Whether nodes can have these numbers.
+// Says whether nodes can have these numbers.
 fn are_small(numbers: &[u64]) -> bool
     ensures { result ≡ list_all is_small numbers.now }
 {
     numbers.iter().all(|number| *number <= 255)
 }
 
-// Members of numbers that nodes can have.
+// Returns members with numbers that nodes can have.
 fn small_members(alloc: Global, numbers: &[u64]) -> Result<Members, PlayError>
     requires { list_all is_small numbers.now ≡ true }
     ensures value { IfOk result (λ members. members ≡ numbers.now) }
@@ -139,21 +139,21 @@ fn open(client: &ClientId, node: u64) -> Result<Option<Event>, PlayError>
     Ok(Some(Event::Open(client.clone()?, node)))
 }
 
-// How many bytes of a connection are carried up.
+// Returns how many bytes of a connection are carried up.
 fn count_up(world: &World, connection: u64, amount: Amount) -> u64
     ensures { result ≡ count_of (length (up_of (way_of connection world.now))) amount }
 {
     count_of(amount, world.up(connection))
 }
 
-// How many bytes of a connection are carried down.
+// Returns how many bytes of a connection are carried down.
 fn count_down(world: &World, connection: u64, amount: Amount) -> u64
     ensures { result ≡ count_of (length (down_of (way_of connection world.now))) amount }
 {
     count_of(amount, world.down(connection))
 }
 
-// How many bytes are carried of those that wait.
+// Returns how many bytes are carried of those that wait.
 fn count_of(amount: Amount, waiting: &[u8]) -> u64
     ensures { result ≡ count_of (length waiting.now) amount }
 {
@@ -163,7 +163,7 @@ fn count_of(amount: Amount, waiting: &[u8]) -> u64
     }
 }
 
-// The number of a node, if one can have it.
+// Returns the number of a node, if a node can have it.
 fn node_of(number: u64) -> Option<u8>
     ensures { result ≡ node_of number }
 {

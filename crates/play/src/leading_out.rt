@@ -1,4 +1,4 @@
-// The way out of the world where a script ends.
+// The way out of the world in which a script ends.
 
 ghost use Rattle.std.specs.Prelude.{◌≡◌, ◌++◌, ℕ, OnOk, OnErr, IsErrOf};
 ghost use Rattle.script.specs.declared.error.ScriptError.TheVariants.{Line};
@@ -14,8 +14,8 @@ use script::{Script, read};
 use std::alloc::Global;
 use world::Event;
 
-/// Plays a script and appends a way out of the world where it ends, as lines that may follow it. No transcript is written.
-/// [`PlayError::Idle`] comes where there is none, by `World::escape`.
+/// Plays a script and appends a way out of the world in which it ends, as lines that may follow it.
+/// No transcript is written. [`PlayError::Idle`] comes if there is none, by `World::escape`.
 pub fn escape(
     alloc: Global,
     text: &[u8],
@@ -27,7 +27,7 @@ pub fn escape(
         (TellsWay text.now members.now client.now way.old.items way.new.items) }
     ensures idle { IsErrOf result PlayError.Idle → HasNoWay text.now members.now client.now }
 
-    // A text is no script for its first line that has not its form.
+    // A text that is no script is refused for its first line that does not have its form.
     ensures refused { (number : ℕ) → IsErrOf result (PlayError.Line number)
         → Refuses (lines_of text.now) (Line number) }
 {

@@ -1,4 +1,4 @@
-//! Playing a script: what it orders happens in a world, and a transcript tells what came of it.
+//! Plays a script: its orders happen in a world, and a transcript says the result of each.
 #![tactic(auto)]
 
 mod error;

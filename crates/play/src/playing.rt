@@ -15,13 +15,14 @@ use std::alloc::Global;
 pub fn play(alloc: Global, text: &[u8], transcript: &mut Vec<u8>) -> Result<(), PlayError>
     ensures played { OnOk result (Plays text.now transcript.old.items transcript.new.items 0) }
 
-    // A text is no script for its first line that has not its form; nothing is played of it.
+    // A text that is no script is refused for its first line that does not have its form; nothing
+    // of it is played.
     ensures refused { (number : ℕ) → IsErrOf result (PlayError.Line number)
         → Refuses (lines_of text.now) (Line number) }
     ensures untouched { (number : ℕ) → IsErrOf result (PlayError.Line number)
         → transcript.new.items ≡ transcript.old.items }
 
-    // Where memory was wanting in the world, the transcript is whole all the same.
+    // If memory ran out in the world, the transcript is still complete.
     ensures wanting { IsErrOf result PlayError.Losses → (losses : ℕ) × ((0 < losses)
         × Plays text.now transcript.old.items transcript.new.items losses) }
 {
@@ -33,7 +34,7 @@ pub fn play(alloc: Global, text: &[u8], transcript: &mut Vec<u8>) -> Result<(), 
     play_whole(&mut stage, orders.as_slice(), transcript)
 }
 
-// Lets happen what the orders ask for, and appends what came of it, to the last line.
+// Does what the orders ask for, and appends the results, up to the last line.
 fn play_whole(
     stage: &mut Stage,
     orders: &[Order],
@@ -51,7 +52,7 @@ fn play_whole(
     stage.end(transcript)
 }
 
-// Lets happen what the orders ask for, one after the other, and appends what came of it.
+// Does what the orders ask for, one after another, and appends the results.
 pub(crate) fn play_all(
     stage: &mut Stage,
     orders: &[Order],

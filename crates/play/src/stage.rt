@@ -16,7 +16,7 @@ use std::alloc::Global;
 use transcript::{write_accepted, write_done, write_end, write_idle};
 use world::{Accepted, Idle, World};
 
-/// A client, and how many of the publications that it took in are told.
+/// A client, and how many of the publications that it accepted are written.
 #[derive(Drop)]
 pub(crate) struct Listener {
     pub(crate) client: ClientId,
@@ -32,7 +32,7 @@ pub(crate) struct Stage {
 }
 
 impl Stage {
-    /// The world that a script opens.
+    /// Returns the world that a script opens.
     pub(crate) fn new(alloc: Global, opening: Opening) -> Result<Stage, PlayError>
         ensures opened { IfOk result (λ stage.
             AreReached opening.nodes opening.config stage.world.nodes) }
@@ -62,7 +62,7 @@ impl Stage {
         })
     }
 
-    /// Lets happen what an order asks for, and appends what came of it.
+    /// Does what an order asks for, and appends the result.
     pub(crate) fn play(
         &mut self,
         index: u64,
@@ -87,7 +87,7 @@ impl Stage {
         )
     }
 
-    // Lets happen what an order asks for, if it can.
+    // Does what an order asks for, if it can happen.
     fn happens(&mut self, order: &Order) -> Result<Result<(), Idle>, PlayError>
         ensures comes { IfOk result (λ result.
             Comes order.now self.old.world result self.new.world) }
@@ -122,7 +122,7 @@ impl Stage {
         Ok(())
     }
 
-    /// Appends the last line. `Losses` comes behind it where memory was wanting in the world.
+    /// Appends the last line. `Losses` comes after it if memory ran out in the world.
     pub(crate) fn end(&self, transcript: &mut Vec<u8>) -> Result<(), PlayError>
         ensures line { OnOk result (Ends self.now.world transcript.old.items transcript.new.items) }
         ensures whole { OnOk result (self.now.world.losses ≡ 0) }
@@ -141,7 +141,7 @@ impl Stage {
     }
 }
 
-// The clients, of which nothing is told.
+// Returns the clients; nothing of what they accepted is written yet.
 fn listeners_of(alloc: Global, clients: &[ClientId]) -> Result<Vec<Listener>, PlayError>
     ensures made { IfOk result (λ made. made.items ≡ map new_listener clients.now) }
     ensures memory { OnErr result (IsErrOf result PlayError.Memory) }
@@ -156,7 +156,7 @@ fn listeners_of(alloc: Global, clients: &[ClientId]) -> Result<Vec<Listener>, Pl
     Ok(listeners)
 }
 
-// Appends what the clients took in and was not told before.
+// Appends what the clients accepted and was not yet written.
 fn tell_all(
     alloc: Global,
     world: &World,
@@ -174,7 +174,7 @@ fn tell_all(
     Ok(())
 }
 
-// Appends what a client took in and was not told before.
+// Appends what a client accepted and was not yet written.
 fn tell_new(
     alloc: Global,
     world: &World,
@@ -193,7 +193,7 @@ fn tell_new(
     Ok(())
 }
 
-// What a client shows as accepted; nothing where there is no such client.
+// Returns what a client shows as accepted; nothing if there is no such client.
 fn accepted_in<'a>(world: &'a World, client: &ClientId) -> &'a [Accepted]
     ensures { result.now ≡ accepted_in client.now world.now }
 {
@@ -203,7 +203,7 @@ fn accepted_in<'a>(world: &'a World, client: &ClientId) -> &'a [Accepted]
     }
 }
 
-// Appends the lines of publications that a client took in.
+// Appends the lines of publications that a client accepted.
 fn tell(
     alloc: Global,
     client: &ClientId,

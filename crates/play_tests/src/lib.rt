@@ -1,4 +1,4 @@
-//! Scripts that are played, against their transcripts. Tests alone stand here.
+//! Scripts that are played, against their transcripts. It has only tests.
 #![tactic(auto)]
 
 #[cfg(test)]

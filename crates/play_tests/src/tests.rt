@@ -1,5 +1,5 @@
-// What no clause says: that scripts which are as they should be are read, what their lines order, and what comes of each
-// line, from its text to the text of the transcript.
+// What no clause says: that scripts which are as they should be are read, what their lines order,
+// and the result of each line, from its text to the text of the transcript.
 
 mod crashes;
 mod cuts;

@@ -1,4 +1,4 @@
--- MasterIsReachable.antt: a master goes on by its answers, and what it tells is one of these.
+-- MasterIsReachable.antt: a master continues by its answers, and what it sends is one of these.
 use Rattle.std.proofs.Common.{◌≡◌, ℕ, ◌+◌, Bool, true, false, if◌then◌else◌, List, Option, Some, None, Ok, Err, refl, ◌∙◌, ap, sym, subst, true≢false}
 use Rattle.std.specs.Result.{is_ok}
 use Rattle.master.specs.agreement.MasterState.{AssignRefusal, MasterState, activating, is_granted, master_behind, opening_master, refusal}

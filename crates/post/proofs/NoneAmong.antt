@@ -8,7 +8,7 @@ use Rattle.lists.specs.Lists.{has_id}
 use Rattle.post.specs.Numbers.{numbers_of}
 use Rattle.post.specs.declared.peer.Peer.{Peer}
 
--- what is known where there is none
+-- what is known if there is none
 pub of_none : {A : Type 0} (found : Option A) (N : Type 0) (S : A → Type 0) → MatchOption found N S → found ≡ None → N
 of_none None N S known is = known
 of_none (Some one) N S known is = elim (none-some one (sym is)) [ ]

@@ -6,7 +6,7 @@ use Rattle.post.specs.Counting.{Counts, Taken, bytes_behind, committed_of, held_
 use Rattle.post.specs.Counting.Counts.{admits, begins, shows, takes}
 use Rattle.post.specs.Laws.{OpenBytesAreCounted}
 
--- what is known of the bytes that were taken and their count
+-- what is known about the bytes that were taken and their count
 record Known (all : List Taken) (taking : Taking) : Type 0 where
   none : bytes_behind (held_of taking.status) all ≤ 0
   marked : bytes_behind taking.mark all ≤ taking.later

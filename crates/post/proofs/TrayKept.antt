@@ -1,4 +1,5 @@
--- TrayKept.antt: a tray in which an item is left, where there is room and memory for it, holds what may wait for its node.
+-- TrayKept.antt: a tray in which an item is left, if there is room and memory for it, holds what
+-- may wait for its node.
 use Rattle.std.proofs.Common.{◌≡◌, ℕ, ◌+◌, ◌≤◌, zero, suc, Bool, true, false, ◌||◌, not, nat_lt, if◌then◌else◌, List, [], ◌∷◌, ◌++◌, length, take, sym, subst, ap, arith}
 use Rattle.std.proofs.Common.{◌∙◌}
 use Rattle.node.specs.Command.{Command}
@@ -38,14 +39,14 @@ each_taken P zero items each = tt
 each_taken P (suc n) [] each = tt
 each_taken P (suc n) (first ∷ items) each = (each.0, each_taken P n items each.1)
 
--- a beginning of what waits
+-- a prefix of what waits
 pub waits_taken : (number n : ℕ) (items : List Item) → Waits number items → Waits number (take n items)
 waits_taken number n items waits = record {
   left = each_taken (IsLeft number) n items waits.left;
   bounded = let e = of_nodes_taken n items in let b = waits.bounded in omega (arith, e, b);
 }
 
--- where there is room the bound is kept
+-- if there is room the bound is kept
 roomy : (b : Bool) (count size : ℕ) → (not b || nat_lt size 524288) ≡ true → count ≤ size → count ≤ 524288
     → count + (if b then 1 else 0) ≤ 524288
 roomy true count size room least bounded = grind (arith, room, least, bounded)
@@ -76,7 +77,7 @@ from_master from is = ap (λ (n : ℕ). nat_lt 0 n) is
 room_always : (b : Bool) (size : ℕ) → b ≡ false → (not b || nat_lt size 524288) ≡ true
 room_always b size is = ap (λ (c : Bool). not c || nat_lt size 524288) is
 
--- the same of an answer of the master, for which room was made before
+-- the same for an answer of the master, for which room was made before
 pub left_answer : (tray : Waiting) (number receiver primary : ℕ) (message : Message Command) (kept : Bool) (before old new : List Item)
     → record { number = number; items = before } ≡ tray
     → WasAnswered receiver message → receiver ≡ primary → primary ≡ tray.number

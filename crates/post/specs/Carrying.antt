@@ -1,4 +1,4 @@
--- What steps of a node gave for others, message by message.
+-- The messages that steps of a node gave for others, one by one.
 use Rattle.std.specs.Prelude.{ℕ, List, [], ◌∷◌, ◌++◌}
 use Rattle.node.specs.Command.{Command}
 use Rattle.node.specs.Output.{Output}
@@ -11,13 +11,13 @@ pub record Letter : Type 0 where
   pub receiver : ℕ
   pub message : Message Command
 
--- the messages among effects, in their order
+-- the messages among effects, in order
 abbrev pub letters_of : List (Effect Command Output) → List Letter
 letters_of [] = []
 letters_of (To receiver message ∷ effects) = record { receiver = receiver; message = message } ∷ letters_of effects
 letters_of (Out place output ∷ effects) = letters_of effects
 
--- these letters were carried, one behind the other, each once, and nothing else
+-- these letters were carried, one after another, each once, and nothing else
 pub data CarriesAll {X : Type 0} (carries : X → ℕ → Message Command → X → Type 0) (before : X)
     : List Letter → X → Type 0 where
   none : CarriesAll carries before [] before

@@ -1,4 +1,4 @@
--- What becomes of a node's count of bytes that are not known to be agreed, while its log only grows.
+-- How a node's count of bytes that are not known to be agreed changes, while its log only grows.
 use Rattle.std.specs.Prelude.{ℕ, ◌+◌, ◌≤◌, nat_lt, min, if◌then◌else◌, List, [], ◌∷◌, Option, Some, None}
 use Rattle.node.specs.declared.Status.{Status}
 use Rattle.post.specs.Crowding.{Taking, shown, took}
@@ -8,7 +8,7 @@ pub record Taken : Type 0 where
   pub bytes : ℕ
   pub places : ℕ
 
--- how many of these bytes may stand in places after the first `places`
+-- how many of these bytes may be in places after the first `places`
 abbrev pub bytes_behind : ℕ → List Taken → ℕ
 bytes_behind places [] = 0
 bytes_behind places (taken ∷ others) = (if nat_lt places taken.places then taken.bytes else 0) + bytes_behind places others
@@ -22,8 +22,8 @@ abbrev pub committed_of : Option Status → ℕ
 committed_of None = 0
 committed_of (Some status) = status.committed
 
--- A node took these bytes, the newest first, and then its count is this one. Each time it shows itself its log has no fewer
--- places, and no fewer of them are agreed.
+-- A node took these bytes, the newest first, and then its count is this one. Each time it publishes
+-- its status its log has no fewer places, and no fewer of them are agreed.
 pub data Counts : List Taken → Taking → Type 0 where
   begins : Counts [] (record { status = None; entering = 0; mark = 0; earlier = 0; later = 0 })
   admits : {all : List Taken} {taking : Taking} (bytes : ℕ) → Counts all taking

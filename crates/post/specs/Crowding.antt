@@ -1,10 +1,11 @@
--- When a node takes nothing more from its clients, since other members lag.
+-- When a node takes nothing more from its clients, because other members lag.
 use Rattle.std.specs.Prelude.{ℕ, ◌+◌, ◌-◌, ◌≤◌, Bool, ◌&&◌, nat_le, min, if◌then◌else◌, Option, Some, None}
 use Rattle.node.specs.declared.Status.{Status}
 use Rattle.node.specs.Replica.{is_active}
 
--- What a node takes from its clients. `entering` bytes are on their way to it. Of those that it took, `earlier` stand in the
--- first `mark` places of its log, and `later` in places behind these; what every member holds is counted no more.
+-- What a node takes from its clients. `entering` bytes are in transit to it. Of those that it took,
+-- `earlier` are in the first `mark` places of its log, and `later` in places after these; what
+-- every member holds is no longer counted.
 pub record Taking : Type 0 where
   pub status : Option Status
   pub entering : ℕ
@@ -12,33 +13,37 @@ pub record Taking : Type 0 where
   pub earlier : ℕ
   pub later : ℕ
 
--- how many places of its log are not known to be held by every member, while it is the active primary
+-- how many places of its log are not known to be held by every member, while it is the active
+-- primary
 abbrev pub open_places : Option Status → ℕ
 open_places None = 0
 open_places (Some status) = if is_active status.role then status.held - status.committed else 0
 
--- Whether a node takes more bytes from its clients: while no more than 4,096 places are open, what it took and is not known to
--- be agreed has no more than 64 MiB, and no more than 256 KiB are on their way.
+-- Whether a node takes more bytes from its clients: while no more than 4,096 places are open, what
+-- it took and is not known to be agreed has no more than 64 MiB, and no more than 256 KiB are in
+-- transit.
 abbrev pub admits : Taking → Bool
 admits taking = nat_le (open_places taking.status) 4096
     && (nat_le (taking.earlier + taking.later) 67108864 && nat_le taking.entering 262144)
 
--- The bound of all that a node took and is not known to be agreed, with what is on its way: 64 MiB, 256 KiB, and one piece.
+-- The bound of all that a node took and is not known to be agreed, together with what is in
+-- transit: 64 MiB, 256 KiB, and one piece.
 abbrev pub IsBounded : Taking → Type 0
 IsBounded taking = taking.entering + (taking.earlier + taking.later) ≤ 67436544
 
--- some bytes that were on their way were taken
+-- some bytes that were in transit were taken
 abbrev pub took : ℕ → Taking → Taking
 took bytes taking = record taking {
   entering = taking.entering - min bytes taking.entering;
   later = taking.later + min bytes taking.entering;
 }
 
--- whether all that stands in the first `mark` places is agreed, or all that stands in the log
+-- whether everything in the first `mark` places is agreed, or everything in the log
 abbrev pub is_agreed : ℕ → Status → Bool
 is_agreed mark status = nat_le (min mark status.held) status.committed
 
--- The node shows how it stands. Once the first `mark` places are agreed the others take their place.
+-- The node publishes its status. Once the first `mark` places are agreed the later bytes become the
+-- earlier ones.
 abbrev pub shown : Status → Taking → Taking
 shown status taking =
     if is_agreed taking.mark status

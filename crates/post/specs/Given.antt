@@ -25,8 +25,8 @@ abbrev pub EachOpensAs : ℕ → Config → (ℕ → CountedCore) → Type 0
 EachOpensAs number config first_of =
     (inbox : ℕ) → first_of inbox ≡ record { core = opening_core number config; losses = 0 }
 
--- A step of a node gave this. Before that step the node was what it became, from its opening on, by one step for each item
--- that it took.
+-- A step of a node gave this. Before that step the node was what it became, from its opening on, by
+-- one step for each item that it took.
 pub record WasGiven (effect : Effect Command Output) : Type 0 where
   pub first : CountedCore
   pub opens : ∥ Opens first ∥₁

@@ -7,21 +7,23 @@ use Rattle.post.specs.Counting.{Counts, Taken, bytes_behind, committed_of}
 use Rattle.post.specs.Crowding.{Taking}
 use Rattle.post.specs.Superseding.{covers}
 
--- A Held that replaces an earlier one is of the same ballot, and a primary that hears it alone knows as much as one that hears both.
+-- A Held that replaces an earlier one is of the same ballot, and a primary that receives only this
+-- one knows as much as one that receives both.
 abbrev pub LaterCountsSuffice : Type 0
 LaterCountsSuffice =
     (ballot held earlier fewer member : ℕ) (progress : List Progress) →
     covers (Held ballot held) (Held earlier fewer) ≡ true →
     (ballot ≡ earlier) × (raised member held (raised member fewer progress) ≡ raised member held progress)
 
--- A Commit that replaces an earlier one is of the same ballot, and a backup applies as many places by it alone as by both.
+-- A Commit that replaces an earlier one is of the same ballot, and a backup applies as many places
+-- by the later one as by both.
 abbrev pub LaterCommitsSuffice : Type 0
 LaterCommitsSuffice =
     (ballot held earlier fewer committed : ℕ) →
     covers (Commit ballot held) (Commit earlier fewer) ≡ true →
     (ballot ≡ earlier) × (max (max committed fewer) held ≡ max committed held)
 
--- Of the bytes that a node took none is left out of its count that may stand in a place which is not agreed.
+-- The count includes every byte that the node took and that may be in a place which is not agreed.
 abbrev pub OpenBytesAreCounted : Type 0
 OpenBytesAreCounted =
     (all : List Taken) (taking : Taking) → Counts all taking →

@@ -1,5 +1,5 @@
--- What is left for a node: a message that a step of another gave, an answer of the master, the order to crash, or the order to
--- end the session of a client.
+-- What may be queued for a node: a message that a step of another node gave, an answer of the
+-- master, the order to crash, or the order to end the session of a client.
 use Rattle.std.specs.Prelude.{ℕ, List}
 use Rattle.node.specs.Command.{Command}
 use Rattle.node.specs.Effect.TheVariants.{To}
@@ -11,17 +11,17 @@ use Rattle.post.specs.Mastering.{WasAnswered}
 pub use Rattle.post.specs.Given.{EachOpens, EachOpensAs, Opens, WasGiven}
 pub use Rattle.post.specs.Mastering.{WasAnswered}
 
--- what anybody but the master may leave for a node of this number
+-- what any sender except the master may queue for a node of this number
 pub data IsPosted (receiver : ℕ) : Item → Type 0 where
   of_node : (message : Message Command) → WasGiven (To receiver message) → IsPosted receiver (Peer message)
   order : IsPosted receiver Crash
   expels : (client : List ℕ) → IsPosted receiver (Expel client)
 
--- what may be left for it
+-- what may be queued for it
 pub data IsLetter (receiver : ℕ) : Item → Type 0 where
   posted : {item : Item} → IsPosted receiver item → IsLetter receiver item
   of_master : (message : Message Command) → WasAnswered receiver message → IsLetter receiver (Peer message)
 
--- there is such a reason: an item that is left says no more, whoever left it
+-- there is such a reason: nothing more is known about a queued item, whichever thread queued it
 abbrev pub IsLeft : ℕ → Item → Type 0
 IsLeft receiver item = ∥ IsLetter receiver item ∥₁

@@ -1,4 +1,4 @@
--- What the master of a program answers, and which states it comes to.
+-- What the master of a program answers, and which states it reaches.
 use Rattle.std.specs.Prelude.{◌≡◌, ℕ, Option, Some, None}
 use Rattle.master.specs.agreement.MasterState.{MasterState, opening_master, refusal}
 use Rattle.master.specs.snapshots.Masters.{MasterOutcome, activated, assigned}
@@ -13,7 +13,7 @@ use Rattle.node.specs.Effect.TheVariants.{To}
 use Rattle.post.specs.Carrying.{Letter}
 use Rattle.post.specs.Given.{WasGiven}
 
--- what a primary is told about its ballot
+-- what the master sends to a primary about its ballot
 abbrev pub body_of : Activation → ℕ → Body Command
 body_of activation.Activated ballot = Activated ballot
 body_of activation.Superseded ballot = Superseded ballot
@@ -28,7 +28,7 @@ abbrev pub master_after : MasterState → Option (MasterOutcome Command) → Mas
 master_after master (Some outcome) = outcome.state
 master_after master None = master
 
--- the message that tells an outcome, with its receiver; 0 is the master's own number
+-- the message about an outcome, with its receiver; 0 is the master's own number
 abbrev pub letter_of : MasterOutcome Command → Letter
 letter_of outcome = record {
   receiver = outcome.receiver;
@@ -39,14 +39,15 @@ abbrev pub letter_if : Option (MasterOutcome Command) → Option Letter
 letter_if (Some outcome) = Some (letter_of outcome)
 letter_if None = None
 
--- what it answers, and why: an order that it does not refuse, or an Activate that a step of a node gave for it
+-- what it answers, and why: an order that it does not refuse, or an Activate that a step of a node
+-- gave for it
 pub data Answers (master : MasterState) : MasterOutcome Command → Type 0 where
   to_order : (config : Config) → refusal master config ≡ None → Answers master (assigned Command master config)
   to_node : (asked : Message Command) (ballot : ℕ)
       → WasGiven (To 0 asked) → asked.body ≡ Activate ballot
       → Answers master (activated Command master ballot asked.from master.waiting)
 
--- the states that it comes to, from its opening on, by one answer after the other
+-- the states that it reaches, from its opening on, by one answer after another
 pub data IsReachable : MasterState → Type 0 where
   opens : (config : Config) → IsReachable (opening_master config)
   answers : {master : MasterState} (outcome : MasterOutcome Command)

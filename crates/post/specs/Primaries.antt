@@ -1,4 +1,4 @@
--- Which node an order about a client is left for, by what each node showed of itself last.
+-- For which node an order about a client is queued, by the status that each node published last.
 use Rattle.std.specs.Prelude.{◌≡◌, ℕ, ◌≤◌, Bool, true, false, ◌&&◌, not, nat_lt, if◌then◌else◌, List, [], ◌∷◌, Option, Some, None}
 use Rattle.ballot_base.specs.Replica.{is_active}
 use Rattle.lists.specs.Lists.{Each, In}
@@ -24,12 +24,12 @@ pub record IsHighest (number : ℕ) (nodes : List Shown) : Type 0 where
 abbrev pub NoneServes : List Shown → Type 0
 NoneServes = Each (λ shown. serves shown ≡ false)
 
--- of two nodes the one that serves in the higher ballot, the first where both have the same
+-- of two nodes the one that serves in the higher ballot, the first if both have the same
 abbrev pub higher : Option Shown → Shown → Option Shown
 higher None shown = if serves shown then Some shown else None
 higher (Some best) shown = if serves shown && nat_lt best.status.ballot shown.status.ballot then Some shown else Some best
 
--- the same of one node after the other
+-- the same for one node after another
 abbrev pub highest_from : Option Shown → List Shown → Option Shown
 highest_from found [] = found
 highest_from found (shown ∷ nodes) = highest_from (higher found shown) nodes

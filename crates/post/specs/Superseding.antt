@@ -1,4 +1,4 @@
--- Which message that waits for a node says nothing more, once another comes behind it.
+-- Which message that waits for a node says nothing more, once another comes after it.
 use Rattle.std.specs.Prelude.{ℕ, Bool, false, ◌==◌, ◌&&◌, ◌-◌, nat_le, if◌then◌else◌, List, length, Option, Some, None, take, slice_get}
 use Rattle.node.specs.Command.{Command}
 use Rattle.node.specs.declared.Body.{Body}
@@ -16,7 +16,7 @@ abbrev pub is_commit_within : ℕ → ℕ → Body Command → Bool
 is_commit_within ballot held (Commit earlier fewer) = earlier == ballot && nat_le fewer held
 is_commit_within ballot held _ = false
 
--- A count of places that grows says all that a smaller one of its ballot said.
+-- A larger count of places says all that a smaller one of its ballot said.
 abbrev pub covers : Body Command → Body Command → Bool
 covers (Held ballot held) older = is_held_within ballot held older
 covers (Commit ballot held) older = is_commit_within ballot held older
@@ -31,11 +31,11 @@ supersedes _ _ = false
 abbrev pub newest : List Item → Option Item
 newest items = slice_get items (length items - 1)
 
--- whether an item supersedes this one, where there is one
+-- whether an item supersedes this one, if there is one
 abbrev pub supersedes_one : Item → Option Item → Bool
 supersedes_one item (Some older) = supersedes item older
 supersedes_one item None = false
 
--- what still waits where an item is left: all, but for the newest where the item supersedes it
+-- what still waits when an item is queued: everything, except the newest if the item supersedes it
 abbrev pub still_waiting : Item → List Item → List Item
 still_waiting item items = if supersedes_one item (newest items) then take (length items - 1) items else items

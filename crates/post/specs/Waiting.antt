@@ -5,7 +5,7 @@ use Rattle.node.specs.declared.Item.{Item}
 use Rattle.node.specs.declared.Item.TheVariants.{Peer}
 use Rattle.post.specs.Letters.{IsLeft}
 
--- the number of the node, and the items that were left for it and not taken yet, the oldest first
+-- the number of the node, and the items that were queued for it and not yet taken, the oldest first
 pub record Waiting : Type 0 where
   pub number : ℕ
   pub items : List Item
@@ -20,12 +20,13 @@ abbrev pub of_nodes : List Item → ℕ
 of_nodes [] = 0
 of_nodes (item ∷ items) = (if is_of_node item then 1 else 0) + of_nodes items
 
--- Whether an item may be left beside these: a message of another node while fewer than 524,288 items wait, and a message of the
--- master or an order whatever waits.
+-- Whether an item may be queued after these: a message of another node while fewer than 524,288
+-- items wait, and a message of the master or an order whatever waits.
 abbrev pub has_room : Item → List Item → Bool
 has_room item items = not (is_of_node item) || nat_lt (length items) 524288
 
--- What may wait for the node of a number: what was left for it, and of messages of other nodes no more than 524,288.
+-- What may wait for the node of a number: what was queued for it, and at most 524,288 messages of
+-- other nodes.
 pub record Waits (number : ℕ) (items : List Item) : Type 0 where
   pub left : Each (IsLeft number) items
   pub bounded : of_nodes items ≤ 524288

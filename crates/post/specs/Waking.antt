@@ -6,12 +6,12 @@ use Rattle.node.specs.declared.Body.TheVariants.{Commit}
 use Rattle.node.specs.declared.Item.{Item}
 use Rattle.node.specs.declared.Item.TheVariants.{Peer}
 
--- what tells a backup how many places are committed
+-- whether a message tells a backup how many places are committed
 abbrev pub is_commit : Body Command → Bool
 is_commit (Commit ballot held) = true
 is_commit _ = false
 
--- all do but a Commit: by it a backup applies places, and puts nothing out
+-- all items except a Commit: on it a backup applies places, and sends nothing
 abbrev pub wakes : Item → Bool
 wakes (Peer message) = not (is_commit message.body)
 wakes _ = true

@@ -1,10 +1,10 @@
-// On this a thread sleeps until somebody has something for it.
+// Lets a thread sleep until there is something for it to do.
 
 use std::sync::{Mutex, Wait};
 use std::thread::Parker;
 use std::time::Duration;
 
-/// Wakes a thread, at the cost of a wake-up only where it sleeps.
+/// Wakes a thread, at the cost of a wake-up only if it sleeps.
 #[derive(Drop)]
 pub(crate) struct Bell {
     asleep: Mutex<bool>,
@@ -33,7 +33,7 @@ impl Bell {
         *self.asleep.lock(rt) = true;
     }
 
-    /// Sleeps until the bell rings, at most so long.
+    /// Sleeps until the bell rings, at most this long.
     pub(crate) fn sleep<R: Wait>(&self, rt: &R, time: Duration) {
         self.parker.park_timeout(rt, time);
         *self.asleep.lock(rt) = false;

@@ -1,4 +1,4 @@
-// What steps of a node gave for others, carried message by message in its order.
+// What steps of a node gave for others, carried message by message in order.
 
 ghost use Rattle.std.specs.Prelude.{◌≡◌, [], ◌∷◌};
 ghost use Rattle.node.specs.Lists.{Each};
@@ -10,8 +10,8 @@ use node::{Command, Effect, Output};
 use std::marker::Model;
 use std::sync::Wait;
 
-/// What steps of a node gave, in their order. It can't be let go: only [`carry_all`] and
-/// [`Peers::hand_on`] take it, so whoever has it hands it on.
+/// What steps of a node gave, in order. It cannot be dropped: only [`carry_all`] and
+/// [`Peers::hand_on`] take it, so the code that has it delivers it.
 ///
 /// [`Peers::hand_on`]: crate::Peers::hand_on
 pub struct Given {
@@ -43,13 +43,13 @@ impl Given {
     }
 }
 
-/// Who carries messages to the nodes, or to the master, that they are for.
+/// Carries messages to the nodes, or to the master, that they are for.
 pub trait Carrier {
     ghost use Rattle.std.specs.Prelude.{ℕ};
     ghost use Rattle.node.specs.Command.{Command};
     ghost use Rattle.node.specs.Message.{Message};
 
-    // Before a call, whom the message is for, the message, and behind it.
+    // The state before a call, the receiver of the message, the message, and the state after it.
     ghost carries: { Self → ℕ → Message Command → Self → Type 0 };
 
     /// Carries a message that a step of a node gave to the node that it is for.
@@ -57,7 +57,8 @@ pub trait Carrier {
         ensures { carries self.old parcel.receiver parcel.message self.new };
 }
 
-/// Carries all that steps of a node gave for others, in its order, each message once. Outputs are for no other node.
+/// Carries all that steps of a node gave for others, in order, each message once. Outputs are for
+/// no other node.
 pub fn carry_all<C: Carrier, R: Wait>(rt: &R, carrier: &mut C, given: Given)
     ensures { CarriesAll C.carries carrier.old (letters_of given) carrier.new }
 {

@@ -1,18 +1,18 @@
-// Which node an order about a client is left for.
+// The node for which an order about a client is queued.
 
 ghost use Rattle.std.specs.Prelude.{◌≡◌, IfSome, None};
 ghost use Rattle.post.specs.Primaries.{IsHighest, NoneServes, higher, serves};
 
 use node::Status;
 
-/// A node's number, and how the node stood after its last change.
+/// A node's number, and its status after its last change.
 #[derive(Clone, Copy)]
 pub(crate) struct Shown {
     pub(crate) number: u8,
     pub(crate) status: Status,
 }
 
-/// Returns the number of the living active primary of the highest ballot among these nodes.
+/// Returns the number of the running active primary of the highest ballot among these nodes.
 pub(crate) fn primary_of(nodes: &[Shown]) -> Option<u8>
     ensures some { IfSome result (λ number. IsHighest number nodes.now) }
     ensures none { result ≡ None → NoneServes nodes.now }
@@ -27,7 +27,7 @@ pub(crate) fn primary_of(nodes: &[Shown]) -> Option<u8>
     }
 }
 
-// Returns which of two nodes serves in the higher ballot: the first one where both have the same.
+// Returns which of two nodes serves in the higher ballot: the first one if both have the same.
 fn higher(found: Option<Shown>, shown: Shown) -> Option<Shown>
     ensures { result ≡ higher found shown }
 {
@@ -41,7 +41,7 @@ fn higher(found: Option<Shown>, shown: Shown) -> Option<Shown>
     }
 }
 
-// Returns whether a node serves clients.
+// Says whether a node serves clients.
 fn serves(shown: Shown) -> bool
     ensures { result ≡ serves shown }
 {

@@ -9,14 +9,15 @@ use std::marker::Model;
 /// How many places may be open when more bytes are taken.
 const MOST_OPEN: u64 = 4_096;
 
-/// How many bytes may stand in open places when more bytes are taken.
+/// How many bytes may be in open places when more bytes are taken.
 const MOST_BYTES: u64 = 67_108_864;
 
-/// How many bytes may be on their way when more are taken.
+/// How many bytes may be in transit when more are taken.
 const MOST_ENTERING: u64 = 262_144;
 
-/// What a node takes from its clients, and how it stands. Of bytes that are not known to be agreed, as many are counted as may
-/// stand in places that some member does not hold. They are bounded by the type.
+/// What a node takes from its clients, and its status. Of the bytes that are not known to be
+/// agreed, those are counted that may be in places that some member does not hold. The type bounds
+/// them.
 #[derive(Drop)]
 pub(crate) struct Intake {
     /// None before the node is served.
@@ -50,7 +51,7 @@ impl Model for Intake {
 }
 
 impl Intake {
-    /// Returns that of a node which is not served yet.
+    /// Returns the intake of a node that is not yet served.
     pub(crate) fn new() -> Intake
         ensures { result ≡ record { status = None; entering = 0; mark = 0; earlier = 0; later = 0 } }
     {
@@ -63,14 +64,14 @@ impl Intake {
         }
     }
 
-    /// Returns how the node stands.
+    /// Returns the node's status.
     pub(crate) fn status(&self) -> Option<Status>
         ensures { result ≡ self.now.status }
     {
         self.status
     }
 
-    /// Counts bytes as on their way to the node, if it takes more.
+    /// Counts bytes as in transit to the node, if it takes more.
     pub(crate) fn admit(&mut self, bytes: u64) -> bool
         requires { bytes ≤ 65536 }
         ensures admits { result ≡ admits self.old }
@@ -87,7 +88,7 @@ impl Intake {
         admits
     }
 
-    /// Counts bytes that were on their way as taken.
+    /// Counts bytes that were in transit as taken.
     pub(crate) fn take(&mut self, bytes: u64)
         ensures { self.new ≡ took bytes self.old }
     {
@@ -96,7 +97,7 @@ impl Intake {
         self.later += taken;
     }
 
-    /// Shows how the node stands. Bytes that every member holds by now are counted no more.
+    /// Takes the node's new status. Bytes that every member now holds are no longer counted.
     pub(crate) fn show(&mut self, status: Status)
         ensures { self.new ≡ shown status self.old }
     {
@@ -109,7 +110,8 @@ impl Intake {
     }
 }
 
-// How many places are not known to be held by every member, while the node is the active primary.
+// Returns how many places are not known to be held by every member, while the node is the active
+// primary.
 fn open_places(status: &Option<Status>) -> u64
     ensures { result ≡ open_places status.now }
 {
@@ -119,7 +121,7 @@ fn open_places(status: &Option<Status>) -> u64
     }
 }
 
-// Whether all that stands in the first places of the log is agreed, or all that stands in the log.
+// Says whether everything in the first places of the log is agreed, or everything in the log.
 fn is_agreed(mark: u64, status: &Status) -> bool
     ensures { result ≡ is_agreed mark status.now }
 {

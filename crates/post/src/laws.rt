@@ -1,9 +1,10 @@
-// Laws about messages that are left out because a later one says all they said, and about bytes that are counted. The calls do
-// nothing; their contracts are the laws.
+// Laws about messages that are left out because a later one says all they said, and about bytes
+// that are counted. The calls do nothing; their contracts are the laws.
 
 ghost use Rattle.post.specs.Laws.{LaterCommitsSuffice, LaterCountsSuffice, OpenBytesAreCounted};
 
-/// States that a member's later count of places tells a primary all that the count it replaces told.
+/// States that a member's later count of places tells a primary all that the replaced count told
+/// it.
 pub fn later_counts_suffice()
     ensures { LaterCountsSuffice }
 {}
@@ -13,7 +14,8 @@ pub fn later_commits_suffice()
     ensures { LaterCommitsSuffice }
 {}
 
-/// States that of the bytes that a node took none is left out of its count, if it may stand in a place which is not agreed.
+/// States that the count includes every byte that the node took and that may be in a place which is
+/// not agreed.
 pub fn open_bytes_are_counted()
     ensures { OpenBytesAreCounted }
 {}

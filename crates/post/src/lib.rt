@@ -1,5 +1,6 @@
-//! What the nodes of one program and their master have for one another: messages that steps of nodes gave, messages of
-//! the master, and orders. Each node has a tray where they wait for it, and a bell that wakes the thread that takes them.
+//! Messages between the nodes of one program and their master: messages that steps of nodes gave,
+//! messages of the master, and orders. Each node has a tray in which they wait for it, and a bell
+//! that wakes the thread that takes them.
 #![tactic(auto)]
 
 mod bell;

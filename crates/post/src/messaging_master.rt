@@ -19,11 +19,11 @@ use node::{Body, Command, Config, Members, Message};
 use std::alloc::Global;
 use std::marker::Model;
 
-/// The number by which nodes name the master.
+/// The number of the master as a node.
 pub(crate) const MASTER: u8 = 0;
 
 /// A message of the master with the number of its receiver. Only a [`MessagingMaster`] makes one.
-/// It can't be let go: it ends in a tray of its receiver, or lost if nobody has that number.
+/// It cannot be dropped: it ends in a tray of its receiver, or is lost if no node has that number.
 pub(crate) struct Answer {
     receiver: u8,
     message: Message<Command>,
@@ -48,7 +48,7 @@ impl Answer {
         self.receiver
     }
 
-    /// Loses the answer, since no node has the number of its receiver.
+    /// Loses the answer, because no node has the number of its receiver.
     pub(crate) fn lose(self, peers: &Peers)
         requires { has_id self.receiver peers.now ≡ false }
     {
@@ -59,7 +59,7 @@ impl Answer {
         } = self;
     }
 
-    /// Loses the answer, since a tray is not of its receiver.
+    /// Loses the answer, because a tray is not of its receiver.
     pub(crate) fn lose_at(self, tray: &Tray)
         requires { tray.now.number ≡ self.receiver → ⊥ }
     {
@@ -83,7 +83,8 @@ impl Answer {
     }
 }
 
-/// The master, whose answers are messages. Whatever calls come, its state is one that its own answers lead to.
+/// The master, whose answers are messages. Whatever calls come, its state is one that its own
+/// answers lead to.
 #[derive(Drop)]
 pub(crate) struct MessagingMaster {
     master: Master,
@@ -101,7 +102,8 @@ impl Model for MessagingMaster {
 }
 
 impl MessagingMaster {
-    /// Makes a master whose ballot 1 has this configuration. The only error is [`AssignError::BadMembers`].
+    /// Makes a master whose ballot 1 has this configuration. The only error is
+    /// [`AssignError::BadMembers`].
     pub(crate) fn new(config: Config) -> Result<MessagingMaster, AssignError>
         ensures ok { IfOk result (λ master. master ≡ opening_master config) }
         ensures bad { IsErrOf result AssignError.BadMembers
@@ -114,7 +116,8 @@ impl MessagingMaster {
         }
     }
 
-    /// Gives the next ballot to a configuration. Returns the ballot, and the message that tells its primary.
+    /// Gives the next ballot to a configuration. Returns the ballot, and the message to its
+    /// primary.
     pub(crate) fn assign(
         &mut self,
         alloc: Global,
@@ -168,7 +171,7 @@ impl MessagingMaster {
     }
 }
 
-// Returns what a primary is told about its ballot.
+// Returns what the master sends to a primary about its ballot.
 fn body_of(activation: Activation, ballot: u64) -> Body<Command>
     ensures { result ≡ body_of activation ballot }
 {

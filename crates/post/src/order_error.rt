@@ -12,7 +12,7 @@ use std::fmt;
 pub enum OrderError {
     /// The master refuses the configuration.
     Refused(AssignError),
-    /// A growth was refused. Nothing was changed.
+    /// Memory ran out. Nothing was changed.
     Memory,
 }
 

@@ -1,4 +1,4 @@
-// A message that a step of a node gave for another, on its way to that.
+// A message that a step of a node gave for another node.
 
 ghost use Rattle.std.specs.Prelude.{◌≡◌, ◌++◌, ◌∷◌, [], false, true};
 ghost use Rattle.lists.specs.Lists.{has_id};
@@ -16,9 +16,9 @@ use crate::waking::is_urgent_message;
 use node::{Command, Item, Message};
 use std::marker::Model;
 
-/// A message that a step of a node gave, and the number of the node that it is for; 0 is the master.
-/// It can't be let go: it ends in a tray of that node, with the master, or lost if nobody has that
-/// number.
+/// A message that a step of a node gave, and the number of the node that it is for; 0 is the
+/// master. It cannot be dropped: it ends in a tray of that node, at the master, or is lost if no
+/// node has that number.
 pub struct Parcel {
     receiver: u8,
     message: Message<Command>,
@@ -77,7 +77,7 @@ impl Parcel {
         tray.leave(Item::Peer(message))
     }
 
-    /// Has the master answer the message, as [`MessagingMaster::answer`].
+    /// Lets the master answer the message, as [`MessagingMaster::answer`].
     pub(crate) fn ask(self, master: &mut MessagingMaster) -> Option<Answer>
         requires { self.receiver ≡ 0 }
         ensures answer { result
@@ -92,7 +92,7 @@ impl Parcel {
         master.answer(message)
     }
 
-    /// Loses the message, which is not for the master, since no node has its number.
+    /// Loses the message, which is not for the master, because no node has its number.
     pub(crate) fn lose(self, peers: &Peers)
         requires master { self.receiver ≡ 0 → ⊥ }
         requires none { has_id self.receiver peers.now ≡ false }
@@ -104,7 +104,7 @@ impl Parcel {
         } = self;
     }
 
-    /// Loses the message, since a tray is not of its node.
+    /// Loses the message, because a tray is not of its node.
     pub(crate) fn lose_at(self, tray: &Tray)
         requires { tray.now.number ≡ self.receiver → ⊥ }
     {

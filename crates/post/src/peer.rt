@@ -24,11 +24,11 @@ pub struct Peer {
     pub number: u8,
     /// What the other nodes and the master have for it.
     tray: Mutex<Tray>,
-    /// How it stands since its last change, and what it takes from its clients.
+    /// Its status after its last change, and what it takes from its clients.
     intake: Mutex<Intake>,
-    /// The order to crash was left for it.
+    /// Whether the order to crash was queued for it.
     is_crash_ordered: Mutex<bool>,
-    /// On this its own thread sleeps.
+    /// Its own thread sleeps on this.
     bell: Bell,
 }
 
@@ -45,8 +45,8 @@ impl Peer {
         }
     }
 
-    /// Leaves an item for the node, and wakes it if the item asks for that. Returns whether there was memory for it; if not,
-    /// it is lost.
+    /// Queues an item for the node, and wakes it if the item asks for that. Returns whether there
+    /// was memory for it; if not, it is lost.
     pub(crate) fn leave<R: Wait>(&self, rt: &R, item: Item) -> bool
         requires { IsPosted self.now.number item }
     {
@@ -75,7 +75,7 @@ impl Peer {
         requires { parcel.receiver ≡ self.now.number }
     {
         let mut tray = self.tray.lock(rt);
-        // It is this node's, but of what stands behind a lock no clause tells that.
+        // It is this node's, but no clause is about what is behind a lock.
         if tray.number() == self.number {
             let _ = parcel.lay(&mut tray);
         } else {
@@ -83,7 +83,8 @@ impl Peer {
         }
     }
 
-    /// Leaves the order to crash, unless it was left before. Returns whether it is left now. If memory runs out, it is not.
+    /// Queues the order to crash, unless it was queued before. Returns whether it was queued now.
+    /// If memory runs out, it is not.
     pub(crate) fn leave_crash<R: Wait>(&self, rt: &R) -> Result<bool, Memory> {
         let mut is_ordered = self.is_crash_ordered.lock(rt);
         if *is_ordered {
@@ -96,7 +97,7 @@ impl Peer {
         Ok(true)
     }
 
-    /// Leaves the order to end the session of a client. If memory runs out, it is not left.
+    /// Queues the order to end the session of a client. If memory runs out, it is not queued.
     pub(crate) fn leave_expel<R: Wait>(&self, rt: &R, client: &ClientId) -> Result<(), Memory> {
         if self.leave(rt, Item::Expel(client.clone()?)) {
             Ok(())
@@ -105,7 +106,8 @@ impl Peer {
         }
     }
 
-    /// Has the master give the next ballot to a configuration of which this node is the primary, and tell the node.
+    /// Lets the master give the next ballot to a configuration whose primary is this node, and
+    /// queues its message for the node.
     pub(crate) fn assign<R: Wait>(
         &self,
         rt: &R,
@@ -120,7 +122,7 @@ impl Peer {
         ballot
     }
 
-    // The same, without waking the node.
+    // Does the same, without waking the node.
     fn assign_locked<R: Wait>(
         &self,
         rt: &R,
@@ -132,14 +134,15 @@ impl Peer {
     {
         let mut master = master.lock(rt);
         let mut tray = self.tray.lock(rt);
-        // It is this node's, but of what stands behind a lock no clause tells that.
+        // It is this node's, but no clause is about what is behind a lock.
         if tray.number() != self.number {
             return Err(OrderError::Memory);
         }
         tray.assign(alloc, &mut master, config)
     }
 
-    /// Leaves an answer of the master for the node, and wakes it. If there is no memory for it, it is lost.
+    /// Queues an answer of the master for the node, and wakes it. If there is no memory for it, it
+    /// is lost.
     pub(crate) fn leave_answer<R: Wait>(&self, rt: &R, answer: Answer)
         requires { answer.receiver ≡ self.now.number }
     {
@@ -152,7 +155,7 @@ impl Peer {
         requires { answer.receiver ≡ self.now.number }
     {
         let mut tray = self.tray.lock(rt);
-        // It is this node's, but of what stands behind a lock no clause tells that.
+        // It is this node's, but no clause is about what is behind a lock.
         if tray.number() == self.number {
             let _ = tray.leave_answer(answer);
         } else {
@@ -165,11 +168,11 @@ impl Peer {
         requires { IsPosted self.now.number item }
     {
         let mut tray = self.tray.lock(rt);
-        // It is this node's, but of what stands behind a lock no clause tells that.
+        // It is this node's, but no clause is about what is behind a lock.
         tray.number() == self.number && tray.leave(item)
     }
 
-    /// Takes all that waits, in the order of leaving.
+    /// Takes all that waits, in the order in which it was queued.
     pub fn take_waiting<R: Wait>(&self, rt: &R, alloc: Global) -> Vec<Item>
         ensures { Each (IsLeft self.now.number) result.items }
     {
@@ -180,7 +183,7 @@ impl Peer {
         tray.take(alloc)
     }
 
-    /// Whether something waits for the node.
+    /// Says whether something waits for the node.
     pub fn is_wanted<R: Wait>(&self, rt: &R) -> bool {
         !self.tray.lock(rt).is_empty()
     }
@@ -190,37 +193,39 @@ impl Peer {
         self.bell.ring(rt);
     }
 
-    /// The node's own thread is about to sleep: it looks once more for what there is behind this call. Whether
-    /// it is wanted already.
+    /// Says that the node's own thread is about to sleep: it looks for work once more after this
+    /// call. Returns whether there is some already.
     pub fn doze<R: Wait>(&self, rt: &R) -> bool {
         self.bell.doze(rt);
         self.is_wanted(rt)
     }
 
-    /// Sleeps until the node is woken, at most so long.
+    /// Sleeps until the node is woken, at most this long.
     pub fn sleep<R: Wait>(&self, rt: &R, time: Duration) {
         self.bell.sleep(rt, time);
     }
 
-    /// Publishes how the node stands. Whoever changes the node does so before it gives up the node's lock.
+    /// Publishes the node's status. A thread that changes the node does so before it releases the
+    /// node's lock.
     pub fn publish<R: Wait>(&self, rt: &R, status: Status) {
         self.intake.lock(rt).show(status);
     }
 
-    /// Returns whether the node takes this many bytes more from a client. They then count as on their way to it. It takes none
-    /// while too much of what it took is not agreed, so that what waits for a member that lags is bounded.
+    /// Says whether the node takes this many more bytes from a client. They then count as in
+    /// transit to it. It takes none while too much of what it took is not agreed, so that what
+    /// waits for a member that lags is bounded.
     pub fn admit<R: Wait>(&self, rt: &R, bytes: u64) -> bool
         requires { bytes ≤ 65536 }
     {
         self.intake.lock(rt).admit(bytes)
     }
 
-    /// Counts bytes that were on their way as taken.
+    /// Counts bytes that were in transit as taken.
     pub fn take_in<R: Wait>(&self, rt: &R, bytes: u64) {
         self.intake.lock(rt).take(bytes);
     }
 
-    /// Returns how the node stood after its last change. There is none before it is served.
+    /// Returns the node's status after its last change. There is none before it is served.
     pub(crate) fn status<R: Wait>(&self, rt: &R) -> Option<Status> {
         self.intake.lock(rt).status()
     }

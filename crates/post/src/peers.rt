@@ -1,4 +1,4 @@
-// The nodes of a program, and the master beside them.
+// The nodes of a program, and their master.
 
 ghost use Rattle.std.specs.Prelude.{◌≡◌, IfOk, IfSome, IsErrOf, IsOk, None, false, true};
 ghost use Rattle.ballot_base.specs.LawfulConfig.{is_lawful};
@@ -20,13 +20,13 @@ use std::sync::{Mutex, Wait};
 use std::thread;
 use std::time::{Clock, Duration};
 
-/// How long a look waits for the next, in milliseconds.
+/// How long to wait between two looks, in milliseconds.
 const LOOK_MILLIS: u64 = 1;
 
-/// How many times it is looked whether a node is served.
+/// How many times to look whether a node is served.
 const LOOKS: u32 = 1_000;
 
-/// How many times it is looked whether a node has stopped that was ordered to crash.
+/// How many times to look whether a node has stopped that was ordered to crash.
 const STOP_LOOKS: u32 = 40;
 
 /// The nodes that serve in one program, with what they send each other, and the master that gives
@@ -48,8 +48,8 @@ impl Model for Peers {
 }
 
 impl Peers {
-    /// The nodes of these numbers, and a master whose ballot 1 has this configuration. `BadMembers` comes where no
-    /// ballot may have it; the other error is want of memory.
+    /// Returns the nodes of these numbers, and a master whose ballot 1 has this configuration.
+    /// `BadMembers` comes if no ballot may have it; the other error is that memory ran out.
     pub fn new(alloc: Global, numbers: &[u8], config: &Config) -> Result<Peers, OpeningError>
         ensures ok { IfOk result (λ peers. peers ≡ numbers.now) }
         ensures lawful { IsOk result → is_lawful config.now.members config.now.primary ≡ true }
@@ -70,9 +70,10 @@ impl Peers {
         })
     }
 
-    /// Gives the next ballot to a configuration, and tells its primary: the ballot. It becomes active
-    /// once each of its members holds all that was agreed. `BadMembers` comes for members that no ballot
-    /// may have, and for one that is no node here. If memory runs out, nothing changes.
+    /// Gives the next ballot to a configuration, and sends it to its primary. Returns the ballot.
+    /// It becomes active once each of its members holds all that was agreed. `BadMembers` comes for
+    /// members that no ballot may have, and for one that is no node here. If memory runs out,
+    /// nothing changes.
     pub fn assign<R: Wait>(&self, rt: &R, config: Config) -> Result<u64, OrderError> {
         if !self.has_all(config.members.as_slice()) {
             return Err(OrderError::Refused(AssignError::BadMembers));
@@ -83,9 +84,9 @@ impl Peers {
         }
     }
 
-    /// Crashes a node, for good. Returns whether there is a node of this number that has not stopped, and was not ordered to
-    /// crash before. The order is left for the node, and then some time is given to the node to obey. If memory runs out, the
-    /// node is not crashed.
+    /// Crashes a node, for good. Returns whether there is a node of this number that has not
+    /// stopped, and was not ordered to crash before. The order is queued for the node, and then the
+    /// node gets some time to obey. If memory runs out, the node is not crashed.
     pub fn crash<R: Wait + Clock>(&self, rt: &R, number: u8) -> Result<bool, Memory> {
         let Some(node) = self.node(number) else {
             return Ok(false);
@@ -100,9 +101,9 @@ impl Peers {
         Ok(true)
     }
 
-    /// Leaves the order to end the session of a client for the living active primary of the highest ballot, by what each node
-    /// showed after its last change: no node is asked. Returns whether there is such a node. If memory runs out, the order is
-    /// not left.
+    /// Queues the order to end the session of a client for the running active primary of the
+    /// highest ballot, by what each node published after its last change: no node is asked. Returns
+    /// whether there is such a node. If memory runs out, the order is not queued.
     pub fn expel<R: Wait + Clock>(&self, rt: &R, client: &ClientId) -> Result<bool, Memory> {
         let shown = self.shown(rt)?;
         let Some(number) = primary_of(shown.as_slice()) else {
@@ -115,7 +116,7 @@ impl Peers {
         Ok(true)
     }
 
-    // Returns how each node that is served stood after its last change.
+    // Returns the status of each node that is served, after its last change.
     fn shown<R: Wait + Clock>(&self, rt: &R) -> Result<Vec<Shown>, Memory> {
         let mut shown = Vec::with_capacity(self.alloc, self.nodes.len())?;
         for node in &self.nodes {
@@ -129,8 +130,8 @@ impl Peers {
         Ok(shown)
     }
 
-    /// Returns how a node stands since its last change. There is none if no node has this number, or if it is not served
-    /// within a second.
+    /// Returns the status of a node after its last change. There is none if no node has this
+    /// number, or if it is not served within a second.
     pub fn status<R: Wait + Clock>(&self, rt: &R, number: u8) -> Option<Status> {
         let node = self.node(number)?;
         for _ in 0..LOOKS {
@@ -143,17 +144,17 @@ impl Peers {
         None
     }
 
-    /// Returns whether there are several nodes.
+    /// Says whether there are several nodes.
     pub fn are_several(&self) -> bool {
         self.nodes.len() > 1
     }
 
-    // Whether each of these numbers is that of a node.
+    // Says whether each of these numbers is that of a node.
     fn has_all(&self, numbers: &[u8]) -> bool {
         numbers.iter().all(|number| self.node(*number).is_some())
     }
 
-    /// The node of a number.
+    /// Returns the node of a number.
     pub fn node(&self, number: u8) -> Option<&Peer>
         ensures some { IfSome result (λ node. node.now.number ≡ number) }
         ensures none { result ≡ None → has_id number self.now ≡ false }
@@ -176,7 +177,7 @@ impl Peers {
         }
     }
 
-    // Has the master answer a message that a step of a node gave for it.
+    // Lets the master answer a message that a step of a node gave for it.
     fn ask_master<R: Wait>(&self, rt: &R, parcel: Parcel)
         requires { parcel.receiver ≡ 0 }
     {
@@ -194,7 +195,7 @@ impl Peers {
         parcel.ask(&mut master)
     }
 
-    // Leaves an answer of the master for its receiver.
+    // Queues an answer of the master for its receiver.
     fn leave_answer<R: Wait>(&self, rt: &R, answer: Answer) {
         match self.node(answer.receiver()) {
             Some(node) => node.leave_answer(rt, answer),
@@ -213,7 +214,7 @@ fn await_stop<R: Wait + Clock>(rt: &R, node: &Peer) {
     }
 }
 
-// A peer for each number.
+// Returns a peer for each number.
 fn peers_of(alloc: Global, numbers: &[u8]) -> Result<Vec<Peer>, Memory>
     ensures { IfOk result (λ nodes. numbers_of nodes.items ≡ numbers.now) }
 {
@@ -224,14 +225,14 @@ fn peers_of(alloc: Global, numbers: &[u8]) -> Result<Vec<Peer>, Memory>
     Ok(nodes)
 }
 
-/// The nodes and the master, as those to whom messages are carried.
+/// The nodes and the master, as receivers of messages.
 #[derive(Drop)]
 struct Round<'a> {
     peers: &'a Peers,
 }
 
 impl<'a> Carrier for Round<'a> {
-    // Of what stands behind a lock no clause tells.
+    // No clause is about what is behind a lock.
     ghost carries = { λ _ _ _ _. Unit {0} };
 
     fn carry<R: Wait>(&mut self, rt: &R, parcel: Parcel) {

@@ -1,12 +1,12 @@
-// Which message that waits for a node says nothing more, once another comes behind it.
+// Which message that waits for a node says nothing more, once another comes after it.
 
 ghost use Rattle.std.specs.Prelude.{◌≡◌};
 ghost use Rattle.post.specs.Superseding.{covers, is_commit_within, is_held_within, supersedes};
 
 use node::{Body, Command, Item};
 
-/// Whether an item says all that an older one said: each is from the same node, and counts the places that it, or every
-/// member, holds in the same ballot.
+/// Says whether an item says all that an older one said: each is from the same node, and counts the
+/// places that it, or every member, holds in the same ballot.
 pub(crate) fn supersedes(item: &Item, older: &Item) -> bool
     ensures { result ≡ supersedes item.now older.now }
 {

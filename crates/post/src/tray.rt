@@ -21,7 +21,7 @@ use std::alloc::Global;
 use std::marker::Model;
 use std::mem;
 
-/// How many items may wait where a message of another node is left.
+/// How many items may wait when a message of another node is queued.
 const MOST_WAITING: usize = 524_288;
 
 /// What the other nodes and the master have for a node, in the order of leaving. It stands behind a lock, so its type
@@ -43,7 +43,7 @@ impl Model for Tray {
 }
 
 impl Tray {
-    /// The tray of the node of this number, empty.
+    /// Returns the empty tray of the node of this number.
     pub(crate) fn new(alloc: Global, number: u8) -> Tray
         ensures { result ≡ record { number = number; items = [] } }
     {
@@ -53,14 +53,14 @@ impl Tray {
         }
     }
 
-    /// The number of the node that it is for.
+    /// Returns the number of the node that it is for.
     pub(crate) fn number(&self) -> u8
         ensures { result ≡ self.now.number }
     {
         self.number
     }
 
-    /// Whether nothing waits.
+    /// Says whether nothing waits.
     pub(crate) fn is_empty(&self) -> bool
         ensures { (result ≡ true) ↔ (self.now.items ≡ []) }
     {
@@ -80,7 +80,8 @@ impl Tray {
         self.push(item)
     }
 
-    /// Leaves an answer of the master after all that waits. Returns whether there was memory for it; if not, it is lost.
+    /// Queues an answer of the master after all that waits. Returns whether there was memory for
+    /// it; if not, it is lost.
     pub(crate) fn leave_answer(&mut self, answer: Answer) -> bool
         requires { answer.receiver ≡ self.old.number }
         ensures left { result ≡ true →
@@ -93,8 +94,9 @@ impl Tray {
         self.push(Item::Peer(answer.into_message()))
     }
 
-    /// Has the master give the next ballot to a configuration of which this node is the primary, and leaves what it tells the
-    /// node. Room for that is made first, so an order that is answered is not dropped. Returns the ballot.
+    /// Lets the master give the next ballot to a configuration whose primary is this node, and
+    /// queues its message for the node. Memory for the message is allocated first, so an order that
+    /// is answered is not dropped. Returns the ballot.
     pub(crate) fn assign(
         &mut self,
         alloc: Global,
@@ -128,8 +130,8 @@ impl Tray {
         Ok(ballot)
     }
 
-    // Leaves an item after all that waits, in place of the newest if it supersedes that one. Returns whether there was
-    // room and memory for it.
+    // Queues an item after all that waits, or replaces the newest if it supersedes that one.
+    // Returns whether there was room and memory for it.
     fn push(&mut self, item: Item) -> bool
         requires { IsLeft self.old.number item }
         ensures left { result ≡ true →
@@ -145,14 +147,14 @@ impl Tray {
         self.items.push(item).is_ok()
     }
 
-    // Whether an item may be left beside those that wait.
+    // Says whether an item may be queued after those that wait.
     fn has_room(&self, item: &Item) -> bool
         ensures { result ≡ has_room item.now self.now.items }
     {
         !is_of_node(item) || self.items.len() < MOST_WAITING
     }
 
-    // Drops the newest of the items that wait, where this one supersedes it.
+    // Drops the newest of the items that wait, if this one supersedes it.
     fn drop_superseded(&mut self, item: &Item)
         ensures { self.new ≡ record self.old { items = still_waiting item.now self.old.items } }
     {
@@ -162,7 +164,7 @@ impl Tray {
         }
     }
 
-    // Whether this item supersedes the newest that waits.
+    // Says whether this item supersedes the newest that waits.
     fn is_newest_superseded(&self, item: &Item) -> bool
         ensures { result ≡ supersedes_one item.now (newest self.now.items) }
     {
@@ -172,7 +174,7 @@ impl Tray {
         }
     }
 
-    /// Takes all that waits, in its order.
+    /// Takes all that waits, in order.
     pub(crate) fn take(&mut self, alloc: Global) -> Vec<Item>
         ensures all { result.items ≡ self.old.items }
         ensures left { Each (IsLeft self.old.number) result.items }
@@ -182,7 +184,7 @@ impl Tray {
     }
 }
 
-// Whether an item is a message of another node.
+// Says whether an item is a message of another node.
 fn is_of_node(item: &Item) -> bool
     ensures { result ≡ is_of_node item.now }
 {

@@ -1,4 +1,4 @@
-// Which items wake the node for which they are left.
+// Which items wake the node for which they are queued.
 
 ghost use Rattle.std.specs.Prelude.{◌≡◌};
 ghost use Rattle.node.specs.declared.Item.TheVariants.{Peer};
@@ -6,7 +6,7 @@ ghost use Rattle.post.specs.Waking.{wakes};
 
 use node::{Body, Command, Item, Message};
 
-/// Whether an item wakes the node for which it is left.
+/// Says whether an item wakes the node for which it is queued.
 pub(crate) fn is_urgent(item: &Item) -> bool
     ensures { result ≡ wakes item.now }
 {

@@ -38,7 +38,7 @@ impl Course {
     }
 }
 
-/// A world of three nodes, all members of ballot 1, with node 1 as primary.
+/// Returns a world of three nodes, all members of ballot 1, with node 1 as primary.
 pub fn opened(alloc: Global) -> Result<World> {
     let mut clients = Vec::new(alloc);
     put_all(alloc, &mut clients)?;
@@ -59,7 +59,7 @@ pub fn config(alloc: Global, primary: u8) -> Result<Config> {
     Ok(Config { members, primary })
 }
 
-/// The name of a client.
+/// Returns the name of a client.
 pub fn named(alloc: Global, client: usize) -> Result<ClientId> {
     Ok(ClientId::new(alloc, CLIENTS[client % 4])?)
 }
@@ -117,7 +117,7 @@ pub fn connects(
     comes_down(world, course, client)
 }
 
-// The event is owned where nothing comes after it.
+// The event is owned if nothing comes after it.
 fn opens(alloc: Global, world: &mut World, course: &mut Course, client: usize) -> Result<()> {
     let event = Event::Open(named(alloc, client)?, course.primary);
     happens(world, course, &event)

@@ -1,4 +1,4 @@
-// The time of an event, and how it goes on as the world grows older.
+// The time of an event, and how it continues as the world grows older.
 
 use crate::course::{Course, opened};
 use crate::publications::{Publications, begin, both_publish};
@@ -8,7 +8,7 @@ use bench_base::{print_memory, time_since};
 use std::time::{CpuClock, Duration};
 use world::World;
 
-/// Behind how many events another node takes over.
+/// After how many events another node takes over.
 const UNTIL_A_TAKEOVER: u64 = 1_000;
 
 /// The processor time of all events, of the takeovers among them, and of the last one.
@@ -20,7 +20,8 @@ struct Times {
     count: u32,
 }
 
-/// Prints the time of an event at four numbers of events: with no takeover, or with one behind each thousand of events.
+/// Prints the time of an event at four numbers of events: with no takeover, or with one after each
+/// thousand of events.
 pub fn run(rt: &HostRuntime, ends: Option<Ends>) -> Result<()> {
     for events in &[10_000, 20_000, 50_000, 100_000] {
         measure(rt, *events, ends)?;
@@ -58,7 +59,7 @@ fn measure_in(
     print_world(rt, world)
 }
 
-/// Lets so many events happen.
+/// Does this many events.
 fn time(
     rt: &HostRuntime,
     world: &mut World,
@@ -123,7 +124,8 @@ fn print(rt: &HostRuntime, course: &Course, times: Times) -> Result<()> {
     Ok(())
 }
 
-/// How long the list is and how many messages there are, and the memory of the process, as Linux tells it.
+/// How long the list is and how many messages there are, and the memory of the process, as Linux
+/// reports it.
 fn print_world(rt: &HostRuntime, world: &World) -> Result<()> {
     let agreed = world.agreed_len();
     let messages = world.messages();

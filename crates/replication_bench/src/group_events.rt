@@ -1,4 +1,4 @@
-// The time of an event in a group of three members, and how it goes on as the group grows older.
+// The time of an event in a group of three members, and how it continues as the group grows older.
 
 ghost use Rattle.std.specs.Prelude.{◌<◌};
 
@@ -10,7 +10,7 @@ use master::{Event, Group};
 use std::time::CpuClock;
 
 /// Prints the time of an event at three numbers of events, with and without the length of the
-/// agreed list asked behind each.
+/// agreed list asked after each.
 pub fn run(rt: &HostRuntime) -> Result<()> {
     for events in &[10_000, 100_000, 1_000_000] {
         measure(rt, *events, false)?;
@@ -19,8 +19,8 @@ pub fn run(rt: &HostRuntime) -> Result<()> {
     Ok(())
 }
 
-/// The event of a number: a command is proposed, and its six messages come in the order of sending,
-/// which are an Append, a Held and a Commit for each of two backups.
+/// Returns the event of a number: a command is proposed, and its six messages come in the order of
+/// sending, which are an Append, a Held and a Commit for each of two backups.
 fn event_at(number: u64) -> Event<TallyCommand> {
     let command = number / 7;
     match number % 7 {
@@ -50,8 +50,8 @@ fn print(rt: &HostRuntime, events: u64, nanos: u128, agreed: u64, asked: u64) ->
     Ok(())
 }
 
-/// Lets so many events happen. The sum of what was answered behind each is the result, so that no
-/// question can be left out.
+/// Does this many events. Returns the sum of what was answered after each, so that no call can be
+/// optimized away.
 fn let_happen(group: &mut Group<Tally>, events: u64, asks: bool) -> Result<u64> {
     let mut asked = 0u64;
     for number in 0..events {
@@ -63,7 +63,8 @@ fn let_happen(group: &mut Group<Tally>, events: u64, asks: bool) -> Result<u64> 
     Ok(asked)
 }
 
-// Lets the event of a number happen: whether it did. The event is dropped once, and not on each way out of a loop.
+// Lets the event of a number happen: whether it did. The event is dropped once, and not on each way
+// out of a loop.
 fn happens(group: &mut Group<Tally>, number: u64) -> bool {
     group.step(&event_at(number)).is_ok()
 }

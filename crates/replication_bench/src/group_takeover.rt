@@ -12,7 +12,7 @@ use std::time::{CpuClock, Duration};
 /// State, Install, Installed, Activate, Activated, Append, Held, Commit.
 const MESSAGES: u64 = 10;
 
-/// Prints the times at three lengths of the log, and the memory before and behind each.
+/// Prints the times at three lengths of the log, and the memory before and after each.
 pub fn run(rt: &HostRuntime) -> Result<()> {
     measure(rt, 10_000)?;
     measure(rt, 100_000)?;
@@ -41,7 +41,7 @@ fn print(rt: &HostRuntime, whole: u128, longest: u128, agreed: u64) -> Result<()
     Ok(())
 }
 
-/// Has the sole member of a group hold so many places.
+/// Lets the sole member of a group hold this many places.
 fn serve(group: &mut Group<Tally>, places: u64) -> Result<()> {
     for number in 0..places {
         ensure!(

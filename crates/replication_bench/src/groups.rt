@@ -6,13 +6,13 @@ use machine::{Tally, TallyCommand};
 use master::{Event, Group};
 use std::alloc::Global;
 
-/// A group of three nodes in ballot 1, with these members and node 1 as primary.
+/// Returns a group of three nodes in ballot 1, with these members and node 1 as primary.
 pub fn opened(alloc: Global, members: &[u8]) -> Result<Group<Tally>> {
     let config = config_of(alloc, members, 1)?;
     Ok(Group::opening(alloc, 3, config)?)
 }
 
-/// A configuration with these members and this primary.
+/// Returns a configuration with these members and this primary.
 pub fn config_of(alloc: Global, members: &[u8], primary: u8) -> Result<Config> {
     let members = Members::from_slice(alloc, members)?;
     Ok(Config { members, primary })
@@ -23,7 +23,7 @@ pub fn proposal(number: u64) -> Event<TallyCommand> {
     Event::Propose(1, TallyCommand::Add(number))
 }
 
-/// The length of the agreed list of a group in which no memory was wanting.
+/// Returns the length of the agreed list of a group in which memory suffices.
 pub fn agreed_at_last(group: &Group<Tally>) -> Result<u64> {
     if group.losses() != 0 {
         bail!("memory was wanting");

@@ -57,7 +57,7 @@ fn subscribes(alloc: Global, world: &mut World, course: &mut Course, pair: usize
     comes_down(world, course, subscriber)
 }
 
-// The event is owned where nothing comes after it.
+// The event is owned if nothing comes after it.
 fn asks(
     alloc: Global,
     world: &mut World,
@@ -82,7 +82,8 @@ pub fn both_publish(
     shake_hands(world, course, 2, 3)
 }
 
-/// PUBLISH, PUBREC, PUBREL and PUBCOMP between a publisher and the primary, and between this and a subscriber.
+/// PUBLISH, PUBREC, PUBREL and PUBCOMP between a publisher and the primary, and between this and a
+/// subscriber.
 fn shake_hands(
     world: &mut World,
     course: &mut Course,

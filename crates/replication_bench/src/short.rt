@@ -12,7 +12,7 @@ const ROUNDS: u32 = 10;
 
 const TAKEOVERS: u32 = 3;
 
-/// Prints how many publications two subscribers took in, with takeovers in between.
+/// Prints how many publications two subscribers accepted, with takeovers in between.
 pub fn run(rt: &HostRuntime) -> Result<()> {
     let publications = Publications::new(rt.alloc())?;
     run_with(rt, &publications)
@@ -54,7 +54,7 @@ fn publish(world: &mut World, course: &mut Course, publications: &Publications) 
     Ok(())
 }
 
-/// How many publications a client took in.
+/// Returns how many publications a client took in.
 fn taken_in(alloc: Global, world: &World, client: usize) -> Result<usize> {
     let name = named(alloc, client)?;
     match world.client(&name) {

@@ -5,7 +5,7 @@ use anyhow::Result;
 use std::alloc::Global;
 use world::{Event, World};
 
-/// What becomes of the end of a lost connection at its node.
+/// What happens to the end of a lost connection at its node.
 #[derive(Clone, Copy, Debug, PartialEq, Eq)]
 pub enum Ends {
     /// The node sees it.
@@ -42,7 +42,7 @@ fn goes_over(
     let before = course.last[client % 4];
     abandons(alloc, world, course, client)?;
     if ends == Ends::Seen {
-        // Idle where the node has closed it before.
+        // Idle if the node has closed it before.
         let _ = world.step(&Event::Notice(before));
         course.events = course.events.saturating_add(1);
     }

@@ -1,5 +1,5 @@
--- The topics that a filter matches lie between the levels in front of its first wildcard and the text behind all that go
--- on below them.
+-- The topics that a filter matches lie between the levels in front of its first wildcard and the
+-- text after all that continue below them.
 use Rattle.std.proofs.Common.{◌≡◌, ℕ, List, [], ◌∷◌, ◌++◌, Bool, true, false, Equal, Greater, refl, sym, ap, ◌∙◌, inl, inr}
 use Rattle.std.specs.Ordering.{nat_cmp, is_le}
 use Rattle.std.specs.Cmp.{nat_cmp_is}
@@ -15,7 +15,7 @@ use Rattle.retained.specs.Inside.{IsAround, HoldsMatches}
 same : (n : ℕ) → nat_cmp n n ≡ Equal
 same n = sym (nat_cmp_is n n Equal refl)
 
--- a text comes before those that go on with it
+-- a text comes before those that continue with it
 first_le : (front more : List ℕ) → is_le (slice_cmp nat_cmp front (front ++ more)) ≡ true
 first_le [] [] = refl
 first_le [] (b ∷ more) = refl
@@ -28,7 +28,7 @@ forward filter first end h = rw (h.1) (before first)
     before [] = refl
     before (b ∷ front) = rw (same b) (before front)
 
--- `0` comes behind nothing, and behind `/`
+-- `0` comes after nothing, and after `/`
 end_gt : (front : List ℕ) → slice_cmp nat_cmp (front ++ 48 ∷ []) front ≡ Greater
 end_gt [] = refl
 end_gt (b ∷ front) = rw (same b) (end_gt front)

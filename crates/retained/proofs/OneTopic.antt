@@ -34,6 +34,6 @@ one_topic asked (entry ∷ content) bare rising = go (bytes_eq asked entry.0) re
 pub none_more : (entries found : RetainedTopics) → found ≡ [] → entries ≡ entries ++ found
 none_more entries found none = rw (none) (sym (append-nil entries))
 
--- where it is kept, something is found
+-- if it is kept, something is found
 pub never_none : (asked : List ℕ) (found : RetainedTopics) (kept : RetainedPublication) → found ≡ entry_of asked (Some kept) → found ≡ [] → ⊥
 never_none asked found kept is none = absurd (let clash : (asked, kept) ∷ [] ≡ (let empty : RetainedTopics = [] in empty) = sym is ∙ none in cc)

@@ -1,4 +1,4 @@
--- Words of the private functions of a store.
+-- Definitions for the private functions of a store.
 use Rattle.std.specs.Prelude.{◌≡◌, ℕ, true, List, [], ◌∷◌, ◌++◌, Option, Some, None}
 use Rattle.std.specs.declared.ops.Bound.{Bound}
 use Rattle.std.specs.BTreeMap.Range.{range_contains}
@@ -14,7 +14,7 @@ abbrev pub entry_of : List ℕ → Option RetainedPublication → RetainedTopics
 entry_of topic None = []
 entry_of topic (Some kept) = (topic, kept) ∷ []
 
--- the text goes on with a `/`, which is 47
+-- the text continues with a `/`, which is 47
 abbrev pub IsFront : List ℕ → List ℕ → Type 0
 IsFront front filter = (rest : List ℕ) × (filter ≡ front ++ 47 ∷ rest)
 
@@ -22,7 +22,7 @@ IsFront front filter = (rest : List ℕ) × (filter ≡ front ++ 47 ∷ rest)
 abbrev pub StandsBefore : List ℕ → List ℕ → Type 0
 StandsBefore front filter = (has_no_wildcard front ≡ true) × IsFront front filter
 
--- such levels, and the text behind all that begin with them and a `/`
+-- such levels, and the text after all that begin with them and a `/`
 abbrev pub IsAround : List ℕ → List ℕ → List ℕ → Type 0
 IsAround filter first end = StandsBefore first filter × (end ≡ first ++ 48 ∷ [])
 

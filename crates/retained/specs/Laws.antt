@@ -1,4 +1,4 @@
--- Laws of what is retained, in the words of MQTT 3.3.1.3.
+-- Laws of what is retained, in the terms of MQTT 3.3.1.3.
 use Rattle.std.specs.Prelude.{◌≡◌, ◌≤◌, ℕ, Bool, false, List, [], ◌∷◌, ◌++◌, length, reverse, Option, Some, None}
 use Rattle.std.specs.List.{find}
 use Rattle.std.specs.BTreeMap.{is_at}
@@ -14,8 +14,8 @@ pub record Put : Type 0 where
   pub qos : QoS
   pub payload : List ℕ
 
--- A store that began empty, behind publications that it took, the last one at the end. A refused one changes nothing and
--- needs no case.
+-- A store that began empty, after publications that it took, the last one at the end. A refused one
+-- changes nothing and needs no case.
 pub data Behind : List Put → RetainedTopics → Type 0 where
   nothing : Behind [] []
   put : {puts : List Put} {content : RetainedTopics} (p : Put) → Behind puts content
@@ -29,7 +29,7 @@ is_on topic p = is_at (slice_cmp nat_cmp topic) p.topic
 abbrev pub last_on : List ℕ → List Put → Option Put
 last_on topic puts = find (is_on topic) (reverse puts)
 
--- what a publication leaves retained on its topic: nothing where its payload is empty
+-- what a publication leaves retained on its topic: nothing if its payload is empty
 abbrev pub kept_of_payload : QoS → List ℕ → Option RetainedPublication
 kept_of_payload qos [] = None
 kept_of_payload qos (byte ∷ payload) = Some (record { qos = qos; payload = byte ∷ payload })
@@ -38,7 +38,7 @@ abbrev pub kept_of : Option Put → Option RetainedPublication
 kept_of (Some p) = kept_of_payload p.qos p.payload
 kept_of None = None
 
--- what is retained of a topic is its last publication, and nothing where that had no payload
+-- what is retained of a topic is its last publication, and nothing if that had no payload
 abbrev pub LastIsRetained : Type 0
 LastIsRetained = (puts : List Put) (content : RetainedTopics) → Behind puts content
     → (topic : List ℕ) → publication_on topic content ≡ kept_of (last_on topic puts)

@@ -12,12 +12,12 @@ use std::fmt;
 pub enum RetainedError {
     /// The topic would be the 16,385th retained one.
     RetainedFull,
-    /// No memory was found.
+    /// Memory ran out.
     Memory,
 }
 
 impl RetainedError {
-    /// The number of this refusal, the same in every program and document of this broker.
+    /// Returns the number of this refusal, the same in every program and document of this broker.
     pub fn number(self) -> u8
         ensures { result ≡ number_of self }
     {

@@ -26,8 +26,8 @@ use std::alloc::{AllocError, Global};
 use std::collections::BTreeMap;
 use std::ops::Bound;
 
-/// Appends the matching topics: a filter without wildcards is looked up, and any other is held
-/// against the topics that begin as it does. Where memory is wanting, some of them may stand there.
+/// Appends the matching topics: a filter without wildcards is looked up, and any other is matched
+/// with the topics that begin as it does. If memory runs out, some of them may be there.
 pub(crate) fn append_matching(
     topics: &BTreeMap<TopicName, RetainedPublication>,
     filter: &Filter,
@@ -57,7 +57,7 @@ fn append_topic(
     ensures err { OnErr result (entries.new.items ≡ entries.old.items) }
     ensures none { matching_entries topics.now.entries topic ≡ [] → IsOk result }
 {
-    // That the topics are in order.
+    // This call shows that the topics are in order.
     let _len = topics.len();
     if let Some(kept) = topics.get(&topic) {
         entries.push((topic, kept.clone()?))?;
@@ -65,7 +65,7 @@ fn append_topic(
     Ok(())
 }
 
-/// Appends the matching topics, looking at those alone that begin as the filter does.
+/// Appends the matching topics. It looks only at those that begin as the filter does.
 fn append_in_range(
     topics: &BTreeMap<TopicName, RetainedPublication>,
     filter: &Filter,
@@ -85,7 +85,7 @@ fn append_in_range(
     Ok(())
 }
 
-/// Bounds of the topics that the filter may match; without memory for them there are none.
+/// Returns the bounds of the topics that the filter may match; there are none if memory runs out.
 #[tactic(auto, using(crate::proofs::InRange::holds_within, crate::proofs::InRange::forward))]
 fn bounds_of(alloc: Global, filter: &str) -> (Bound<TopicName>, Bound<TopicName>)
     ensures forward { IsForward (IsLeBy (slice_cmp nat_cmp)) (IsLtBy (slice_cmp nat_cmp))
@@ -98,21 +98,21 @@ fn bounds_of(alloc: Global, filter: &str) -> (Bound<TopicName>, Bound<TopicName>
     }
 }
 
-/// The topic of the levels in front of the first wildcard, and the one behind all that begin with
-/// them and a `/`.
+/// Returns the topic of the levels in front of the first wildcard, and the one after all that begin
+/// with them and a `/`.
 fn ends_of(alloc: Global, filter: &str) -> Option<(TopicName, TopicName)>
     ensures { IfSome result (λ ends. IsAround filter.now ends.0 ends.1) }
 {
     let front = literal_front(filter)?;
     let first = TopicName::new(alloc, front).ok()?;
-    // The byte behind `/` is `0`.
+    // The byte after `/` is `0`.
     let mut text = String::from_str(alloc, front).ok()?;
     text.push_str("0").ok()?;
     let end = TopicName::new(alloc, text.as_str()).ok()?;
     Some((first, end))
 }
 
-/// The levels in front of the first wildcard, if there are any.
+/// Returns the levels in front of the first wildcard, if there are any.
 fn literal_front(filter: &str) -> Option<&str>
     ensures { IfSome result (λ front. StandsBefore front.now filter.now) }
 {
@@ -123,7 +123,8 @@ fn literal_front(filter: &str) -> Option<&str>
     Some(front)
 }
 
-/// What stands in front of a level that begins with a wildcard, the first `+` or else the first `#`.
+/// Returns what is in front of a level that begins with a wildcard, the first `+` or else the first
+/// `#`.
 fn front_part(filter: &str) -> Option<&str>
     ensures { IfSome result (λ front. IsFront front.now filter.now) }
 {

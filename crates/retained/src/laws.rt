@@ -2,7 +2,7 @@
 
 ghost use Rattle.retained.specs.Laws.{LastIsRetained, StaysInBounds};
 
-/// What is retained of a topic is its last publication with RETAIN 1, and nothing where that had no
+/// What is retained of a topic is its last publication with RETAIN 1, and nothing if that had no
 /// payload (MQTT 3.3.1.3).
 pub fn last_is_retained()
     ensures { LastIsRetained }

@@ -34,7 +34,7 @@ impl Model for RetainedStore {
 }
 
 impl RetainedStore {
-    /// A store without publications.
+    /// Returns a store without publications.
     pub fn new(alloc: Global) -> RetainedStore
         ensures { result ≡ [] }
     {
@@ -43,28 +43,28 @@ impl RetainedStore {
         }
     }
 
-    /// How many topics have a retained publication.
+    /// Returns how many topics have a retained publication.
     pub fn len(&self) -> usize
         ensures { result ≡ length self.now }
     {
         self.topics.len()
     }
 
-    /// Whether no topic is kept.
+    /// Says whether no topic has a retained publication.
     pub fn is_empty(&self) -> bool
         ensures { IsTrue result ↔ (self.now ≡ []) }
     {
         self.topics.is_empty()
     }
 
-    /// What is retained of the topic.
+    /// Returns what is retained of the topic.
     pub fn get(&self, topic: &TopicName) -> Option<&RetainedPublication>
         ensures { option_copied result ≡ publication_on topic.now self.now }
     {
         self.topics.get(topic)
     }
 
-    /// Whether [`RetainedStore::put`] would answer `RetainedFull`.
+    /// Says whether [`RetainedStore::put`] would answer `RetainedFull`.
     pub fn refuses(&self, topic: &TopicName, payload: &Payload) -> bool
         ensures { result ≡ is_refused self.now topic.now payload.now }
     {
@@ -72,8 +72,8 @@ impl RetainedStore {
     }
 
     /// Retains a publication in place of the topic's last one. An empty payload removes it, which
-    /// takes no memory (MQTT 3.3.1.3). `RetainedFull` where the topic would be the 16,385th,
-    /// `Memory` for want of memory, which a topic that is there never takes.
+    /// takes no memory (MQTT 3.3.1.3). `RetainedFull` if the topic would be the 16,385th,
+    /// `Memory` because memory ran out, which a topic that is there never takes.
     pub fn put(&mut self, topic: TopicName, qos: QoS, payload: Payload) -> Result<(), RetainedError>
         ensures ok { OnOk result (self.new ≡ after_put self.old topic qos payload) }
 
@@ -95,8 +95,8 @@ impl RetainedStore {
         Ok(())
     }
 
-    /// Keeps a publication in place of the topic's last one, where there is a place for it. The only
-    /// error is want of memory, which a topic that is there never takes.
+    /// Keeps a publication in place of the topic's last one, if there is a place for it. The only
+    /// error is that memory ran out, which a topic that is there never takes.
     pub fn keep(&mut self, topic: TopicName, kept: RetainedPublication) -> Result<(), AllocError>
         requires room { is_full_for self.old topic ≡ false }
         ensures ok { OnOk result (self.new ≡ with_topic self.old topic kept) }
@@ -107,7 +107,7 @@ impl RetainedStore {
         Ok(())
     }
 
-    /// Nothing is retained of the topic any more.
+    /// Removes what is retained of the topic.
     pub fn remove(&mut self, topic: &TopicName)
         ensures { self.new ≡ without_topic self.old topic.now }
     {
@@ -115,7 +115,8 @@ impl RetainedStore {
     }
 
     /// Appends each topic that the filter matches, with what is retained of it, in the order of the
-    /// topics' bytes. Without memory the entries stay as they were; where no topic matches it takes none.
+    /// topics' bytes. If memory runs out the entries stay as they were; if no topic matches it
+    /// takes none.
     pub fn matching(
         &self,
         filter: &Filter,
@@ -134,7 +135,7 @@ impl RetainedStore {
         appended
     }
 
-    /// The topics in the order of their bytes, with what is retained of them.
+    /// Returns the topics in the order of their bytes, with what is retained of them.
     pub fn iter(&self) -> Iter<'_, TopicName, RetainedPublication>
         ensures entries { result ≡ self.now }
         ensures rising { IsRising self.now }
@@ -142,7 +143,7 @@ impl RetainedStore {
         self.topics.iter()
     }
 
-    /// Whether the topic is new and there is no place for a new one.
+    /// Says whether the topic is new and there is no place for a new one.
     fn is_full_for(&self, topic: &TopicName) -> bool
         ensures { result ≡ is_full_for self.now topic.now }
     {

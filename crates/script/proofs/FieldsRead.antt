@@ -1,4 +1,4 @@
--- FieldsRead.antt: what fields write, by what `parse` says of them.
+-- FieldsRead.antt: what fields write, by what `parse` says about them.
 use Rattle.std.proofs.Common.{◌≡◌, ◌≢◌, ◌<◌, ◌^◌, ◌&&◌, ◌==◌, ℕ, Bool, true, false, [], ◌∷◌, length, get_or, nat_lt, Some, None, Ok, Err, ap, refl, sym, ◌∙◌, arith, cond}
 use Rattle.std.specs.Str.{all_ascii_digits}
 use Rattle.std.specs.Str.Parse.{ParsesUnsigned, digits_value}
@@ -23,7 +23,7 @@ both a b c ha hb hc = rw (ha, hb, hc) refl
 plain : (text : Text) (sign : Bool) → sign ≡ (get_or text 0 0 == 43) → sign ≡ false → get_or text 0 0 ≢ 43
 plain text sign is unset = eqb-false (get_or text 0 0) 43 (sym is ∙ unset)
 
--- what `parse` reads where no plus stands in front
+-- what `parse` reads if no plus is in front
 pub number_read : (text : Text) (sign : Bool) (n : ℕ) → sign ≡ (get_or text 0 0 == 43) → sign ≡ false
     → ParsesUnsigned {E = Unit {0}} 64 10 text (Ok n) → number_of text ≡ Some n
 unfolding number_of

@@ -35,7 +35,7 @@ last_fails true false c h = refl
 last_fails true true true h = absurd (h refl)
 last_fails true true false h = refl
 
--- a primary above 15 is none of the nodes
+-- a primary above 15 is not one of the nodes
 pub large_primary : (count : ℕ) (ms : List ℕ) (p : ℕ) (b : Bool) → count ≤ 15 → b ≡ are_nodes count ms → b ≡ true → 15 < p
     → is_lawful_opening count ms p ≡ false
 large_primary count ms p b few is all large =

@@ -1,4 +1,4 @@
--- ManyLines.antt: the lines behind the first, one after the other.
+-- ManyLines.antt: the lines after the first, one after another.
 use Rattle.std.proofs.Common.{◌≡◌, ◌<◌, ◌≤◌, ◌+◌, Bor, ℕ, suc, zero, List, [], ◌∷◌, ◌++◌, Result, Ok, Err, length, get_or, take, take_all, inr, ap, refl, sym, subst, ◌∙◌, arith}
 use Rattle.std.proofs.Math.ListN.{get_or-map}
 use Rattle.std.proofs.lemmas.List.{length-map, take_more}
@@ -62,7 +62,7 @@ first_bad lines i d os within before bad =
     first_bad_at (texts lines) i d.now os (omega (arith, length-map lines (λ (b : Bor Text). b.now))) before
     (λ has. bad (subst HasOrder here has))
 
--- a line behind the first is refused by its number
+-- a line after the first is refused by its number
 pub bad_behind : {T : Type 0} (first : Text) (rest : List Text) (error : ScriptError) (o : Opening) → IsOpeningLine first o
     → ((bad : ℕ) → IsErrOf {T = T} (Err error) (errors.Line bad) → (index : ℕ) × (bad ≡ index + 2) × IsFirstBad rest index)
     → Refuses (first ∷ rest) error

@@ -1,4 +1,4 @@
--- WithoutFault.antt: a text that is refused has a fault, but where memory was wanting.
+-- WithoutFault.antt: a text that is refused has a fault, but if memory ran out.
 use Rattle.std.proofs.Common.{◌≡◌, Option, Some, None, Result, Ok, Err, inl, inr, ap, sym, ◌∙◌}
 use Rattle.std.specs.Result.{IsErrAnd}
 use Rattle.topics.specs.Text.{RefusesBy}
@@ -22,7 +22,7 @@ unfolding fault_in
 gave_form (Ok x) fault is same = absurd is
 gave_form (Err e) fault is same = sym is ∙ ap fault_in same
 
--- a text that is refused, and not for want of memory, has a fault
+-- a text that is refused, and not because memory ran out, has a fault
 pub no_text : {T : Type 0} (r : Result T LineFault) (fault : Option MalformedKind) (text : Text) (kind : MalformedKind)
     → RefusesBy fault kind → IsErrAnd r (λ e. e ≡ fault_of kind) → r ≡ Err faults.Form → unless fault text ≡ None
 no_text r fault text kind (inl is) gave form = ap (λ f. unless f text) is

@@ -4,7 +4,7 @@ use Rattle.topics.specs.declared.malformed.MalformedKind.TheVariants as kinds
 use Rattle.script.specs.declared.error.LineFault.{LineFault}
 use Rattle.script.specs.declared.error.LineFault.TheVariants as faults
 
--- want of memory says nothing of the form
+-- that memory ran out says nothing about the form
 abbrev pub fault_of : MalformedKind → LineFault
 fault_of kinds.Memory = faults.Memory
 fault_of _ = faults.Form

@@ -17,15 +17,15 @@ use Rattle.script.specs.declared.order.Amount.TheVariants as amounts
 abbrev pub Text : Type 0
 Text = List ℕ
 
--- the texts behind references
+-- the texts after references
 abbrev pub texts : List (Bor Text) → List Text
 texts borrowed = map (λ text. text.now) borrowed
 
--- what stands between the spaces, 32
+-- what is between the spaces, 32
 unfoldable pub fields_of : Text → List Text
 fields_of line = slice_split (λ byte. byte == 32) line
 
--- what stands between the commas, 44
+-- what is between the commas, 44
 unfoldable pub parts_of : Text → List Text
 parts_of field = slice_split (λ byte. byte == 44) field
 
@@ -33,12 +33,12 @@ parts_of field = slice_split (λ byte. byte == 44) field
 abbrev pub is_decimal : Text → Bool
 is_decimal text = nat_lt 0 (length text) && all_ascii_digits text
 
--- a decimal number of 64 bits; zeros may stand in front
+-- a decimal number of 64 bits; zeros may be in front
 unfoldable pub number_of : Text → Option ℕ
 number_of text = if is_decimal text && nat_lt (digits_value 10 text) (2 ^ 64)
     then Some (digits_value 10 text) else None
 
--- the level of a number, of which there are three
+-- the level of a number; there are three levels
 abbrev pub level_of : Option ℕ → Option QoS
 level_of None = None
 level_of (Some number) =
@@ -69,12 +69,12 @@ payload_of text =
     if bytes_eq text (codes "-") then Some [] else
     if nat_lt 0 (length text) then result_ok (decode_of text) else None
 
--- the text, where it has no fault
+-- the text, if it has no fault
 abbrev pub unless : Option MalformedKind → Text → Option Text
 unless None text = Some text
 unless (Some fault) text = None
 
--- a Client Identifier, a Topic Name and a Topic Filter stand as they are
+-- a Client Identifier, a Topic Name and a Topic Filter are written as they are
 unfoldable pub client_of : Text → Option Text
 client_of text = unless (client_fault text) text
 
@@ -84,13 +84,13 @@ topic_of text = unless (topic_fault text) text
 unfoldable pub filter_of : Text → Option Text
 filter_of text = unless (filter_fault text) text
 
--- both, where there are both
+-- both, if there are both
 abbrev pub with_first : {X : Type 0} → Option X → Option (List X) → Option (List X)
 with_first (Some x) (Some xs) = Some (x ∷ xs)
 with_first (Some x) None = None
 with_first None xs = None
 
--- what all of the texts write, where each writes something
+-- what all of the texts write, if each writes something
 abbrev pub all_of : {X : Type 0} → (Text → Option X) → List Text → Option (List X)
 all_of reads [] = Some []
 all_of reads (text ∷ texts) = with_first (reads text) (all_of reads texts)

@@ -1,4 +1,4 @@
--- The form of each line behind the first: its fields, and the order that they write.
+-- The form of each line after the first: its fields, and the order that they write.
 use Rattle.std.specs.Prelude.{◌≡◌, ℕ, Bool, List, [], ◌∷◌, codes, Some}
 use Rattle.packet.specs.declared.qos.QoS.{QoS}
 use Rattle.script.specs.Fields.{Text, amount_of, client_of, filter_of, number_of, numbers_of, payload_of, qos_of, retain_of, topic_of}

@@ -11,16 +11,16 @@ use Rattle.script.specs.declared.opening.Opening.{Opening}
 use Rattle.script.specs.declared.order.Order.{Order}
 use Rattle.script.specs.declared.reading.Script.{Script}
 
--- a line feed, 10, behind the last line may be missing
+-- a line feed, 10, after the last line may be missing
 abbrev pub without_last_feed : Text → Text
 without_last_feed text =
     if slice_index text (length text - 1) == 10 then take (length text - 1) text else text
 
--- what stands between the line feeds
+-- what is between the line feeds
 unfoldable pub lines_of : Text → List Text
 lines_of text = slice_split (λ byte. byte == 10) (without_last_feed text)
 
--- each of the members is one of so many nodes, numbered from 1
+-- each of the members is one of this many nodes, numbered from 1
 abbrev pub are_nodes : ℕ → List ℕ → Bool
 are_nodes nodes members = list_all (λ member. nat_le member nodes) members
 
@@ -54,7 +54,7 @@ IsOpeningLine line opening = IsUtf8 line × IsOpening (fields_of line) opening
 abbrev pub IsOrderLine : Text → Order → Type 0
 IsOrderLine line order = IsUtf8 line × IsOrder (fields_of line) order
 
--- the lines order these, one behind the other
+-- the lines order these, one after another
 abbrev pub AreOrders : List Text → List Order → Type 0
 AreOrders [] [] = Unit {0}
 AreOrders [] (order ∷ orders) = ⊥
@@ -80,7 +80,7 @@ IsFirstBad [] index = ⊥
 IsFirstBad (line ∷ lines) zero = ¬ (HasOrder line)
 IsFirstBad (line ∷ lines) (suc index) = HasOrder line × IsFirstBad lines index
 
--- lines are refused by the number of the first without its form, or for want of memory
+-- lines are refused by the number of the first without its form, or because memory ran out
 abbrev pub Refuses : List Text → ScriptError → Type 0
 Refuses lines errors.Memory = Unit {0}
 Refuses [] (errors.Line number) = number ≡ 1

@@ -8,9 +8,9 @@ use topics::MalformedKind;
 /// Why a text was not read as a script.
 #[derive(Clone, Copy, Debug, PartialEq, Eq)]
 pub enum ScriptError {
-    /// The first line that has not its form, counted from 1.
+    /// The first line that does not have its form, counted from 1.
     Line(u64),
-    /// No memory was found.
+    /// Memory ran out.
     Memory,
 }
 
@@ -50,9 +50,9 @@ impl<T: Drop> From<AllocFailed<T>> for ScriptError {
 /// Why a line or one of its fields was not read.
 #[derive(Clone, Copy, Debug, PartialEq, Eq)]
 pub(crate) enum LineFault {
-    /// It has not its form.
+    /// It does not have its form.
     Form,
-    /// No memory was found.
+    /// Memory ran out.
     Memory,
 }
 

@@ -5,14 +5,14 @@ ghost use Rattle.script.specs.Fields.{fields_of, parts_of, texts};
 
 use std::alloc::{AllocError, Global};
 
-/// What stands between the spaces of a line.
+/// Returns what is between the spaces of a line.
 pub(crate) fn fields_of<'a>(alloc: Global, line: &'a str) -> Result<Vec<&'a str>, AllocError>
     ensures { IfOk result (λ fields. texts fields.items ≡ fields_of line.now) }
 {
     line.split(' ').collect(alloc)
 }
 
-/// What stands between the commas of a field.
+/// Returns what is between the commas of a field.
 pub(crate) fn parts_of<'a>(alloc: Global, field: &'a str) -> Result<Vec<&'a str>, AllocError>
     ensures { IfOk result (λ parts. texts parts.items ≡ parts_of field.now) }
 {

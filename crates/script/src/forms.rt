@@ -1,4 +1,4 @@
-// The forms of the lines behind the first, by the fields behind their word.
+// The forms of the lines after the first, by the fields after their word.
 
 ghost use Rattle.std.specs.Prelude.{◌≡◌, Some, None, IfOk, IsErrOf};
 ghost use Rattle.script.specs.declared.order.Order.TheVariants as orders;
@@ -12,7 +12,7 @@ use packet::ClientId;
 use session_base::Publication;
 use std::alloc::Global;
 
-// The number of a line that has one field more.
+// Returns the number of a line that has one more field.
 fn one_number(fields: &[&str]) -> Result<u64, LineFault>
     ensures value { IfOk result (λ number. only number_of (texts fields.now) ≡ Some number) }
     ensures form { IsErrOf result LineFault.Form → only number_of (texts fields.now) ≡ None }
@@ -23,7 +23,7 @@ fn one_number(fields: &[&str]) -> Result<u64, LineFault>
     }
 }
 
-// The client of a line that has one field more.
+// Returns the client of a line that has one more field.
 fn one_client(alloc: Global, fields: &[&str]) -> Result<ClientId, LineFault>
     ensures value { IfOk result (λ client. only client_of (texts fields.now) ≡ Some client) }
     ensures form { IsErrOf result LineFault.Form → only client_of (texts fields.now) ≡ None }
@@ -172,7 +172,7 @@ pub(crate) fn publish(alloc: Global, fields: &[&str]) -> Result<Order, LineFault
     Ok(Order::Publish(name, publication(alloc, about, level, keep, bytes)?))
 }
 
-// The publication of the last four fields.
+// Returns the publication of the last four fields.
 #[tactic(auto, unfolding(crate::specs::Inside::Ordering::publication_of))]
 fn publication(
     alloc: Global,

@@ -7,7 +7,7 @@ pub fn one_order_a_line()
     ensures { OneOrderALine }
 {}
 
-/// Lines that are a script are refused for want of memory alone.
+/// Lines that are a script are refused only because memory ran out.
 pub fn no_script_is_refused()
     ensures { NoScriptIsRefused }
 {}

@@ -6,7 +6,7 @@ ghost use Rattle.script.specs.Scripts.{lines_of, without_last_feed};
 
 use std::alloc::{AllocError, Global};
 
-/// What stands between the line feeds of a text, of which the last may be missing.
+/// Returns the texts between the line feeds of a text, the last of which may be missing.
 pub(crate) fn lines_of<'a>(alloc: Global, text: &'a [u8]) -> Result<Vec<&'a [u8]>, AllocError>
     ensures { IfOk result (λ lines. texts lines.items ≡ lines_of text.now) }
 {
@@ -15,7 +15,7 @@ pub(crate) fn lines_of<'a>(alloc: Global, text: &'a [u8]) -> Result<Vec<&'a [u8]
         .collect(alloc)
 }
 
-// The text without a line feed at its end.
+// Returns the text without a line feed at its end.
 fn without_last_feed(text: &[u8]) -> &[u8]
     ensures { result.now ≡ without_last_feed text.now }
 {

@@ -4,7 +4,7 @@ ghost use Rattle.std.specs.Prelude.{◌≡◌};
 
 use std::marker::Model;
 
-/// Numbers, in the order in which they stand.
+/// Numbers, in the order in which they are written.
 #[derive(Drop)]
 pub struct Numbers {
     numbers: Vec<u64>,
@@ -19,14 +19,14 @@ impl Model for Numbers {
 }
 
 impl Numbers {
-    // These numbers.
+    // Returns a list of these numbers.
     pub(crate) fn new(numbers: Vec<u64>) -> Numbers
         ensures { result ≡ numbers.items }
     {
         Numbers { numbers }
     }
 
-    /// The numbers.
+    /// Returns the numbers.
     pub fn as_slice(&self) -> &[u64]
         ensures { result.now ≡ self.now }
     {

@@ -19,14 +19,14 @@ pub struct Opening {
     pub nodes: u8,
     /// The configuration of the first ballot, all of whose members are nodes.
     pub config: Config,
-    /// The clients, of whom no two are the same.
+    /// The clients, no two of which are the same.
     pub clients: Vec<ClientId>,
 }
 
 /// The greatest number of a node.
 const MOST: u64 = 15;
 
-/// The world that the fields of the first line open.
+/// Returns the world that the fields of the first line open.
 pub(crate) fn opening_of(alloc: Global, fields: &[&str]) -> Result<Opening, LineFault>
     ensures value { IfOk result (λ opening. world_of (texts fields.now) ≡ Some (values_of opening)) }
     ensures form { IsErrOf result LineFault.Form → world_of (texts fields.now) ≡ None }
@@ -52,7 +52,7 @@ pub(crate) fn opening_of(alloc: Global, fields: &[&str]) -> Result<Opening, Line
     })
 }
 
-// The configuration of these numbers, where a world of so many nodes may open with it.
+// Returns the configuration of these numbers, if a world of this many nodes may open with it.
 fn config(alloc: Global, count: u64, members: &[u64], primary: u64) -> Result<Config, LineFault>
     ensures members { IfOk result (λ config. config.members ≡ members.now) }
     ensures primary { IfOk result (λ config. config.primary ≡ primary) }
@@ -78,14 +78,14 @@ fn config(alloc: Global, count: u64, members: &[u64], primary: u64) -> Result<Co
     }
 }
 
-// Whether each of the numbers is at most this one.
+// Says whether each of the numbers is at most this one.
 fn are_nodes(count: u64, members: &[u64]) -> bool
     ensures { result ≡ are_nodes count members.now }
 {
     members.iter().all(|member| *member <= count)
 }
 
-// Numbers of at most 15.
+// Returns the members if all numbers are at most 15.
 fn small_members(alloc: Global, members: &[u64]) -> Result<Members, LineFault>
     requires { list_all is_small members.now ≡ true }
     ensures value { IfOk result (λ small. small ≡ members.now) }
@@ -100,7 +100,7 @@ fn small_members(alloc: Global, members: &[u64]) -> Result<Members, LineFault>
         .ok_or(LineFault::Memory)
 }
 
-// Whether no two of the clients are the same.
+// Says whether no two of the clients are the same.
 fn are_distinct(clients: &[ClientId]) -> bool
     ensures { result ≡ are_distinct clients.now }
 {
@@ -110,7 +110,7 @@ fn are_distinct(clients: &[ClientId]) -> bool
     !has(others, client) && are_distinct(others)
 }
 
-// Whether one of the clients is this one.
+// Says whether one of the clients is this one.
 fn has(clients: &[ClientId], client: &ClientId) -> bool
     ensures { result ≡ has clients.now client.now }
 {

@@ -10,17 +10,17 @@ use topics::Filter;
 pub enum Amount {
     /// All that wait.
     All,
-    /// So many.
+    /// This many.
     Bytes(u64),
 }
 
-/// What a line orders to happen. Every number is one that a line may write; whether there is such a node,
-/// message or connection is seen only where the order is done.
+/// What a line orders to happen. Every number is one that a line may write; whether there is such a
+/// node, message or connection is checked only when the order is done.
 #[derive(Drop)]
 pub enum Order {
     /// A configuration of these members and this primary is assigned.
     Assign(Numbers, u64),
-    /// The message of this number comes to its receiver.
+    /// The message of this number reaches its receiver.
     Deliver(u64),
     /// Time passes at this node.
     Tick(u64),
@@ -38,14 +38,14 @@ pub enum Order {
     CarryDown(u64, Amount),
     /// This client loses its connection.
     Abandon(ClientId),
-    /// This client says that it leaves.
+    /// This client sends DISCONNECT and ends its connection.
     Disconnect(ClientId),
-    /// A node sees the end of this connection.
+    /// A node notices the end of this connection.
     Notice(u64),
     /// This client publishes.
     Publish(ClientId, Publication),
-    /// This client asks for the publications of a filter, at most at this QoS.
+    /// This client subscribes to a filter, at most at this QoS.
     Subscribe(ClientId, Filter, QoS),
-    /// This client gives up a filter.
+    /// This client unsubscribes from a filter.
     Unsubscribe(ClientId, Filter),
 }

@@ -1,4 +1,4 @@
-// What the lines behind the first order.
+// What the lines after the first order.
 
 ghost use Rattle.std.specs.Prelude.{◌≡◌, Some, None, IfOk, IsErrOf};
 ghost use Rattle.script.specs.Fields.{texts};
@@ -9,7 +9,7 @@ use crate::forms;
 use crate::order::Order;
 use std::alloc::Global;
 
-/// What the fields of a line order.
+/// Returns what the fields of a line order.
 pub(crate) fn order_of(alloc: Global, fields: &[&str]) -> Result<Order, LineFault>
     ensures value { IfOk result (λ order. order_of (texts fields.now) ≡ Some order) }
     ensures form { IsErrOf result LineFault.Form → order_of (texts fields.now) ≡ None }
@@ -20,7 +20,7 @@ pub(crate) fn order_of(alloc: Global, fields: &[&str]) -> Result<Order, LineFaul
     }
 }
 
-// What the fields behind a word order.
+// Returns what the fields after a word order.
 fn order_by(alloc: Global, word: &str, fields: &[&str]) -> Result<Order, LineFault>
     ensures value { IfOk result (λ order. order_by word.now (texts fields.now) ≡ Some order) }
     ensures form { IsErrOf result LineFault.Form → order_by word.now (texts fields.now) ≡ None }

@@ -20,12 +20,12 @@ use std::str;
 pub struct Script {
     /// The world at the beginning.
     pub opening: Opening,
-    /// What happens in it, one behind the other.
+    /// What happens in it, one after another.
     pub orders: Vec<Order>,
 }
 
-/// Reads a script, whole. It is refused exactly where a line has not its form, by the number of the first
-/// such line, want of memory aside.
+/// Reads a whole script. Unless memory runs out, it is refused exactly if a line does not have its
+/// form, by the number of the first such line.
 pub fn read(alloc: Global, text: &[u8]) -> Result<Script, ScriptError>
     ensures script { IfOk result (IsScript (lines_of text.now)) }
     ensures refused { IfErr result (Refuses (lines_of text.now)) }
@@ -34,7 +34,7 @@ pub fn read(alloc: Global, text: &[u8]) -> Result<Script, ScriptError>
     script_of(alloc, lines.as_slice())
 }
 
-// The script of all lines.
+// Returns the script of all lines.
 fn script_of(alloc: Global, lines: &[&[u8]]) -> Result<Script, ScriptError>
     ensures script { IfOk result (IsScript (texts lines.now)) }
     ensures refused { IfErr result (Refuses (texts lines.now)) }
@@ -45,7 +45,7 @@ fn script_of(alloc: Global, lines: &[&[u8]]) -> Result<Script, ScriptError>
     }
 }
 
-// The script of the first line and the others.
+// Returns the script of the first line and the others.
 fn script_behind(alloc: Global, first: &[u8], others: &[&[u8]]) -> Result<Script, ScriptError>
     ensures script { IfOk result (IsScript (first.now ∷ texts others.now)) }
     ensures refused { IfErr result (Refuses (first.now ∷ texts others.now)) }
@@ -61,7 +61,7 @@ fn script_behind(alloc: Global, first: &[u8], others: &[&[u8]]) -> Result<Script
     }
 }
 
-// The world that the first line opens.
+// Returns the world that the first line opens.
 fn opening_line(alloc: Global, line: &[u8]) -> Result<Opening, LineFault>
     ensures value { IfOk result (IsOpeningLine line.now) }
     ensures form { IsErrOf result LineFault.Form → HasOpening line.now → ⊥ }
@@ -73,7 +73,7 @@ fn opening_line(alloc: Global, line: &[u8]) -> Result<Opening, LineFault>
     opening_of(alloc, fields.as_slice())
 }
 
-// What one of the other lines orders.
+// Returns what one of the other lines orders.
 fn order_line(alloc: Global, line: &[u8]) -> Result<Order, LineFault>
     ensures value { IfOk result (IsOrderLine line.now) }
     ensures form { IsErrOf result LineFault.Form → HasOrder line.now → ⊥ }
@@ -85,7 +85,7 @@ fn order_line(alloc: Global, line: &[u8]) -> Result<Order, LineFault>
     order_of(alloc, fields.as_slice())
 }
 
-// What the lines behind the first order. They are counted from the second line of the text.
+// Returns what the lines after the first order. They are counted from the second line of the text.
 fn orders(alloc: Global, lines: &[&[u8]]) -> Result<Vec<Order>, ScriptError>
     ensures orders { IfOk result (λ orders. AreOrders (texts lines.now) orders.items) }
     ensures refused { (bad : ℕ) → IsErrOf result (ScriptError.Line bad)

@@ -12,7 +12,7 @@ use packet::{ClientId, Payload, QoS};
 use std::alloc::Global;
 use topics::{Filter, TopicName};
 
-/// A decimal number.
+/// Returns a decimal number.
 pub(crate) fn number(text: &str) -> Result<u64, LineFault>
     ensures value { IfOk result (λ number. number_of text.now ≡ Some number) }
     ensures form { IsErrOf result LineFault.Form → number_of text.now ≡ None }
@@ -27,7 +27,7 @@ pub(crate) fn number(text: &str) -> Result<u64, LineFault>
     }
 }
 
-// Whether a plus stands in front.
+// Says whether a plus is in front.
 fn has_sign(text: &str) -> bool
     ensures { result ≡ (slice_index text.now 0 == 43) }
 {
@@ -37,7 +37,7 @@ fn has_sign(text: &str) -> bool
     }
 }
 
-/// Numbers with commas between them.
+/// Returns the numbers between commas.
 pub(crate) fn numbers(alloc: Global, text: &str) -> Result<Numbers, LineFault>
     ensures value { IfOk result (λ numbers. numbers_of text.now ≡ Some numbers) }
     ensures form { IsErrOf result LineFault.Form → numbers_of text.now ≡ None }
@@ -51,7 +51,7 @@ pub(crate) fn numbers(alloc: Global, text: &str) -> Result<Numbers, LineFault>
     Ok(Numbers::new(numbers))
 }
 
-/// A level of delivery.
+/// Returns a level of delivery.
 #[tactic(auto, unfolding(crate::specs::Fields::qos_of))]
 pub(crate) fn qos(text: &str) -> Result<QoS, LineFault>
     ensures value { IfOk result (λ qos. qos_of text.now ≡ Some qos) }
@@ -65,7 +65,7 @@ pub(crate) fn qos(text: &str) -> Result<QoS, LineFault>
     }
 }
 
-/// RETAIN.
+/// Returns RETAIN.
 #[tactic(auto, unfolding(crate::specs::Fields::retain_of))]
 pub(crate) fn retain(text: &str) -> Result<bool, LineFault>
     ensures value { IfOk result (λ retain. retain_of text.now ≡ Some retain) }
@@ -78,7 +78,7 @@ pub(crate) fn retain(text: &str) -> Result<bool, LineFault>
     }
 }
 
-/// A count of bytes.
+/// Returns a count of bytes.
 #[tactic(auto, unfolding(crate::specs::Fields::amount_of))]
 pub(crate) fn amount(text: &str) -> Result<Amount, LineFault>
     ensures value { IfOk result (λ amount. amount_of text.now ≡ Some amount) }
@@ -90,7 +90,7 @@ pub(crate) fn amount(text: &str) -> Result<Amount, LineFault>
     Ok(Amount::Bytes(number(text)?))
 }
 
-/// A payload in hexadecimal.
+/// Returns a payload in hexadecimal.
 #[tactic(auto, unfolding(crate::specs::Fields::payload_of))]
 pub(crate) fn payload(alloc: Global, text: &str) -> Result<Payload, LineFault>
     ensures value { IfOk result (λ payload. payload_of text.now ≡ Some payload) }
@@ -109,7 +109,7 @@ pub(crate) fn payload(alloc: Global, text: &str) -> Result<Payload, LineFault>
     }
 }
 
-/// A Client Identifier.
+/// Returns a Client Identifier.
 pub(crate) fn client(alloc: Global, text: &str) -> Result<ClientId, LineFault>
     ensures value { IfOk result (λ client. client_of text.now ≡ Some client) }
     ensures form { IsErrOf result LineFault.Form → client_of text.now ≡ None }
@@ -117,7 +117,7 @@ pub(crate) fn client(alloc: Global, text: &str) -> Result<ClientId, LineFault>
     Ok(ClientId::new(alloc, text)?)
 }
 
-/// Client Identifiers with commas between them.
+/// Returns the Client Identifiers between commas.
 pub(crate) fn clients(alloc: Global, text: &str) -> Result<Vec<ClientId>, LineFault>
     ensures value { IfOk result (λ clients. clients_of text.now ≡ Some clients.items) }
     ensures form { IsErrOf result LineFault.Form → clients_of text.now ≡ None }
@@ -131,7 +131,7 @@ pub(crate) fn clients(alloc: Global, text: &str) -> Result<Vec<ClientId>, LineFa
     Ok(clients)
 }
 
-/// A Topic Name.
+/// Returns a Topic Name.
 pub(crate) fn topic(alloc: Global, text: &str) -> Result<TopicName, LineFault>
     ensures value { IfOk result (λ topic. topic_of text.now ≡ Some topic) }
     ensures form { IsErrOf result LineFault.Form → topic_of text.now ≡ None }
@@ -139,7 +139,7 @@ pub(crate) fn topic(alloc: Global, text: &str) -> Result<TopicName, LineFault>
     Ok(TopicName::new(alloc, text)?)
 }
 
-/// A Topic Filter.
+/// Returns a Topic Filter.
 pub(crate) fn filter(alloc: Global, text: &str) -> Result<Filter, LineFault>
     ensures value { IfOk result (λ filter. filter_of text.now ≡ Some filter) }
     ensures form { IsErrOf result LineFault.Form → filter_of text.now ≡ None }

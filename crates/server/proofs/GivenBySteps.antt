@@ -11,7 +11,7 @@ use Rattle.node.specs.State.{Replays, Seen, TakesOne}
 use Rattle.node.proofs.of_lists.OfEach.{each_append}
 use Rattle.post.specs.Letters.{EachOpens, EachOpensAs, WasGiven}
 
--- what holds of whatever stands in a list holds of each
+-- what holds for whatever is in a list holds for each
 each_in : {X : Type 0} (P : X → Type 0) (xs : List X) → ((x : X) → In x xs → P x) → Each P xs
 each_in P [] f = tt
 each_in P (x ∷ xs) f = (f x here, each_in P xs (λ y i. f y (there i)))

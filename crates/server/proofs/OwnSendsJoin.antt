@@ -13,7 +13,7 @@ own_join node before sent _ first (ticks now rest) = ticks now (own_join node be
 own_join node before sent _ first (cuts rest) = cuts (own_join node before sent _ first rest)
 own_join node before sent _ first (hands item rest letter) = hands item (own_join node before sent _ first rest) letter
 
--- the time was told
+-- the time was reported
 pub own_tick : (node now : ℕ) (before behind : List Item) → behind ≡ before ++ Tick now ∷ [] → SendsOwn node before behind
 own_tick node now before behind sent =
     subst (λ (items : List Item). SendsOwn node before items) (sym sent) (ticks now starts)

@@ -1,4 +1,4 @@
--- TurnsEnd.antt: how turns of a node begin, and how they end where no item waits.
+-- TurnsEnd.antt: how turns of a node begin, and how they end if no item waits.
 use Rattle.std.proofs.Common.{◌≡◌, List, [], sym, subst}
 use Rattle.node.specs.Command.{Command}
 use Rattle.node.specs.Output.{Output}

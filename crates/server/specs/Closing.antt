@@ -1,9 +1,10 @@
--- When a connection is ended because its client says nothing.
+-- When a connection is ended because its client sends nothing.
 use Rattle.std.specs.Prelude.{ℕ, ◌+◌, Bool, false, nat_lt}
 use Rattle.node.specs.declared.Standing.{Standing}
 use Rattle.node.specs.declared.Standing.TheVariants.{Awaits, Open, Closed}
 
--- the first packet of a connection is awaited, more than ten seconds after it was accepted; times count milliseconds
+-- the first packet of a connection is awaited, more than ten seconds after it was accepted; times
+-- count milliseconds
 abbrev pub is_overdue : Standing → ℕ → ℕ → Bool
 is_overdue Awaits opened now = nat_lt (opened + 10000) now
 is_overdue Open opened now = false

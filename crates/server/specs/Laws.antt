@@ -1,9 +1,10 @@
--- What readers may want to know of these words.
+-- What readers may want to know about these definitions.
 use Rattle.std.specs.Prelude.{◌≡◌, ℕ, ◌+◌, ◌<◌, ◌≤◌, true}
 use Rattle.server.specs.Cutting.{cuts_after}
 use Rattle.server.specs.Serving.{port_of}
 
--- No two connections of a node have one port: of one lane neither, nor of two lanes, whose numbers are below 256.
+-- No two connections of a node have the same port: neither two of one lane, nor those of two lanes,
+-- whose numbers are below 256.
 abbrev pub PortsDiffer : Type 0
 PortsDiffer =
     (lane other count number : ℕ) → lane < 256 → other < 256 → port_of lane count ≡ port_of other number →
@@ -15,7 +16,7 @@ CutsComeApart =
     (node other ticks : ℕ) → node ≤ 15 → other ≤ 15 →
     cuts_after node ticks ≡ true → cuts_after other ticks ≡ true → node ≡ other
 
--- a cut of a node, fewer than 50 ticks after so many
+-- a cut of a node, fewer than 50 ticks after this many
 pub record CutFollows (node ticks : ℕ) : Type 0 where
   pub more : ℕ
   pub soon : more < 50

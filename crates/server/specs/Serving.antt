@@ -1,4 +1,4 @@
--- What a lane tells of a connection.
+-- What a lane reports of a connection.
 use Rattle.std.specs.Prelude.{◌≡◌, ℕ, ◌+◌, ◌*◌, List, [], ◌∷◌, ◌++◌, None}
 use Rattle.node.specs.declared.Item.{Item}
 use Rattle.node.specs.declared.Item.TheVariants.{Tick, Cut}
@@ -7,29 +7,31 @@ use Rattle.streams.specs.connection.declared.ending.Ending.{Ending}
 use Rattle.streams.specs.connection.Hearing.{Hears}
 use Rattle.post.specs.Letters.{IsLeft}
 
--- A lane that had sent these items sent all that is told of one connection, and nothing else. Of a socket no bytes are
--- known but those that came.
+-- A lane that had sent these items sent the whole report of one connection, and nothing else. Of a
+-- socket no bytes are known except those that came.
 pub record SendsWhole (port : Port) (before behind : List Item) : Type 0 where
   pub ending : Ending
   pub hears : Hears port before behind ending None None
 
--- the port of the connection that a lane comes to behind so many others
+-- the port of a lane's connection that comes after this many others
 abbrev pub port_of : ℕ → ℕ → Port
 port_of lane count = record { 0 = 256 * count + lane }
 
--- A lane that had sent these items sent all that is told of one connection, or nothing where that was closed at once.
+-- A lane that had sent these items sent the whole report of one connection, or nothing if that was
+-- closed at once.
 pub data TellsOne (port : Port) (before : List Item) : List Item → Type 0 where
   closed_at_once : TellsOne port before before
   served : {behind : List Item} → SendsWhole port before behind → TellsOne port before behind
 
--- A lane that had sent these items sent for so many connections, one behind the other, what is told of each, and nothing else.
+-- A lane that had sent these items sent for this many connections, one after another, the report of
+-- each, and nothing else.
 pub data TellsEach (lane : ℕ) (before : List Item) : ℕ → List Item → Type 0 where
   begins : TellsEach lane before 0 before
   goes_on : {count : ℕ} {sent : List Item} (behind : List Item)
       → TellsEach lane before count sent → TellsOne (port_of lane count) sent behind
       → TellsEach lane before (count + 1) behind
 
--- the same, for as many as there were
+-- the same, for any number of connections
 pub record SendsRow (lane : ℕ) (before behind : List Item) : Type 0 where
   pub count : ℕ
   pub tells : TellsEach lane before count behind

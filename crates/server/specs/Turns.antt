@@ -5,8 +5,8 @@ use Rattle.node.specs.Output.{Output}
 use Rattle.node.specs.Effect.{Effect}
 use Rattle.node.specs.State.{Seen, TakesOne, next_turn}
 
--- From a state of a node on, one item after the other was taken, and this is all that the steps
--- gave, in their order; or none waited.
+-- From a state of a node on, one item after another was taken, and these are all effects of the
+-- steps, in order; or no item waited.
 pub data Turns (old : Seen) : Seen → List (Effect Command Output) → Type 0 where
   begins : Turns old old []
   takes : {seen : Seen} {given : List (Effect Command Output)}

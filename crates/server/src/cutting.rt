@@ -10,14 +10,14 @@ use node::{Gate, Item, NodeNaming, Stated};
 use std::sync::Wait;
 use std::time::Clock;
 
-/// After how many ticks a node has its log cut again.
+/// How many ticks lie between two cuts of a node's log.
 const TICKS_A_CUT: u64 = 50;
 
-/// How many ticks lie between the first cuts of nodes of neighbouring numbers.
+/// How many ticks lie between the first cuts of nodes with neighbouring numbers.
 const APART: u64 = 7;
 
 impl<'a, J: NodeNaming, S: Stated<J>, G: Gate> Shared<'a, J, S, G> {
-    /// Has the log cut, if that is due after so many ticks.
+    /// Has the log cut, if a cut is due after this many ticks.
     pub(crate) fn cut_in_time<R: Wait + Clock>(&self, rt: &R, lane: &mut Lane<Item, J>, ticks: u64)
         ensures { SendsOwn self.now.seat.node.now.number lane.old.sent lane.new.sent }
     {
@@ -26,7 +26,7 @@ impl<'a, J: NodeNaming, S: Stated<J>, G: Gate> Shared<'a, J, S, G> {
         }
     }
 
-    /// Has the log cut, if what the node took since the last cut asks for that.
+    /// Has the log cut, if what the node took since the last cut is large enough.
     pub(crate) fn cut_by_size<R: Wait + Clock>(&self, rt: &R, lane: &mut Lane<Item, J>)
         ensures { SendsOwn self.now.seat.node.now.number lane.old.sent lane.new.sent }
     {
@@ -37,7 +37,7 @@ impl<'a, J: NodeNaming, S: Stated<J>, G: Gate> Shared<'a, J, S, G> {
     }
 }
 
-// Whether the node of a number has its log cut after so many ticks.
+// Says whether the node of a number has its log cut after this many ticks.
 fn cuts_after(number: u8, ticks: u64) -> bool
     ensures { result ≡ cuts_after number ticks }
 {

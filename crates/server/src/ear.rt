@@ -1,4 +1,4 @@
-// A connection's lane, by which the node hears of it.
+// A connection's lane, by which the connection is reported to the node.
 
 ghost use Rattle.std.specs.Prelude.{◌≡◌, ◌≤◌, ◌++◌, ◌∷◌, []};
 
@@ -11,7 +11,7 @@ use std::time::Clock;
 use streams::Link;
 use streams::connection::{Hearer, PIECE_BYTES};
 
-/// A connection's lane. What it heard is what the lane sent.
+/// A connection's lane. What is reported to it is what the lane sent.
 #[derive(Drop)]
 pub(crate) struct Ear<'e, 'a, J: NodeNaming, S: Stated<J>, G: Gate> {
     pub(crate) shared: &'e Shared<'a, J, S, G>,
@@ -36,8 +36,9 @@ impl<'e, 'a, J: NodeNaming, S: Stated<J>, G: Gate> Hearer for Ear<'e, 'a, J, S, 
         shared.seat.node.take_in(rt, entering);
     }
 
-    // A port of which the node has not heard yet is one that it closed, so a link is listed after that. One that the node
-    // did not take, since it is no primary, is not read.
+    // A port that is not yet reported to the node counts as one that the node closed, so a link is
+    // listed after that. A connection that the node did not take, because it is no primary, is not
+    // read.
     fn lets_in<R: Wait>(&self, rt: &R) -> bool {
         let Ok(link) = Arc::try_clone(self.link) else {
             return false;
@@ -50,7 +51,7 @@ impl<'e, 'a, J: NodeNaming, S: Stated<J>, G: Gate> Hearer for Ear<'e, 'a, J, S, 
     }
 }
 
-// How many bytes of a client an item carries, at most as many as a read gives.
+// Returns how many bytes of a client an item carries, at most as many as a read returns.
 fn size_of(item: &Item) -> u64
     ensures { result ≤ 65536 }
 {

@@ -1,4 +1,4 @@
-// The thread that goes on with connections whose sockets were full.
+// The thread that continues with connections whose sockets were full.
 
 ghost use Rattle.std.specs.Prelude.{IfSome};
 ghost use Rattle.std.specs.Arc.{arc_value};
@@ -15,14 +15,16 @@ use streams::{Late, Link, Pen};
 /// How long the thread sleeps at most before it looks whether the door is closed, in milliseconds.
 const LOOK_MILLIS: u64 = 200;
 
-/// How long it sleeps at first, and at most, before it tries sockets again that were full, in milliseconds.
+/// How long it sleeps at first, and at most, before it tries sockets again that were full, in
+/// milliseconds.
 const FIRST_MILLIS: u64 = 1;
 
 const MOST_MILLIS: u64 = 16;
 
 impl<'a, J: NodeNaming, S: Stated<J>, G: Gate> Shared<'a, J, S, G> {
-    /// Goes on with connections whose sockets were full, until the door is closed. Nobody waits for this thread, and it waits
-    /// for no socket: between its tries it sleeps, longer each time while all stay full.
+    /// Continues with connections whose sockets were full, until the door is closed. No thread
+    /// waits for this one, and it waits for no socket: between its tries it sleeps, longer each
+    /// time while all stay full.
     pub(crate) fn write_late<R: Wait>(&self, rt: &R) {
         let mut pause = FIRST_MILLIS;
         for _ in rt.forever() {
@@ -38,7 +40,7 @@ impl<'a, J: NodeNaming, S: Stated<J>, G: Gate> Shared<'a, J, S, G> {
         }
     }
 
-    /// Leaves a connection whose socket is full to that thread.
+    /// Hands a connection whose socket is full to that thread.
     pub(crate) fn leave_late<R: Wait>(&self, rt: &R, link: &Arc<Link, Global>, pen: Pen)
         requires { IsPenOf (arc_value link.now).port pen }
     {
@@ -61,7 +63,8 @@ impl<'a, J: NodeNaming, S: Stated<J>, G: Gate> Shared<'a, J, S, G> {
         kept
     }
 
-    // Goes over the connections whose sockets were full. Returns how many there were, and how many are still.
+    // Goes over the connections whose sockets were full. Returns how many there were, and how many
+    // are still full.
     fn write_each_late<R: Wait>(&self, rt: &R) -> (usize, usize) {
         let late = mem::replace(&mut *self.late.lock(rt), Vec::new(self.alloc));
         let tried = late.len();
@@ -75,8 +78,8 @@ impl<'a, J: NodeNaming, S: Stated<J>, G: Gate> Shared<'a, J, S, G> {
         (tried, left)
     }
 
-    // Writes as much as the socket takes. Returns the pen if that is still full. A connection that the node closed meanwhile is
-    // ended then, so that a client that does not read keeps no place.
+    // Writes as much as the socket takes. Returns the pen if that is still full. A connection that
+    // the node closed meanwhile is then ended, so that a client that does not read keeps no place.
     fn go_on_late<R: Wait>(&self, rt: &R, link: &Arc<Link, Global>, pen: Pen) -> Option<Pen>
         requires { IsPenOf (arc_value link.now).port pen }
         ensures { IfSome result (λ late. IsPenOf (arc_value link.now).port late) }
@@ -91,7 +94,8 @@ impl<'a, J: NodeNaming, S: Stated<J>, G: Gate> Shared<'a, J, S, G> {
     }
 }
 
-// How long the thread sleeps next, by how many connections it tried and how many of these are late still.
+// Returns how long the thread sleeps next, by how many connections it tried and how many of these
+// are still late.
 fn next_pause(pause: u64, tried: usize, left: usize) -> u64 {
     if left == 0 || left < tried {
         FIRST_MILLIS

@@ -1,8 +1,8 @@
-// Laws of the words on servers. The calls do nothing; their contracts are the laws.
+// Laws of the definitions on servers. The calls do nothing; their contracts are the laws.
 
 ghost use Rattle.server.specs.Laws.{CutsComeApart, CutsComeOften, PortsDiffer};
 
-/// No two connections of a node have one port.
+/// No two connections of a node have the same port.
 pub fn ports_differ()
     ensures { PortsDiffer }
 {}

@@ -24,9 +24,9 @@ use std::thread::{Parker, Threads};
 use std::time::{Clock, Instant};
 use streams::{CONNECTIONS, Place};
 
-/// Serves the clients of several nodes, each at its place, while `attend` runs beside it with the nodes in
-/// hand, and gives what that returned; all connections are ended then. The nodes open in ballot 1 of this
-/// configuration.
+/// Serves the clients of several nodes, each at its place, while `attend` runs with these nodes,
+/// and returns what that returned; then all connections are ended. The nodes open in ballot 1 of
+/// this configuration.
 ///
 /// The errors are those of the opening, and [`ServeError::Threads`] if fewer threads can be started
 /// than the nodes need: then nothing is served. A node for which none can be started later is not
@@ -48,9 +48,10 @@ where
     Ok(answer)
 }
 
-/// As [`serve_while`], where each node asks a gate before it takes an item, and tells at the end what it
-/// took and what it left: the reports stand in the order of the nodes' numbers. Where the gate has not opened
-/// after ten thousand askings, a millisecond apart, the node goes on, and its report counts it.
+/// As [`serve_while`], but each node asks a gate before it takes an item, and reports at the end
+/// what it took and what it left: the reports are in the order of the nodes' numbers. If the gate
+/// has not opened after it was asked ten thousand times, a millisecond apart, the node continues,
+/// and its report counts it.
 ///
 /// The errors are those of [`serve_while`].
 pub fn serve_gated<R, G, T, F>(
@@ -71,7 +72,7 @@ where
     serve_all(rt, alloc, places, config, Some(gate), attend)
 }
 
-// The same with a gate or without one.
+// Does the same with a gate or without one.
 fn serve_all<R, G, T, F>(
     rt: &R,
     alloc: Global,
@@ -128,7 +129,7 @@ where
     Ok((answer, outcome.into_inner().into_reports()?))
 }
 
-// What the nodes of these places will have for one another, and their master.
+// Returns the peers of the nodes of these places, and their master.
 fn open_post(alloc: Global, places: &[Place], config: &Config) -> Result<Peers, OpeningError> {
     let numbers: Vec<u8> = places.iter().map(|place| place.number).collect(alloc)?;
     Peers::new(alloc, numbers.as_slice(), config)

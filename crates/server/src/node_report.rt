@@ -1,8 +1,8 @@
-// What a node tells at the end.
+// What a node reports at the end.
 
 use node::Report;
 
-/// What became of the items that were sent to one of the nodes.
+/// What happened to the items that were sent to one of the nodes.
 #[derive(Drop)]
 pub struct NodeReport {
     /// The node's number.

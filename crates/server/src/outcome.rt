@@ -1,10 +1,10 @@
-// What the nodes told at their ends.
+// What the nodes reported at their ends.
 
 use crate::node_report::NodeReport;
 use crate::serve_error::ServeError;
 use std::alloc::{AllocError, Global};
 
-/// What the nodes told at their ends.
+/// What the nodes reported at their ends.
 #[derive(Drop)]
 pub(crate) struct Outcome {
     reports: Vec<NodeReport>,
@@ -13,7 +13,8 @@ pub(crate) struct Outcome {
 }
 
 impl Outcome {
-    /// Nothing yet, with room for what so many nodes tell. The only error is want of memory.
+    /// Returns an empty outcome, with capacity for the reports of this many nodes. The only error
+    /// is that memory ran out.
     pub(crate) fn new(alloc: Global, nodes: usize) -> Result<Outcome, AllocError> {
         Ok(Outcome {
             reports: Vec::with_capacity(alloc, nodes)?,
@@ -21,7 +22,7 @@ impl Outcome {
         })
     }
 
-    /// A node tells what became of it.
+    /// Keeps what a node reports.
     pub(crate) fn keep(&mut self, served: Result<NodeReport, ServeError>) {
         match served {
             Ok(report) => {
@@ -33,7 +34,7 @@ impl Outcome {
         }
     }
 
-    /// The reports by the nodes' numbers, or why a node was not served.
+    /// Returns the reports by the nodes' numbers, or why a node was not served.
     pub(crate) fn into_reports(self) -> Result<Vec<NodeReport>, ServeError> {
         let Outcome {
             mut reports,

@@ -14,19 +14,19 @@ use std::sync::Wait;
 use std::time::{Clock, Duration};
 use streams::{CONNECTIONS, Link};
 
-/// How often the node is told the time, in milliseconds.
+/// How often the node gets the time, in milliseconds.
 const TICK: u64 = 200;
 
 /// How long the first packet of a connection may take, in milliseconds.
 const FIRST_PACKET: u64 = 10_000;
 
-/// How often the thread looks for what comes before it sleeps, and how many steps it waits between two looks: all in all
-/// for about as long as it takes to wake a thread.
+/// How often the thread looks for what comes before it sleeps, and how many steps it waits between
+/// two looks: all in all for about as long as it takes to wake a thread.
 const LOOKS: u32 = 64;
 
 const STEPS: u32 = 8;
 
-/// When the node was told the time last, and how many times, at most 2^64 - 1.
+/// When the node got the time last, and how many times, at most 2^64 - 1.
 #[derive(Clone, Copy)]
 struct Told {
     time: u64,
@@ -82,7 +82,7 @@ impl<'a, J: NodeNaming, S: Stated<J>, G: Gate> Shared<'a, J, S, G> {
         }
     }
 
-    // Whether the first packet of a connection did not come in time.
+    // Says whether the first packet of a connection did not come in time.
     fn awaits_too_long<R: Wait>(&self, rt: &R, link: &Link, now: u64) -> bool {
         let standing = self.node.lock(rt).state().standing(link.port);
         is_overdue(standing, link.opened, now)
@@ -102,7 +102,7 @@ impl<'a, J: NodeNaming, S: Stated<J>, G: Gate> Shared<'a, J, S, G> {
         self.turn(rt, lane, 0);
     }
 
-    // Sends what was left for the node by its lane.
+    // Sends what was queued for the node by its lane.
     fn put_letter<R: Wait + Clock>(&self, rt: &R, lane: &mut Lane<Item, J>, item: Item)
         requires { IsLeft self.now.seat.node.now.number item }
         ensures { SendsOwn self.now.seat.node.now.number lane.old.sent lane.new.sent }
@@ -110,7 +110,7 @@ impl<'a, J: NodeNaming, S: Stated<J>, G: Gate> Shared<'a, J, S, G> {
         self.put(rt, lane, item);
     }
 
-    // Sleeps until something comes, or it is time for a tick, where nothing comes at once.
+    // Sleeps until something comes or it is time for a tick, if nothing comes at once.
     fn rest<R: Wait>(&self, rt: &R) {
         if self.comes_at_once(rt) {
             return;
@@ -121,7 +121,7 @@ impl<'a, J: NodeNaming, S: Stated<J>, G: Gate> Shared<'a, J, S, G> {
         }
     }
 
-    // Looks whether other nodes have something for the node, for a while.
+    // Watches for a while whether other nodes have something for the node. Returns whether they do.
     fn comes_at_once<R: Wait>(&self, rt: &R) -> bool {
         for _ in 0..LOOKS {
             if self.seat.node.is_wanted(rt) {
@@ -133,7 +133,7 @@ impl<'a, J: NodeNaming, S: Stated<J>, G: Gate> Shared<'a, J, S, G> {
     }
 }
 
-// Whether the first packet of a connection that was accepted at a time is awaited too long.
+// Says whether the first packet of a connection that was accepted at a time is awaited too long.
 fn is_overdue(standing: Standing, opened: u64, now: u64) -> bool
     ensures { result ≡ is_overdue standing opened now }
 {

@@ -12,8 +12,9 @@ use std::time::{Clock, Duration};
 const ROOM_MILLIS: u64 = 1;
 
 impl<'a, J: NodeNaming, S: Stated<J>, G: Gate> Shared<'a, J, S, G> {
-    /// Waits until the node takes this many bytes more of its clients. Returns how many count as on their way. None do
-    /// where there is only one node, nor on a connection that the node has closed, whose bytes do nothing.
+    /// Waits until the node takes this many more bytes from its clients. Returns how many count as
+    /// in transit. None do if there is only one node, nor on a connection that the node has closed,
+    /// whose bytes have no effect.
     pub(crate) fn await_room<R: Wait + Clock>(&self, rt: &R, port: Port, bytes: u64) -> u64
         requires { bytes ≤ 65536 }
     {
@@ -32,7 +33,7 @@ impl<'a, J: NodeNaming, S: Stated<J>, G: Gate> Shared<'a, J, S, G> {
         unreachable!()
     }
 
-    // Whether nothing more is wanted of a connection.
+    // Says whether nothing more is needed of a connection.
     fn is_over<R: Wait>(&self, rt: &R, port: Port) -> bool {
         self.seat.place.door.is_closed(rt)
             || self.node.lock(rt).state().standing(port) == Standing::Closed

@@ -1,4 +1,4 @@
-// A place with its node among the others.
+// A place with its node and the other nodes.
 
 use post::{Peer, Peers};
 use std::time::{Clock, Instant};
@@ -25,7 +25,7 @@ impl<'a> Seat<'a> {
         })
     }
 
-    /// Milliseconds since its times began.
+    /// Returns the milliseconds since its times began.
     pub(crate) fn now<R: Clock>(&self, rt: &R) -> u64 {
         match self.start.elapsed(rt) {
             Ok(time) => u64::try_from(time.as_millis()).unwrap_or(u64::MAX),

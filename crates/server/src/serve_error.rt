@@ -12,7 +12,7 @@ pub enum ServeError {
     /// No ballot may have the configuration: no member, more than 7, not strictly rising, one outside 1 to
     /// 15, or a primary that is no member; or a node has a number outside 1 to 15.
     BadMembers,
-    /// A growth was refused.
+    /// Memory ran out.
     Memory,
     /// The clock cannot be read.
     Clock,

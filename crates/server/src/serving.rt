@@ -1,4 +1,4 @@
-// The thread of a lane, and one connection after the other that it serves.
+// The thread of a lane, and the connections that it serves one after another.
 
 ghost use Rattle.std.specs.Prelude.{◌≡◌, ◌<◌, ◌^◌, IfSome};
 ghost use Rattle.std.specs.Arc.{arc_value};
@@ -21,7 +21,7 @@ const WRITE_MILLIS: u64 = 1;
 /// How many connections a lane serves, each at a port of its own.
 const CONNECTIONS_OF_LANE: u64 = 1 << 56;
 
-/// By this the ports of a lane's connections rise. A lane's number is below it.
+/// The ports of a lane's connections are this far apart. A lane's number is below it.
 const PORTS_APART: u64 = 256;
 
 impl<'a, J: NodeNaming, S: Stated<J>, G: Gate> Shared<'a, J, S, G> {
@@ -41,8 +41,8 @@ impl<'a, J: NodeNaming, S: Stated<J>, G: Gate> Shared<'a, J, S, G> {
         lane
     }
 
-    // Serves a stream until its client or the node ends it. Where as many are served as may be, or there is
-    // no memory for it, it is closed at once.
+    // Serves a stream until its client or the node ends it. If as many are served as may be, or
+    // memory runs out, it is closed at once.
     fn serve_stream<R: Wait + Clock>(
         &self,
         rt: &R,
@@ -126,7 +126,7 @@ impl<'a, J: NodeNaming, S: Stated<J>, G: Gate> Shared<'a, J, S, G> {
     }
 }
 
-// The port of the connection that a lane comes to behind so many others.
+// Returns the port of a lane's connection that comes after this many others.
 fn port_of(lane: u8, count: u64) -> Port
     requires { count < 2 ^ 56 }
     ensures { result ≡ port_of lane count }

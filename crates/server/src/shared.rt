@@ -13,7 +13,7 @@ use std::sync::{Mutex, Wait};
 use std::thread::Parker;
 use streams::Late;
 
-/// What the threads of a node share. No thread holds one of the locks while it waits, but for its
+/// What the threads of a node share. No thread holds one of the locks while it waits, except its
 /// turn at a gate.
 #[derive(Drop)]
 pub(crate) struct Shared<'a, J: NodeNaming, S: Stated<J>, G: Gate> {
@@ -24,14 +24,14 @@ pub(crate) struct Shared<'a, J: NodeNaming, S: Stated<J>, G: Gate> {
     pub(crate) config: &'a Config,
     /// The connections whose sockets were full.
     pub(crate) late: Mutex<Vec<Late>>,
-    /// On this the thread sleeps that goes on with them.
+    /// The thread that continues with them sleeps on this.
     pub(crate) late_waker: Parker,
     pub(crate) ghost opens: { EachOpensAs seat.place.now.number config.now J.first_of },
 }
 
 impl<'a, J: NodeNaming, G: Gate> Shared<'a, J, NodeState<J>, G> {
-    /// Ends the node, whose threads have returned, and reports what became of the items that were
-    /// sent to it by these lanes. The error comes if they are not all its lanes, in their order.
+    /// Ends the node, whose threads have returned, and reports what happened to the items that were
+    /// sent to it by these lanes. The error comes if they are not all its lanes, in order.
     pub(crate) fn close<R: Wait>(
         self,
         rt: &R,

@@ -8,14 +8,14 @@ use std::time::{Clock, Duration};
 /// How long a thread sleeps before it looks again whether all were started, in milliseconds.
 const LOOK_MILLIS: u64 = 1;
 
-/// Returns whether so many threads can be started beside each other. They are started, wait for
-/// each other, and end again.
+/// Says whether this many threads can be started at the same time. They are started, wait for each
+/// other, and end again.
 pub(crate) fn can_start<R: Threads + Wait + Clock + Sync>(rt: &R, count: usize) -> bool {
     let are_started = Mutex::new(false);
     start_all(rt, count, &are_started)
 }
 
-// Starts so many threads, none of which ends before all were started. Returns whether all were.
+// Starts this many threads, none of which ends before all were started. Returns whether all were.
 fn start_all<R: Threads + Wait + Clock + Sync>(
     rt: &R,
     count: usize,

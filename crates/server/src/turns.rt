@@ -64,8 +64,9 @@ impl<'a, J: NodeNaming, S: Stated<J>, G: Gate> Shared<'a, J, S, G> {
         }
     }
 
-    // Returns the connections for which something may have been put out, that at this place first. Room is made before a lock is
-    // taken. If memory runs out, idle ones are among them, or some are missing.
+    // Returns the connections for which something may have been queued. The one at this index is
+    // first. Capacity is allocated before a lock is taken. If memory runs out, idle ones are among
+    // them, or some are missing.
     fn busy_links<R: Wait>(&self, rt: &R, first: usize) -> Vec<Arc<Link, Global>> {
         let mut idle = room_for(self.alloc, usize::from(CONNECTIONS));
         let mut busy = room_for(self.alloc, FEW);
@@ -89,12 +90,12 @@ impl<'a, J: NodeNaming, S: Stated<J>, G: Gate> Shared<'a, J, S, G> {
         unreachable!()
     }
 
-    // Takes some items: whether more may wait. Where there is a gate it is asked before each, while
-    // the node's state is not locked.
+    // Takes some items. Returns whether more may wait. A gate is asked before each item, while the
+    // node's state is not locked.
     fn take_some<R: Wait + Clock>(&self, rt: &R, lane: &mut Lane<Item, J>) -> bool
         ensures more { result ≡ true → lane.new ≡ lane.old }
 
-        // Where none waits, all was taken that the lane sent.
+        // If none waits, all was taken that the lane sent.
         ensures none { result ≡ false → lane.new ≡ all_met lane.old }
     {
         let leave = self.node.pass(rt);
@@ -103,16 +104,17 @@ impl<'a, J: NodeNaming, S: Stated<J>, G: Gate> Shared<'a, J, S, G> {
         more
     }
 
-    // Takes items under one lock, as many as there is leave for: whether more may wait. What the node has for
-    // others is handed on while the lock is held, so that it keeps the order of the node's steps. So is how it stands.
+    // Takes items under one lock, as many as the permit allows. Returns whether more may wait. What
+    // the node has for others is handed on while the lock is held, so that it keeps the order of
+    // the node's steps. The status is published then, too.
     fn take_locked<R: Wait>(&self, rt: &R, leave: &Leave<'_>, lane: &mut Lane<Item, J>) -> bool
         ensures more { result ≡ true → lane.new ≡ lane.old }
         ensures none { result ≡ false → lane.new ≡ all_met lane.old }
     {
         let mut node = self.node.lock(rt);
         let state = node.state();
-        // The lane is one of this node's inbox, and the leave is for its next taking, but of what
-        // stands behind a lock no clause tells that.
+        // The lane is one of this node's inbox, and the permit is for its next taking, but no
+        // clause is about what is behind a lock.
         if state.number() != lane.number() || !leave.is_for(state) {
             return true;
         }
@@ -127,8 +129,8 @@ impl<'a, J: NodeNaming, S: Stated<J>, G: Gate> Shared<'a, J, S, G> {
     }
 }
 
-// Takes items until the inbox is empty, as many as there is leave for: whether more may wait, and
-// what the node's steps gave.
+// Takes items until the inbox is empty, as many as the permit allows. Returns whether more may
+// wait, and what the node's steps gave.
 fn take_up_to<J: NodeNaming, R: Wait>(
     rt: &R,
     alloc: Global,
@@ -140,11 +142,11 @@ fn take_up_to<J: NodeNaming, R: Wait>(
     requires opens { EachOpens J.first_of }
     requires next { IsNext leave.now node.old }
 
-    // What the steps of the node gave, from the state before to that behind, and nothing else.
+    // What the steps of the node gave, from the state before to the state after, and nothing else.
     ensures given { Turns node.old node.new result.1 }
     ensures more { result.0 ≡ true → lane.new ≡ lane.old }
 
-    // Where none waits, all was taken that the lane sent: the node has its items in its history.
+    // If none waits, all was taken that the lane sent: the node has its items in its history.
     ensures none { result.0 ≡ false → lane.new ≡ all_met lane.old }
 {
     let mut effects = Vec::new(alloc);
@@ -158,7 +160,7 @@ fn take_up_to<J: NodeNaming, R: Wait>(
     (true, Given::new(effects))
 }
 
-// Returns a list with room for so many, or without room if memory runs out.
+// Returns a list with capacity for this many, or without capacity if memory runs out.
 fn room_for<T: Drop>(alloc: Global, count: usize) -> Vec<T> {
     match Vec::with_capacity(alloc, count) {
         Ok(list) => list,

@@ -18,7 +18,7 @@ pub(crate) const OWN_LANE: u8 = 0;
 /// A lane for the node's own thread, for each connection, and for the thread that closes what comes on top.
 pub(crate) const LANES: u8 = CONNECTIONS + 2;
 
-/// How many threads a node has: one for each lane, and one that goes on with full sockets.
+/// How many threads a node has: one for each lane, and one that continues with full sockets.
 pub(crate) const THREADS: usize = LANES as usize + 1;
 
 /// A lane, unless its thread has it in hand. The thread that goes on with full sockets has none.

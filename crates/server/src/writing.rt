@@ -1,4 +1,4 @@
-// What the node put out for a connection, onto its stream.
+// Writing what the node queued for a connection to its stream.
 
 ghost use Rattle.std.specs.Prelude.{◌≡◌, IfSome};
 ghost use Rattle.std.specs.Arc.{arc_value};
@@ -11,7 +11,7 @@ use std::sync::{Arc, Wait};
 use streams::connection::{Flow, Outlet};
 use streams::{Link, Pen, PortTap};
 
-// The node behind its lock, which puts out bytes for its connections.
+// The node behind its lock, which queued bytes for its connections.
 #[derive(Drop)]
 struct Source<'e, 'a, J: NodeNaming, S: Stated<J>, G: Gate> {
     shared: &'e Shared<'a, J, S, G>,
@@ -30,8 +30,9 @@ impl<'e, 'a, J: NodeNaming, S: Stated<J>, G: Gate> Outlet<PortTap> for Source<'e
 }
 
 impl<'a, J: NodeNaming, S: Stated<J>, G: Gate> Shared<'a, J, S, G> {
-    /// Writes what the node put out for a connection, unless another thread writes there: that one is told
-    /// to look again. What a full socket does not take is left to the late writer. The node's own thread does not wait for it.
+    /// Writes what the node queued for a connection, unless another thread writes there: then that
+    /// one will look again. What a full socket does not take is left to the late writer. The node's
+    /// own thread does not wait for it.
     pub(crate) fn flush<R: Wait>(&self, rt: &R, link: &Arc<Link, Global>, waits: bool) {
         let Some(pen) = link.take_pen(rt) else {
             return;
@@ -41,8 +42,9 @@ impl<'a, J: NodeNaming, S: Stated<J>, G: Gate> Shared<'a, J, S, G> {
         }
     }
 
-    /// Writes what a full socket left and what was put out, until nothing more was, and lays the pen back. Returns the pen
-    /// if the socket is full. A stream that takes no more is ended, and its pen is gone with it.
+    /// Writes what a full socket left over and what was queued, until nothing more is, and returns
+    /// the pen to its case. Returns the pen to the caller if the socket is full. A stream that
+    /// takes no more is ended, and its pen is dropped with it.
     pub(crate) fn write<R: Wait>(
         &self,
         rt: &R,
@@ -91,8 +93,8 @@ impl<'a, J: NodeNaming, S: Stated<J>, G: Gate> Shared<'a, J, S, G> {
         }
     }
 
-    // Writes what a full socket left, and then what the node puts out, as far as the socket takes it within
-    // its time.
+    // Writes what a full socket left over, followed by what the node hands over, as far as the
+    // socket takes it within its time.
     fn write_once<R: Wait>(&self, rt: &R, pen: &mut Pen) -> Flow
         ensures whole { HasWholeStream pen.new }
         ensures port { IsPenOf pen.old.tap.port pen.new }

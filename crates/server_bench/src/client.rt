@@ -12,7 +12,7 @@ const PAYLOAD: [u8; 100] = [7; 100];
 /// How long a client waits for bytes, in seconds.
 const PATIENCE: u64 = 10;
 
-/// The stream of the client of this letter, which was accepted. Its session ends with it.
+/// Returns the stream of the client of this letter, which was accepted. Its session ends with it.
 pub fn join<R: Net<Stream = TcpStream>>(
     rt: &R,
     address: SocketAddr,
@@ -40,7 +40,7 @@ pub fn subscribe(stream: &mut TcpStream, letter: u8, qos: QoS) -> Result<()> {
     Ok(())
 }
 
-/// Puts a PUBLISH on the topic `t/` and this letter behind the bytes. At QoS 0 it has no identifier.
+/// Puts a PUBLISH on the topic `t/` and this letter after the bytes. At QoS 0 it has no identifier.
 pub fn put_publish(letter: u8, qos: QoS, id: u16, bytes: &mut Vec<u8>) -> Result<()> {
     let [high, low] = id.to_be_bytes();
     let first = 0x30 | (qos.number() << 1);

@@ -1,4 +1,4 @@
-// Clients that come one after the other.
+// Clients that come one after another.
 
 use crate::client::join;
 use crate::host::Host;
@@ -23,7 +23,7 @@ fn print<R: Print>(rt: &R, times: &[u128]) -> Result<()> {
     Ok(())
 }
 
-// The times of all clients in microseconds, the shortest first.
+// Returns the times of all clients in microseconds, the shortest first.
 fn times_of_all<R: Host>(rt: &R, address: SocketAddr) -> Result<Vec<u128>> {
     let mut times = Vec::new(rt.alloc());
     put_times(rt, address, &mut times)?;

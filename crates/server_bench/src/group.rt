@@ -14,7 +14,8 @@ pub struct Group {
     pub subscribers: Vec<Subscriber>,
     /// The last letter of the topic.
     pub letter: u8,
-    /// How many publications there are. Until the publisher knows it, it is the most that there may be.
+    /// How many publications there are. Until the publisher knows this, it is the greatest number
+    /// that there may be.
     last: AtomicU64,
 }
 
@@ -26,7 +27,8 @@ pub struct Subscriber {
 }
 
 impl Group {
-    /// All clients are accepted and the subscribers have subscribed. The letters of the clients begin with this one.
+    /// All clients are accepted and the subscribers have subscribed. The letters of the clients
+    /// begin with this one.
     pub fn new<R: Host>(rt: &R, address: SocketAddr, letter: u8, load: &Load) -> Result<Group> {
         let mut subscribers = Vec::new(rt.alloc());
         put_subscribers(rt, address, letter, load, &mut subscribers)?;
@@ -38,17 +40,17 @@ impl Group {
         })
     }
 
-    /// How many publications there are, once that is known.
+    /// Returns how many publications there are, once that is known.
     pub fn last(&self) -> u64 {
         self.last.load(Ordering::SeqCst)
     }
 
-    /// There are so many publications.
+    /// Says that there are this many publications.
     pub fn end_at(&self, last: u64) {
         self.last.store(last, Ordering::SeqCst);
     }
 
-    /// How many publications are done at the ends of all subscribers.
+    /// Returns how many publications are done at the ends of all subscribers.
     pub fn taken(&self) -> u64 {
         let mut least = u64::MAX;
         for subscriber in &self.subscribers {
@@ -83,12 +85,12 @@ impl Subscriber {
         }
     }
 
-    /// How many publications are done at its end.
+    /// Returns how many publications are done at its end.
     pub fn taken(&self) -> u64 {
         self.taken.load(Ordering::SeqCst)
     }
 
-    /// So many publications are done at its end.
+    /// This many publications are done at its end.
     pub fn take(&self, taken: u64) {
         self.taken.store(taken, Ordering::SeqCst);
     }

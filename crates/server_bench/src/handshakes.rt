@@ -1,4 +1,5 @@
-// One end of the handshakes of MQTT 4.3, over bytes: each packet that comes is answered by its first byte.
+// One end of the handshakes of MQTT 4.3, over bytes: each packet that comes is answered by its
+// first byte.
 
 use anyhow::{Result, bail, ensure};
 use std::alloc::Global;
@@ -24,7 +25,7 @@ pub struct Handshakes<'a> {
 }
 
 impl<'a> Handshakes<'a> {
-    /// Those of a stream, none of which has begun. It fails where memory is wanting.
+    /// The handshakes of a stream, none of which has begun. It fails if memory runs out.
     pub fn new(alloc: Global, stream: &'a TcpStream) -> Result<Handshakes<'a>> {
         Ok(Handshakes {
             stream,
@@ -63,7 +64,8 @@ impl<'a> Handshakes<'a> {
     }
 }
 
-// Answers all whole packets: how many publications are done with them, and how many bytes they have.
+// Answers all whole packets: how many publications are done with them, and how many bytes they
+// have.
 fn answer_all(bytes: &[u8], out: &mut Vec<u8>) -> Result<(u64, usize)> {
     let mut done = 0u64;
     let mut rest = bytes;
@@ -77,7 +79,7 @@ fn answer_all(bytes: &[u8], out: &mut Vec<u8>) -> Result<(u64, usize)> {
     Ok((done, bytes.len().saturating_sub(rest.len())))
 }
 
-// The first packet, which has fewer than 130 bytes, and what is behind it.
+// Returns the first packet, which has fewer than 130 bytes, and what is after it.
 fn cut(bytes: &[u8]) -> Option<(&[u8], &[u8])> {
     let len = usize::from(*bytes.get(1)?);
     bytes.split_at_checked(len.saturating_add(2))

@@ -5,7 +5,8 @@ use std::sync::Wait;
 use std::thread::Threads;
 use std::time::Clock;
 
-/// What the benchmarks ask of the runtime: threads, locks, sockets, a clock, memory, and where to print.
+/// What the benchmarks need of the runtime: threads, locks, sockets, a clock, memory, and where to
+/// print.
 pub trait Host: AllocGlobal
     + Threads
     + Wait

@@ -10,7 +10,7 @@ const MOST_AHEAD: u64 = 2_000;
 #[derive(Clone, Copy)]
 pub struct Load {
     pub qos: QoS,
-    /// How many publications a publisher has under way, or at QoS 0 how many it writes at once.
+    /// How many publications a publisher has in transit, or at QoS 0 how many it writes at once.
     pub window: u64,
     /// How many publishers there are, and how many subscribers each of them has.
     pub publishers: u8,
@@ -33,19 +33,20 @@ impl Load {
         }
     }
 
-    /// How many publications may be sent, behind so many of which so many are done and all subscribers took in so many.
+    /// Returns how many publications may be sent, after this many of which this many are done and
+    /// all subscribers accepted this many.
     pub fn room(&self, sent: u64, done: u64, taken: u64) -> u64 {
         let window = self.window.saturating_sub(sent.saturating_sub(done));
         let ahead = MOST_AHEAD.saturating_sub(sent.saturating_sub(taken));
         window.min(ahead)
     }
 
-    /// How many clients a publisher is with its subscribers.
+    /// Returns how many clients a publisher is with its subscribers.
     pub fn clients_each(&self) -> usize {
         usize::from(self.subscribers).saturating_add(1)
     }
 
-    /// How many clients there are.
+    /// Returns how many clients there are.
     pub fn clients(&self) -> usize {
         usize::from(self.publishers).saturating_mul(self.clients_each())
     }

@@ -1,5 +1,5 @@
-//! Measurements of nodes that serve clients over the loopback, one a run: the first word names it, and without a word
-//! the names are listed. The figures are in `docs/PERFORMANCE.md`.
+//! Measurements of nodes that serve clients over the loopback, one a run: the first word names it,
+//! and without a word the names are listed. The figures are in `docs/PERFORMANCE.md`.
 #![tactic(auto)]
 
 mod client;
@@ -39,7 +39,7 @@ fn main(rt: HostRuntime) -> Result<()> {
     }
 }
 
-// All bounds of `Host` stand here, since `main` gets no proof by that name.
+// All bounds of `Host` are written here, since `main` gets no proof by that name.
 fn run<R>(rt: &R, name: &str) -> Result<()>
 where
     R: AllocGlobal + Threads + Wait + Clock + Sync + Print,

@@ -1,11 +1,12 @@
-// Nodes on free ports of the loopback, and what is done beside them.
+// Nodes on free ports of the loopback interface, and what is done while they run.
 
 use crate::host::Host;
 use anyhow::{Result, bail};
 use server::{Config, Members, Place, serve_while};
 use std::net::{SocketAddr, TcpListener};
 
-/// What is done beside these nodes, all members of ballot 1, by the address of node 1, which is the primary.
+/// Runs these nodes, all members of ballot 1, and calls `attend` meanwhile with the address of node
+/// 1, the primary. Returns what the call returns.
 pub fn beside<R, T, F>(rt: &R, members: &[u8], attend: F) -> Result<T>
 where
     R: Host,
@@ -43,7 +44,7 @@ where
     Ok(came)
 }
 
-// The places of these nodes, each on a free port.
+// Returns the places of these nodes, each on a free port.
 fn places<R: Host>(rt: &R, numbers: &[u8]) -> Result<Vec<Place>> {
     let mut places = Vec::new(rt.alloc());
     put_places(rt, numbers, &mut places)?;

@@ -16,14 +16,14 @@ const PAUSE: u64 = 50;
 /// How long subscribers may take after the time of the publishers, in seconds.
 const PATIENCE: u64 = 30;
 
-// A publisher, which has sent so many publications.
+// A publisher, which has sent this many publications.
 #[derive(Drop)]
 struct Publisher<'a> {
     ends: Handshakes<'a>,
     sent: u64,
 }
 
-/// Publishes until the time is over, and then ends what is under way.
+/// Publishes until the time is over, and then ends what is in transit.
 pub fn publish<R: Clock>(
     rt: &R,
     alloc: Global,
@@ -61,7 +61,7 @@ impl<'a> Publisher<'a> {
         self.sent.saturating_sub(self.ends.done)
     }
 
-    // The number of the last publication: that of the next one, where the time is over.
+    // Returns the number of the last publication: that of the next one, if the time is over.
     fn last(&self, group: &Group, is_over: bool) -> u64 {
         let next = self.sent.saturating_add(1);
         if is_over && next < group.last() {
@@ -70,7 +70,7 @@ impl<'a> Publisher<'a> {
         group.last()
     }
 
-    // Sends what may be sent, and waits for answers where some are due.
+    // Sends what may be sent, and waits for answers if some are due.
     fn go_on<R: Clock>(&mut self, rt: &R, group: &Group, load: &Load, last: u64) -> Result<()> {
         let room = load.room(self.sent, self.ends.done, group.taken());
         self.put(group, load, room.min(last.saturating_sub(self.sent)))?;
@@ -84,7 +84,7 @@ impl<'a> Publisher<'a> {
         Ok(())
     }
 
-    // So many publications are to be written.
+    // This many publications are to be written.
     fn put(&mut self, group: &Group, load: &Load, count: u64) -> Result<()> {
         for _ in 0..count {
             self.sent = self.sent.saturating_add(1);

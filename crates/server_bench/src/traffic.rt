@@ -1,4 +1,4 @@
-// Publishers and subscribers beside nodes, each with a thread of its own.
+// Publishers and subscribers of nodes, each with a thread of its own.
 
 use crate::group::Group;
 use crate::host::Host;
@@ -11,7 +11,7 @@ use std::net::SocketAddr;
 use std::thread;
 use std::time::{Clock, Duration, Instant};
 
-/// What came of a load.
+/// The result of a load.
 #[derive(Clone, Copy)]
 pub struct Outcome {
     /// How many publications were published, and how many all subscribers together took in.
@@ -27,7 +27,7 @@ pub fn measure<R: Host>(rt: &R, members: &[u8], load: &Load) -> Result<()> {
     print(rt, load, outcome)
 }
 
-/// What comes of a load at these members.
+/// Returns the result of a load at these members.
 pub fn outcome_of<R: Host>(rt: &R, members: &[u8], load: &Load) -> Result<Outcome> {
     beside(rt, members, |address| run(rt, address, load))?
 }

@@ -1,4 +1,4 @@
-//! A node that serves clients over real sockets. Tests alone stand here.
+//! A node that serves clients over real sockets. It has only tests.
 #![tactic(auto)]
 
 #[cfg(test)]

@@ -1,4 +1,4 @@
-// What no clause says: that bytes come in and go out over a socket, by one node and by several, and that a
+// What no clause says: bytes come and are sent over a socket, by one node and by several, and a
 // client finds its session at another node.
 
 mod answers;

@@ -55,7 +55,7 @@ pub sends_next : (w : ℕ) (fs gs : List Flight) (ps : List Publication) (i : �
 sends_next w fs gs ps i e is =
     ap₂ (λ (hs : List Flight) (qs : List Publication). sends_with fs (drop i ps) ++ fill_sends w hs qs) is (sym (next_waiting fs ps i)) ∙ sends w fs (drop i ps) e
 
--- what is known of the next start, from what was known
+-- what is known about the next start, from what was known
 pub sent_next : (w : ℕ) (fs gs : List Flight) (ps : List Publication) (i : ℕ) (out more all : List Packet) → length fs < w → gs ≡ (started_with fs (drop i ps)).in_flight →
     more ≡ out ++ sends_with fs (drop i ps) → out ++ fill_sends w fs (drop i ps) ≡ all → more ++ fill_sends w gs (drop (i + 1) ps) ≡ all
 sent_next w fs gs ps i out more all e is appended known =
@@ -64,7 +64,7 @@ sent_next w fs gs ps i out more all e is appended known =
     ∙ ap (λ (z : List Packet). out ++ z) (sends_next w fs gs ps i e is)
     ∙ known
 
--- a start puts an entry behind those in flight, or none
+-- a start puts an entry after those in flight, or none
 pub flights_before : (fs gs before : List Flight) (ps : List Publication) → gs ≡ (started_with fs ps).in_flight → before ≡ take (length before) fs → before ≡ take (length before) gs
 flights_before fs gs before [] is e = e ∙ ap (take (length before)) (sym is)
 flights_before fs gs before (p ∷ ps) is e =
@@ -77,14 +77,14 @@ front_of before middle after e f =
     let long = ap length e in let cut = length-take (length before) middle in
     e ∙ ap (take (length before)) f ∙ take-take (length before) (length middle) after (omega (arith, long, cut))
 
--- behind the last place nothing waits
+-- after the last place nothing waits
 pub none_after : (ps : List Publication) (n : ℕ) → length ps ≤ n → drop n ps ≡ []
 none_after [] zero e = refl
 none_after [] (suc n) e = refl
 none_after (p ∷ ps) zero e = absurd (omega (arith, e))
 none_after (p ∷ ps) (suc n) e = none_after ps n (omega (arith, e))
 
--- where a fill sends nothing, nothing is started: an entry that starts is sent
+-- if a fill sends nothing, nothing is started: an entry that starts is sent
 pub never_quiet : (w : ℕ) (fs : List Flight) (p : Publication) (ps : List Publication) (out before : List Packet) →
     length fs < w → out ++ fill_sends w fs (p ∷ ps) ≡ before ++ [] → before ≡ take (length before) out → ⊥
 never_quiet w fs p ps out before e known front =
@@ -96,13 +96,13 @@ never_quiet w fs p ps out before e known front =
     let long = ap length front in let cut = length-take (length before) out in
     absurd (omega (arith, all, more, none, long, cut))
 
--- what stood in front stands in front of more
+-- what was in front is in front of more
 pub still_front : {X : Type 0} (before out xs more : List X) → more ≡ out ++ xs → before ≡ take (length before) out → before ≡ take (length before) more
 still_front before out xs more is e =
     let long = ap length e in let cut = length-take (length before) out in
     e ∙ sym (take-append-le (length before) out xs (omega (arith, long, cut))) ∙ ap (take (length before)) (sym is)
 
--- and so where one may start a fill is not quiet
+-- so if one may start, a fill is not quiet
 pub quiet_starts_none : (w : ℕ) (fs : List Flight) (ps : List Publication) (i : ℕ) (out before more : List Packet) →
     length fs < w → i < length ps → out ++ fill_sends w fs (drop i ps) ≡ before ++ more → more ≡ [] → before ≡ take (length before) out → ⊥
 quiet_starts_none w fs [] i out before more room below known quiet front = absurd (omega (arith, below))

@@ -1,4 +1,4 @@
--- What the calls of a map make of its entries is what becomes of a session's subscriptions.
+-- What the calls of a map make of its entries is what happens to a session's subscriptions.
 use Rattle.std.proofs.Common.{◌≡◌, ℕ, Bool, true, false, not, ◌||◌, if◌then◌else◌, List, [], ◌∷◌, ◌++◌, refl, ap, ◌∙◌, sym, Some, None, Option, Ok}
 use Rattle.std.specs.Prelude.{bytes_eq, is_some}
 use Rattle.std.proofs.lemmas.Bool.{or_parts}
@@ -14,7 +14,7 @@ set_as_entry filter qos [] = refl
 set_as_entry filter qos (first ∷ others) =
     ap (λ rest. if bytes_eq filter first.0 then (first.0, qos) ∷ others else first ∷ rest) (set_as_entry filter qos others)
 
--- a filter is held where the map has it
+-- a filter is held if the map has it
 pub held_is_found : (filter : List ℕ) (held : List HeldFilter) → is_some (lookup (bytes_eq filter) held) ≡ is_held filter held
 held_is_found filter [] = refl
 held_is_found filter (first ∷ others) = by (bytes_eq filter first.0) (held_is_found filter others)
@@ -37,7 +37,7 @@ new_comes_last filter qos (first ∷ others) new =
     let parts = or_parts (bytes_eq filter first.0) (is_held filter others) new in
     rw parts.0 (ap (λ rest. first ∷ rest) (new_comes_last filter qos others parts.1))
 
--- reading goes on where the test is true
+-- reading continues if the test is true
 pub kept_where : (test : Bool) → {done : Unit {0}} → keep test ≡ Ok done → test ≡ true
 kept_where true e = refl
 kept_where false e = absurd (cc)

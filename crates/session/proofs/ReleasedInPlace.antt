@@ -1,5 +1,6 @@
--- To release an entry is to put it behind the released ones: where identifiers are distinct and the released entries
--- come first, what a map leaves of a value that is set and an entry that is moved is what PUBREC leaves.
+-- To release an entry is to put it after the released ones: if identifiers are distinct and the
+-- released entries come first, what a map leaves of a value that is set and an entry that is moved
+-- is what PUBREC leaves.
 use Rattle.std.proofs.Common.{◌≡◌, ◌<◌, ◌≤◌, ◌+◌, ℕ, suc, Bool, true, false, not, ◌&&◌, ◌||◌, ◌==◌, inl, inr, if◌then◌else◌, Some, None, List, [], ◌∷◌, ◌++◌, length, take, drop, filter, refl, ap, ap₂, ◌∙◌, sym, arith}
 use Rattle.std.specs.Prelude.{position, slice_get, remove, nat_lt}
 use Rattle.std.specs.List.{position_or_len, AllByRecursion, IsDistinct as IsDistinctBy}
@@ -42,7 +43,7 @@ few_released id ((other, waits_for.Pubcomp) ∷ fs) (p, e) = by (id == other) e 
 
 -- ---- one is set and taken out
 
--- where the identifier stands, or how many there are
+-- the place of the identifier, or how many there are
 abbrev pub place_of : ℕ → List ℕ → ℕ
 place_of id [] = 0
 place_of id (other ∷ ids) = if id == other then 0 else suc (place_of id ids)
@@ -92,7 +93,7 @@ place_is n len place e = by (nat_lt n len) e
     by true f = cc
     by false f = absurd (cc)
 
--- ---- where it comes to stand
+-- ---- its new place
 
 none_first : (fs : List Flight) → NoneReleased fs → filter is_released fs ≡ []
 none_first [] none = refl
@@ -120,7 +121,7 @@ taken_out id ((other, a) ∷ fs) d none (p, e) = by (id == other) refl e (λ f. 
         (sym (others_stay id fs (ap (λ i. has_id i (ids_of fs)) (same_number id other same) ∙ d.0) none.1))
     by false same f rest = rw (none.0, same) (ap (λ more. (other, a) ∷ more) (rest f))
 
--- the released ones stand before, and all others behind
+-- the released ones are before, and all others after
 parted : (id : ℕ) (fs : List Flight) → IsDistinct (ids_of fs) → IsReleasedFirst fs → IsAwaited id fs →
     (take (length (filter is_released fs)) (remove_entry (λ k. id == k) fs) ≡ filter is_released fs)
     × (drop (length (filter is_released fs)) (remove_entry (λ k. id == k) fs) ≡ unreleased id fs)

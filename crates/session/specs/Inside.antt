@@ -1,4 +1,4 @@
--- What the private calls say: one start of a queue, an entry that is released, and filters.
+-- What the private calls ensure: one start in a queue, an entry that is released, and filters.
 use Rattle.std.specs.Prelude.{◌≡◌, ℕ, ◌==◌, false, Option, Some, None, List, [], ◌∷◌, ◌++◌}
 use Rattle.std.specs.Map.{lookup, set_value}
 use Rattle.packet.specs.declared.qos.QoS.{QoS}
@@ -10,7 +10,7 @@ use Rattle.session_form.specs.session_base.Publication.{publish_of, greater_qos}
 use Rattle.session_form.specs.session_base.Queue.{Flight, Queue, started_flight}
 use Rattle.session_form.specs.Form.{IsWritable}
 
--- the first that waits starts
+-- the first publication that waits starts
 abbrev pub started_with : List Flight → List Publication → Queue
 started_with flights (p ∷ waiting) = record { in_flight = flights ++ started_flight flights p ∷ []; waiting = waiting }
 started_with flights [] = record { in_flight = flights; waiting = [] }
@@ -28,7 +28,7 @@ IsAwaited id fs = (p : Publication) × (lookup (λ other. id == other) fs ≡ So
 abbrev pub with_released : ℕ → List Flight → List Flight
 with_released id fs = set_value (λ other. id == other) fs waits_for.Pubcomp
 
--- the greater QoS of two, each of which may be missing
+-- the greater of two QoS, each of which may be missing
 abbrev pub greater_of : Option QoS → Option QoS → Option QoS
 greater_of (Some q) other = Some (greater_qos q other)
 greater_of None other = other

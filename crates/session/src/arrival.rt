@@ -1,10 +1,10 @@
-// Whether a publication came for the first time.
+// Whether a publication arrived for the first time.
 
-/// What a PUBLISH at QoS 2 is to the session (MQTT 4.3.3).
+/// What a PUBLISH at QoS 2 means to the session (MQTT 4.3.3).
 #[derive(Clone, Copy, Debug, PartialEq, Eq)]
 pub enum Arrival {
-    /// Its identifier is new: the publication is.
+    /// Its identifier is new, so the publication is new.
     First,
-    /// Its identifier came before and is not released: it is another try.
+    /// Its identifier came before and is not released: it is a repeat.
     Again,
 }

@@ -12,12 +12,12 @@ use std::fmt;
 pub enum EnqueueError {
     /// The session holds as many entries as it may.
     QueueFull,
-    /// No memory was found.
+    /// Memory ran out.
     Memory,
 }
 
 impl EnqueueError {
-    /// The number of this refusal, the same in every program and document of this broker.
+    /// Returns the number of this refusal, the same in every program and document of this broker.
     pub fn number(self) -> u8
         ensures { result ≡ number_of self }
     {

@@ -18,8 +18,9 @@ use session_form::{write_flight, write_held, write_number, write_publication};
 use std::alloc::AllocError;
 
 impl Session {
-    /// Appends the session's bytes. A session that may be written has a form: it is within
-    /// its limits, and each part in its range. Without memory a part of the bytes may stand there.
+    /// Appends the session's bytes. A session that may be written has a form: it is within its
+    /// limits, and each part is in range. If memory runs out, a part of the bytes may have been
+    /// appended.
     pub fn write(&self, bytes: &mut Vec<u8>) -> Result<(), AllocError>
         requires { HasForm self.now }
         ensures { OnOk result (bytes.new.items ≡ bytes.old.items ++ state_bytes self.now) }
@@ -31,7 +32,7 @@ impl Session {
 }
 
 impl Subscriptions {
-    /// Appends how many there are, and each.
+    /// Appends their count, and each of them.
     pub(crate) fn write(&self, bytes: &mut Vec<u8>) -> Result<(), AllocError>
         requires { length self.now ≤ 64 }
         ensures { OnOk result (bytes.new.items ≡ bytes.old.items ++ counted one_byte held_bytes self.now) }
@@ -51,7 +52,7 @@ impl Subscriptions {
 }
 
 impl Received {
-    /// Appends how many there are, and each.
+    /// Appends their count, and each of them.
     pub(crate) fn write(&self, bytes: &mut Vec<u8>) -> Result<(), AllocError>
         requires { length self.now ≤ 65535 }
         ensures { OnOk result (bytes.new.items ≡ bytes.old.items ++ counted number number self.now) }
@@ -71,7 +72,7 @@ impl Received {
 }
 
 impl SessionQueue {
-    /// Appends what is in flight and what waits, each with how many there are.
+    /// Appends what is in flight and what waits, each after its count.
     pub(crate) fn write(&self, bytes: &mut Vec<u8>) -> Result<(), AllocError>
         requires few { length self.now.in_flight ≤ 4096 }
         requires fewer { length self.now.waiting ≤ 4096 }

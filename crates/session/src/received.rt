@@ -1,4 +1,4 @@
-// The QoS 2 publications that came in and are not released (MQTT 4.3.3).
+// The QoS 2 publications that arrived and are not released (MQTT 4.3.3).
 
 ghost use Rattle.std.specs.Prelude.{◌≡◌, [], OnOk, OnErr};
 ghost use Rattle.session_form.specs.lists.Lists.{has_id};
@@ -24,7 +24,7 @@ impl Model for Received {
 }
 
 impl Received {
-    /// None.
+    /// Returns an empty list.
     pub(crate) fn new(alloc: Global) -> Received
         ensures { result ≡ [] }
     {
@@ -33,14 +33,14 @@ impl Received {
         }
     }
 
-    /// Whether the identifier is among them.
+    /// Says whether the identifier is in the list.
     pub(crate) fn contains(&self, id: PacketId) -> bool
         ensures { result ≡ has_id id self.now }
     {
         self.ids.contains(&id)
     }
 
-    /// One more, if it is new.
+    /// Adds an identifier, if it is new.
     pub(crate) fn insert(&mut self, id: PacketId) -> Result<(), AllocError>
         ensures ok { OnOk result (self.new ≡ with_id id self.old) }
         ensures err { OnErr result (self.new ≡ self.old) }
@@ -49,7 +49,7 @@ impl Received {
         Ok(())
     }
 
-    /// One less, if it is there. It takes no memory.
+    /// Removes an identifier, if it is there. Takes no memory.
     pub(crate) fn remove(&mut self, id: PacketId)
         ensures { self.new ≡ without_id id self.old }
     {

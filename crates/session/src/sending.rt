@@ -10,28 +10,28 @@ use packet::{Delivery, Packet, PacketId, Publish, QoS};
 use session_form::session_base::{Awaits, Publication};
 use std::alloc::AllocError;
 
-/// Whether PUBACK is what is waited for.
+/// Says whether the entry waits for PUBACK.
 pub(crate) fn waits_for_puback(awaits: &Awaits) -> bool
     ensures { result ≡ is_puback awaits.now }
 {
     matches!(awaits, Awaits::Puback(_))
 }
 
-/// Whether PUBREC is.
+/// Says whether it waits for PUBREC.
 pub(crate) fn waits_for_pubrec(awaits: &Awaits) -> bool
     ensures { result ≡ is_pubrec awaits.now }
 {
     matches!(awaits, Awaits::Pubrec(_))
 }
 
-/// Whether PUBCOMP is: the entry is released.
+/// Says whether it waits for PUBCOMP: the entry is released.
 pub(crate) fn waits_for_pubcomp(awaits: &Awaits) -> bool
     ensures { result ≡ is_pubcomp awaits.now }
 {
     matches!(awaits, Awaits::Pubcomp)
 }
 
-/// What a publication waits for once it is sent.
+/// Returns what a publication waits for once it is sent.
 pub(crate) fn awaits_of(publication: Publication) -> Awaits
     ensures { result ≡ awaited publication }
 {
@@ -41,7 +41,7 @@ pub(crate) fn awaits_of(publication: Publication) -> Awaits
     }
 }
 
-/// The PUBLISH that carries a publication.
+/// Returns the PUBLISH that carries a publication.
 fn publish_packet(publication: &Publication, dup: bool, id: PacketId) -> Result<Packet, AllocError>
     ensures { IfOk result (λ packet. packet ≡ packets.Publish (publish_of dup id publication.now)) }
 {
@@ -68,8 +68,8 @@ pub(crate) fn send_publish(
     Ok(())
 }
 
-/// What a client that comes back is sent of an entry: PUBLISH with DUP 1, or PUBREL for a released
-/// one (MQTT 4.4).
+/// Returns what a client that comes back is sent for an entry: PUBLISH with DUP 1, or PUBREL for a
+/// released one (MQTT 4.4).
 pub(crate) fn packet_anew(id: PacketId, awaits: &Awaits) -> Result<Packet, AllocError>
     ensures { IfOk result (λ packet. packet ≡ sent_anew id awaits.now) }
 {

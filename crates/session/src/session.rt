@@ -22,11 +22,11 @@ use std::alloc::{AllocError, Global};
 use std::marker::Model;
 use topics::{Filter, TopicName};
 
-/// The most entries that a session holds, those in flight among them.
+/// The most entries that a session holds, including those in flight.
 pub const MAX_ENTRIES: usize = 4096;
 
-/// What stands in one client's session: its subscriptions, the identifiers of QoS 2 publications that
-/// came in, the entries in flight and those that wait.
+/// One client's session: its subscriptions, the identifiers of QoS 2 publications that were
+/// received, the entries in flight and those that wait.
 #[derive(Drop)]
 pub struct Session {
     pub(crate) subscriptions: Subscriptions,
@@ -46,7 +46,7 @@ impl Model for Session {
 }
 
 impl Session {
-    /// A session with nothing in it.
+    /// Returns an empty session.
     pub fn new(alloc: Global) -> Session
         ensures { result ≡ empty_session }
     {
@@ -57,13 +57,13 @@ impl Session {
         }
     }
 
-    /// Takes in the identifier of a QoS 2 PUBLISH. Its DUP flag is not asked: a first delivery may
+    /// Takes the identifier of a QoS 2 PUBLISH. Its DUP flag does not matter: a first delivery may
     /// carry it (MQTT 3.3.1.1).
     pub fn inbound(&mut self, id: PacketId) -> Result<Arrival, AllocError>
         ensures again { (result ≡ Ok Again) ↔ (has_id id self.old.received ≡ true) }
         ensures first { result ≡ Ok First → self.new ≡ with_received (with_id id self.old.received) self.old }
 
-        // A repeat and want of memory change nothing.
+        // A repeat changes nothing; if memory runs out, nothing changes either.
         ensures same { result ≢ Ok First → self.new ≡ self.old }
     {
         if self.received.contains(id) {
@@ -73,32 +73,32 @@ impl Session {
         Ok(Arrival::First)
     }
 
-    /// Whether a QoS 2 PUBLISH with this identifier is another try.
+    /// Says whether a QoS 2 PUBLISH with this identifier is a repeat.
     pub fn is_received(&self, id: PacketId) -> bool
         ensures { result ≡ has_id id self.now.received }
     {
         self.received.contains(id)
     }
 
-    /// PUBREL: the identifier may come again.
+    /// Handles PUBREL: the identifier may be used again.
     pub fn release(&mut self, id: PacketId)
         ensures { self.new ≡ with_received (without_id id self.old.received) self.old }
     {
         self.received.remove(id);
     }
 
-    /// How many more entries the session takes.
+    /// Returns how many more entries fit into the session.
     pub fn room(&self) -> usize
         ensures { result ≡ room 4096 self.now.queue }
     {
         self.queue.room(MAX_ENTRIES)
     }
 
-    /// Queues a publication behind the others. It is sent by `fill`.
+    /// Queues a publication after the others. `fill` sends it.
     pub fn enqueue(&mut self, publication: Publication) -> Result<(), EnqueueError>
         ensures ok { OnOk result (self.new ≡ with_queue (enqueue publication self.old.queue) self.old) }
 
-        // `QueueFull` comes exactly where there is no room.
+        // `QueueFull` comes exactly if there is no room.
         ensures full { (result ≡ Err QueueFull) ↔ (room 4096 self.old.queue ≡ 0) }
         ensures err { OnErr result (self.new ≡ self.old) }
     {
@@ -109,7 +109,7 @@ impl Session {
         Ok(())
     }
 
-    /// Queues a publication after the others, where `room` said that there is a place for it. The only
+    /// Queues a publication after the others, if `room` said that there is room for it. The only
     /// error is that memory ran out.
     pub fn admit(&mut self, publication: Publication) -> Result<(), AllocError>
         requires room { 1 ≤ room 4096 self.old.queue }
@@ -120,8 +120,9 @@ impl Session {
         Ok(())
     }
 
-    /// While fewer entries are in flight than the window, the first that waits starts with the least
-    /// free identifier, and its PUBLISH is appended (MQTT 4.6). Without memory nothing changes.
+    /// While fewer entries are in flight than the window, starts the first that waits with the
+    /// least free identifier, and appends its PUBLISH (MQTT 4.6). If memory runs out nothing
+    /// changes.
     pub fn fill(&mut self, window: usize, out: &mut Vec<Packet>) -> Result<(), AllocError>
         requires { window < 65536 }
         ensures state { OnOk result (self.new ≡ with_queue (filled window self.old.queue) self.old) }
@@ -131,13 +132,13 @@ impl Session {
         ensures err { OnErr result (self.new ≡ self.old) }
         ensures unsent { OnErr result (out.new.items ≡ out.old.items) }
 
-        // `Err` only where something is sent.
+        // `Err` only if something is sent.
         ensures quiet { fill_sends window self.old.queue.in_flight self.old.queue.waiting ≡ [] → IsOk result }
     {
         self.queue.fill(window, out)
     }
 
-    /// PUBACK finishes the QoS 1 entry with this identifier (MQTT 4.3.2).
+    /// Handles PUBACK: finishes the QoS 1 entry with this identifier (MQTT 4.3.2).
     pub fn on_puback(&mut self, id: PacketId)
         ensures { self.new ≡ with_queue (with_flights (on_puback id self.old.queue.in_flight) self.old.queue) self.old }
     {
@@ -145,8 +146,8 @@ impl Session {
         self.queue.on_puback(id);
     }
 
-    /// PUBREC releases the QoS 2 entry with this identifier. PUBREL is appended where it did, or had
-    /// done before (MQTT 4.3.3). Without memory nothing changes.
+    /// Handles PUBREC: releases the QoS 2 entry with this identifier. Appends PUBREL if it released
+    /// one now or earlier (MQTT 4.3.3). If memory runs out nothing changes.
     pub fn on_pubrec(&mut self, id: PacketId, out: &mut Vec<Packet>) -> Result<(), AllocError>
         ensures state { OnOk result
             (self.new ≡ with_queue (with_flights (on_pubrec id self.old.queue.in_flight) self.old.queue) self.old) }
@@ -155,14 +156,14 @@ impl Session {
         ensures err { OnErr result (self.new ≡ self.old) }
         ensures unsent { OnErr result (out.new.items ≡ out.old.items) }
 
-        // `Err` only where something is sent.
+        // `Err` only if something is sent.
         ensures quiet { pubrec_sends id (on_pubrec id self.old.queue.in_flight) ≡ [] → IsOk result }
     {
         resend_keeps_the_order();
         self.queue.on_pubrec(id, out)
     }
 
-    /// PUBCOMP finishes the released entry with this identifier (MQTT 4.3.3).
+    /// Handles PUBCOMP: finishes the released entry with this identifier (MQTT 4.3.3).
     pub fn on_pubcomp(&mut self, id: PacketId)
         ensures { self.new ≡ with_queue (with_flights (on_pubcomp id self.old.queue.in_flight) self.old.queue) self.old }
     {
@@ -170,8 +171,8 @@ impl Session {
         self.queue.on_pubcomp(id);
     }
 
-    /// Appends what a client that comes back is sent of what is in flight: PUBREL for each released
-    /// entry, then PUBLISH with DUP 1 (MQTT 4.4). Without memory nothing is appended.
+    /// Appends what a client that comes back is sent for what is in flight: PUBREL for each
+    /// released entry, then PUBLISH with DUP 1 (MQTT 4.4). If memory runs out nothing is appended.
     pub fn resend(&self, out: &mut Vec<Packet>) -> Result<(), AllocError>
         ensures ok { OnOk result (out.new.items ≡ out.old.items ++ resend self.now.queue.in_flight) }
         ensures err { OnErr result (out.new.items ≡ out.old.items) }
@@ -180,8 +181,8 @@ impl Session {
         self.queue.resend(out)
     }
 
-    /// Sets a subscription: an identical filter takes the new QoS in its place, and a new one comes
-    /// last (MQTT 3.8.4).
+    /// Sets a subscription: an identical filter gets the new QoS in its place, and a new one is
+    /// appended (MQTT 3.8.4).
     pub fn subscribe(&mut self, filter: Filter, qos: QoS) -> Result<(), AllocError>
         ensures ok { OnOk result
             (self.new ≡ with_filters (with_subscription (filter, qos) self.old.subscriptions) self.old) }
@@ -193,35 +194,36 @@ impl Session {
         self.subscriptions.set(filter, qos)
     }
 
-    /// Gives a subscription up, compared character by character (MQTT 3.10.4).
+    /// Removes a subscription, compared character by character (MQTT 3.10.4).
     pub fn unsubscribe(&mut self, filter: &Filter)
         ensures { self.new ≡ with_filters (without_filter filter.now self.old.subscriptions) self.old }
     {
         self.subscriptions.remove(filter);
     }
 
-    /// Whether this filter is a subscription of the session.
+    /// Says whether this filter is a subscription of the session.
     pub fn has_subscription(&self, filter: &Filter) -> bool
         ensures { result ≡ is_held filter.now self.now.subscriptions }
     {
         self.subscriptions.contains(filter)
     }
 
-    /// How many subscriptions there are.
+    /// Returns how many subscriptions there are.
     pub fn subscription_count(&self) -> usize
         ensures { result ≡ length self.now.subscriptions }
     {
         self.subscriptions.len()
     }
 
-    /// The subscriptions, in the order of their first granting.
+    /// Returns the subscriptions, in the order of their first granting.
     pub fn subscriptions(&self) -> &IndexMap<Filter, QoS>
         ensures { result.now.entries ≡ self.now.subscriptions }
     {
         self.subscriptions.all()
     }
 
-    /// The greatest QoS of the subscriptions that match the topic, if one does (MQTT 3.3.5).
+    /// Returns the greatest QoS of the subscriptions that match the topic, if one does (MQTT
+    /// 3.3.5).
     pub fn granted(&self, topic: &TopicName) -> Option<QoS>
         ensures { result ≡ granted_qos topic.now self.now.subscriptions }
     {

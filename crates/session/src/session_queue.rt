@@ -1,4 +1,4 @@
-// What goes out to a client: the entries in flight, and what waits (MQTT 4.3, 4.4, 4.6).
+// What is sent to a client: the entries in flight, and what waits (MQTT 4.3, 4.4, 4.6).
 
 ghost use Rattle.std.specs.Prelude.{◌≡◌, ◌≤◌, ◌<◌, ◌++◌, [], ◌∷◌, true, false, length, filter, take, drop, IsOk, IfOk, OnOk, OnErr};
 ghost use Rattle.std.specs.List.{list_any};
@@ -38,7 +38,7 @@ impl Model for SessionQueue {
 }
 
 impl SessionQueue {
-    /// A queue with nothing in it.
+    /// Returns an empty queue.
     pub(crate) fn new(alloc: Global) -> SessionQueue
         ensures { result ≡ empty_queue }
     {
@@ -48,14 +48,14 @@ impl SessionQueue {
         }
     }
 
-    /// How many more entries fit below this limit.
+    /// Returns how many more entries fit below this limit.
     pub(crate) fn room(&self, limit: usize) -> usize
         ensures { result ≡ room limit self.now }
     {
         limit.saturating_sub(self.in_flight.len().saturating_add(self.waiting.len()))
     }
 
-    /// A publication comes last.
+    /// Appends a publication.
     pub(crate) fn enqueue(
         &mut self,
         publication: Publication,
@@ -66,8 +66,8 @@ impl SessionQueue {
         self.waiting.push_back(publication)
     }
 
-    /// Starts what waits while fewer are in flight than the window, and appends what is sent. Without
-    /// memory nothing changes.
+    /// Starts what waits while fewer are in flight than the window, and appends what is sent. If
+    /// memory runs out nothing changes.
     pub(crate) fn fill(&mut self, window: usize, out: &mut Vec<Packet>) -> Result<(), AllocError>
         requires { window < 65536 }
         ensures state { OnOk result (self.new ≡ filled window self.old) }
@@ -93,7 +93,8 @@ impl SessionQueue {
         }
     }
 
-    // Starts what may start, appends what is sent, and returns how many they are. They still wait as well.
+    // Starts what may start, appends what is sent, and returns how many started. They still wait as
+    // well.
     fn start_all(&mut self, window: usize, out: &mut Vec<Packet>) -> Result<usize, AllocError>
         requires { window < 65536 }
         ensures state { IfOk result
@@ -118,7 +119,7 @@ impl SessionQueue {
         Ok(self.waiting.len())
     }
 
-    // Starts the one that waits at this place. It still waits there as well.
+    // Starts the one that waits at this index. It still waits there as well.
     fn start(&mut self, place: usize, out: &mut Vec<Packet>) -> Result<(), AllocError>
         requires { length self.old.in_flight < 65535 }
         ensures state { OnOk result
@@ -141,7 +142,7 @@ impl SessionQueue {
         Ok(())
     }
 
-    // The first so many no longer wait.
+    // Removes this many publications from the front of what waits.
     fn take_off(&mut self, many: usize)
         requires { many ≤ length self.old.waiting }
         ensures { self.new
@@ -152,15 +153,15 @@ impl SessionQueue {
         }
     }
 
-    /// PUBACK finishes the QoS 1 entry with this identifier.
+    /// Handles PUBACK: finishes the QoS 1 entry with this identifier.
     pub(crate) fn on_puback(&mut self, id: PacketId)
         ensures { self.new ≡ with_flights (on_puback id self.old.in_flight) self.old }
     {
         self.in_flight.retain(|other, awaits| !(id == *other && waits_for_puback(awaits)));
     }
 
-    /// PUBREC releases the QoS 2 entry with this identifier, and is answered by PUBREL, also where
-    /// the entry was released before. Without memory nothing changes.
+    /// Handles PUBREC: releases the QoS 2 entry with this identifier, and answers with PUBREL, also
+    /// if the entry was released before. If memory runs out nothing changes.
     #[tactic(auto, using(crate::proofs::AnswersToPubrec::released_is_answered))]
     pub(crate) fn on_pubrec(
         &mut self,
@@ -184,7 +185,7 @@ impl SessionQueue {
         Ok(())
     }
 
-    // Whether an entry with this identifier waits for PUBREC.
+    // Says whether an entry with this identifier waits for PUBREC.
     fn is_awaited(&self, id: PacketId) -> bool
         ensures test { result ≡ list_any (awaits_pubrec id) self.now.in_flight }
         ensures found { result ≡ true → IsAwaited id self.now.in_flight }
@@ -196,7 +197,7 @@ impl SessionQueue {
         }
     }
 
-    // Whether one is released.
+    // Says whether an entry with this identifier is released.
     fn is_released(&self, id: PacketId) -> bool
         ensures { result ≡ list_any (awaits_pubcomp id) self.now.in_flight }
     {
@@ -207,7 +208,7 @@ impl SessionQueue {
         }
     }
 
-    // An entry that waits for PUBREC comes directly behind the released ones. An identifier that is
+    // Moves an entry that waits for PUBREC directly after the released ones. An identifier that is
     // in flight takes no memory.
     fn release(&mut self, id: PacketId)
         requires first { IsReleasedFirst self.old.in_flight }
@@ -221,7 +222,7 @@ impl SessionQueue {
         }
     }
 
-    // How many entries are released.
+    // Returns how many entries are released.
     fn released(&self) -> usize
         ensures { result ≡ length (filter is_released self.now.in_flight) }
     {
@@ -235,15 +236,15 @@ impl SessionQueue {
         many
     }
 
-    /// PUBCOMP finishes the released entry with this identifier.
+    /// Handles PUBCOMP: finishes the released entry with this identifier.
     pub(crate) fn on_pubcomp(&mut self, id: PacketId)
         ensures { self.new ≡ with_flights (on_pubcomp id self.old.in_flight) self.old }
     {
         self.in_flight.retain(|other, awaits| !(id == *other && waits_for_pubcomp(awaits)));
     }
 
-    /// Appends what a client that comes back is sent of what is in flight, in its order. Without memory
-    /// nothing is appended.
+    /// Appends what a client that comes back is sent for what is in flight, in order. If memory
+    /// runs out nothing is appended.
     pub(crate) fn resend(&self, out: &mut Vec<Packet>) -> Result<(), AllocError>
         ensures ok { OnOk result (out.new.items ≡ out.old.items ++ resend self.now.in_flight) }
         ensures err { OnErr result (out.new.items ≡ out.old.items) }
@@ -257,7 +258,7 @@ impl SessionQueue {
         appended
     }
 
-    // Appends it. Without memory some of it may stand there.
+    // Appends it. If memory runs out some of it may have been appended.
     fn append_anew(&self, out: &mut Vec<Packet>) -> Result<(), AllocError>
         ensures ok { OnOk result (out.new.items ≡ out.old.items ++ resend self.now.in_flight) }
         ensures err { OnErr result (out.old.items ≡ take (length out.old.items) out.new.items) }
@@ -270,7 +271,7 @@ impl SessionQueue {
     }
 }
 
-// The least identifier that is not in flight.
+// Returns the least identifier that is not in flight.
 fn free_id(in_flight: &IndexMap<PacketId, Awaits>) -> PacketId
     requires { length in_flight.now.entries < 65535 }
     ensures { result ≡ least_free (ids_of in_flight.now.entries) }
@@ -286,7 +287,7 @@ fn free_id(in_flight: &IndexMap<PacketId, Awaits>) -> PacketId
     PacketId::new(number)
 }
 
-// An entry comes behind those in flight.
+// Puts an entry after those in flight.
 pub(crate) fn put_last(
     in_flight: &mut IndexMap<PacketId, Awaits>,
     id: PacketId,
@@ -300,7 +301,7 @@ pub(crate) fn put_last(
     Ok(())
 }
 
-// The entry with this identifier waits for PUBCOMP from now on. It stays in its place.
+// Marks the entry with this identifier as waiting for PUBCOMP. It stays at its place.
 fn mark_released(in_flight: &mut IndexMap<PacketId, Awaits>, id: PacketId)
     requires { IsAwaited id in_flight.old.entries }
     ensures entries { in_flight.new.entries ≡ with_released id in_flight.old.entries }

@@ -10,7 +10,7 @@ use std::alloc::{AllocError, Global};
 use std::marker::Model;
 use topics::{Filter, TopicName, matches};
 
-/// Filters with the QoS at which each was granted last, in the order of their first granting.
+/// Filters, each with the QoS that was granted last, in the order of their first granting.
 #[derive(Drop)]
 pub(crate) struct Subscriptions {
     pub(crate) held: IndexMap<Filter, QoS>,
@@ -26,7 +26,7 @@ impl Model for Subscriptions {
 }
 
 impl Subscriptions {
-    /// None.
+    /// Returns an empty list.
     pub(crate) fn new(alloc: Global) -> Subscriptions
         ensures { result ≡ [] }
     {
@@ -35,28 +35,28 @@ impl Subscriptions {
         }
     }
 
-    /// How many there are.
+    /// Returns how many there are.
     pub(crate) fn len(&self) -> usize
         ensures { result ≡ length self.now }
     {
         self.held.len()
     }
 
-    /// All of them.
+    /// Returns all of them.
     pub(crate) fn all(&self) -> &IndexMap<Filter, QoS>
         ensures { result.now.entries ≡ self.now }
     {
         &self.held
     }
 
-    /// Whether the filter is among them.
+    /// Says whether the filter is among them.
     pub(crate) fn contains(&self, filter: &Filter) -> bool
         ensures { result ≡ is_held filter.now self.now }
     {
         self.held.contains_key(filter)
     }
 
-    /// An identical filter takes the new QoS in its place, and a new one comes last.
+    /// Sets a filter: an identical filter gets the new QoS in its place, and a new one is appended.
     pub(crate) fn set(&mut self, filter: Filter, qos: QoS) -> Result<(), AllocError>
         ensures ok { OnOk result (self.new ≡ with_subscription (filter, qos) self.old) }
         ensures err { OnErr result (self.new ≡ self.old) }
@@ -66,14 +66,14 @@ impl Subscriptions {
         Ok(())
     }
 
-    /// The filter is given up, if it is there. It takes no memory.
+    /// Removes the filter, if it is there. Takes no memory.
     pub(crate) fn remove(&mut self, filter: &Filter)
         ensures { self.new ≡ without_filter filter.now self.old }
     {
         self.held.retain(|held, _qos| !(*filter == *held));
     }
 
-    /// The greatest QoS of those that match the topic.
+    /// Returns the greatest QoS of the filters that match the topic.
     #[tactic(auto, using(crate::proofs::GreatestOfAll::one_more))]
     pub(crate) fn granted(&self, topic: &TopicName) -> Option<QoS>
         ensures { result ≡ granted_qos topic.now self.now }
@@ -88,7 +88,7 @@ impl Subscriptions {
     }
 }
 
-// The greater of two, of which the second may be missing.
+// Returns the greater of two QoS, the second of which may be missing.
 fn greater(qos: QoS, best: Option<QoS>) -> QoS
     ensures { result ≡ greater_qos qos best }
 {

@@ -1,4 +1,4 @@
-// The session that bytes stand for.
+// Reading a frozen session.
 
 ghost use Rattle.std.specs.Prelude.{◌≡◌, ◌≤◌, [], length, IfOk};
 ghost use Rattle.std.specs.List.Sorted.{IsStrictlySortedBy};
@@ -31,7 +31,7 @@ const MAX_SUBSCRIPTIONS: u8 = 64;
 const OUT_OF_MEMORY: Stop = Stop::Malformed(MalformedKind::Memory);
 
 impl Subscriptions {
-    /// As many filters as their count says, none of them twice.
+    /// Reads as many filters as their count says, none of them twice.
     #[tactic(auto, unfolding(session_form::specs::Counted::counted_at))]
     pub(crate) fn read(alloc: Global, reader: &mut Reader) -> Result<Subscriptions, Stop>
         ensures { Reads (λ x. x) result reader.new (counted_at byte_at is_new_filter held_at 64 reader.old) }
@@ -41,7 +41,7 @@ impl Subscriptions {
         read_filters(alloc, count, reader)
     }
 
-    // One more, which is not held yet.
+    // Adds a filter that is not yet held.
     fn add(&mut self, filter: Filter, qos: QoS) -> Result<(), Stop>
         ensures { Adds is_new_filter self.old (filter, qos) result self.new }
     {
@@ -65,7 +65,7 @@ fn read_filters(alloc: Global, count: u8, reader: &mut Reader) -> Result<Subscri
 }
 
 impl Received {
-    /// As many identifiers as their count says, in rising order.
+    /// Reads as many identifiers as their count says, in rising order.
     #[tactic(auto, unfolding(session_form::specs::Counted::counted_at))]
     pub(crate) fn read(alloc: Global, reader: &mut Reader) -> Result<Received, Stop>
         ensures { Reads (λ x. x) result reader.new (counted_at number_at is_above id_at 65535 reader.old) }
@@ -74,7 +74,7 @@ impl Received {
         read_ids(alloc, count, reader)
     }
 
-    // One more, which is above the last.
+    // Adds an identifier that is above the last.
     #[tactic(auto, using(crate::proofs::LastIdentifiers::comes_last))]
     fn add(&mut self, id: PacketId) -> Result<(), Stop>
         ensures { Adds is_above self.old id result self.new }
@@ -86,7 +86,7 @@ impl Received {
         }
     }
 
-    // Whether the identifier is above the last. All of them rise.
+    // Says whether the identifier is above the last. All of them rise.
     #[tactic(auto, using(crate::proofs::LastIdentifiers::above_last))]
     fn is_above(&self, id: PacketId) -> bool
         ensures test { result ≡ is_above self.now id }
@@ -112,9 +112,9 @@ fn read_ids(alloc: Global, count: u16, reader: &mut Reader) -> Result<Received, 
 }
 
 impl Session {
-    /// The session at the front of the bytes that are left. All that is not of the form stops the
-    /// reading: a filter or an identifier that stands twice, a part out of its range, a 65th
-    /// subscription, more in flight than the window, a 4,097th entry. `Memory` for want of memory.
+    /// Reads the session at the front of the bytes that are left. Whatever is not of the form stops
+    /// the reading: a filter or an identifier that occurs twice, a part out of its range, a 65th
+    /// subscription, more in flight than the window, a 4,097th entry. `Memory` if memory runs out.
     #[tactic(auto, unfolding(session_form::specs::Form::state_at))]
     pub fn read(alloc: Global, window: usize, reader: &mut Reader) -> Result<Session, Stop>
         requires { window ≤ 4096 }
@@ -132,7 +132,7 @@ impl Session {
     }
 }
 
-// As many entries in flight as their count says, the released ones first.
+// Reads as many entries in flight as their count says, the released ones first.
 #[tactic(auto, using(session_form::proofs::FollowRead::read_first, session_form::proofs::FollowRead::read_few))]
 fn read_in_flight(
     alloc: Global,
@@ -174,7 +174,7 @@ fn read_flights(
     Ok(read)
 }
 
-// One more entry, with an identifier of its own.
+// Adds an entry, with an identifier of its own.
 fn add_flight(
     in_flight: &mut IndexMap<PacketId, Awaits>,
     id: PacketId,
@@ -189,21 +189,21 @@ fn add_flight(
     }
 }
 
-// Whether an entry may stand behind these.
+// Says whether an entry may come after these.
 fn may_follow(in_flight: &IndexMap<PacketId, Awaits>, id: PacketId, awaits: &Awaits) -> bool
     ensures { result ≡ may_follow in_flight.now.entries (id, awaits.now) }
 {
     !is_in_flight(in_flight, id) && (!waits_for_pubcomp(awaits) || last_is_released(in_flight))
 }
 
-// Whether an entry has the identifier.
+// Says whether an entry has the identifier.
 fn is_in_flight(in_flight: &IndexMap<PacketId, Awaits>, id: PacketId) -> bool
     ensures { result ≡ has_id id (ids_of in_flight.now.entries) }
 {
     in_flight.contains_key(&id)
 }
 
-// Whether the last entry, if there is one, is released.
+// Says whether the last entry, if there is one, is released.
 #[tactic(auto, using(crate::proofs::LastIdentifiers::last_at))]
 fn last_is_released(in_flight: &IndexMap<PacketId, Awaits>) -> bool
     ensures { result ≡ was_released (last_of in_flight.now.entries) }
@@ -214,7 +214,7 @@ fn last_is_released(in_flight: &IndexMap<PacketId, Awaits>) -> bool
     }
 }
 
-// As many publications that wait as their count says, and no more than these.
+// Reads as many publications that wait as their count says, and no more than these.
 #[tactic(auto, unfolding(session_form::specs::Counted::counted_at))]
 fn read_all_waiting(
     alloc: Global,
@@ -243,7 +243,7 @@ fn read_publications(
     Ok(read)
 }
 
-// One more that waits.
+// Adds a publication that waits.
 fn add_waiting(waiting: &mut VecDeque<Publication>, publication: Publication) -> Result<(), Stop>
     ensures { Adds anything waiting.old.items publication result waiting.new.items }
 {

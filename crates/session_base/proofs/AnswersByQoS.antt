@@ -1,4 +1,4 @@
--- AnswersByQoS.antt: each entry is finished by the answers of its QoS alone.
+-- AnswersByQoS.antt: each entry is finished only by the answers of its QoS.
 use Rattle.std.proofs.Common.{◌≡◌, ℕ, true, ◌==◌, refl, arith}
 use Rattle.session_base.specs.OrderLaws.{AnswersFitTheQoS}
 

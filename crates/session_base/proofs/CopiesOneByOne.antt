@@ -1,4 +1,4 @@
--- Copies that come one by one leave what one fill behind all of them leaves.
+-- Copies that come one by one lead to the same queue as one fill after all of them.
 use Rattle.std.proofs.Common.{◌≡◌, ℕ, ◌≤◌, Bool, true, false, inl, inr, nat_lt, if◌then◌else◌, List, [], ◌∷◌, ◌++◌, length, filter, refl, ap, ◌∙◌, sym, arith}
 use Rattle.std.proofs.lemmas.List.{append_assoc, append-nil}
 use Rattle.session_base.specs.declared.publication.Publication.{Publication}

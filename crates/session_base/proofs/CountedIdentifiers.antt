@@ -4,7 +4,7 @@ use Rattle.std.proofs.Common.{◌≡◌, ℕ, ◌+◌, ◌≤◌, zero, suc, Boo
 use Rattle.lists.specs.Lists.{has_id}
 use Rattle.session_base.specs.Identifiers.{free_from, least_free}
 
--- 1 where the test holds
+-- 1 if the test holds
 abbrev pub one_if : Bool → ℕ
 one_if true = 1
 one_if false = 0

@@ -4,7 +4,7 @@ use Rattle.std.specs.Ordering.{nat_cmp}
 use Rattle.std.specs.BTreeSet.{insert_key}
 use Rattle.lists.specs.Lists.{has_id}
 
--- the first number from i on that is not busy, where so many may be
+-- the first number from i on that is not busy, if this many may be
 abbrev pub free_from : ℕ → ℕ → List ℕ → ℕ
 free_from zero i busy = i
 free_from (suc many) i busy = if has_id i busy then free_from many (suc i) busy else i

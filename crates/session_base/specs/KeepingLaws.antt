@@ -1,4 +1,5 @@
--- What calls leave of subscriptions and of received identifiers: each filter once, and rising numbers (MQTT 2.3.1, 3.8.4).
+-- What calls leave of subscriptions and of received identifiers: each filter once, and rising
+-- numbers (MQTT 2.3.1, 3.8.4).
 use Rattle.std.specs.Prelude.{◌≡◌, ℕ, false, if◌then◌else◌, List, [], ◌∷◌, ◌++◌, map}
 use Rattle.std.specs.List.Sorted.{IsStrictlySortedBy}
 use Rattle.std.specs.Ordering.{nat_cmp}
@@ -23,7 +24,7 @@ ReceivedStayRising =
     (id : ℕ) → (ids : List ℕ) → IsStrictlySortedBy nat_cmp ids →
     IsStrictlySortedBy nat_cmp (with_id id ids) × IsStrictlySortedBy nat_cmp (without_id id ids)
 
--- the filters alone, in their order
+-- the filters alone, in order
 abbrev pub filters_of : List HeldFilter → List (List ℕ)
 filters_of = map (λ held. held.0)
 

@@ -26,7 +26,8 @@ first_sent id waits_for.Pubcomp = packets.Pubrel id
 
 -- ---- identifiers
 
--- the least free number is from 1 to one more than how many are busy, is not busy, and each smaller one is
+-- the least free number is from 1 to one more than how many are busy, is not busy, and each smaller
+-- one is
 abbrev pub IsLeastFree : Type 0
 IsLeastFree =
     (busy : List ℕ) →
@@ -41,7 +42,7 @@ FillKeepsApart =
 
 -- ---- a fill
 
--- behind it nothing waits, or the window is full
+-- after it nothing waits, or the window is full
 abbrev pub FillIsDone : Type 0
 FillIsDone =
     (window : ℕ) → (flights : List Flight) → (waiting : List Publication) →
@@ -81,7 +82,7 @@ FillsJoin =
 abbrev pub IsQuietQueue : ℕ → List Flight → List Publication → Type 0
 IsQuietQueue window flights waiting = (waiting ≡ []) ⊎ (window ≤ length flights)
 
--- copies that come one by one leave of such a queue what one fill behind all of them leaves
+-- copies that come one by one leave of such a queue what one fill after all of them leaves
 abbrev pub CopiesAreOneFill : Type 0
 CopiesAreOneFill =
     (window : ℕ) → (flights : List Flight) → (waiting copies : List Publication) → IsQuietQueue window flights waiting →

@@ -36,7 +36,7 @@ abbrev pub SecondPubrecChangesNothing : Type 0
 SecondPubrecChangesNothing =
     (id : ℕ) → (flights : List Flight) → on_pubrec id (on_pubrec id flights) ≡ on_pubrec id flights
 
--- a released entry comes directly behind those that were released before
+-- a released entry comes directly after those that were released before
 abbrev pub ReleasedComesLast : Type 0
 ReleasedComesLast =
     (id : ℕ) → (flights : List Flight) → list_any (awaits_pubrec id) flights ≡ true →
@@ -59,7 +59,8 @@ KeepsReleasedFirst =
     × ((id : ℕ) → IsReleasedFirst (on_pubcomp id flights))
     × ((window : ℕ) → (waiting : List Publication) → IsReleasedFirst (fill window flights waiting).in_flight)
 
--- a resending goes along the queue in its order, with PUBREL for a released entry and PUBLISH with DUP 1 for any other
+-- a resending goes along the queue in order, with PUBREL for a released entry and PUBLISH with DUP
+-- 1 for any other
 abbrev pub ResendsInOrder : Type 0
 ResendsInOrder =
     ((flights others : List Flight) → resend (flights ++ others) ≡ resend flights ++ resend others)
@@ -67,8 +68,9 @@ ResendsInOrder =
     × ((id : ℕ) → (p : Publication) → resend ((id, waits_for.Puback p) ∷ []) ≡ packets.Publish (publish_of true id p) ∷ [])
     × ((id : ℕ) → (p : Publication) → resend ((id, waits_for.Pubrec p) ∷ []) ≡ packets.Publish (publish_of true id p) ∷ [])
 
--- An entry of QoS 1 that was sent is finished by its PUBACK, and a PUBREC is nothing to it. One of QoS 2 is released by
--- its PUBREC and finished by the PUBCOMP after it, and a PUBACK is nothing to it (MQTT 4.3.2, 4.3.3).
+-- An entry of QoS 1 that was sent is finished by its PUBACK, and a PUBREC is nothing to it. One of
+-- QoS 2 is released by its PUBREC and finished by the PUBCOMP after it, and a PUBACK is nothing to
+-- it (MQTT 4.3.2, 4.3.3).
 abbrev pub AnswersFitTheQoS : Type 0
 AnswersFitTheQoS =
     (id : ℕ) → (p : Publication) →

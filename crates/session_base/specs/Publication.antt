@@ -14,7 +14,7 @@ abbrev pub publication_of : Publish → Publication
 publication_of p =
     record { retain = p.retain; qos = delivery_qos p.delivery; topic = p.topic; payload = p.payload }
 
--- how it is delivered at this QoS, with DUP and identifier where the QoS has them
+-- how it is delivered at this QoS, with DUP and identifier if the QoS has them
 abbrev pub delivery_at : QoS → Bool → ℕ → Delivery
 delivery_at levels.AtMostOnce dup id = deliveries.AtMostOnce
 delivery_at levels.AtLeastOnce dup id = deliveries.AtLeastOnce dup id

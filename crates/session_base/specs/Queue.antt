@@ -1,4 +1,5 @@
--- One client's queue: what is in flight, what waits, and what the client's answers do (MQTT 4.3, 4.4, 4.6).
+-- One client's queue: what is in flight, what waits, and what the client's answers do (MQTT 4.3,
+-- 4.4, 4.6).
 use Rattle.std.specs.Prelude.{ℕ, ◌+◌, ◌-◌, Bool, true, false, not, ◌&&◌, ◌==◌, nat_lt, if◌then◌else◌, List, [], ◌∷◌, ◌++◌, length, map, filter}
 use Rattle.std.specs.List.{list_any}
 use Rattle.session_base.specs.declared.publication.Publication.{Publication}
@@ -11,8 +12,8 @@ use Rattle.session_base.specs.Identifiers.{least_free}
 abbrev pub Flight : Type 0
 Flight = ℕ × Awaits
 
--- In flight: the released entries in the order of their release, then the others in the order in which they were
--- sent. Waiting: the publications that are not sent yet, in order.
+-- In flight: the released entries in the order of their release, then the others in the order in
+-- which they were sent. Waiting: the publications that are not sent yet, in order.
 pub record Queue : Type 0 where
   pub in_flight : List Flight
   pub waiting : List Publication
@@ -56,7 +57,8 @@ is_released flight = is_pubcomp flight.1
 abbrev pub on_puback : ℕ → List Flight → List Flight
 on_puback id = filter (λ flight. not (awaits_puback id flight))
 
--- the entry with this identifier is released: it comes directly behind those that were released before
+-- the entry with this identifier is released: it comes directly after those that were released
+-- before
 abbrev pub released_with : ℕ → List Flight → List Flight
 released_with id in_flight =
     filter is_released in_flight
@@ -85,7 +87,8 @@ room limit queue = limit - (length queue.in_flight + length queue.waiting)
 abbrev pub ids_of : List Flight → List ℕ
 ids_of = map (λ flight. flight.0)
 
--- the entry that the publication becomes when it starts: it takes the least identifier that is not in flight
+-- the entry that the publication becomes when it starts: it takes the least identifier that is not
+-- in flight
 abbrev pub started_flight : List Flight → Publication → Flight
 started_flight in_flight p = (least_free (ids_of in_flight), awaited p)
 
@@ -103,7 +106,8 @@ filled window queue = fill window queue.in_flight queue.waiting
 
 -- ---- copies that come one by one
 
--- Of a connected client's queue: each copy of QoS 1 or 2 comes last, and what may start behind it starts.
+-- Of a connected client's queue: each copy of QoS 1 or 2 comes last, and what may start after it
+-- starts.
 abbrev pub copies_left : ℕ → List Publication → Queue → Queue
 copies_left window (p ∷ copies) queue =
     if is_answered p.qos then copies_left window copies (filled window (enqueue p queue))

@@ -18,23 +18,25 @@ fill_sends window in_flight (p ∷ waiting) =
     else []
 fill_sends window in_flight [] = []
 
--- what a client that comes back is sent of an entry: PUBREL for a released one, else PUBLISH with DUP 1 (MQTT 4.4)
+-- what a client that comes back is sent of an entry: PUBREL for a released one, else PUBLISH with
+-- DUP 1 (MQTT 4.4)
 abbrev pub sent_anew : ℕ → Awaits → Packet
 sent_anew id (waits_for.Puback p) = packets.Publish (publish_of true id p)
 sent_anew id (waits_for.Pubrec p) = packets.Publish (publish_of true id p)
 sent_anew id waits_for.Pubcomp = packets.Pubrel id
 
--- and of all that is in flight, in its order
+-- and of all that is in flight, in order
 abbrev pub resend : List Flight → List Packet
 resend = map (λ flight. sent_anew flight.0 flight.1)
 
--- PUBREC is answered by PUBREL where it released an entry, and where the entry was released before (MQTT 4.3.3)
+-- PUBREC is answered by PUBREL if it released an entry, and if the entry was released before (MQTT
+-- 4.3.3)
 abbrev pub pubrec_sends : ℕ → List Flight → List Packet
 pubrec_sends id after =
     if list_any (λ flight. awaits_pubcomp id flight) after then packets.Pubrel id ∷ [] else []
 
--- What a connected client is sent of copies that come one by one: each of QoS 0 at once, and what starts behind
--- each other that is enqueued.
+-- What a connected client is sent of copies that come one by one: each of QoS 0 at once, and what
+-- starts after each other that is enqueued.
 abbrev pub copies_sent : ℕ → List Publication → Queue → List Packet
 copies_sent window (p ∷ copies) queue =
     if is_answered p.qos

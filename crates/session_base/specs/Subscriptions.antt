@@ -1,4 +1,5 @@
--- The subscriptions of a session, and at which QoS it gets a publication (MQTT 3.3.5, 3.8.4, 3.10.4).
+-- The subscriptions of a session, and at which QoS it gets a publication (MQTT 3.3.5, 3.8.4,
+-- 3.10.4).
 use Rattle.std.specs.Prelude.{ℕ, Bool, not, if◌then◌else◌, List, [], ◌∷◌, filter, bytes_eq, Option, Some, None}
 use Rattle.std.specs.List.{list_any}
 use Rattle.packet.specs.topics.Matching.{is_match}

@@ -4,8 +4,8 @@ ghost use Rattle.session_base.specs.Laws.{IsLeastFree, FillKeepsApart, FillIsDon
 ghost use Rattle.session_base.specs.OrderLaws.{AnswersFitTheQoS, AnswersKeepApart, OtherAnswersChangeNothing, SecondPubrecChangesNothing, ReleasedComesLast, KeepsReleasedFirst, ResendsInOrder};
 ghost use Rattle.session_base.specs.KeepingLaws.{FiltersStayApart, FiltersKeepTheirOrder, ReceivedStayRising};
 
-/// A fill starts what waits in its order, with free identifiers, until nothing waits or the window
-/// is full; and it sends what it starts.
+/// A fill starts what waits in order, with free identifiers, until nothing waits or the window is
+/// full; and it sends what it starts.
 pub fn fill_takes_what_waits()
     ensures done { FillIsDone }
     ensures within { FillStaysWithin }
@@ -15,13 +15,14 @@ pub fn fill_takes_what_waits()
     ensures apart { FillKeepsApart }
 {}
 
-/// Two fills, one behind the other, are one; and so are those behind copies that come one by one.
+/// Two fills, one after another, are one; and so are those after copies that come one by one.
 pub fn fills_join()
     ensures two { FillsJoin }
     ensures copies { CopiesAreOneFill }
 {}
 
-/// An answer of the client for which no entry waits changes nothing, and so does a second PUBREC.
+/// An answer of the client for which no entry waits changes nothing; a second PUBREC changes
+/// nothing either.
 pub fn other_answers_change_nothing()
     ensures others { OtherAnswersChangeNothing }
     ensures second { SecondPubrecChangesNothing }
@@ -33,7 +34,7 @@ pub fn answers_keep_identifiers_apart()
 {}
 
 /// Released entries come first, in the order of their release, and a client that comes back is sent
-/// the queue in its order.
+/// the queue in order.
 pub fn resend_keeps_the_order()
     ensures last { ReleasedComesLast }
     ensures first { KeepsReleasedFirst }
@@ -45,8 +46,8 @@ pub fn answers_fit_the_qos()
     ensures { AnswersFitTheQoS }
 {}
 
-/// Each filter of a session stands once, in the order of their first granting, and received identifiers
-/// in rising order, whatever is granted, given up, received or released.
+/// Each filter of a session occurs once, in the order of their first granting, and received
+/// identifiers in rising order, whatever is granted, given up, received or released.
 pub fn sessions_keep_their_form()
     ensures filters { FiltersStayApart }
     ensures order { FiltersKeepTheirOrder }

@@ -1,4 +1,5 @@
--- A list that was written with its count is read again, where each item is read again and may stand where it stood.
+-- A list that was written with its count is read again, if each item is read again and may be where
+-- it was.
 use Rattle.std.proofs.Common.{◌≡◌, ℕ, suc, ◌≤◌, Bool, true, List, [], ◌∷◌, ◌++◌, length, Ok, refl, ap, ◌∙◌, append_assoc, append-nil}
 use Rattle.std.specs.Prelude.{flat_map}
 use Rattle.std.specs.List.{AllByRecursion}
@@ -6,7 +7,7 @@ use Rattle.std.proofs.lemmas.Bool.{le-leb}
 use Rattle.packet_base.specs.Lists.{ItemAt}
 use Rattle.session_form.specs.Counted.{counted, counted_at, items_behind}
 
--- each of these may stand where it stands
+-- each of these may be where it is
 abbrev pub AllFollow : {A : Type 0} → (List A → A → Bool) → List A → List A → Type 0
 AllFollow follows front [] = Unit {0}
 AllFollow follows front (one ∷ more) = (follows front one ≡ true) × AllFollow follows (front ++ one ∷ []) more

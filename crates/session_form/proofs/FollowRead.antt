@@ -1,4 +1,5 @@
--- Items that were read with their count may each stand where it stands; so entries have the released ones first.
+-- Items that were read with their count may each be where it is; so entries have the released ones
+-- first.
 use Rattle.std.proofs.Common.{◌≡◌, ℕ, zero, suc, Bool, nat_le, List, [], ◌∷◌, ◌++◌, ◌≤◌, length, Result, Ok, Err, refl, sym, ap, ◌∙◌, subst, arith, append_assoc, append-nil}
 use Rattle.std.specs.Prelude.{IfOk}
 use Rattle.packet_base.specs.declared.stop.Stop.{Stop}

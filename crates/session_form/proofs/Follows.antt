@@ -1,4 +1,4 @@
--- In a session that has a form, each filter, identifier and entry may stand where it stands.
+-- In a session that has a form, each filter, identifier and entry may be where it is.
 use Rattle.std.proofs.Common.{◌≡◌, ℕ, Bool, true, false, not, ◌&&◌, ◌||◌, ◌==◌, nat_lt, ◌⊎◌, inl, inr, Option, Some, None, List, [], ◌∷◌, ◌++◌, refl, ap, ◌∙◌, arith}
 use Rattle.std.specs.Prelude.{bytes_eq}
 use Rattle.std.specs.List.{AllByRecursion, last_or}
@@ -56,7 +56,7 @@ filters_follow held apart = filters_from [] held apart (none_at_first held)
 less : (i j : ℕ) → nat_cmp i j ≡ Less → nat_lt i j ≡ true
 less i j e = grind (arith, e)
 
--- the first of these may stand behind those in front
+-- the first of these may come after those in front
 abbrev MayBegin : List ℕ → List ℕ → Type 0
 MayBegin front (id ∷ ids) = is_above front id ≡ true
 MayBegin front [] = Unit {0}

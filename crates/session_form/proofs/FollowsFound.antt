@@ -1,5 +1,5 @@
--- Where each filter, identifier and entry may stand where it stands, none stands twice, identifiers rise, and the
--- released entries come first.
+-- If each filter, identifier and entry may be where it is, none occurs twice, identifiers rise, and
+-- the released entries come first.
 use Rattle.std.proofs.Common.{◌≡◌, ℕ, Bool, true, false, not, ◌&&◌, ◌||◌, ◌==◌, nat_lt, inl, inr, Option, Some, None, List, [], ◌∷◌, ◌++◌, refl, sym, ap, ◌∙◌, arith}
 use Rattle.std.specs.Prelude.{bytes_eq}
 use Rattle.std.specs.List.{AllByRecursion}
@@ -25,7 +25,7 @@ off false e = refl
 
 -- ---- filters
 
--- what is not behind a longer front is not behind a shorter one, and is not its last
+-- what is not after a longer front is not after a shorter one, and is not its last
 split_held : (f : List ℕ) (front : List HeldFilter) (one : HeldFilter) → is_held f (front ++ one ∷ []) ≡ false → (is_held f front ≡ false) × (bytes_eq f one.0 ≡ false)
 split_held f [] one e = (refl, (or_parts (bytes_eq f one.0) false e).0)
 split_held f (first ∷ front) one e =
@@ -116,7 +116,7 @@ order : (released last : Bool) → (not released || last) ≡ true → last ≡ 
 order true last e f = absurd (cc)
 order false last e f = refl
 
--- behind an entry that is not released none is
+-- after an entry that is not released none is
 none_released : (front flights : List Flight) → was_released (last_of front) ≡ false → AllFollow may_follow front flights → NoneReleased flights
 none_released front [] e h = tt
 none_released front (one ∷ more) e h =

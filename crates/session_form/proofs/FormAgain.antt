@@ -17,7 +17,7 @@ use Rattle.session_form.proofs.Counted.{IsReadAgain, counted_again}
 use Rattle.session_form.proofs.Fields.{held_again, flight_again, waiting_again}
 use Rattle.session_form.proofs.Follows.{filters_follow, received_follow, flights_follow, waiting_follow}
 
--- what holds of each in range holds of each
+-- what holds for each in range holds for each
 pub each : {A : Type 0} (P Q : A → Type 0) → ((one : A) → P one → Q one) → (xs : List A) → AllByRecursion P xs → AllByRecursion Q xs
 each P Q to [] h = tt
 each P Q to (x ∷ xs) h = (to x h.0, each P Q to xs h.1)

@@ -1,4 +1,4 @@
--- What is known of a list that was read with its count.
+-- What is known about a list that was read with its count.
 use Rattle.std.proofs.Common.{◌≡◌, ℕ, zero, suc, ◌≤◌, Bool, nat_le, List, [], ◌∷◌, ◌++◌, length, Result, Ok, Err, refl, sym, ap, ◌∙◌, subst, append_assoc, append-nil, arith}
 use Rattle.std.specs.Prelude.{IfOk}
 use Rattle.std.specs.List.{AllByRecursion}
@@ -18,7 +18,7 @@ pub weaker : {A : Type 0} (r : Result A Stop) (P Q : A → Type 0) → IfOk r P 
 weaker (Ok x) P Q h to = to x h
 weaker (Err stop) P Q h to = tt
 
--- a list behind those in front: its items meet it, each may stand where it stands, and so many there are
+-- a list after those in front: its items meet it, each may be where it is, and this many there are
 pub record Listed {A : Type 0} (follows : List A → A → Bool) (P : A → Type 0) (many : ℕ) (front all : List A) : Type 0 where
   pub items : List A
   pub joined : all ≡ front ++ items

@@ -1,4 +1,5 @@
--- A loop that reads one item after the other: after i of n, what is read, and what is left, go on to the same outcome.
+-- A loop that reads one item after the other: after i of n, what is read, and what is left,
+-- continue to the same outcome.
 use Rattle.std.proofs.Common.{◌≡◌, ℕ, suc, ◌+◌, ◌-◌, ◌<◌, ◌≤◌, Bool, true, false, List, [], ◌∷◌, ◌++◌, Result, Ok, Err, refl, sym, ◌∙◌, ap, subst, arith, ◌⊎◌, inl, inr}
 use Rattle.packet_base.specs.declared.stop.Stop.{Stop}
 use Rattle.packet_base.specs.declared.stop.Stop.TheVariants as stops
@@ -53,7 +54,7 @@ module _ {A : Type 0} (follows : List A → A → Bool) (item : ItemAt A) where
   adds_cases front one after (stops.Malformed kind) h = inr h
   adds_cases front one after (stops.Refused code) h = inr h
 
-  -- an item that may not stand there
+  -- an item that may not be there
   pub refused_so : (n i : ℕ) (front after : List A) (bytes rest : List ℕ) (one : A) (total : Read) (stop : Stop) → i < n → left n i front bytes ≡ total →
       item bytes ≡ Ok (one, rest) → Adds follows front one (Err stop) after → StopsBy stop total
   refused_so n i front after bytes rest one total stop less e read h =

@@ -1,4 +1,4 @@
--- Spelled.antt: what was read is written as it stood in the bytes.
+-- Spelled.antt: what was read is written as it was in the bytes.
 use Rattle.std.proofs.Common.{◌≡◌, ℕ, zero, suc, ◌-◌, ◌<◌, Bool, true, false, not, ◌==◌, nat_le, nat_lt, if◌then◌else◌, List, [], ◌∷◌, ◌++◌, length, Ok, refl, sym, ap, ◌∙◌, subst, append_assoc, append-nil, arith}
 use Rattle.std.specs.Prelude.{IfOk, flat_map}
 use Rattle.std.proofs.lemmas.Bool.{ltb-true}
@@ -23,7 +23,7 @@ use Rattle.session_form.specs.Form.{long_number, one_byte, publication_bytes, he
 use Rattle.session_form.specs.FormLaws.{ReadIsFrozen}
 use Rattle.session_form.proofs.Found.{weaker}
 
--- an item that is read stands in front as it is written
+-- an item that is read is in front as it is written
 abbrev pub IsSpelled : {A : Type 0} → (A → List ℕ) → ItemAt A → Type 0
 IsSpelled {A} bytes item = (given : List ℕ) → IsBytes given → IfOk (item given) (λ x. Splits given (bytes x.0) x.1)
 
@@ -154,7 +154,7 @@ flight_spelled given fits =
 
 -- ---- lists with their count
 
--- the items after those in front, as they stood
+-- the items after those in front, as they were
 record AreWritten {A : Type 0} (bytes : A → List ℕ) (many : ℕ) (front all : List A) (given rest : List ℕ) : Type 0 where
   items : List A
   joined : all ≡ front ++ items

@@ -1,4 +1,4 @@
--- What stands in a session that has a form can be written: the lengths fit their bytes.
+-- What is in a session that has a form can be written: the lengths fit their bytes.
 use Rattle.std.proofs.Common.{◌≤◌, length, arith}
 use Rattle.std.specs.List.{AllByRecursion}
 use Rattle.session_base.specs.declared.publication.Publication.{Publication}

@@ -1,4 +1,5 @@
--- Lists whose count stands before them: each item is read behind those before it, and has to go with them.
+-- Lists whose count is before them: each item is read after those before it, and has to go with
+-- them.
 use Rattle.std.specs.Prelude.{◌≡◌, ℕ, true, false, zero, suc, Bool, nat_le, List, [], ◌∷◌, ◌++◌, length, flat_map, Option, None, Result, Ok, Err}
 use Rattle.std.specs.List.{last_or}
 use Rattle.packet_base.specs.topics.declared.malformed.MalformedKind.TheVariants as kinds
@@ -7,7 +8,7 @@ use Rattle.packet_base.specs.declared.stop.Stop.TheVariants as stops
 use Rattle.packet_base.specs.Reading.{◌>>=◌, ◌>>◌, check}
 use Rattle.packet_base.specs.Lists.{ItemAt}
 
--- goes on where the test is true: all else is not of the form
+-- continues if the test is true; otherwise the bytes are not of the form
 abbrev pub keep : Bool → Result (Unit {0}) Stop
 keep test = check test (stops.Malformed kinds.Shape)
 
@@ -15,7 +16,7 @@ keep test = check test (stops.Malformed kinds.Shape)
 abbrev pub last_of : {A : Type 0} → List A → Option A
 last_of = last_or None
 
--- so many items more, each of which may stand behind those before it
+-- this many items more, each of which may come after those before it
 unfoldable pub items_behind : {A : Type 0} → (List A → A → Bool) → ItemAt A → ℕ → List A → List ℕ → Result (List A × List ℕ) Stop
 items_behind follows item zero front bytes = Ok (front, bytes)
 items_behind follows item (suc more) front bytes =
@@ -32,8 +33,8 @@ counted_at count follows item most bytes = do
 abbrev pub counted : {A : Type 0} → (ℕ → List ℕ) → (A → List ℕ) → List A → List ℕ
 counted count bytes items = count (length items) ++ flat_map bytes items
 
--- what adding an item to those that were read does: it comes last where it may, and all else stops the reading; memory
--- may be wanting
+-- what adding an item to those that were read does: it comes last if it may, and all else stops the
+-- reading; memory may run out
 abbrev pub Adds : {A : Type 0} → (List A → A → Bool) → List A → A → Result (Unit {0}) Stop → List A → Type 0
 Adds follows front one (Ok done) after = (follows front one ≡ true) × (after ≡ front ++ one ∷ [])
 Adds follows front one (Err (stops.Malformed kinds.Memory)) after = Unit {0}

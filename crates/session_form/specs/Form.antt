@@ -1,4 +1,5 @@
--- The session that bytes stand for. It is the same in both forms, but for the window: how many entries are in flight at most.
+-- The session that is read from bytes. It is the same in both forms, except the window: how many
+-- entries are in flight at most.
 use Rattle.std.specs.Prelude.{ℕ, ◌+◌, ◌-◌, Bool, not, ◌==◌, nat_lt, nat_le, if◌then◌else◌, List, length, Result, Ok}
 use Rattle.std.specs.Int.{w32, from_be_bytes}
 use Rattle.packet_base.specs.declared.stop.Stop.{Stop}
@@ -35,7 +36,8 @@ qos_at bytes = do
   qos ← qos_of byte.0
   Ok (qos, byte.1)
 
--- how many bytes the body of a PUBLISH has that carries the publication: topic with its length, identifier, payload
+-- how many bytes the body of a PUBLISH has that carries the publication: topic with its length,
+-- identifier, payload
 abbrev pub body_length : Publication → ℕ
 body_length p = 2 + length p.topic + (if is_answered p.qos then 2 else 0) + length p.payload
 
@@ -89,7 +91,8 @@ flight_at bytes = do
 
 -- ---- a session
 
--- at most 64 subscriptions, no more entries in flight than this window, and 4,096 entries in flight and waiting
+-- at most 64 subscriptions, no more entries in flight than this window, and 4,096 entries in flight
+-- and waiting
 unfoldable pub state_at : ℕ → List ℕ → Result (SessionState × List ℕ) Stop
 state_at window bytes = do
   subscriptions ← counted_at byte_at is_new_filter held_at 64 bytes

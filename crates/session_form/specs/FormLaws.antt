@@ -12,8 +12,8 @@ use Rattle.session_base.specs.Session.{SessionState}
 use Rattle.session_form.specs.InRange.{IsHeld, IsQueue}
 use Rattle.session_form.specs.Form.{state_bytes, state_at}
 
--- a session that has a form: each filter once, received identifiers rising, those in flight distinct, the released
--- entries first, no more of each than it may hold, and each in its range
+-- a session that has a form: each filter once, received identifiers rising, those in flight
+-- distinct, the released entries first, no more of each than it may hold, and each in its range
 pub record HasForm (s : SessionState) : Type 0 where
   pub filters_apart : AreFiltersApart s.subscriptions
   pub filters : AllByRecursion IsHeld s.subscriptions
@@ -28,7 +28,7 @@ pub record HasForm (s : SessionState) : Type 0 where
 abbrev pub FitsIn : ℕ → SessionState → Type 0
 FitsIn window s = length s.queue.in_flight ≤ window
 
--- whatever bytes follow, and whatever the window is, where no more is in flight
+-- whatever bytes follow, and whatever the window is, if no more is in flight
 abbrev pub FrozenIsRead : Type 0
 FrozenIsRead =
     (window : ℕ) → window ≤ 4096 → (s : SessionState) (rest : List ℕ) → HasForm s → FitsIn window s →

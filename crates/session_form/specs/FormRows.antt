@@ -1,5 +1,5 @@
--- A worked row with something in every part of a session, each byte by hand: two filters, two received identifiers, an
--- entry in flight of each kind, two that wait.
+-- A worked example with something in every part of a session, each byte by hand: two filters, two
+-- received identifiers, an entry in flight of each kind, two that wait.
 use Rattle.std.specs.Prelude.{◌≡◌, ℕ, true, false, List, [], ◌∷◌, ◌++◌, codes}
 use Rattle.packet.specs.declared.qos.QoS.TheVariants as levels
 use Rattle.session_base.specs.declared.publication.Publication.{Publication}

@@ -1,5 +1,5 @@
--- What stands in a session is in its range: no more entries and filters than it may hold, and each number, text and
--- publication as the standard has it (MQTT 1.5.3, 2.3.1, 3.3, 4.7).
+-- What is in a session is in its range: no more entries and filters than it may hold, and each
+-- number, text and publication as the standard has it (MQTT 1.5.3, 2.3.1, 3.3, 4.7).
 use Rattle.std.specs.Prelude.{◌≡◌, ℕ, ◌+◌, ◌≤◌, IsTrue, false, length}
 use Rattle.std.specs.List.{AllByRecursion}
 use Rattle.packet_base.specs.topics.Text.{is_filter}

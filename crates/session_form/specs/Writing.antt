@@ -1,4 +1,5 @@
--- The bytes to which a session is frozen. Numbers are big-endian, a text has its length in two bytes before it.
+-- The bytes to which a session is frozen. Numbers are big-endian, a text has its length in two
+-- bytes before it.
 use Rattle.std.specs.Prelude.{ℕ, ◌<◌, ◌^◌, List, [], ◌∷◌, ◌++◌, length}
 use Rattle.std.specs.Int.{w32, to_be_bytes}
 use Rattle.packet_base.specs.Spelling.{number, text, bit}
@@ -27,7 +28,7 @@ publication_bytes p = bit p.retain ∷ qos_number p.qos ∷ (text p.topic ++ (lo
 abbrev pub held_bytes : HeldFilter → List ℕ
 held_bytes held = text held.0 ++ one_byte (qos_number held.1)
 
--- what an entry waits for: 0 PUBACK, 1 PUBREC, 2 PUBCOMP, with its publication where it still has one
+-- what an entry waits for: 0 PUBACK, 1 PUBREC, 2 PUBCOMP, with its publication if it still has one
 abbrev pub awaits_bytes : Awaits → List ℕ
 awaits_bytes (waits_for.Puback p) = 0 ∷ publication_bytes p
 awaits_bytes (waits_for.Pubrec p) = 1 ∷ publication_bytes p
@@ -36,7 +37,8 @@ awaits_bytes waits_for.Pubcomp = 2 ∷ []
 abbrev pub flight_bytes : Flight → List ℕ
 flight_bytes flight = number flight.0 ++ awaits_bytes flight.1
 
--- subscriptions in the order of their first granting, received identifiers, what is in flight, what waits
+-- subscriptions in the order of their first granting, received identifiers, what is in flight, what
+-- waits
 abbrev pub state_bytes : SessionState → List ℕ
 state_bytes s =
     counted one_byte held_bytes s.subscriptions
@@ -49,7 +51,7 @@ state_bytes s =
 abbrev pub HasLength : Publication → Type 0
 HasLength p = length p.payload < 2 ^ 32
 
--- so does that of an entry's publication, if it has one
+-- the same for an entry's publication, if it has one
 abbrev pub IsWritable : Awaits → Type 0
 IsWritable (waits_for.Puback p) = HasLength p
 IsWritable (waits_for.Pubrec p) = HasLength p

@@ -3,14 +3,14 @@
 ghost use Rattle.session_form.specs.FormLaws.{FrozenIsRead, ReadHasForm, ReadIsFrozen};
 ghost use Rattle.session_form.specs.FormRows.{FullSessionIsFrozen};
 
-/// What a session is frozen to is read as that session, whatever bytes follow, where no more of it is
-/// in flight than the window allows.
+/// The bytes to which a session is frozen are read as that session, whatever bytes follow, if no
+/// more of it is in flight than the window allows.
 pub fn frozen_is_read()
     ensures { FrozenIsRead }
 {}
 
-/// A session that was read has a form: no filter and no identifier stands twice, no more is in flight
-/// than the window allows, and each part is in its range.
+/// A session that was read has a form: no filter and no identifier occurs twice, no more is in
+/// flight than the window allows, and each part is in its range.
 pub fn read_has_form()
     ensures { ReadHasForm }
 {}

@@ -1,4 +1,4 @@
-//! The form of a session: the bytes to which it is frozen, and the session that bytes stand for.
+//! The form of a session: the bytes to which it is frozen, and the session that is read from bytes.
 #![tactic(auto)]
 
 mod laws;

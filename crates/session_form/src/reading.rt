@@ -1,5 +1,5 @@
-// What a frozen session is made of, read from the front of the bytes that are left. All that is not of
-// the form stops the reading; after an error the reader is not to be used.
+// Reads the parts of a frozen session from the front of the bytes that are left. Bytes that are not
+// of the form stop the reading; the reader is not to be used after an error.
 
 ghost use Rattle.std.specs.Prelude.{◌≡◌, Ok};
 ghost use Rattle.packet.specs.QoS.{qos_of};
@@ -17,7 +17,7 @@ use std::alloc::Global;
 /// The most bytes of a body, this broker's own limit.
 const LONGEST_BODY: usize = 1_048_572;
 
-/// Goes on where the test holds; all else is not of the form.
+/// Continues if the test holds; otherwise the bytes are not of the form.
 pub fn keep(test: bool) -> Result<(), Stop>
     ensures { Gives (λ x. x) result (keep test) }
 {
@@ -27,7 +27,7 @@ pub fn keep(test: bool) -> Result<(), Stop>
     Err(Stop::Malformed(MalformedKind::Shape))
 }
 
-/// A byte that is 0 or 1.
+/// Reads a byte that is 0 or 1.
 #[tactic(auto, unfolding(crate::specs::Form::flag_at))]
 pub fn read_flag(reader: &mut Reader) -> Result<bool, Stop>
     ensures { Reads (λ x. x) result reader.new (flag_at reader.old) }
@@ -37,7 +37,7 @@ pub fn read_flag(reader: &mut Reader) -> Result<bool, Stop>
     Ok(byte == 1)
 }
 
-/// A number of four bytes, the high one first.
+/// Reads a number of four bytes, the high one first.
 #[tactic(auto, unfolding(crate::specs::Form::long_number_at))]
 pub fn read_long_number(reader: &mut Reader) -> Result<u32, Stop>
     ensures { Reads (λ x. x) result reader.new (long_number_at reader.old) }
@@ -46,7 +46,7 @@ pub fn read_long_number(reader: &mut Reader) -> Result<u32, Stop>
     Ok(u32::from_be_bytes([front[0], front[1], front[2], front[3]]))
 }
 
-/// A QoS in one byte, 0 to 2.
+/// Reads a QoS in one byte, 0 to 2.
 #[tactic(auto, unfolding(crate::specs::Form::qos_at))]
 pub fn read_qos(reader: &mut Reader) -> Result<QoS, Stop>
     ensures { Reads (λ x. x) result reader.new (qos_at reader.old) }
@@ -65,7 +65,7 @@ fn qos_of(number: u8) -> Result<QoS, Stop>
     }
 }
 
-/// A publication whose PUBLISH is within the limit of a packet.
+/// Reads a publication whose PUBLISH is within the size limit of a packet.
 #[tactic(auto, unfolding(crate::specs::Form::publication_at))]
 pub fn read_publication(alloc: Global, reader: &mut Reader) -> Result<Publication, Stop>
     ensures { Reads (λ x. x) result reader.new (publication_at reader.old) }
@@ -94,7 +94,7 @@ fn payload_of(alloc: Global, bytes: &[u8]) -> Result<Payload, Stop>
     }
 }
 
-/// How many bytes the body of a PUBLISH has that carries the publication.
+/// Returns how many bytes the body of a PUBLISH has that carries the publication.
 pub fn body_length(publication: &Publication) -> usize
     ensures { result ≡ body_length publication.now }
 {
@@ -106,7 +106,7 @@ pub fn body_length(publication: &Publication) -> usize
     2 + publication.topic.as_str().len() + id + publication.payload.as_slice().len()
 }
 
-/// A filter with its QoS.
+/// Reads a filter with its QoS.
 #[tactic(auto, unfolding(crate::specs::Form::held_at))]
 pub fn read_held(alloc: Global, reader: &mut Reader) -> Result<(Filter, QoS), Stop>
     ensures { Reads (λ x. x) result reader.new (held_at reader.old) }
@@ -116,7 +116,7 @@ pub fn read_held(alloc: Global, reader: &mut Reader) -> Result<(Filter, QoS), St
     Ok((filter, qos))
 }
 
-/// A publication that waits: at QoS 1 or 2.
+/// Reads a publication that waits: at QoS 1 or 2.
 #[tactic(auto, unfolding(crate::specs::Form::waiting_at))]
 pub fn read_waiting(alloc: Global, reader: &mut Reader) -> Result<Publication, Stop>
     ensures { Reads (λ x. x) result reader.new (waiting_at reader.old) }
@@ -126,7 +126,7 @@ pub fn read_waiting(alloc: Global, reader: &mut Reader) -> Result<Publication, S
     Ok(publication)
 }
 
-/// An entry in flight: its identifier, and what it waits for.
+/// Reads an entry in flight: its identifier, and what it waits for.
 #[tactic(auto, unfolding(crate::specs::Form::flight_at))]
 pub fn read_flight(alloc: Global, reader: &mut Reader) -> Result<(PacketId, Awaits), Stop>
     ensures { Reads (λ x. x) result reader.new (flight_at reader.old) }

@@ -1,4 +1,4 @@
-// What a frozen session is made of, written behind what a vector holds.
+// Appends the parts of a frozen session to a vector.
 
 ghost use Rattle.std.specs.Prelude.{◌≡◌, ◌<◌, ◌++◌, length, OnOk};
 ghost use Rattle.packet_base.specs.Spelling.{number, text};
@@ -9,8 +9,8 @@ use packet_base::topics::Filter;
 use session_base::{Awaits, Publication};
 use std::alloc::AllocError;
 
-/// Appends a number of two bytes, the high one first. Without memory a part may stand there, as with
-/// each of these.
+/// Appends a number of two bytes, the high one first. If memory runs out a part may be there, as
+/// with each of these.
 pub fn write_number(value: u16, bytes: &mut Vec<u8>) -> Result<(), AllocError>
     ensures { OnOk result (bytes.new.items ≡ bytes.old.items ++ number value) }
 {
@@ -57,7 +57,8 @@ pub fn write_held(filter: &Filter, qos: QoS, bytes: &mut Vec<u8>) -> Result<(), 
     Ok(())
 }
 
-/// Appends an entry in flight: its identifier, what it waits for, and its publication if it has one.
+/// Appends an entry in flight: its identifier, what it waits for, and its publication if it has
+/// one.
 pub fn write_flight(id: PacketId, awaits: &Awaits, bytes: &mut Vec<u8>) -> Result<(), AllocError>
     requires { IsWritable awaits.now }
     ensures { OnOk result (bytes.new.items ≡ bytes.old.items ++ flight_bytes (id, awaits.now)) }

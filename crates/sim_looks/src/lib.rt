@@ -1,5 +1,6 @@
-//! Looks at a run of a world after each of its events: whether what was promised holds. What the agreed list means is told here
-//! plainly, by code that calls nothing of what the broker is made of.
+//! Checks a run of a world after each of its events: whether what is promised holds. The meaning of
+//! the agreed list is written again here in a simple way, by code that calls nothing of the
+//! broker's.
 #![tactic(auto)]
 
 mod making;

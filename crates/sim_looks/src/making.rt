@@ -2,7 +2,7 @@
 
 use packet::Payload;
 
-/// Returns the bytes of a publication that tell which client made it, by its place, and its number.
+/// Returns the bytes of a publication that say which client made it, by its place, and its number.
 pub fn payload_of(place: u8, serial: u64) -> [u8; 3] {
     [place, (serial / 256 % 256) as u8, (serial % 256) as u8]
 }

@@ -1,6 +1,6 @@
-// Which topics a filter matches (MQTT 4.7).
+// Returns which topics a filter matches (MQTT 4.7).
 
-/// Returns whether a filter matches a topic.
+/// Says whether a filter matches a topic.
 pub fn is_match(filter: &str, topic: &str) -> bool {
     if topic.starts_with('$') && (filter.starts_with('#') || filter.starts_with('+')) {
         return false;

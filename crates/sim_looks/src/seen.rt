@@ -13,17 +13,20 @@ use std::alloc::Global;
 pub struct Seen {
     /// How many of those that it accepted were looked at.
     looked: usize,
-    /// The number that it gave its session when it accepted the last one, and where in what it accepted that session began.
+    /// The number of its session when it accepted the last publication, and where in the accepted
+    /// publications that session began.
     number: u64,
     from: usize,
-    /// Which of its sessions that is by the agreed list, from 0, and how many it accepted in it at QoS 2.
+    /// Which of its sessions that is by the agreed list, from 0, and how many it accepted in it at
+    /// QoS 2.
     session: usize,
     at_two: usize,
     /// The last number of each publisher, of those at QoS 2 that were not retained.
     last: Vec<u64>,
     /// The numbers that it published at QoS 1 or 2.
     pub published: Vec<u64>,
-    /// Whether it took in the CONNACK of its newest connection, and whether there was one whose CONNACK it never took in.
+    /// Whether it received the CONNACK of its newest connection, and whether there was a connection
+    /// whose CONNACK it never received.
     is_confirmed: bool,
     is_hasty: bool,
     /// Whether its session was ended by an administrator.
@@ -53,13 +56,13 @@ impl Seen {
         self.is_confirmed = false;
     }
 
-    /// Returns whether it may be out of step: it was expelled, and opened a connection before the CONNACK of the one before
-    /// had come. Nothing is promised to such a client then.
+    /// Says whether it may be out of step: it was expelled, and opened a connection before the
+    /// CONNACK of the one before had come. Nothing is promised to such a client then.
     pub fn may_stray(&self) -> bool {
         self.is_expelled && self.is_hasty
     }
 
-    /// Looks at a client, and returns what does not hold. None where it ran out of memory.
+    /// Looks at a client, and returns what does not hold. None if it ran out of memory.
     pub fn looks(
         &mut self,
         client: &ClientId,
@@ -114,7 +117,8 @@ impl Seen {
         Some(Ok(()))
     }
 
-    // Whether it is the next entry of the session in which it was accepted, or all that was accepted there begins a later one.
+    // Says whether it is the next entry of the session in which it was accepted, or all that was
+    // accepted there begins a later one.
     fn is_next(
         &mut self,
         client: &ClientId,
@@ -136,7 +140,8 @@ impl Seen {
         false
     }
 
-    // Whether all that was accepted at QoS 2 in this session, as far as it was looked at, begins these entries.
+    // Says whether all that was accepted at QoS 2 in this session, as far as it was looked at,
+    // begins these entries.
     fn begins(&self, accepted: &[Accepted], entries: &[Entry]) -> bool {
         let count = self.looked.saturating_sub(self.from);
         let here = accepted.iter().skip(self.from).take(count);
@@ -147,7 +152,7 @@ impl Seen {
                 .all(|(one, entry)| is_entry(one, entry))
     }
 
-    // Whether it is newer than the last one of its publisher, and keeps its number.
+    // Says whether it is newer than the last one of its publisher, and keeps its number.
     fn is_newer(&mut self, one: &Accepted) -> Option<bool> {
         let (place, serial) = made_by(&one.payload)?;
         for _ in self.last.len()..=place as usize {
@@ -159,7 +164,7 @@ impl Seen {
         Some(newer)
     }
 
-    // How many of its publications were taken nowhere.
+    // Returns how many of its publications are in no place of the agreed list.
     fn missing(&self, told: &Told) -> usize {
         self.published
             .iter()
@@ -168,7 +173,7 @@ impl Seen {
     }
 }
 
-// Whether its publisher may be out of step.
+// Says whether its publisher may be out of step.
 fn is_stray(one: &Accepted, strays: &[bool]) -> bool {
     match made_by(&one.payload) {
         Some((place, _)) => strays.get(place as usize).copied().unwrap_or(false),
@@ -176,7 +181,7 @@ fn is_stray(one: &Accepted, strays: &[bool]) -> bool {
     }
 }
 
-// Whether this is what was accepted.
+// Says whether this is what was accepted.
 fn is_entry(one: &Accepted, entry: &Entry) -> bool {
     one.retain == entry.retain && one.topic == entry.topic && one.payload == entry.payload
 }

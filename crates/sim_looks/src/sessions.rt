@@ -15,7 +15,7 @@ pub struct Entry {
 }
 
 impl Entry {
-    /// Returns whether two entries are alike.
+    /// Says whether two entries are alike.
     pub fn is_like(&self, other: &Entry) -> bool {
         self.retain == other.retain && self.topic == other.topic && self.payload == other.payload
     }
@@ -51,7 +51,7 @@ impl Session {
         }
     }
 
-    /// Returns whether a PUBLISH with this identifier is a repeat, and keeps the identifier.
+    /// Says whether a PUBLISH with this identifier is a repeat, and keeps the identifier.
     pub fn repeats(&mut self, id: PacketId) -> Option<bool> {
         if self.received.iter().any(|it| *it == id) {
             return Some(true);
@@ -60,12 +60,12 @@ impl Session {
         Some(false)
     }
 
-    /// Forgets an identifier, whose PUBREL came.
+    /// Forgets an identifier whose PUBREL came.
     pub fn forgets(&mut self, id: PacketId) {
         self.received.retain(|it| *it != id);
     }
 
-    /// Grants a filter in the place of the same one.
+    /// Grants a filter in place of the same one.
     pub fn grants(&mut self, filter: &Filter, qos: QoS) -> Option<()> {
         self.drops(filter);
         self.filters.push((filter.clone().ok()?, qos)).ok()
@@ -76,7 +76,8 @@ impl Session {
         self.filters.retain(|(held, _)| held != filter);
     }
 
-    /// Returns whether a publication at QoS 2 comes to it at QoS 2: one of its filters at QoS 2 matches.
+    /// Says whether the session gets a publication at QoS 2 at QoS 2: one of its filters at QoS 2
+    /// matches.
     pub fn wants(&self, topic: &TopicName) -> bool {
         self.filters.iter().any(|(filter, qos)| {
             *qos == QoS::ExactlyOnce && is_match(filter.as_str(), topic.as_str())
@@ -93,7 +94,7 @@ impl Session {
         self.entries.push(entry).ok()
     }
 
-    /// Returns whether two sessions are of the same client, with the same entries.
+    /// Says whether two sessions are of the same client, with the same entries.
     pub fn is_like(&self, other: &Session) -> bool {
         self.client == other.client
             && self.entries.len() == other.entries.len()

@@ -1,4 +1,4 @@
-// What a list of agreed commands makes of all sessions.
+// What a list of agreed commands does to all sessions.
 
 use crate::making::made_by;
 use crate::matching::is_match;
@@ -16,7 +16,8 @@ struct Kept {
     payload: Payload,
 }
 
-/// What was read of the agreed list. A call that answers `Option` answers None where it ran out of memory.
+/// What was read of the agreed list. A call that returns an `Option` returns None if it ran out of
+/// memory.
 #[derive(Drop)]
 pub struct Told {
     alloc: Global,
@@ -53,7 +54,8 @@ impl Told {
         Some(())
     }
 
-    /// Returns the entries of a client's session by its number, from 0: one that ended, or the one that lasts.
+    /// Returns the entries of a client's session by its number, from 0: one that ended, or the one
+    /// that lasts.
     pub fn entries(&self, client: &ClientId, number: usize) -> &[Entry] {
         let all = self.ended.iter().chain(self.sessions.iter());
         match all.filter(|it| it.client == *client).nth(number) {
@@ -68,18 +70,19 @@ impl Told {
         all.filter(|it| it.client == *client).count()
     }
 
-    /// Returns whether another reading found the same sessions with the same entries.
+    /// Says whether another reading found the same sessions with the same entries.
     pub fn says_what(&self, other: &Told) -> bool {
         are_alike(self.ended.as_slice(), other.ended.as_slice())
             && are_alike(self.sessions.as_slice(), other.sessions.as_slice())
     }
 
-    /// Returns whether the publication of this number was taken.
+    /// Says whether the publication of this number was taken.
     pub fn is_taken(&self, serial: u64) -> bool {
         self.taken.get(serial as usize).copied().unwrap_or(false)
     }
 
-    // Sessions lose their connections as a command says; a packet counts on a session's current connection alone.
+    // Sessions lose their connections as a command says; a packet counts only on a session's
+    // current connection.
     fn reads_one(&mut self, command: &Command) -> Option<()> {
         match command {
             Command::Connect(connection, client, clean) => self.connects(
@@ -97,14 +100,14 @@ impl Told {
         }
     }
 
-    // The place of the session whose current connection this is.
+    // Returns the place of the session whose current connection this is.
     fn place_of(&self, connection: ConnectionId) -> Option<usize> {
         self.sessions
             .iter()
             .position(|it| it.connection == Some(connection))
     }
 
-    // Sessions lose this connection, or, where none is named, each its own; the clean ones end.
+    // Sessions lose this connection, or, if none is named, each its own; the clean ones end.
     fn ends(&mut self, connection: Option<ConnectionId>) -> Option<()> {
         for session in self.sessions.iter_mut() {
             let is_named = connection.is_none() || session.connection == connection;
@@ -136,7 +139,8 @@ impl Told {
         self.archives()
     }
 
-    // A second CONNECT on a connection is a violation; else it becomes the client's current one.
+    // A second CONNECT on a connection is a violation; otherwise it becomes the client's current
+    // one.
     fn connects(&mut self, connection: ConnectionId, client: &ClientId, clean: bool) -> Option<()> {
         if self.place_of(connection).is_some() {
             return self.ends(Some(connection));
@@ -230,7 +234,7 @@ impl Told {
         Some(())
     }
 
-    // It takes the place of what was retained about its topic.
+    // It replaces what was retained about its topic.
     fn retains(&mut self, qos: QoS, publish: &Publish) -> Option<()> {
         let topic = &publish.topic;
         self.retained.retain(|it| it.topic != *topic);
@@ -244,7 +248,7 @@ impl Told {
     }
 }
 
-// Whether these are the same sessions with the same entries.
+// Says whether these are the same sessions with the same entries.
 fn are_alike(some: &[Session], others: &[Session]) -> bool {
     some.len() == others.len()
         && some

@@ -15,7 +15,8 @@ pub enum Broken {
     Agreed,
     /// A client accepted at QoS 2 what is not the next entry of its session.
     Accepted,
-    /// A client accepted one publication of QoS 2 twice, or two of one publisher in the wrong order.
+    /// A client accepted one publication of QoS 2 twice, or two of one publisher in the wrong
+    /// order.
     Order,
     /// A client no longer keeps a publication that was taken nowhere in the agreed list.
     Lost,
@@ -51,7 +52,7 @@ pub struct Watch {
 }
 
 impl Watch {
-    /// Begins to watch as many clients. None where it ran out of memory, as in each call here.
+    /// Begins to watch this many clients. None if it ran out of memory, as in each call here.
     pub fn new(alloc: Global, clients: usize) -> Option<Watch> {
         let mut seen = Vec::new(alloc);
         for _ in 0..clients {
@@ -84,7 +85,8 @@ impl Watch {
         }
     }
 
-    /// Looks at the agreed list, in two parts, and at the count of losses, and returns what does not hold.
+    /// Looks at the agreed list, in two parts, and at the count of losses, and returns what does
+    /// not hold.
     pub fn agreed(
         &mut self,
         length: u64,
@@ -116,7 +118,7 @@ impl Watch {
         seen.looks(name, core, &self.told, strays.as_slice())
     }
 
-    // Which clients may be out of step.
+    // Returns which clients may be out of step.
     fn strays(&self) -> Option<Vec<bool>> {
         let mut strays = Vec::new(self.alloc);
         for seen in self.seen.iter() {

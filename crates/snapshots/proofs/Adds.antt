@@ -1,4 +1,5 @@
--- Adds.antt: what a step adds to what was proposed, taken and given in a past, on whole logs and in the words of a group that cuts its logs.
+-- Adds.antt: what a step adds to what was proposed, taken and given in a past, on whole logs and in
+-- the terms of a group that cuts its logs.
 use Rattle.std.proofs.Common.{◌≡◌, ℕ, ◌≤◌, cond, List, [], ◌∷◌, ◌++◌, length, refl, ap, ap₂, sym, ◌∙◌, subst}
 use Rattle.std.specs.Prelude.{nat_lt, ◌==◌}
 use Rattle.std.proofs.lemmas.List.{append-nil}
@@ -83,7 +84,7 @@ adds_nothing came =
       gives = λ n. sym (append-nil (whole_given_of n came));
     }
 
--- what a node's step adds, in both words
+-- what a node's step adds, by both definitions
 abbrev pub added_whole : {S C O : Type 0} → List C → ℕ → ReplicaState S C → Input C → ReplicaState S C → List (Effect C O) → Added C O
 added_whole archive n r input new given =
     record {
@@ -115,7 +116,7 @@ added_at n r input new given =
       given = λ i. cond (n == i) (whole_outputs given) [];
     }
 
--- the same in other words
+-- the same by another definition
 pub adds_as : {S C O : Type 0} {rules : Rules S C O} {config : Config} {xs ys : List (WholeMoment S C O)} (before : WholePast rules config xs)
     (after : WholePast rules config ys) (d e : Added C O) → d.proposed ≡ e.proposed → d.taken ≡ e.taken → ((n : ℕ) → d.taken_at n ≡ e.taken_at n) →
     ((n : ℕ) → d.given n ≡ e.given n) → Adds before after d → Adds before after e
@@ -134,7 +135,7 @@ pub record SaysNothing {S C O : Type 0} {rules : Rules S C O} {config : Config} 
   pub takes_at : (n : ℕ) → whole_taken_at n came ≡ []
   pub gives : (n : ℕ) → whole_given_of n came ≡ []
 
--- what a node's step adds, in the words of a group that cuts its logs
+-- what a node's step adds, in the terms of a group that cuts its logs
 abbrev pub added_by_node : {S C O : Type 0} → ℕ → ReplicaState S C → Input C → ReplicaState S C → List (Effect C O) → Added C O
 added_by_node n r input new given =
     record {

@@ -1,5 +1,6 @@
--- Agreed.antt: by the laws of agreement alone: what a node applied stays in the log that it takes, and a node that
--- takes a snapshot over what it applied goes on by its step on whole logs and by learning.
+-- Agreed.antt: only by the laws of agreement: what a node applied stays in the log that it takes,
+-- and a node that takes a snapshot over what it applied continues by its step on whole logs and by
+-- learning.
 use Rattle.std.proofs.Common.{inl, ◌≡◌, ℕ, ◌≤◌, false, List, [], ◌∷◌, ◌++◌, length, take, set, Some, refl, ap, ap₂, sym, ◌∙◌, subst, arith}
 use Rattle.std.specs.Prelude.{slice_get}
 use Rattle.std.proofs.lemmas.List.{append-nil, length-take-le, set-set, take-take}

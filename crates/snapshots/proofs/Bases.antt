@@ -1,5 +1,5 @@
--- Bases.antt: a step that takes in no log keeps the base, and applies no less; each log that a step sends is that of
--- the node after it, in the ballot that it has joined.
+-- Bases.antt: a step that takes no log keeps the base, and applies no less; each log that a step
+-- sends is that of the node after it, in the ballot that it has joined.
 use Rattle.std.proofs.Common.{cond, Bool, ◌≡◌, ℕ, ◌+◌, ◌<◌, ◌≤◌, ◌⊎◌, inl, inr, true, false, List, [], ◌∷◌, ◌++◌, length, map, Option, Some, None, refl, ap, sym, ◌∙◌, subst, arith}
 use Rattle.std.specs.Prelude.{nat_lt, nat_le, ◌&&◌, ◌==◌}
 use Rattle.std.specs.List.{list_any}

@@ -1,5 +1,5 @@
--- Continues.antt: the moments on whole logs go on with a group that cuts its logs. A moment in between, before a node
--- learns, has the master, the messages and the logs of the moment after it.
+-- Continues.antt: the moments on whole logs continue with a group that cuts its logs. A moment in
+-- between, before a node learns, has the master, the messages and the logs of the moment after it.
 use Rattle.std.proofs.Common.{◌≡◌, ℕ, ◌+◌, ◌⊎◌, inl, inr, List, [], ◌∷◌, length, Some, refl, ap, sym, ◌∙◌, subst}
 use Rattle.std.specs.Prelude.{slice_get}
 use Rattle.agreement.specs.lists.Lists.{In, IsPrefixOf}
@@ -17,7 +17,7 @@ use Rattle.snapshots.proofs.MoreMoments.{config_in, told_in}
 use Rattle.agreement.specs.Past.HasConfig.{opened_with, was_assigned}
 use Rattle.agreement.specs.Past.HasTold.{told_as_log, told_by_message}
 
--- what was told, given and active at one moment is so at another
+-- what was acknowledged, given and active at one moment is so at another
 pub record TellsAs {S C O : Type 0} (c d : Moment S C O) : Type 0 where
   pub master : c.master ≡ d.master
   pub sent : c.world.sent ≡ d.world.sent
@@ -27,7 +27,7 @@ pub record TellsAs {S C O : Type 0} (c d : Moment S C O) : Type 0 where
 pub tells_same : {S C O : Type 0} (c : Moment S C O) → TellsAs c c
 tells_same c = record { master = refl; sent = refl; nodes = λ n r e. (r, e, refl, refl) }
 
--- all moments stay, and the new ones tell what the last one does
+-- all moments stay, and the new ones say what the last one does
 pub record Continues {S C O : Type 0} (before : List (Moment S C O)) (a : Moment S C O) (more : List (Moment S C O)) : Type 0 where
   pub all : (c : Moment S C O) → In c before → In c (a ∷ more)
   pub none_else : (c : Moment S C O) → In c (a ∷ more) → In c before ⊎ TellsAs c a
@@ -49,12 +49,13 @@ two_more {S = S} {C = C} {O = O} before a middle tells = record { all = λ c i. 
     by_place c (there here) = inr tells
     by_place c (there (there i)) = inl i
 
--- none, where the last one stays as it was
+-- none, if the last one stays as it was
 pub none_more : {S C O : Type 0} (a b : Moment S C O) (earlier : List (Moment S C O)) → b ≡ a → Continues (a ∷ earlier) b earlier
 none_more {S = S} {C = C} {O = O} a b earlier same =
     subst (λ (x : Moment S C O). Continues (a ∷ earlier) x earlier) (sym same) (record { all = λ c i. i; none_else = λ c i. inl i })
 
--- one list of moments has those of another, and what else it has is told in that, too
+-- one list of moments has those of another, and what else it acknowledges is acknowledged in that,
+-- too
 pub record Covers {S C O : Type 0} (short long : List (Moment S C O)) : Type 0 where
   pub all : (c : Moment S C O) → In c short → In c long
   pub none_else : (c : Moment S C O) → In c long → (d : Moment S C O) × In d short × TellsAs c d
@@ -74,7 +75,7 @@ covers_more {S = S} {C = C} {O = O} short long a more q k = record { all = λ c 
     by_age c (inl i) = let z = q.none_else c i in (z.0, there z.1, z.2)
     by_age c (inr t) = (a, here, t)
 
--- so the two have the same ballots, what was told in them, and what was chosen
+-- so the two have the same ballots, what was acknowledged in them, and what was chosen
 config_back : {S C O : Type 0} (config : Config) (short long : List (Moment S C O)) → Covers short long → (b : ℕ) (c : Config) →
     HasConfig config long b c → HasConfig config short b c
 config_back config short long q b c (opened_with one same) = opened_with one same

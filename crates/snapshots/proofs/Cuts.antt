@@ -1,4 +1,5 @@
--- Cuts.antt: a cut changes nothing on whole logs, and the record goes on as a beginning of the agreed list.
+-- Cuts.antt: a cut changes nothing on whole logs, and the record continues as a prefix of the
+-- agreed list.
 use Rattle.std.proofs.Common.{◌≡◌, ℕ, zero, suc, ◌≤◌, ◌⊎◌, inl, inr, List, [], ◌∷◌, ◌++◌, length, map, take, drop, Some, refl, ap, ap₂, sym, ◌∙◌, subst, arith}
 use Rattle.std.specs.Prelude.{slice_get}
 use Rattle.std.proofs.lemmas.Bool.{cases_lt}

@@ -1,4 +1,4 @@
--- Fronts.antt: the places of a log that is cut, and of the log that it stands for.
+-- Fronts.antt: the places of a log that is cut, and of the log that it corresponds to.
 use Rattle.std.proofs.Common.{◌≡◌, ℕ, zero, suc, ◌-◌, ◌≤◌, List, [], ◌∷◌, ◌++◌, length, take, drop, refl, ap, ap₂, sym, ◌∙◌, append_assoc, arith}
 use Rattle.std.specs.Prelude.{slice_get}
 use Rattle.std.proofs.lemmas.Bool.{le-ltb}
@@ -6,7 +6,7 @@ use Rattle.std.proofs.lemmas.List.{length-append, length-take-le}
 use Rattle.agreement.specs.ballot_base.Logs.{Log, command_at, part, places, pushed}
 use Rattle.snapshots.specs.Whole.{whole_log}
 
--- lists of which the first so many places are the front
+-- lists, and their first `count` places
 take_zero : {X : Type 0} (xs : List X) → take 0 xs ≡ []
 take_zero [] = refl
 take_zero (x ∷ xs) = refl
@@ -40,7 +40,7 @@ get_behind (x ∷ front) rest (suc place) low =
     let a : place - length front ≡ suc place - length (x ∷ front) = omega arith in
     get_behind front rest place (omega (arith, low)) ∙ ap (slice_get rest) a
 
--- the log that a cut one stands for
+-- the log that a cut one corresponds to
 pub front_long : {C : Type 0} (archive : List C) (log : Log C) → log.base ≤ length archive → length (take log.base archive) ≡ log.base
 front_long archive log within = length-take-le log.base archive within
 
@@ -66,7 +66,7 @@ whole_get {C = C} archive log place within low =
     ∙ ap (λ n. slice_get log.rest (place - n)) e
     ∙ (rw (le-ltb place log.base low) refl)
 
--- the front of the log that it stands for is that of the record
+-- the front of the log that it corresponds to is that of the record
 pub whole_front : {C : Type 0} (archive : List C) (log : Log C) → log.base ≤ length archive → take log.base (whole_log archive log) ≡ take log.base archive
 whole_front {C = C} archive log within = front_of (take log.base archive) log.rest log.base (front_long archive log within)
   where
@@ -76,7 +76,7 @@ whole_front {C = C} archive log within = front_of (take log.base archive) log.re
     front_of (x ∷ xs) ys zero e = cc
     front_of (x ∷ xs) ys (suc n) e = ap (λ us. x ∷ us) (front_of xs ys n (omega (arith, e)))
 
--- dropped places stand in the record
+-- dropped places are in the record
 pub whole_shorter : {C : Type 0} (archive rest : List C) (low high : ℕ) → low ≤ high → high ≤ length archive →
     high ≤ length (take low archive ++ rest) → take high (take low archive ++ rest) ≡ take high archive →
     take high archive ++ drop (high - low) rest ≡ take low archive ++ rest

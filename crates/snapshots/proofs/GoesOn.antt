@@ -1,4 +1,5 @@
--- GoesOn.antt: whatever happens to a node of a world whose logs are cut, the whole logs have gone on.
+-- GoesOn.antt: whatever happens to a node of a world whose logs are cut, the whole logs have
+-- continued.
 use Rattle.std.proofs.Common.{◌≡◌, ℕ, ◌+◌, ◌≤◌, ◌⊎◌, inl, inr, true, false, List, [], ◌∷◌, Some, refl, ap, sym, subst, arith}
 use Rattle.std.specs.Prelude.{slice_get, nat_lt, nat_le, ◌&&◌, ◌||◌, ◌==◌}
 use Rattle.std.proofs.lemmas.Bool.{cases_Bool}
@@ -176,7 +177,7 @@ lost {S = S} {C = C} {O = O} rules config m w earlier n r new given d k stands s
     (λ to x i. elim (subst (λ (us : List (Effect C O)). In (to, x) (messages us)) none_given i) [ ])
     (adds_one k.came d step))
 
--- whatever a node takes in
+-- whatever a node takes
 pub takes_on : {S C O : Type 0} (rules : Rules S C O) (config : Config) (m : MasterState) (w : World S C O) (earlier : List (Moment S C O)) (n : ℕ)
     (r : ReplicaState S C) (input : Input C) (new : ReplicaState S C) (given : List (Effect C O)) → (k : Kept rules config m w earlier) → slice_get w.nodes n ≡ Some r →
     r.stopped ≡ false → MayTake w n input → Loses rules r (replica_step rules r input) new given →

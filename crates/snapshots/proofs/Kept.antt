@@ -1,4 +1,5 @@
--- Kept.antt: what holds of a world whose logs are cut, beside the past of its whole logs, and that a step keeps it.
+-- Kept.antt: what holds for a world whose logs are cut, in addition to the past of its whole logs,
+-- and that a step keeps it.
 use Rattle.std.proofs.Common.{◌≡◌, ℕ, ◌<◌, ◌≤◌, ◌⊎◌, inl, inr, false, List, ◌∷◌, length, take, set, Some, refl, ap, sym, ◌∙◌, subst, arith}
 use Rattle.std.specs.Prelude.{slice_get}
 use Rattle.std.proofs.lemmas.Bool.{cases_eq, cases_lt, lt-ltb, le-ltb}
@@ -63,7 +64,7 @@ pub record KeptWith {S C O : Type 0} (rules : Rules S C O) (config : Config) (m 
   pub kept : Kept rules config m w earlier
   pub adds : Adds came kept.came d
 
--- the past on whole logs has gone on
+-- the past on whole logs has continued
 pub record GoesOn {S C O : Type 0} (rules : Rules S C O) (config : Config) (m : MasterState) (w : World S C O) {before : List (Moment S C O)}
     (came : Past rules config before) (d : Added C O) : Type 0 where
   pub more : List (Moment S C O)
@@ -160,7 +161,7 @@ own_thinned s (keeps {e = To to' m'} t) own to m (there i) = own_thinned s t (λ
 own_thinned s (keeps {e = Out place o} t) own to m i = own_thinned s t own to m i
 own_thinned s (loses t) own to m i = own_thinned s t (λ a b j. own a b (there j)) to m i
 
--- a step that takes in no log, or takes none
+-- a step that takes no log, or takes none
 pub kept_plainly : {S C O : Type 0} (rules : Rules S C O) (config : Config) (m : MasterState) (w : World S C O) (earlier : List (Moment S C O))
     (n : ℕ) (r : ReplicaState S C) (input : Input C) (new : ReplicaState S C) (given : List (Effect C O)) → (k : Kept rules config m w earlier) →
     slice_get w.nodes n ≡ Some r → r.stopped ≡ false → MayTake w n input → KeepsBase {O = O} r (replica_step rules r input) →

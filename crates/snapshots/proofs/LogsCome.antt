@@ -1,4 +1,5 @@
--- LogsCome.antt: State and Install take logs so; where they take none they do as on whole logs.
+-- LogsCome.antt: State and Install take logs in this way; if they take none they do as on whole
+-- logs.
 use Rattle.std.proofs.Common.{◌≡◌, ℕ, ◌≤◌, ◌⊎◌, inl, inr, true, false, List, [], ◌∷◌, length, refl, ap, sym, ◌∙◌, subst}
 use Rattle.std.specs.Prelude.{nat_lt, nat_le, ◌&&◌, ◌||◌, ◌==◌}
 use Rattle.std.proofs.lemmas.Bool.{and_parts, cases_Bool, eqb-true, leb-true}

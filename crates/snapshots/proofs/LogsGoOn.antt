@@ -1,4 +1,4 @@
--- LogsGoOn.antt: a node that takes a log, by any of the three ways, goes on as on whole logs.
+-- LogsGoOn.antt: a node that takes a log, by any of the three ways, continues as on whole logs.
 use Rattle.std.proofs.Common.{cond, [], ◌≡◌, ℕ, ◌<◌, ◌≤◌, ◌⊎◌, inl, inr, false, List, ◌∷◌, length, set, take, Some, refl, ap, sym, ◌∙◌, subst, arith}
 use Rattle.std.specs.Prelude.{◌==◌, slice_get}
 use Rattle.std.proofs.lemmas.Bool.{cases_eq, cases_lt, lt-ltb, le-ltb}
@@ -39,7 +39,7 @@ use Rattle.snapshots.proofs.Views.{get_whole, may_take_whole, moved_whole, step_
 abbrev pub moment : {S C O : Type 0} → MasterState → World S C O → Moment S C O
 moment m w = record { master = m; world = whole_world w }
 
--- what is known of a row that takes a log
+-- what is known about a row that takes a log
 pub record TakesLog {S C O : Type 0} (rules : Rules S C O) (archive : List C) (r : ReplicaState S C) (input : Input C) (ballot : ℕ) (log : Log C) :
     Type 0 where
   pub long : r.committed ≤ places log
@@ -90,7 +90,7 @@ tells_before {S = S} {C = C} {O = O} rules m w n s new given r k stands is = rec
       refl,
     )
 
--- the past on whole logs after a node took in a log, and what was added to it
+-- the past on whole logs after a node took a log, and what was added to it
 pub record LogWent {S C O : Type 0} (rules : Rules S C O) (config : Config) (m : MasterState) (w : World S C O) (earlier : List (Moment S C O)) (n : ℕ)
     (r : ReplicaState S C) (input : Input C) (new : ReplicaState S C) (given : List (Effect C O)) (came : Past rules config (moment m w ∷ earlier)) : Type 0 where
   pub more : List (Moment S C O)
@@ -99,7 +99,7 @@ pub record LogWent {S C O : Type 0} (rules : Rules S C O) (config : Config) (m :
   pub continues : Continues (moment m w ∷ earlier) (moment m (moved w n new given)) more
   pub adds : Adds came past (added_whole w.archive n r input new given)
 
--- so the whole logs have gone on, by one step or by one and learning
+-- so the whole logs have continued, by one step or by one and learning
 pub log_goes_on : {S C O : Type 0} (rules : Rules S C O) (config : Config) (m : MasterState) (w : World S C O) (earlier : List (Moment S C O)) (n : ℕ)
     (r : ReplicaState S C) (input : Input C) (ballot : ℕ) (log : Log C) (machine : S) (new : ReplicaState S C) (given : List (Effect C O)) →
     (came : Past rules config (moment m w ∷ earlier)) → slice_get w.nodes n ≡ Some r → r.stopped ≡ false → MayTake w n input → IsBased w.archive r →

@@ -1,4 +1,5 @@
--- MoreMoments.antt: with more moments what was told, chosen and active stays so, and the agreed list only grows.
+-- MoreMoments.antt: with more moments what was acknowledged, chosen and active stays so, and the
+-- agreed list only grows.
 use Rattle.std.proofs.Common.{◌≡◌, ℕ, ◌⊎◌, inl, inr, List, [], refl, sym, subst}
 use Rattle.agreement.specs.lists.Lists.{In, IsPrefixOf}
 use Rattle.agreement.specs.ballot_base.declared.config.Config.{Config}

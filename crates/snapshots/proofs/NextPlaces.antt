@@ -47,7 +47,7 @@ use Rattle.snapshots.proofs.Continues.{agreed_in}
 use Rattle.snapshots.proofs.Plain.{IsPlain, plain_matches}
 use Rattle.snapshots.proofs.Views.{get_whole, outputs_whole, whole_loses}
 
--- messages alone are missing, and messages are no outputs
+-- only messages are missing, and messages are no outputs
 thinned_outputs : {C O : Type 0} {xs ys : List (Effect C O)} → Thinned xs ys → outputs xs ≡ outputs ys
 thinned_outputs none = refl
 thinned_outputs (keeps {e = To receiver m} t) = thinned_outputs t
@@ -62,7 +62,7 @@ installs_silent : {S C : Type 0} (O : Type 0) (r : ReplicaState S C) (lacking : 
 installs_silent O r [] = refl
 installs_silent O r (member ∷ members) = each_silent O r.id (Install r.joined r.log) (member ∷ members)
 
--- where a log is handed over nothing is given: the node is as it was, or is no active primary
+-- if a log is handed over nothing is given: the node is as it was, or is no active primary
 data IsSilent {S C O : Type 0} (r : ReplicaState S C) (o : Outcome S C O) : Type 0 where
   stays : o.state ≡ r → outputs o.effects ≡ [] → IsSilent r o
   passive : is_active o.state.role ≡ false → outputs o.effects ≡ [] → IsSilent r o
@@ -213,7 +213,7 @@ step_gives {S = S} {C = C} {O = O} rules config m w k v earlier kept step n old 
     by_step (assignment_lost config) there inside = still there inside [] refl
     by_step (answer_lost from b sent) there inside = still there inside [] refl
 
--- in the words of the law
+-- in the terms of the law
 pub answers_at_the_next_places : {S C O : Type 0} (rules : Rules S C O) → AnswersAtTheNextPlaces rules
 answers_at_the_next_places {S = S} {C = C} {O = O} rules config a b past xs came agreed step n old new stood stands =
     let s = past_stands rules config a past came in

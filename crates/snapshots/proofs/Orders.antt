@@ -78,7 +78,7 @@ leads_now : {S C O : Type 0} {rules : Rules S C O} {config : Config} {n ballot :
 leads_now (leads_there p) = p
 leads_now (leads_still leads step p) = p
 
--- the node whose whole log stands at a place
+-- the node whose whole log is at a place
 pub node_at : {X Y : Type 0} (f : X → Y) (xs : List X) (n : ℕ) (y : Y) → slice_get (map f xs) n ≡ Some y → (x : X) × (slice_get xs n ≡ Some x) × (f x ≡ y)
 node_at f [] n y e = cc
 node_at f (x ∷ xs) zero y e = let g : f x ≡ y = cc in (x, refl, g)
@@ -139,7 +139,7 @@ gave_between {S = S} {C = C} {O = O} rules config a past came n ballot old stood
           (between_joins rules xs old.committed r.committed new.committed low (omega (arith, up, from)) (omega (arith, inside, longer))),
     )
 
--- in the words of the law
+-- in the terms of the law
 pub answers_while_it_leads : {S C O : Type 0} (rules : Rules S C O) → AnswersWhileItLeads rules
 answers_while_it_leads rules config a b past later xs came more agreed n ballot leads old new stood stands =
     let g = gave_between rules config a past came n ballot old stood b later xs more agreed leads new stands in

@@ -83,7 +83,7 @@ step_goes_on {C = C} {O = O} rules config m k w v earlier q (answer_lost from b 
     (master_unheard rules config m (activating m b m.waiting) w earlier q
     (happens.answer_lost from b (in_whole (whole_letter w.archive) sent), record { proposes = refl; takes = refl; takes_at = λ n. refl; gives = λ n. refl }))
 
--- a past on whole logs that a past of a group that cuts its logs stands for
+-- a past on whole logs that a past of a group that cuts its logs corresponds to
 pub record StandsFor {S C O : Type 0} (rules : Rules S C O) (config : Config) (a : Moment S C O) (past : List (Moment S C O)) : Type 0 where
   pub earlier : List (WholeMoment S C O)
   pub kept : Kept rules config a.master a.world earlier

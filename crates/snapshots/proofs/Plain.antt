@@ -1,4 +1,4 @@
--- Plain.antt: the step of a node that takes in no log is the one on whole logs.
+-- Plain.antt: the step of a node that takes no log is the one on whole logs.
 use Rattle.std.proofs.Common.{ℕ, List}
 use Rattle.machine.specs.Machine.{Rules}
 use Rattle.agreement.specs.whole.Protocol.{ticked as whole_ticked, replica_step as whole_step, received as whole_received}

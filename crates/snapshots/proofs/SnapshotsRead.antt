@@ -1,4 +1,4 @@
--- SnapshotsRead.antt: the snapshot of each message that was sent stands for a machine.
+-- SnapshotsRead.antt: the snapshot of each message that was sent thaws.
 use Rattle.std.proofs.Common.{◌≡◌, ◌<◌, ◌≤◌, ◌⊎◌, inl, inr, Bool, true, false, List, Some, refl, subst, arith}
 use Rattle.std.specs.Prelude.{◌&&◌}
 use Rattle.std.proofs.lemmas.Bool.{cases_lt}

@@ -1,4 +1,4 @@
--- TakenStands.antt: what a node that cuts its log takes stands at once at the end of its log.
+-- TakenStands.antt: what a node that cuts its log takes is at once at the end of its log.
 use Rattle.std.proofs.Common.{◌≡◌, ℕ, ◌≤◌, Bool, true, false, cond, List, [], ◌∷◌, length, Some, refl, ap, sym, ◌∙◌, subst}
 use Rattle.std.specs.Prelude.{slice_get, nat_lt, ◌==◌}
 use Rattle.std.proofs.lemmas.Bool.{eq-eqb}
@@ -94,7 +94,7 @@ step_stands rules m w k v (assignment_lost config) based later =
 step_stands rules m w k v (answer_lost from b sent) based later =
     record { stands = λ n row j. elim j [ ]; somewhere = λ row j. elim j [ ]; refused = λ nothing row j n. elim j [ ] }
 
--- in the words of the law
+-- in the terms of the law
 pub taken_stand_at_once : {S C O : Type 0} (rules : Rules S C O) → TakenStandAtOnce rules
 taken_stand_at_once rules config a b past came step =
     let before = past_stands rules config a past came in

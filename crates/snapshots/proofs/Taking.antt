@@ -46,7 +46,7 @@ snapshot_learned {S = S} {C = C} rules archive r log machine within over is ran 
     ∙ ap (replay rules) (sym (whole_front archive log within))
     ∙ sym (replay_goes_on rules r.machine (whole_log archive log) r.committed log.base (omega (arith, over)) ran))
 
--- a cut changes no view, where the record has the places below what is committed
+-- a cut changes no view, if the record has the places below what is committed
 pub cut_stays : {S C O : Type 0} (rules : Rules S C O) (archive : List C) (r : ReplicaState S C) → IsBased archive r → r.committed ≤ length archive →
     r.committed ≤ places r.log → take r.committed (whole_log archive r.log) ≡ take r.committed archive →
     whole archive (cut rules r) ≡ whole archive r
@@ -55,7 +55,7 @@ cut_stays {S = S} {C = C} {O = O} rules archive r b within long same =
     (whole_shorter archive r.log.rest r.log.base r.committed b.low within
     (let a = whole_long archive r.log b.within in omega (arith, a, long)) same)
 
--- a record that goes on changes no view
+-- a record that continues changes no view
 pub longer_record : {S C : Type 0} (archive more : List C) (r : ReplicaState S C) → IsPrefixOf archive more → r.log.base ≤ length archive →
     whole more r ≡ whole archive r
 longer_record {S = S} {C = C} archive more r p within =

@@ -1,4 +1,5 @@
--- Giving.antt: what one node of a group that cuts its logs gives, in a step and while it leads one ballot.
+-- Giving.antt: the outputs of one node of a group that cuts its logs, in a step and while it leads
+-- one ballot.
 use Rattle.std.specs.Prelude.{ℕ, ◌==◌, List, [], ◌∷◌, ◌++◌, if◌then◌else◌}
 use Rattle.machine.specs.Machine.{Rules}
 use Rattle.agreement.specs.MasterState.{MasterState}
@@ -11,7 +12,7 @@ use Rattle.snapshots.specs.Steps.MayHappen.{node_goes, master_assigns, master_he
 use Rattle.snapshots.specs.World.{NodeGoes, World, outputs, whole_world}
 use Rattle.snapshots.specs.World.NodeGoes.{takes, stops, cuts}
 
--- the outputs that the node at place n gives in a step, each with its place in the list
+-- the outputs of the node at place n in a step, each with its place in the list
 abbrev pub given_by_node : {S C O : Type 0} {rules : Rules S C O} {w v : World S C O} →
     ℕ → NodeGoes rules w v → List (ℕ × O)
 given_by_node n (takes i r input {new = new} {given = given} stands runs may loses) =
@@ -33,7 +34,7 @@ abbrev pub given_of : {S C O : Type 0} {rules : Rules S C O} {config : Config}
 given_of n (began nodes lawful is) = []
 given_of n (went_on came step) = given_of n came ++ given_in n step
 
--- a past goes on from a moment, and the node at place n is the active primary of a ballot at that
+-- a past continues from a moment, and the node at place n is the active primary of a ballot at that
 -- moment and at each later one
 pub data LeadsOn {S C O : Type 0} {rules : Rules S C O} {config : Config} (n ballot : ℕ)
     {a : Moment S C O} {past : List (Moment S C O)} (came : Past rules config (a ∷ past)) :

@@ -1,4 +1,5 @@
--- Laws.antt: what holds of every past of a group whose nodes cut their logs. What is said of logs is said of whole ones.
+-- Laws.antt: what holds for every past of a group whose nodes cut their logs. What is said about
+-- logs is said about whole ones.
 use Rattle.std.specs.Prelude.{ℕ, ◌<◌, ◌≤◌, ◌≡◌, false, List, ◌∷◌, length, map, take, slice_get, Option, Some, None}
 use Rattle.machine.specs.Machine.{Rules, replay}
 use Rattle.agreement.specs.lists.Lists.{In, IsPrefixOf}
@@ -47,7 +48,7 @@ MachinesReplay {S} {C} {O} rules =
     Past rules config (a ∷ past) → AreReplays rules (whole_world a.world)
 
 -- the base of each log lies within the record and within what is applied, and a snapshot is the
--- frozen replay of the places below it, and stands for that
+-- frozen replay of the places below it, and thaws to that
 pub record IsCutRight {S C O : Type 0} (rules : Rules S C O) (archive : List C)
     (r : ReplicaState S C) : Type 0 where
   pub recorded : r.log.base ≤ length archive
@@ -70,7 +71,7 @@ log_in (State ballot log) = Some log
 log_in (Install ballot log) = Some log
 log_in _ = None
 
--- it was cut right, too, where it was sent
+-- the log in a message that was sent is cut right, too
 pub record IsSentRight {S C O : Type 0} (rules : Rules S C O) (archive : List C) (log : Log C) : Type 0 where
   pub recorded : log.base ≤ length archive
   pub bytes : 0 < log.base → log.snapshot ≡ rules.frozen (replay rules (take log.base archive))
@@ -83,7 +84,7 @@ SentLogsAreRight {S} {C} {O} rules =
     (to : ℕ) (message : Message C) → In (to, message) a.world.sent →
     (log : Log C) → log_in message.body ≡ Some log → IsSentRight rules a.world.archive log
 
--- so no node finds a message whose snapshot it has to read and that stands for no machine
+-- so if a node has to read the snapshot of a message, it can be read
 abbrev pub SnapshotsAreRead : {S C O : Type 0} → Rules S C O → Type 0
 SnapshotsAreRead {S} {C} {O} rules =
     (config : Config) (a : Moment S C O) (past : List (Moment S C O)) →

@@ -1,5 +1,5 @@
--- Masters.antt: what the master says in a group whose nodes cut their logs. What it keeps is as on whole logs, and no
--- message of it carries a log.
+-- Masters.antt: the messages of the master in a group whose nodes cut their logs. What it keeps is
+-- as on whole logs, and no message of it carries a log.
 use Rattle.std.specs.Prelude.{ℕ, ◌+◌, Option, if◌then◌else◌}
 use Rattle.agreement.specs.MasterState.{MasterState, activating, assigning, is_granted}
 use Rattle.agreement.specs.ballot_base.declared.config.Config.{Config}
@@ -12,7 +12,7 @@ pub record MasterOutcome (C : Type 0) : Type 0 where
   pub receiver : ℕ
   pub body : Body C
 
--- Assign: the primary is told of the ballot
+-- Assign: a message to the primary with the ballot
 abbrev pub assigned : (C : Type 0) → MasterState → Config → MasterOutcome C
 assigned C m config =
     record {

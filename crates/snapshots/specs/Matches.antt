@@ -1,4 +1,4 @@
--- Matches.antt: when a step where logs are cut is a step on the whole logs.
+-- Matches.antt: when a step of nodes that cut their logs is a step on the whole logs.
 use Rattle.std.specs.Prelude.{◌≤◌, ◌≡◌, List, length}
 use Rattle.agreement.specs.whole.Losses.{Thinned}
 use Rattle.agreement.specs.whole.Sending.{Outcome as WholeOutcome}
@@ -11,8 +11,8 @@ pub record IsBased {S C : Type 0} (archive : List C) (r : ReplicaState S C) : Ty
   pub within : r.log.base ≤ length archive
   pub low : r.log.base ≤ r.committed
 
--- an outcome stands for one on whole logs; that may have more messages, of which a tick says again places that
--- are dropped
+-- an outcome corresponds to one on whole logs, which may have more messages: a tick there repeats
+-- places that are dropped here
 pub record Matches {S C O : Type 0} (archive : List C) (o : Outcome S C O) (p : WholeOutcome S C O) : Type 0 where
   pub state : whole archive o.state ≡ p.state
   pub effects : Thinned (whole_effects archive o.effects) p.effects

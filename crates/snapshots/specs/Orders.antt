@@ -1,5 +1,5 @@
--- Orders.antt: what holds of the order of proposals, and of what nodes give, in every past of a group that cuts its logs.
--- What is said of logs is said of whole ones.
+-- Orders.antt: what holds for the order of proposals, and of what nodes give, in every past of a
+-- group that cuts its logs. What is said about logs is said about whole ones.
 use Rattle.std.specs.Prelude.{ℕ, Bool, ◌≤◌, ◌≡◌, List, [], ◌∷◌, ◌++◌, filter, length, map, slice_get, Some}
 use Rattle.machine.specs.Machine.{Rules}
 use Rattle.agreement.specs.lists.Lists.{In, IsPrefixOf}
@@ -19,7 +19,8 @@ use Rattle.snapshots.specs.Steps.{MayHappen}
 use Rattle.snapshots.specs.Whole.{whole, whole_log}
 use Rattle.snapshots.specs.World.{World, whole_world}
 
--- of the commands that were taken in one ballot only, each log has a beginning in the order of proposing
+-- of the commands that were taken only in one ballot, each log has a prefix in the order of
+-- proposing
 abbrev pub KeepsTheOrder : {S C O : Type 0} → Rules S C O → Type 0
 KeepsTheOrder {S} {C} {O} rules =
     (config : Config) (a : Moment S C O) (past : List (Moment S C O)) →
@@ -29,8 +30,9 @@ KeepsTheOrder {S} {C} {O} rules =
     (n : ℕ) (r : ReplicaState S C) → slice_get a.world.nodes n ≡ Some r →
     IsPrefixOf (filter names (whole_log a.world.archive r.log)) (filter names (commands_of (taken_of came))))
 
--- what a node takes in a step stands at once at the end of its log; all that is taken some node takes; and a
--- proposal that is not taken changes no log. The step is one of a past, since a log is said by its record
+-- what a node takes in a step is at once at the end of its log; everything that is taken is taken
+-- by some node; and a proposal that is not taken changes no log. The step is one of a past, since
+-- the whole log is given by the record
 pub record StandsAtOnce {S C O : Type 0} {rules : Rules S C O} {m : MasterState} {w : World S C O}
     {k : MasterState} {v : World S C O} (step : MayHappen rules m w k v) : Type 0 where
   pub stands : (n : ℕ) (row : ℕ × C) → In row (takes_at n step) →
@@ -53,7 +55,7 @@ OneNodeTakesABallot {S} {C} {O} rules =
     (c : Moment S C O) (n ballot : ℕ) → In c (a ∷ past) → IsPrimary (whole_world c.world) n ballot →
     rows_in ballot (taken_of came) ≡ rows_in ballot (taken_at n came)
 
--- what a node gives in a step is the answers at the next places of the agreed list
+-- the outputs of a node in a step are the answers at the next places of the agreed list
 abbrev pub AnswersAtTheNextPlaces : {S C O : Type 0} → Rules S C O → Type 0
 AnswersAtTheNextPlaces {S} {C} {O} rules =
     (config : Config) (a b : Moment S C O) (past : List (Moment S C O)) (xs : List C) →
@@ -63,8 +65,9 @@ AnswersAtTheNextPlaces {S} {C} {O} rules =
     slice_get b.world.nodes n ≡ Some new →
     GivesNext rules (whole a.world.archive old) (whole b.world.archive new) xs (given_in n step)
 
--- so between two moments of a ballot that it leads a node gives the answers at all places of the agreed list,
--- from where it had applied it to where it has applied it: none is left out, and none comes twice
+-- so between two moments of a ballot that it leads a node gives the answers at all places of the
+-- agreed list, from where it had applied it to where it has applied it: none is left out, and none
+-- comes twice
 abbrev pub AnswersWhileItLeads : {S C O : Type 0} → Rules S C O → Type 0
 AnswersWhileItLeads {S} {C} {O} rules =
     (config : Config) (a b : Moment S C O) (past later : List (Moment S C O)) (xs : List C) →

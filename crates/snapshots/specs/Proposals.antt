@@ -1,4 +1,5 @@
--- Proposals.antt: what was proposed to the nodes of a group that cuts its logs, in order, and what of it they took.
+-- Proposals.antt: what was proposed to the nodes of a group that cuts its logs, in order, and which
+-- of it they took.
 use Rattle.std.specs.Prelude.{ℕ, ◌==◌, List, [], ◌∷◌, ◌++◌, nat_lt, if◌then◌else◌}
 use Rattle.machine.specs.Machine.{Rules}
 use Rattle.agreement.specs.MasterState.{MasterState}
@@ -14,18 +15,18 @@ use Rattle.snapshots.specs.Steps.MayHappen.{node_goes, master_assigns, master_he
 use Rattle.snapshots.specs.World.{NodeGoes, World}
 use Rattle.snapshots.specs.World.NodeGoes.{takes, stops, cuts}
 
--- the proposal that a node takes in, with the ballot that it has joined
+-- the proposal that a node is given, with the ballot that it has joined
 abbrev pub proposal_by : {S C : Type 0} → ReplicaState S C → Input C → List (ℕ × C)
 proposal_by r (Receives message) = []
 proposal_by r (Proposes command) = (r.joined, command) ∷ []
 proposal_by r Ticks = []
 
--- of it what the node takes: its log has more places after the step
+-- what the node takes of it: its log has more places after the step
 abbrev pub taken_by : {S C : Type 0} → ReplicaState S C → ReplicaState S C → Input C → List (ℕ × C)
 taken_by old new input =
     if nat_lt (places old.log) (places new.log) then proposal_by old input else []
 
--- in what a node does; a cut takes nothing in
+-- in what a node does; a cut proposes nothing
 abbrev pub proposed_to : {S C O : Type 0} {rules : Rules S C O} {w v : World S C O} →
     NodeGoes rules w v → List (ℕ × C)
 proposed_to (takes n r input stands runs may loses) = proposal_by r input

@@ -1,5 +1,6 @@
--- Steps.antt: what may happen in a group whose nodes cut their logs: a node takes its step, stops or cuts its log; its
--- master answers an Assign, or hears an Activate. Messages of the master may be lost, too.
+-- Steps.antt: what may happen in a group whose nodes cut their logs: a node takes its step, stops
+-- or cuts its log; its master answers an Assign, or receives an Activate. Messages of the master
+-- may be lost, too.
 use Rattle.std.specs.Prelude.{ℕ, [], ◌∷◌, ◌++◌, Option, Some, None}
 use Rattle.machine.specs.Machine.{Rules}
 use Rattle.agreement.specs.lists.Lists.{In}
@@ -15,7 +16,7 @@ abbrev pub tells_from_master : {S C O : Type 0} → World S C O → MasterOutcom
 tells_from_master w o =
     record w { sent = w.sent ++ (o.receiver, record { from = master; body = o.body }) ∷ [] }
 
--- and after an Assign: its primary is told of the ballot
+-- and after an Assign: its primary is sent the ballot
 abbrev pub world_behind : {S C O : Type 0} →
     MasterState → World S C O → Config → Option AssignRefusal → World S C O
 world_behind m w config (Some why) = w
@@ -32,7 +33,7 @@ pub data MayHappen {S C O : Type 0} (rules : Rules S C O) :
       In (0, record { from = from; body = Activate b }) w.sent →
       MayHappen rules m w (activated C m b from m.waiting).state
       (tells_from_master w (activated C m b from m.waiting))
-  -- the same where the master's message is lost
+  -- the same if the master's message is lost
   assignment_lost : {m : MasterState} {w : World S C O} (config : Config) →
       MayHappen rules m w (master_behind m config (refusal m config)) w
   answer_lost : {m : MasterState} {w : World S C O} (from b : ℕ) →

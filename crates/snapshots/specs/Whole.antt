@@ -1,5 +1,5 @@
--- Whole.antt: the replica, the messages and the effects on whole logs for which those with cut logs stand, by a
--- record of the places below all bases.
+-- Whole.antt: the replica, the messages and the effects on whole logs that correspond to those with
+-- cut logs, by a record of the places below all bases.
 use Rattle.std.specs.Prelude.{List, ◌++◌, map, take}
 use Rattle.agreement.specs.whole.Messages.{Body as WholeBody, Effect as WholeEffect, Message as WholeMessage}
 use Rattle.agreement.specs.whole.Messages.{Body as bodies}
@@ -17,7 +17,7 @@ use Rattle.agreement.specs.ballot_base.Replica.{ReplicaState}
 use Rattle.agreement.specs.ballot_base.Protocol.{Input}
 use Rattle.agreement.specs.ballot_base.Protocol.Input.{Receives, Proposes, Ticks}
 
--- the log for which a log stands
+-- the whole log of a log
 abbrev pub whole_log : {C : Type 0} → List C → Log C → List C
 whole_log archive log = take log.base archive ++ log.rest
 
@@ -40,7 +40,7 @@ whole archive r =
       stopped = r.stopped;
     }
 
--- what is said, and to whom
+-- the content and the receiver of a message
 abbrev pub whole_body : {C : Type 0} → List C → Body C → WholeBody C
 whole_body archive (NewBallot b members a old) = bodies.NewBallot b members a old
 whole_body archive (Join b a) = bodies.Join b a
@@ -57,7 +57,7 @@ whole_body archive (Commit b held) = bodies.Commit b held
 abbrev pub whole_message : {C : Type 0} → List C → Message C → WholeMessage C
 whole_message archive m = record { from = m.from; body = whole_body archive m.body }
 
--- what a step hands out
+-- what a step returns
 abbrev pub whole_effect : {C O : Type 0} → List C → Effect C O → WholeEffect C O
 whole_effect archive (To receiver m) = effects.To receiver (whole_message archive m)
 whole_effect archive (Out place output) = effects.Out place output
@@ -65,7 +65,7 @@ whole_effect archive (Out place output) = effects.Out place output
 abbrev pub whole_effects : {C O : Type 0} → List C → List (Effect C O) → List (WholeEffect C O)
 whole_effects archive es = map (whole_effect archive) es
 
--- what a replica takes in
+-- the input of a replica
 abbrev pub whole_input : {C : Type 0} → List C → Input C → WholeInput C
 whole_input archive (Receives m) = inputs.Receives (whole_message archive m)
 whole_input archive (Proposes command) = inputs.Proposes command

@@ -1,5 +1,5 @@
--- World.antt: nodes that cut their logs, all messages, the outputs that left, and the record of places; what may
--- happen to a node there.
+-- World.antt: nodes that cut their logs, all messages, the outputs that left, and the record of
+-- places; what may happen to a node there.
 use Rattle.std.specs.Prelude.{ℕ, ◌+◌, ◌<◌, ◌≡◌, false, List, [], ◌∷◌, ◌++◌, length, map, take, drop, slice_get, slice_set, Some}
 use Rattle.machine.specs.Machine.{Rules}
 use Rattle.agreement.specs.World.{World as WholeWorld}
@@ -23,7 +23,7 @@ pub record World (S C O : Type 0) : Type 0 where
   -- the places below all bases
   pub archive : List C
 
--- the world on whole logs for which it stands
+-- the world on whole logs that corresponds to it
 abbrev pub whole_letter : {C : Type 0} → List C → ℕ × Message C → ℕ × WholeMessage C
 whole_letter archive letter = (letter.0, whole_message archive letter.1)
 
@@ -42,7 +42,7 @@ outputs [] = []
 outputs (To receiver message ∷ effects) = outputs effects
 outputs (Out place output ∷ effects) = (place, output) ∷ outputs effects
 
--- the node at a place became another and handed out effects
+-- the node at a place changed and returned effects
 abbrev pub moved : {S C O : Type 0} → World S C O → ℕ → ReplicaState S C → List (Effect C O) → World S C O
 moved w n new given =
     record w { nodes = slice_set w.nodes n new; sent = w.sent ++ messages given; left = w.left ++ outputs given }

@@ -21,63 +21,64 @@ ghost use Rattle.snapshots.specs.Orders.{
 use machine::Machine;
 
 /// At each moment of a group there is an agreed list: the longest that is chosen in a ballot that
-/// was active. Logs are taken as whole ones: what a node has cut stands in the record of places.
+/// was active. Logs are taken as whole ones: what a node has cut is in the record of places.
 pub fn has_agreed<M: Machine>()
     ensures { HasAgreed M.rules }
 {}
 
 /// The nodes agree on it: what is applied anywhere begins it, each member of the active
 /// configuration holds it, of two logs installed in one ballot one begins the other, and some node
-/// holds it. What left is the machine's outputs at places of it, each place at most once. The record
-/// of places begins it.
+/// holds it. What left is the machine's outputs at places of it, each place at most once. The
+/// record of places begins it.
 pub fn nodes_agree<M: Machine>()
     ensures { NodesAgree M.rules }
 {}
 
-/// What is agreed begins what is agreed at the next moment, whatever happens in between, cuts among
-/// it.
+/// What is agreed begins what is agreed at the next moment, whatever happens in between, including
+/// cuts.
 pub fn agreed_grows<M: Machine>()
     ensures { AgreedGrows M.rules }
 {}
 
-/// The machine of each node that runs is the replay of the places that it applied, also where it
-/// came out of a snapshot.
+/// The machine of each node that runs is the replay of the places that it applied, also if it came
+/// out of a snapshot.
 pub fn machines_replay<M: Machine>()
     ensures { MachinesReplay M.rules }
 {}
 
-/// What a node has cut is in the record and was applied by it, and its snapshot is the frozen replay
-/// of these places, and stands for it.
+/// What a node has cut is in the record and was applied by it, and its snapshot is the frozen
+/// replay of these places, and thaws to it.
 pub fn logs_are_cut_right<M: Machine>()
     ensures { LogsAreCutRight M.rules }
 {}
 
-/// A log that was sent was cut right, too: its base lies within the record, and its snapshot is the
-/// frozen replay of the places below it, and stands for that. So whoever takes it goes on from the
-/// machine of the list's beginning.
+/// A log that was sent was cut correctly, too: its base lies within the record, and its snapshot is
+/// the frozen replay of the places below it, and thaws to that. So a replica that takes it
+/// continues from the machine of a prefix of the list.
 pub fn sent_logs_are_right<M: Machine>()
     ensures { SentLogsAreRight M.rules }
 {}
 
-/// So a message that has to be read is read: no node counts one as lost for its snapshot.
+/// So a snapshot that has to be read is read: no node counts a message as lost because of its
+/// snapshot.
 pub fn snapshots_are_read<M: Machine>()
     ensures { SnapshotsAreRead M.rules }
 {}
 
-/// A ballot has one active primary: two nodes that were active in it, at whatever moments, are one.
+/// A ballot has one active primary: two nodes that were active in it, at any moments, are one.
 pub fn one_primary_a_ballot<M: Machine>()
     ensures { OnePrimaryABallot M.rules }
 {}
 
-/// Of the commands that were taken in one ballot only, each log has a beginning in the order of
-/// proposing, whichever places of it were cut. Which were taken the past tells: those by which a log
+/// Of the commands that were taken only in one ballot, each log has a prefix in the order of
+/// proposing, whichever places of it were cut. The past says which were taken: those by which a log
 /// grew.
 pub fn keeps_the_order<M: Machine>()
     ensures { KeepsTheOrder M.rules }
 {}
 
-/// What a node takes in a step stands at once at the end of its log, and the node is the active
-/// primary of the ballot in which it is counted; a proposal that is not taken changes no log.
+/// What a node takes in a step is at once at the end of its log, and the node is the active primary
+/// of the ballot in which it is counted; a proposal that is not taken changes no log.
 pub fn taken_stand_at_once<M: Machine>()
     ensures { TakenStandAtOnce M.rules }
 {}
@@ -87,14 +88,14 @@ pub fn one_node_takes_a_ballot<M: Machine>()
     ensures { OneNodeTakesABallot M.rules }
 {}
 
-/// What a node gives in a step is the machine's answers at the next places of the agreed list: from
-/// where it had applied it to where it has applied it now, where it is the active primary, and else
-/// nothing. A node that takes a snapshot gives nothing for the places below it.
+/// The outputs of a node in a step are the machine's answers at the next places of the agreed list,
+/// from where it had applied it to where it has applied it now, if it is the active primary, and
+/// otherwise nothing. A node that takes a snapshot outputs nothing for the places below it.
 pub fn answers_at_the_next_places<M: Machine>()
     ensures { AnswersAtTheNextPlaces M.rules }
 {}
 
-/// So while a node is the active primary of one ballot it gives the answers at all places of the
+/// So while a node is the active primary of one ballot it outputs the answers at all places of the
 /// agreed list, from one moment to another: none is left out, and none comes twice.
 pub fn answers_while_it_leads<M: Machine>()
     ensures { AnswersWhileItLeads M.rules }

@@ -1,5 +1,5 @@
-//! Groups whose nodes cut their logs, and the proof that they agree. No code runs here; the laws are carried by calls
-//! that do nothing.
+//! Groups whose nodes cut their logs, and the proof that they agree. No code runs here; the laws
+//! are contracts of calls that do nothing.
 #![tactic(auto)]
 
 mod laws;

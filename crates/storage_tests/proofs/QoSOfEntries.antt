@@ -1,4 +1,5 @@
--- QoSOfEntries.antt: an entry is released at QoS 2 alone, and finished without a release at QoS 1 alone.
+-- QoSOfEntries.antt: an entry is released only at QoS 2, and finished without a release only at QoS
+-- 1.
 use Rattle.std.proofs.Common.{◌≡◌, ℕ, Bool, true, false, not, ◌&&◌, ◌==◌, nat_lt, if◌then◌else◌, List, [], ◌∷◌, ◌++◌, length, map, Option, Some, None, refl}
 use Rattle.std.specs.List.{AllByRecursion}
 use Rattle.packet.specs.declared.packet.Packet.TheVariants as packets

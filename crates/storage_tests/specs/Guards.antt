@@ -1,5 +1,5 @@
--- Guards of definitions that no worked row of the broker reaches: which answer finishes which entry, by its QoS (MQTT 4.3.2, 4.3.3), and whom
--- an Expel names.
+-- Guards of definitions that no worked example of the broker reaches: which answer finishes which
+-- entry, by its QoS (MQTT 4.3.2, 4.3.3), and whom an Expel names.
 use Rattle.std.specs.Prelude.{◌≡◌, true, false, [], ◌∷◌, ◌++◌, Some, None, codes}
 use Rattle.std.specs.List.{AllByRecursion}
 use Rattle.packet.specs.declared.delivery.Delivery.TheVariants as deliveries
@@ -24,8 +24,8 @@ FitsItsQoS _ = Unit {0}
 abbrev pub EntriesFitTheirQoS : Type 0
 EntriesFitTheirQoS = (limits : Limits) (past : Past) (c : Client) → AllByRecursion FitsItsQoS (entries_of limits past c)
 
--- b is sent x at QoS 1 with identifier 1 and y at QoS 2 with identifier 2. A PUBREC of 1 and a PUBACK of 2 are nothing:
--- when b comes back it is sent both again
+-- b is sent x at QoS 1 with identifier 1 and y at QoS 2 with identifier 2. A PUBREC of 1 and a
+-- PUBACK of 2 are nothing: when b comes back it is sent both again
 abbrev pub AnswersOfAnotherQoSAreNothing : Type 0
 AnswersOfAnotherQoSAreNothing =
     Gives usual_limits
@@ -37,8 +37,8 @@ AnswersOfAnotherQoSAreNothing =
     ∷ sends 3 (publish (deliveries.AtLeastOnce true 1) false (codes "x"))
     ∷ sends 3 (publish (deliveries.ExactlyOnce true 2) false (codes "y")) ∷ []) ∷ [])
 
--- An Expel of a client that never came, of a text that is no identifier, or of one that begins with a client's own or is the beginning
--- of it, is nothing: b goes on as it was.
+-- An Expel of a client that never came, of a text that is no identifier, or of one that begins with
+-- a client's own or is the beginning of it, is nothing: b continues as it was.
 abbrev pub ExpelsOfNobodyAreNothing : Type 0
 ExpelsOfNobodyAreNothing =
     Gives usual_limits (subscribed_at levels.ExactlyOnce ++ connect 4 (codes "bc") ∷ gets 2 (publish (deliveries.ExactlyOnce false 1) false (codes "x")) ∷ [])
@@ -46,7 +46,8 @@ ExpelsOfNobodyAreNothing =
     ∷ gets 1 (packets.Pubrec 1) ∷ commands.Expel (codes "bc") ∷ gets 1 (packets.Pubcomp 1) ∷ gets 1 packets.Pingreq ∷ [])
     ([] ∷ [] ∷ [] ∷ [] ∷ (sends 1 (packets.Pubrel 1) ∷ []) ∷ (Close (nth 4) ∷ []) ∷ [] ∷ (sends 1 packets.Pingresp ∷ []) ∷ [])
 
--- of a client that is away too the session is gone: what waits for it is for nobody, and it comes back to a session that begins
+-- the session of a client that is away is removed too: what waits for it is sent to no client, and
+-- when it comes back a new session begins
 abbrev pub ExpelledWhileAway : Type 0
 ExpelledWhileAway =
     Gives usual_limits (subscribed_at levels.ExactlyOnce ++ commands.Lost (nth 1) ∷ gets 2 (publish (deliveries.ExactlyOnce false 1) false (codes "x")) ∷ [])

@@ -23,7 +23,7 @@ fn has_equal_copy(sent: &Awaits) -> bool {
     }
 }
 
-// Whether an entry that waits for PUBREC with a payload is another.
+// Says whether an entry that waits for PUBREC with a payload is another.
 fn is_no_pubrec(alloc: Global, payload: &str, sent: &Awaits) -> bool {
     match publication(alloc, payload) {
         Some(other) => !(Awaits::Pubrec(other) == *sent),
@@ -31,7 +31,7 @@ fn is_no_pubrec(alloc: Global, payload: &str, sent: &Awaits) -> bool {
     }
 }
 
-// Whether one that waits for PUBACK with a payload is another.
+// Says whether one that waits for PUBACK with a payload is another.
 fn is_no_puback(alloc: Global, payload: &str, sent: &Awaits) -> bool {
     match publication(alloc, payload) {
         Some(other) => !(Awaits::Puback(other) == *sent),
@@ -53,7 +53,7 @@ fn copies(alloc: Global) -> bool {
     }
 }
 
-// A copy equals what it was made of, and nothing that differs in a part.
+// A copy equals its original, and nothing that differs in a part.
 #[test]
 fn copies_are_equal(rt: HostRuntime) {
     assert!(rt; copies(rt.alloc()));

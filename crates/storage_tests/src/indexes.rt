@@ -1,4 +1,4 @@
-// What both indexes do, by callers that know the law alone.
+// What both indexes do, tested by callers that know only the law.
 
 mod calls;
 mod memory;

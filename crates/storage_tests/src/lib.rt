@@ -1,5 +1,5 @@
 //! Tests of what a broker stores, through public calls: sessions, the indexes of subscriptions,
-//! retained publications, and the functions that carry laws. Only tests and a few laws stand here.
+//! retained publications, and the functions that carry laws. It has only tests and a few laws.
 #![tactic(auto)]
 
 #[cfg(test)]

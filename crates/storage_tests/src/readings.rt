@@ -1,5 +1,5 @@
-// What entries and limits say at places that no worked row of the broker reaches. The calls do nothing; their
-// contracts are the rows.
+// What entries and limits say at places that no worked example of the broker reaches. The calls do
+// nothing; their contracts are the rows.
 
 ghost use Rattle.std.specs.Prelude.{◌≡◌, false, [], ◌∷◌, Some};
 ghost use Rattle.broker_model.specs.Connection.{ConnectionName};
@@ -17,32 +17,36 @@ ghost use Rattle.storage_tests.specs.Guards.{
   ExpelsOfNobodyAreNothing,
 };
 
-/// A released entry keeps the place at which it started, and is no longer one that is sent again (MQTT 4.3.3).
+/// A released entry keeps the place at which it started, and is no longer one that is sent again
+/// (MQTT 4.3.3).
 pub fn released_entries_are_read()
     ensures start { (p : Publication) → start_place (Entry.Released 1 p 2 3 4) ≡ Some 3 }
     ensures sent { (p : Publication) → sent_entries (Entry.Released 1 p 2 3 4 ∷ []) ≡ [] }
 {}
 
-/// A publication that removes what is retained needs no room, however much is retained (MQTT 3.3.1.3).
+/// A publication that removes what is retained needs no room, however much is retained (MQTT
+/// 3.3.1.3).
 pub fn removing_needs_no_room()
     ensures { (limits : Limits) (past : Past) (p : Publication) → p.payload ≡ [] →
         is_retained_over limits past p ≡ false }
 {}
 
-/// A connection is live only as the current one of a client, so one that is over is not (MQTT 3.1.4, 3.14.4).
+/// A connection is live only as the current one of a client, so one that is over is not (MQTT
+/// 3.1.4, 3.14.4).
 pub fn live_connections_are_current()
     ensures { (past : Past) (x : ConnectionName) → IsLive past x →
         (c : Client) × (current_connection past c ≡ Some x) }
 {}
 
-/// Shows that PUBACK finishes an entry of QoS 1 alone, and PUBREC and PUBCOMP one of QoS 2, in a list of
-/// commands as in a queue (MQTT 4.3.2, 4.3.3).
+/// Shows that PUBACK finishes only an entry of QoS 1, and PUBREC and PUBCOMP only one of QoS 2, in
+/// a list of commands as in a queue (MQTT 4.3.2, 4.3.3).
 pub fn answers_fit_the_qos()
     ensures entries { EntriesFitTheirQoS }
     ensures others { AnswersOfAnotherQoSAreNothing }
 {}
 
-/// Shows that an Expel of nobody's identifier is nothing, and that one ends the session of a client that is away.
+/// Shows that an Expel of an identifier that no session has does nothing, and that an Expel ends
+/// the session of a client that is away.
 pub fn expels_of_nobody_are_nothing()
     ensures nobody { ExpelsOfNobodyAreNothing }
     ensures away { ExpelledWhileAway }

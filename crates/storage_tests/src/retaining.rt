@@ -38,7 +38,7 @@ const AT_THE_LIMIT: &[Row<'static>] = &[
     Has(16_384),
 ];
 
-// Which row a store does not do as it says, if there is one.
+// Returns which row a store does not do as it says, if there is one.
 fn first_fault(alloc: Global, store: &mut RetainedStore, rows: &[Row<'_>]) -> Option<usize> {
     rows.iter().position(|row| !is_right(alloc, store, *row))
 }

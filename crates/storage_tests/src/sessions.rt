@@ -15,8 +15,8 @@ use session::{Arrival, EnqueueError, MAX_ENTRIES, Session};
 use std::alloc::Global;
 use std::test::Fail;
 
-// 17 publications at QoS 1: 16 are sent, PUBACK 5 sends the 17th with identifier 5, which comes last
-// when the client comes back (MQTT 4.4, 4.6).
+// 17 publications at QoS 1: 16 are sent, PUBACK 5 sends the 17th with identifier 5, which comes
+// last when the client comes back (MQTT 4.4, 4.6).
 const FREES_ITS_IDENTIFIER: &[Row<'static>] = &[
     Enqueue(17, QoS::AtLeastOnce),
     Room(4079),
@@ -104,11 +104,11 @@ const GREATEST_QOS: &[Row<'static>] = &[
     Granted(None),
 ];
 
-// A session of 4,096 entries takes no more.
+// A session with 4,096 entries takes no more.
 const QUEUE_IS_FULL: &[Row<'static>] = &[Enqueue(4096, QoS::AtLeastOnce), Room(0), IsFull];
 
-// One subscription at QoS 2, the received identifier 7, nothing in flight, and a publication at QoS 1
-// that waits; written by hand from the description of the form.
+// One subscription at QoS 2, the received identifier 7, nothing in flight, and a publication at QoS
+// 1 that waits; written by hand from the description of the form.
 const FROZEN: [u8; 29] = [
     1, 0, 3, 0x74, 0x2F, 0x31, 2, 0, 1, 0, 7, 0, 0, 0, 1, 0, 1, 0, 3, 0x74, 0x2F, 0x31, 0, 0, 0, 1,
     0x78, 0xAA, 0xBB,
@@ -141,7 +141,7 @@ fn thawed(alloc: Global, bytes: &[u8]) -> Option<Session> {
     Session::read(alloc, 64, &mut reader).ok()
 }
 
-// Whether the session is that of the bytes.
+// Says whether the session is that of the bytes.
 fn is_as_frozen(alloc: Global, session: &Session) -> bool {
     is_received(session, 7)
         && !is_received(session, 8)

@@ -1,4 +1,4 @@
--- A story that begins in the midst of a list, where the client has no session, is sound.
+-- A story that begins in the middle of a list, when the client has no session, is sound.
 use Rattle.std.proofs.Common.{◌≡◌, ℕ, suc, Bool, true, false, if◌then◌else◌, List, [], ◌∷◌, ◌++◌, Option, Some, None, refl, sym, ◌∙◌, ap, ap₂, subst, inl, length}
 use Rattle.packet.specs.declared.packet.Packet.TheVariants as packets
 use Rattle.lists.specs.Lists.{has_id, IsDistinct, Each}

@@ -74,7 +74,7 @@ all_elsewhere limits place past x [] h = refl
 all_elsewhere limits place past x (d ∷ ds) h =
     elsewhere_two x (deliveries_to limits place past d) (flat_map (deliveries_to limits place past) ds) (deliveries_elsewhere limits place past x d h.0) (all_elsewhere limits place past x ds h.1)
 
--- where one client alone is served on the connection, it gets what that client gets
+-- if only one client is served on the connection, the connection is sent what that client gets
 pub sends_of_copies : (limits : Limits) (place : Place) (past : Past) (x : ConnectionName) (c : Client) (before behind : List Client)
     → Each (IsElsewhere x past) before → Each (IsElsewhere x past) behind
     → sends_to x (flat_map (deliveries_to limits place past) (before ++ c ∷ behind)) ≡ sends_to x (deliveries_to limits place past c)

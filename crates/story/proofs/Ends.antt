@@ -1,4 +1,4 @@
--- What two good handshakes say of a story: the client's publications, and what it accepted.
+-- What two good handshakes say about a story: the client's publications, and what it accepted.
 use Rattle.std.proofs.Common.{◌≡◌, ℕ, Bool, true, false, if◌then◌else◌, List, [], ◌∷◌, ◌++◌, map, refl, ap, ap₂, sym, ◌∙◌, subst}
 use Rattle.std.proofs.lemmas.List.{map-append}
 use Rattle.std.proofs.lemmas.Bool.{both_ways}

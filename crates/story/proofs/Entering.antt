@@ -1,4 +1,5 @@
--- A publication enters at the place where it is taken: a law of the broker, said of a client's story.
+-- A publication enters at the place where it is taken: a law of the broker, said about a client's
+-- story.
 use Rattle.std.proofs.Common.{◌≡◌, ◌∷◌, if◌then◌else◌, length, map, filter, subst, sym, ap₂}
 use Rattle.packet.specs.declared.packet.Packet.TheVariants as packets
 use Rattle.client_base.specs.session_base.Publication.{publication_of}

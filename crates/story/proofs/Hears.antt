@@ -34,7 +34,7 @@ use Rattle.story.specs.Inside.Projections.{items_of_own, own_item, forward_of_ow
 
 -- ---- its publications
 
--- what it keeps under way is of QoS 1 or 2
+-- what it keeps in transit is of QoS 1 or 2
 abbrev pub OwnAnswered : List Own → Type 0
 OwnAnswered (Own.Unsent k p id ∷ own) = (is_answered p.qos ≡ true) × OwnAnswered own
 OwnAnswered (Own.Sent k p id ∷ own) = (is_answered p.qos ≡ true) × OwnAnswered own
@@ -121,7 +121,7 @@ forward_append [] more = refl
 forward_append (w ∷ ws) more =
     ap (forward_of_one w.packet w.number) (forward_append ws more) ∙ one_append w.packet w.number (forward_of_own ws) (forward_of_own more)
 
--- what is not taken yet of what was written, with more behind it
+-- what is not taken yet of what was written, with more after it
 pub more_to_take : (n : ℕ) (ws more : List Written) → n ≤ length ws → forward_of_own (drop n (ws ++ more)) ≡ forward_of_own (drop n ws) ++ forward_of_own more
 more_to_take n ws more h = ap forward_of_own (drop-append-le n ws more h) ∙ forward_append (drop n ws) more
 
@@ -216,7 +216,7 @@ sent_front i (Item.Sent v id ∷ old) new e = or_then (i == id) (has_sent i old)
 sent_front i (Item.Released v id ∷ old) new e = sent_front i old new e
 sent_front i (Item.Finished v ∷ old) new e = sent_front i old new e
 
--- the side behind the PUBREC
+-- the side after the PUBREC
 abbrev pub heard_pubrec : ℕ → Keeper → Connection → Side
 heard_pubrec i keeper κ =
     record {

@@ -1,5 +1,6 @@
--- What a packet on a client's current connection leaves of connection, session and received identifiers, where it does
--- not end the connection; and what of the answers is of the handshake in which the client publishes.
+-- What a packet on a client's current connection leaves of connection, session and received
+-- identifiers, if it does not end the connection; and which of the answers belong to the handshake
+-- in which the client publishes.
 use Rattle.std.proofs.Common.{◌≡◌, ℕ, Bool, true, false, not, ◌&&◌, ◌||◌, ◌==◌, if◌then◌else◌, List, [], ◌∷◌, ◌++◌, length, take, drop, Option, Some, None, refl, ap, ◌∙◌}
 use Rattle.std.specs.Prelude.{flat_map}
 use Rattle.packet.specs.declared.packet.Packet.{Packet}

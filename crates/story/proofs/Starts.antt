@@ -1,4 +1,4 @@
--- The entries that start at a place are starts of the handshake, one after the other.
+-- The entries that start at a place are starts of the handshake, one after another.
 use Rattle.std.proofs.Common.{◌≡◌, ℕ, Bool, true, false, ◌||◌, ◌==◌, nat_lt, if◌then◌else◌, List, [], ◌∷◌, ◌++◌, length, Some, refl, ap, sym, ◌∙◌, append_assoc}
 use Rattle.std.proofs.lemmas.List.{append-nil}
 use Rattle.client_base.specs.session_base.declared.publication.Publication.{Publication}
@@ -76,7 +76,7 @@ abbrev pub sending_all : List (ℕ × Publication) → Link Publication → Link
 sending_all (row ∷ rows) l = sending_all rows (sending (Forward.Publish row.0 row.1) l)
 sending_all [] l = l
 
--- what stands in front uses no other identifiers than these
+-- what is in front uses no other identifiers than these
 abbrev pub Covers : List ℕ → List (Item Publication) → Type 0
 Covers ids pre = (i : ℕ) → has_id i ids ≡ false → has_id i (busy pre) ≡ false
 

@@ -85,7 +85,7 @@ put_more limits place past x = refl
 abbrev pub taken_once : Connection → Connection
 taken_once κ = record κ { taken = suc κ.taken }
 
--- the handshake behind an acceptance
+-- the handshake after an acceptance
 accepting_like : (id k : ℕ) (b : Bool) (h : Handshake ℕ) (l : Link ℕ) (t : Handshake ℕ) → b ≡ false → h.items ≡ t.items → h.accepted ++ k ∷ [] ≡ t.accepted
     → ((j : ℕ) → ((j == id) || h.received j) ≡ t.received j) → l ≡ t.link → IsLike (accepting id k b h l) t
 accepting_like id k true h l t n i a r e = absurd (both_ways true n refl)

@@ -64,7 +64,7 @@ stories_are_sound keeps publishes subscribes limits steady c s (goes_on {s = r} 
       subscriber = good_goes (as_subscriber limits r) (as_subscriber limits s) sound.subscriber (subscribes limits r s steady sound happens);
     }
 
--- so a client accepts a beginning of its entries
+-- so a client accepts a prefix of its entries
 pub stories_accept : EventKeepsShape → EventPublishes → EventSubscribes → (limits : Limits) → IsSteady limits → (c : Client) (s : Story) → Told limits c s → AcceptedInOrder limits s
 stories_accept keeps publishes subscribes limits steady c s told =
     accepted_in_order limits s (stories_are_sound keeps publishes subscribes limits steady c s told).subscriber

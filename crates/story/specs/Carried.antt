@@ -1,4 +1,5 @@
--- Which publication of a client a place carries, by position: the j-th command of a connection is its j-th written packet.
+-- Which publication of a client a place carries, by position: the j-th command of a connection is
+-- its j-th written packet.
 use Rattle.std.specs.Prelude.{ℕ, Bool, true, false, if◌then◌else◌, List, [], ◌∷◌, ◌++◌, map, Option, Some, None, slice_get}
 use Rattle.packet.specs.declared.qos.QoS.{QoS}
 use Rattle.packet.specs.declared.qos.QoS.TheVariants as levels
@@ -57,7 +58,7 @@ publication_in (Own.Sent k p id) = p
 publication_in (Own.Released k p id) = p
 publication_in (Own.Done k p) = p
 
--- all that it published, in the order of its calls: that of number k stands at k
+-- all that it published, in the order of its calls: that of number k is at k
 abbrev pub publications_of : List Own → List Publication
 publications_of = map publication_in
 

@@ -1,4 +1,5 @@
--- What holds of one client's story, whatever happens: publications once and in order, and what it accepts.
+-- What holds for one client's story, whatever happens: publications once and in order, and what it
+-- accepts.
 use Rattle.client_base.specs.Keeper.{all_own}
 use Rattle.std.specs.Prelude.{◌≡◌, ◌≤◌, ℕ, ◌+◌, Bool, true, false, ◌==◌, if◌then◌else◌, List, [], ◌∷◌, ◌++◌, length, map, filter, Option, Some, None, slice_get}
 use Rattle.packet.specs.declared.publish.Publish.{Publish}
@@ -30,7 +31,7 @@ use Rattle.story.specs.Carried.{carries, new_numbers, publications_of, published
 abbrev pub IsAnsweredBy : Limits → Place → Past → ConnectionName → Packet → Type 0
 IsAnsweredBy limits place below x packet = In (Send x packet) (answers_at limits place below)
 
--- whether it is this publication that is carried
+-- whether the carried publication is this one
 abbrev pub is_this : ℕ → Option ℕ → Bool
 is_this k (Some j) = j == k
 is_this k None = false
@@ -63,11 +64,12 @@ pub record PublishedOnce (limits : Limits) (s : Story) : Type 0 where
   pub answered : (place : Place) (below : Past) (x : ConnectionName) (id k : ℕ) → StandsAt s.past place below →
       carries s.connections place.command below ≡ Some k → IsAnsweredBy limits place below x (packets.Pubrec id) →
       In k (new_numbers s.connections s.past)
-  -- each enters each session at most once: at whatever time a session is looked at, it has at most one entry of all
-  -- the places that carry the publication
+  -- each enters each session at most once: at any time a session is looked at, it has at most one
+  -- entry of all the places that carry the publication
   pub enters_once : (later earlier : Past) (d : Client) (k : ℕ) → s.past ≡ later ++ earlier → In k (published (all_own s.keeper)) →
       made_by s.connections k s.past (entries_of limits earlier d) ≤ 1
-  -- and where a publication is taken, at whatever QoS, it enters exactly the sessions with an effective QoS over 0, once
+  -- and if a publication is taken, at any QoS, it enters exactly the sessions with an effective QoS
+  -- over 0, once
   pub enters : (place : Place) (below : Past) (x : ConnectionName) (p : Publish) (d : Client) → StandsAt s.past place below →
       place.command ≡ commands.Packet x (packets.Publish p) → place.mark ≡ Mark.Taken s.keeper.client →
       length (filter (is_from_publish (length below)) (entries_of limits (place ∷ below) d))
@@ -103,7 +105,8 @@ is_released entry = is_there (release_place entry)
     is_there (Some n) = true
     is_there None = false
 
--- the client accepted a beginning of the QoS 2 entries of its session, and each that is released is among them
+-- the client accepted a prefix of the QoS 2 entries of its session, and each that is released is
+-- among them
 pub record AcceptedInOrder (limits : Limits) (s : Story) : Type 0 where
   pub old : List Entry
   pub new : List Entry
@@ -117,6 +120,6 @@ pub record ExactlyOnce (limits : Limits) (s : Story) : Type 0 where
   pub publishers : PublishedOnce limits s
   pub subscribers : AcceptedInOrder limits s
 
--- so every story is
+-- every story is exact
 abbrev pub StoriesAreExact : Limits → Type 0
 StoriesAreExact limits = (c : Client) (s : Story) → Told limits c s → ExactlyOnce limits s

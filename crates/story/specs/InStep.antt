@@ -1,4 +1,5 @@
--- A client with several sessions: which place and which connection belongs to which of them, and who is in step.
+-- A client with several sessions: which place and which connection belongs to which of them, and
+-- who is in step.
 use Rattle.std.specs.Prelude.{◌≡◌, ℕ, Bool, true, false, ◌&&◌, ◌||◌, ◌==◌, ◌+◌, if◌then◌else◌, List, [], ◌∷◌, ◌++◌, length, Option, Some, None, ◌⊎◌}
 use Rattle.client_base.specs.session_base.declared.publication.Publication.{Publication}
 use Rattle.lists.specs.Lists.{Each}
@@ -22,7 +23,7 @@ abbrev pub starts_of : Past → Client → List ℕ
 starts_of (place ∷ past) c = starts_of past c ++ (if begins place past c then length past ∷ [] else [])
 starts_of [] c = []
 
--- it has had one session at most, and where one began it lasts
+-- the client has had at most one session, and once it began it lasts
 abbrev pub IsFirstSession : Past → Client → Type 0
 IsFirstSession past c = (starts_of past c ≡ []) ⊎ ((start : ℕ) × (starts_of past c ≡ start ∷ []) × (session_start past c ≡ Some start))
 
@@ -42,7 +43,7 @@ began_again (place ∷ past) c x =
     (opens_on x (accepts place.command place.mark c) && (begins place past c && has_begun past c)) || began_again past c x
 began_again [] c x = false
 
--- whether a session that began at this place is meant
+-- whether this is the session that began at this place
 abbrev pub is_at : ℕ → Option ℕ → Bool
 is_at start (Some n) = n == start
 is_at start None = false
@@ -53,7 +54,8 @@ opened_in (place ∷ past) c x =
     if opens_on x (accepts place.command place.mark c) then session_start (place ∷ past) c else opened_in past c x
 opened_in [] c x = None
 
--- the entries of the client's session that began at this place: as they are, or as they were at its last place
+-- the entries of the client's session that began at this place: as they are, or as they were at its
+-- last place
 abbrev pub entries_in : Limits → Past → Client → ℕ → List Entry
 entries_in limits (place ∷ past) c start =
     if is_at start (session_start (place ∷ past) c) then entries_of limits (place ∷ past) c else entries_in limits past c start
@@ -67,16 +69,17 @@ accepted_in past c start [] = []
 
 -- ---- in step
 
--- a connection whose Connect began a session that is not the first got its CONNACK
+-- if a connection's Connect began a session that is not the first, its CONNACK was received
 abbrev pub WasWelcome : Past → Client → Connection → Type 0
 WasWelcome past c κ = began_again past c κ.name ≡ true → κ.confirmed ≡ true
 
--- each but the newest did
+-- so on each connection except the newest
 abbrev pub AreWelcome : Past → Client → List Connection → Type 0
 AreWelcome past c (κ ∷ connections) = Each (WasWelcome past c) connections
 AreWelcome past c [] = Unit {0}
 
--- For each of its sessions but the first, the client opened no further connection before it took in the CONNACK of the
--- Connect that began it: what it has not taken in on a connection by then it never takes in.
+-- For each of its sessions except the first, the client opened no further connection before it
+-- handled the CONNACK of the Connect that began it: what it has not handled on a connection by then
+-- it never handles.
 abbrev pub IsInStep : Story → Type 0
 IsInStep s = AreWelcome s.past s.keeper.client s.connections

@@ -1,4 +1,4 @@
--- What holds of every story that may be told of a client, over any list of its connections, losses, crashes and
+-- What holds for every story of a client, over any list of its connections, losses, crashes and
 -- packets of others (MQTT 4.3.3, 4.4, 4.6).
 use Rattle.std.specs.Prelude.{◌≡◌, if◌then◌else◌, ◌∷◌, length, filter}
 use Rattle.packet.specs.declared.publish.Publish.{Publish}
@@ -18,18 +18,18 @@ use Rattle.story.specs.Headline.{AcceptedInOrder, PublishedOnce, StoriesAreExact
 use Rattle.story.specs.Lives.{AcceptsInEachSession, LivesAreExact}
 use Rattle.story.specs.Story.{Story, Told}
 
--- the client's publications: those at QoS 2 become new in the list in the order of its calls, each at most once; those that
--- were answered are there; each enters each session at most once
+-- the client's publications: those at QoS 2 become new in the list in the order of its calls, each
+-- at most once; those that were answered are there; each enters each session at most once
 abbrev pub PublishesOnce : Limits → Type 0
 PublishesOnce limits = (c : Client) (s : Story) → Told limits c s → PublishedOnce limits s
 
--- the client accepts a beginning of the QoS 2 entries of its session, in order, each once, and every one that was
--- released
+-- the client accepts a prefix of the QoS 2 entries of its session, in order, each once, and every
+-- one that was released
 abbrev pub AcceptsInOrder : Limits → Type 0
 AcceptsInOrder limits = (c : Client) (s : Story) → Told limits c s → AcceptedInOrder limits s
 
--- at the place where a publication of the client is taken, it enters exactly the sessions with an effective QoS of
--- 1 or 2, once each
+-- at the place where a publication of the client is taken, it enters exactly the sessions with an
+-- effective QoS of 1 or 2, once each
 abbrev pub StoriesEnter : Type 0
 StoriesEnter =
     (limits : Limits) (s : Story) (place : Place) (below : Past) (x : ConnectionName) (p : Publish) (d : Client) →
@@ -38,14 +38,14 @@ StoriesEnter =
     length (filter (is_from_publish (length below)) (entries_of limits (place ∷ below) d))
     ≡ (if is_queued_at (effective_qos below d (publication_of p)) then 1 else 0)
 
--- so it is in this broker
+-- this holds in this broker
 abbrev pub StoriesPublishOnce : Type 0
 StoriesPublishOnce = PublishesOnce usual_limits
 
 abbrev pub StoriesAcceptInOrder : Type 0
 StoriesAcceptInOrder = AcceptsInOrder usual_limits
 
--- and in any whose window changes at a new ballot alone
+-- and for any limits whose window changes only at a new ballot
 abbrev pub SteadyStoriesPublishOnce : Type 0
 SteadyStoriesPublishOnce = (limits : Limits) → IsSteady limits → PublishesOnce limits
 

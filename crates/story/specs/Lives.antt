@@ -30,8 +30,8 @@ pub data Lived (limits : Limits) (c : Client) : Story → Type 0 where
   goes_on : {s t : Story} → Lived limits c s → Happens limits s t → Lived limits c t
   is_expelled : {s : Story} → Lived limits c s → Lived limits c (record s { past = place_of limits s.past (commands.Expel c) ∷ s.past })
 
--- of each of its sessions, by the place at which it began, the client accepted a beginning of the QoS 2 entries, and each
--- that is released is among them
+-- of each of its sessions, by the place at which it began, the client accepted a prefix of the QoS
+-- 2 entries, and each that is released is among them
 pub record AcceptedInSession (limits : Limits) (s : Story) (start : ℕ) : Type 0 where
   pub old : List Entry
   pub new : List Entry
@@ -52,7 +52,7 @@ pub record PublishedOverSessions (limits : Limits) (s : Story) : Type 0 where
       slice_get (publications_of (all_own s.keeper)) k ≡ Some (publication_of p)
   -- those at QoS 2 are new in the list in the order of the calls, each at most once
   pub rises : IsRising (new_numbers s.connections s.past)
-  -- none is passed over while the client has had one session
+  -- none is left out while the client has had one session
   pub in_order : sessions_begun s.past s.keeper.client ≤ 1 →
       IsPrefixOf (new_numbers s.connections s.past) (published (all_own s.keeper))
   -- each that is new is taken at a place
@@ -62,11 +62,12 @@ pub record PublishedOverSessions (limits : Limits) (s : Story) : Type 0 where
   pub answered : (place : Place) (below : Past) (x : ConnectionName) (id k : ℕ) → StandsAt s.past place below →
       carries s.connections place.command below ≡ Some k → IsAnsweredBy limits place below x (packets.Pubrec id) →
       In k (new_numbers s.connections s.past)
-  -- each enters each session at most once: at whatever time a session is looked at, it has at most one entry of all
-  -- the places that carry the publication
+  -- each enters each session at most once: at any time a session is looked at, it has at most one
+  -- entry of all the places that carry the publication
   pub enters_once : (later earlier : Past) (d : Client) (k : ℕ) → s.past ≡ later ++ earlier →
       In k (published (all_own s.keeper)) → made_by s.connections k s.past (entries_of limits earlier d) ≤ 1
-  -- and where a publication is taken, at whatever QoS, it enters exactly the sessions with an effective QoS over 0, once
+  -- and if a publication is taken, at any QoS, it enters exactly the sessions with an effective QoS
+  -- over 0, once
   pub enters : (place : Place) (below : Past) (x : ConnectionName) (p : Publish) (d : Client) → StandsAt s.past place below →
       place.command ≡ commands.Packet x (packets.Publish p) → place.mark ≡ Mark.Taken s.keeper.client →
       length (filter (is_from_publish (length below)) (entries_of limits (place ∷ below) d))
@@ -87,7 +88,7 @@ pub record PublishedOverSessions (limits : Limits) (s : Story) : Type 0 where
 pub record ExactlyOnceOverSessions (limits : Limits) (s : Story) : Type 0 where
   pub publishers : PublishedOverSessions limits s
   pub subscribers : (start : ℕ) → AcceptedInSession limits s start
-  -- what it accepted it accepted in its sessions, one after the other
+  -- all that it accepted, it accepted in its sessions, one after another
   pub in_turn : accepted_on s.connections
       ≡ flat_map (λ start. accepted_in s.past s.keeper.client start s.connections) (starts_of s.past s.keeper.client)
 
@@ -95,7 +96,7 @@ pub record ExactlyOnceOverSessions (limits : Limits) (s : Story) : Type 0 where
 abbrev pub LivesAreExact : Limits → Type 0
 LivesAreExact limits = (c : Client) (s : Story) → Lived limits c s → IsInStep s → ExactlyOnceOverSessions limits s
 
--- the subscribers' part alone
+-- only the subscribers' part
 abbrev pub AcceptsInEachSession : Limits → Type 0
 AcceptsInEachSession limits = (c : Client) (s : Story) → Lived limits c s → IsInStep s → (start : ℕ) → AcceptedInSession limits s start
 

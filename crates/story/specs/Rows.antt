@@ -1,4 +1,5 @@
--- The words of the worked rows of worlds: a client that publishes to itself, and the list over a takeover.
+-- Definitions for the worked examples of worlds: a client that publishes to itself, and the list
+-- over a takeover.
 use Rattle.std.specs.Prelude.{true, false, List, [], ◌∷◌}
 use Rattle.packet.specs.declared.qos.QoS.TheVariants as levels
 use Rattle.packet.specs.declared.subscribe.Subscribe.{Subscribe}
@@ -27,7 +28,8 @@ news = record { retain = false; qos = levels.ExactlyOnce; topic = 110 ∷ []; pa
 abbrev pub asks_for_news : Subscribe
 asks_for_news = record { id = 1; filters = record { filter = 110 ∷ []; qos = levels.ExactlyOnce } ∷ [] }
 
--- the list of commands, the newest first: the publication stands there twice, and is new once
+-- the list of commands, the newest first: it has the publication twice, and the publication is new
+-- once
 abbrev pub commands_there : List Command
 commands_there =
     commands.Packet second_name (packets.Pubcomp 1)

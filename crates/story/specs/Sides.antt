@@ -2,7 +2,7 @@
 use Rattle.broker_base.specs.Connection.{ConnectionName}
 use Rattle.client_base.specs.Keeper as keeper
 
--- a connection that the client opened, with what it wrote and took in on it
+-- a connection that the client opened, with what it wrote and received on it
 abbrev pub Connection : Type 0
 Connection = keeper.Connection ConnectionName
 

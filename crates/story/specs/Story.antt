@@ -1,4 +1,5 @@
--- One client's story: the list of commands, its connections as packets, what it keeps; and what may happen.
+-- One client's story: the list of commands, its connections as packets, what it keeps; and what may
+-- happen.
 use Rattle.std.specs.Prelude.{◌≡◌, ℕ, zero, suc, Bool, true, false, ◌||◌, if◌then◌else◌, List, [], ◌∷◌, ◌++◌, Some, slice_get, Option, None, is_some, length}
 use Rattle.packet.specs.declared.subscribe.Subscribe.{Subscribe}
 use Rattle.packet.specs.declared.unsubscribe.Unsubscribe.{Unsubscribe}
@@ -46,7 +47,7 @@ counted_at i [] = []
 counted_at zero (κ ∷ connections) = record κ { taken = suc κ.taken } ∷ connections
 counted_at (suc i) (κ ∷ connections) = κ ∷ counted_at i connections
 
--- a Connect of the client, and an Expel of it where it has a session
+-- a Connect of the client, and an Expel of it if it has a session
 abbrev pub names_client : Past → Client → Command → Type 0
 names_client past c (commands.Connect x d clean) = d ≡ c
 names_client past c (commands.Expel d) = (d ≡ c) × (is_some (session_of past c) ≡ true)
@@ -57,7 +58,7 @@ is_packet_of (commands.Packet x packet) y = same_connection x y
 is_packet_of (commands.Connect x d clean) y = same_connection x y
 is_packet_of _ y = false
 
--- how many of its packets stand in the list
+-- how many of its packets are in the list
 abbrev pub count_of : ConnectionName → Past → ℕ
 count_of x (place ∷ past) = if is_packet_of place.command x then suc (count_of x past) else count_of x past
 count_of x [] = 0
@@ -73,8 +74,8 @@ with_side s others side = record { past = s.past; connections = side.connection 
 
 -- ---- what may happen
 
--- It allows more than a world does: any connection's next packet may come next in the list, and any client may be
--- lost at any time.
+-- It allows more than a world does: any connection's next packet may come next in the list, and any
+-- client may be lost at any time.
 pub data Happens (limits : Limits) (s : Story) : Story → Type 0 where
   takes : (i : ℕ) (κ : Connection) (w : Written) → slice_get s.connections i ≡ Some κ → slice_get κ.written κ.taken ≡ Some w →
       Happens limits s (record {
@@ -124,11 +125,13 @@ AreUnsent n (Own.Unsent k p id ∷ own) = (k ≡ n) × AreUnsent (suc n) own
 AreUnsent n [] = Unit {0}
 AreUnsent n _ = ⊥
 
--- a client that was never served in this session, with what it published before it, and what it keeps
+-- a client that was never served in this session, with what it published before it, and what it
+-- keeps
 abbrev pub unserved : Client → List Own → List Own → Keeper
 unserved c earlier own = record (new_keeper c) { earlier = earlier; own = own }
 
--- A story of one session begins with the list, or where the client has no session: then nothing is left of what it had.
+-- A story of one session begins with the list, or when the client has no session: then nothing is
+-- left of what it had.
 pub data Told (limits : Limits) (c : Client) : Story → Type 0 where
   begins : Told limits c (no_story c)
   begins_at : (list : List Command) (earlier own : List Own) → session_of (past_of limits list) c ≡ None →

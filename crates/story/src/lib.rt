@@ -1,5 +1,5 @@
-//! One client's story, and what holds of each: the list of commands, the client's connections as packets, and what
-//! the client keeps. Its functions do nothing; their contracts are the laws.
+//! One client's story, and what holds for each: the list of commands, the client's connections as
+//! packets, and what the client keeps. Its functions do nothing; their contracts are the laws.
 #![tactic(auto)]
 
 mod laws;

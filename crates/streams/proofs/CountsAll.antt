@@ -16,7 +16,7 @@ use Rattle.streams.specs.declared.port_tap.PortTap.{PortTap}
 abbrev Counts : PortTap → List ℕ → PortTap → Type 0
 Counts first handed tap = (tap.handed ≡ counted (length handed)) × (tap.port ≡ first.port)
 
--- one call more
+-- one more call
 counts_call : (first before behind : PortTap) (handed bytes : List ℕ) (answer : Handed)
     → Counts first handed before → HandsOut before bytes answer behind → Counts first (handed ++ bytes) behind
 counts_call first before behind handed bytes answer (count, port) out =
@@ -35,7 +35,7 @@ counts_any first before behind handed bytes counts (inr (none, same)) =
     subst (λ (tap : PortTap). Counts first (handed ++ bytes) tap) (sym same)
     (subst (λ (l : List ℕ). Counts first l before) (sym (ap (λ (l : List ℕ). handed ++ l) none ∙ append-nil handed)) counts)
 
--- one write more
+-- one more write
 counts_flow : (first before behind : PortTap) (handed bytes : List ℕ) (flow : Flow)
     → Counts first handed before → HandsSo HandsOut flow before bytes behind → Counts first (handed ++ bytes) behind
 counts_flow first before behind handed bytes flows.Open counts out = counts_call first before behind handed bytes _ counts out

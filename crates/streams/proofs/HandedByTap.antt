@@ -37,7 +37,7 @@ handed_by_tap first_of before behind seen answer old new was is count began repl
       is = bytes;
     }
 
--- a state that is taken on where a call went well stays or is taken on
+-- a state that is taken on if a call succeeded is kept or taken on
 pub stays_or_goes : {S E : Type 0} (old next new : S) (result : Result Handed E)
     → OnOk result (new ≡ next) → OnErr result (new ≡ old) → (new ≡ old) ⊎ (new ≡ next)
 stays_or_goes old next new (Ok answer) goes stays = inr goes

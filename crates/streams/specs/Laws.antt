@@ -5,8 +5,8 @@ use Rattle.node.specs.Growth.{counted}
 use Rattle.streams.specs.Tapping.{HandsNone, HandsOut}
 use Rattle.streams.specs.declared.port_tap.PortTap.{PortTap}
 
--- Over the whole life of a connection its tap counts all that was handed over by it, for one port. So no byte that a node handed
--- over by the tap is missing among these.
+-- Over the whole life of a connection its tap counts all that was handed over by it, for one port.
+-- So no byte that a node handed over by the tap is missing among these.
 abbrev pub TapsCountAll : Type 0
 TapsCountAll =
     (first : PortTap) (start : Option (List ℕ)) (tap : PortTap) (handed : List ℕ) (contents : Option (List ℕ)) (left : List ℕ)

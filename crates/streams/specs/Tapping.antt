@@ -15,8 +15,8 @@ pub record Began (first_of : ℕ → CountedCore) : Type 0 where
   pub config : Config
   pub is : (inbox : ℕ) → first_of inbox ≡ record { core = opening_core number config; losses = 0 }
 
--- These bytes, with this answer, are what a node hands over for a port that is what its first state became by one step for
--- each item that was taken from its inbox.
+-- These bytes, with this answer, are what a node hands over for a port that is what its first state
+-- became by one step for each item that was taken from its inbox.
 pub record PutsOut (first_of : ℕ → CountedCore) (port : Port) (bytes : List ℕ) (answer : Handed) : Type 0 where
   pub seen : Seen
   pub replays : Replays (first_of seen.taker.inbox) seen.taker.taken seen.node
@@ -27,7 +27,8 @@ pub record PutsOut (first_of : ℕ → CountedCore) (port : Port) (bytes : List 
 abbrev pub HandsNone : PortTap → Type 0
 HandsNone tap = tap.handed ≡ 0
 
--- a node that opened in some configuration hands over these bytes for a tap's port, and the tap counts them, up to 2^64 - 1
+-- a node that opened in some configuration hands over these bytes for a tap's port, and the tap
+-- counts them, up to 2^64 - 1
 pub record HandsOut (before : PortTap) (bytes : List ℕ) (answer : Handed) (behind : PortTap) : Type 0 where
   pub first_of : ℕ → CountedCore
   pub began : Began first_of

@@ -1,4 +1,4 @@
-// Who waits at a node's place for clients, and the connections that are served there.
+// The threads that wait at a node's place for clients, and the connections that are served there.
 
 use crate::idle_lanes::IdleLanes;
 use crate::link::Link;
@@ -7,25 +7,26 @@ use slab::Slab;
 use std::alloc::{AllocError, Global};
 use std::sync::{Arc, Mutex, Wait};
 
-/// Who waits for clients.
+/// The threads that wait for clients.
 #[derive(Drop)]
 struct Waiting {
-    /// Nobody is to be let in any more.
+    /// No more connections are admitted.
     closed: bool,
     /// How many threads wait.
     threads: u32,
 }
 
-/// The connections that a node serves, each at a place of its own, and whether it is to serve any.
+/// The connections that a node serves, each at an index of its own, and whether it serves any.
 #[derive(Drop)]
 pub struct Door {
     waiting: Mutex<Waiting>,
-    /// A place is taken before the node hears of its connection, which is listed there behind that.
+    /// An index is taken before its connection is reported to the node; the connection is put at
+    /// the index after that.
     links: Mutex<Slab<Option<Arc<Link, Global>>>>,
 }
 
 impl Door {
-    /// Makes one that is open. The only error is that memory runs out.
+    /// Returns an open door. The only error is that memory runs out.
     pub fn new(alloc: Global) -> Result<Door, AllocError> {
         Ok(Door {
             waiting: Mutex::new(Waiting {
@@ -36,7 +37,7 @@ impl Door {
         })
     }
 
-    /// Ends all connections, and lets nobody in any more.
+    /// Ends all connections, and admits no more.
     pub fn close<R: Wait>(&self, rt: &R) {
         self.waiting.lock(rt).closed = true;
         for (_, link) in self.links.lock(rt).iter() {
@@ -46,12 +47,12 @@ impl Door {
         }
     }
 
-    /// Returns whether nobody is let in any more.
+    /// Says whether no more connections are admitted.
     pub fn is_closed<R: Wait>(&self, rt: &R) -> bool {
         self.waiting.lock(rt).closed
     }
 
-    /// Returns whether a thread may wait for a client. It then counts as waiting.
+    /// Says whether a thread may wait for a client. It then counts as waiting.
     pub fn begin_wait<R: Wait>(&self, rt: &R) -> bool {
         let mut waiting = self.waiting.lock(rt);
         if waiting.closed {
@@ -61,19 +62,19 @@ impl Door {
         true
     }
 
-    /// Counts a thread as waiting no longer. Returns whether clients are still let in.
+    /// Counts a thread as no longer waiting. Returns whether clients are still admitted.
     pub fn end_wait<R: Wait>(&self, rt: &R) -> bool {
         let mut waiting = self.waiting.lock(rt);
         waiting.threads = waiting.threads.saturating_sub(1);
         !waiting.closed
     }
 
-    /// Returns whether a thread waits for a client.
+    /// Says whether a thread waits for a client.
     pub fn is_waited_at<R: Wait>(&self, rt: &R) -> bool {
         self.waiting.lock(rt).threads > 0
     }
 
-    /// Takes a place for a connection. There is none if [`CONNECTIONS`] are taken.
+    /// Takes an index for a connection. There is none if [`CONNECTIONS`] are taken.
     pub fn take_place<R: Wait>(&self, rt: &R) -> Option<usize> {
         let mut links = self.links.lock(rt);
         if links.len() >= usize::from(CONNECTIONS) {
@@ -82,7 +83,7 @@ impl Door {
         links.insert(None).ok()
     }
 
-    /// Lists a connection at its place, which it has taken.
+    /// Lists a connection at its index, which it has taken.
     pub fn list<R: Wait>(&self, rt: &R, link: Arc<Link, Global>) {
         let place = link.place;
         let mut links = self.links.lock(rt);
@@ -91,13 +92,13 @@ impl Door {
         }
     }
 
-    /// Gives a place back.
+    /// Frees an index.
     pub fn leave<R: Wait>(&self, rt: &R, place: usize) {
         let _ = self.links.lock(rt).try_remove(place);
     }
 
-    /// Adds the connections that are listed, from this place on and then those before it, but for those of idle lanes. If memory
-    /// runs out for one, it is left out.
+    /// Adds the connections that are listed, from this index on and then those before it, except
+    /// those of idle lanes. If memory runs out for one, it is left out.
     pub fn add_busy<R: Wait>(
         &self,
         rt: &R,
@@ -110,7 +111,8 @@ impl Door {
         add_between(&*links, idle, 0, first.min(usize::from(CONNECTIONS)), busy);
     }
 
-    /// Returns the first connection that is listed at this place or after it, and the place after that.
+    /// Returns the first connection that is listed at this index or after it, and the index after
+    /// that.
     pub fn link_from<R: Wait>(&self, rt: &R, first: usize) -> Option<(usize, Arc<Link, Global>)> {
         let links = self.links.lock(rt);
         for place in first..usize::from(CONNECTIONS) {
@@ -122,7 +124,7 @@ impl Door {
     }
 }
 
-// Adds the connections that are listed from one place up to another, but for those of idle lanes.
+// Adds the connections that are listed from one index up to another, except those of idle lanes.
 fn add_between(
     links: &Slab<Option<Arc<Link, Global>>>,
     idle: IdleLanes,

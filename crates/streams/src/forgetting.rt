@@ -7,13 +7,14 @@ ghost use Rattle.node.specs.Stands.{standing_of};
 use node::{NodeNaming, NodeState, Port, Standing};
 use std::alloc::Global;
 
-/// Takes what a node still holds for a port whose connection it has closed, so that it holds no more. It puts out nothing more for
-/// such a one, so what was written there stays a beginning of what it put out. Where there is no memory for it the node keeps it.
+/// Takes what a node still holds for a port whose connection it has closed, so that it holds no
+/// more. The node queues nothing more for that port, so what was written there stays a prefix of
+/// what it queued. If memory runs out, the node keeps it.
 pub fn forget<J: NodeNaming>(alloc: Global, node: &mut NodeState<J>, port: Port)
     ensures open { standing_of (listed_at port node.old.node.core) ≢ Standing.Closed →
         node.new ≡ node.old }
 
-    // Of no other port anything is taken.
+    // Nothing is taken from any other port.
     ensures takes { (node.new ≡ node.old)
         ⊎ (node.new ≡ record node.old {
           node = record node.old.node { core = hands_over port node.old.node.core };

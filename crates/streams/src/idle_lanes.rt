@@ -2,7 +2,8 @@
 
 use node::Port;
 
-/// Lanes whose connections are idle, a bit for each. A lane has one connection at a time, and its number is below 64.
+/// Lanes whose connections are idle, a bit for each. A lane has one connection at a time, and its
+/// number is below 64.
 #[derive(Clone, Copy)]
 pub struct IdleLanes(u64);
 
@@ -16,13 +17,13 @@ impl IdleLanes {
         IdleLanes(lanes)
     }
 
-    /// Returns whether the lane of a port is one of these.
+    /// Says whether the lane of a port is one of these.
     pub fn has(self, port: Port) -> bool {
         self.0 & bit(port) != 0
     }
 }
 
-// The bit of a port's lane.
+// Returns the bit of a port's lane.
 fn bit(port: Port) -> u64 {
     1u64 << (port.0 % 64)
 }

@@ -1,4 +1,4 @@
-//! Where a node serves its clients: its listener, the streams of its connections, and who may write on each.
+//! The listener of a node, the streams of its connections, and the right to write on each.
 #![tactic(auto)]
 
 mod door;

@@ -1,4 +1,4 @@
-// A connection's stream, and who writes on it.
+// A connection's stream, and the right to write on it.
 
 ghost use Rattle.std.specs.Prelude.{◌≡◌};
 ghost use Rattle.std.specs.Arc.{arc_value};
@@ -13,16 +13,17 @@ use std::mem;
 use std::net::{Shutdown, TcpStream};
 use std::sync::{Arc, Mutex, Wait};
 
-/// What a thread has to hold to write on a connection's stream: the tap of the connection's port, its socket, and what a full socket did not
-/// take yet. A connection has one, made with it, so one thread at a time writes, and its stream is whole wherever the pen lies.
+/// The right to write on a connection's stream: the tap of the connection's port, its socket, and
+/// what a full socket has not yet taken. A connection has one, made with it, so one thread at a
+/// time writes, and its stream is whole wherever the pen is kept.
 pub type Pen = Outflow<PortTap, Socket>;
 
-/// Where a connection's pen lies while nobody writes.
+/// Where a connection's pen is kept while no thread writes.
 #[derive(Drop)]
 struct PenCase {
     /// None while a thread writes, and for good once the stream takes no more.
     pen: Option<Pen>,
-    /// More may have been put out since the thread that writes looked.
+    /// More may have been queued since the thread that writes looked.
     again: bool,
 }
 
@@ -31,7 +32,7 @@ struct PenCase {
 pub struct Link {
     /// The port by which the node knows it.
     pub port: Port,
-    /// Its place at the door.
+    /// Its index at the door.
     pub place: usize,
     /// When it was accepted.
     pub opened: u64,
@@ -53,7 +54,8 @@ impl Link {
     ghost use Rattle.std.specs.Prelude.{◌≡◌, IfOk, IfSome};
     ghost use Rattle.streams.specs.Pens.{IsPenOf};
 
-    /// Makes a connection on whose stream nothing was written. The only error is that memory runs out: the stream is closed then.
+    /// Returns a connection on whose stream nothing was written. The only error is that memory ran
+    /// out: then the stream is closed.
     pub fn new(
         alloc: Global,
         port: Port,
@@ -77,7 +79,7 @@ impl Link {
         })
     }
 
-    /// Its stream, to be read.
+    /// Returns its stream, to be read.
     pub fn source(&self) -> Patient<'_> {
         Patient::new(&self.stream)
     }
@@ -90,14 +92,15 @@ impl Link {
         let pen = mem::replace(&mut case.pen, None);
         case.again = pen.is_none();
         let pen = pen?;
-        // It is this connection's, but of what stands behind a lock no clause tells that.
+        // It is this connection's, but no clause is about what is behind a lock.
         if pen.tap().port() != self.port {
             return None;
         }
         Some(pen)
     }
 
-    /// Lays the pen back. If more may have been put out meanwhile the caller keeps it, and looks again.
+    /// Returns the pen. If more may have been queued meanwhile the caller keeps it, and looks
+    /// again.
     pub fn lay_back<R: Wait>(&self, rt: &R, pen: Pen) -> Option<Pen>
         ensures { IfSome result (λ kept. kept ≡ pen) }
     {
@@ -110,15 +113,15 @@ impl Link {
         None
     }
 
-    /// Sets whether a write waits while the socket is full, for a short time. Only the thread that has the pen does so. Returns
-    /// whether it could be set.
+    /// Sets whether a write waits while the socket is full, for a short time. Only the thread that
+    /// has the pen does so. Returns whether it could be set.
     pub fn set_waiting(&self, waits: bool) -> bool {
         self.stream.set_nonblocking(!waits).is_ok()
     }
 
     /// Ends the stream, which wakes the thread that reads it. Nothing more is written on it.
     pub fn shut(&self) {
-        // A stream that is not connected any more is what is wanted.
+        // It is fine if the stream is no longer connected.
         let _ = self.stream.shutdown(Shutdown::Both);
     }
 }

@@ -4,8 +4,8 @@ use std::io::{ErrorKind, Read};
 use std::net::TcpStream;
 use std::{hint, io};
 
-/// A stream that is read until something comes. While a thread writes on it that is not to wait, a read does not wait either,
-/// and is made again.
+/// A stream that is read until something comes. While a thread writes on it that must not wait, a
+/// read does not wait either, and is repeated.
 #[derive(Drop)]
 pub struct Patient<'a> {
     stream: &'a TcpStream,

@@ -1,4 +1,4 @@
-// Where a node serves its clients.
+// The place where a node serves its clients: its listener and its door.
 
 use crate::door::Door;
 use node::Memory;
@@ -11,13 +11,14 @@ use std::{io, thread};
 /// How many connections a node serves at once.
 pub const CONNECTIONS: u8 = 60;
 
-/// How long a thread sleeps before it tries to accept, or to wake those that do, once more, in milliseconds.
+/// How long a thread sleeps before it tries again to accept, or to wake those that do, in
+/// milliseconds.
 const PAUSE_MILLIS: u64 = 1;
 
-/// How often those are woken that wait for clients when the door is closed.
+/// How often the threads that wait for clients are woken when the door is closed.
 const WAKES: u32 = 10_000;
 
-/// Where a node serves its clients.
+/// The place where a node serves its clients: its listener and its door.
 #[derive(Drop)]
 pub struct Place {
     /// The node's number.
@@ -28,7 +29,8 @@ pub struct Place {
 }
 
 impl Place {
-    /// Returns the place of the node of this number, whose clients come to the listener. The only error is that memory runs out.
+    /// Returns the place of the node of this number, whose clients connect to the listener. The
+    /// only error is that memory runs out.
     pub fn new(alloc: Global, number: u8, listener: TcpListener) -> Result<Place, Memory> {
         Ok(Place {
             number,
@@ -60,7 +62,7 @@ impl Place {
         unreachable!()
     }
 
-    /// Ends all connections, and lets nobody in any more: the threads that wait for clients go on.
+    /// Ends all connections, and admits no more: the threads that wait for clients continue.
     pub fn close<R: Wait + Clock + Net<Stream = TcpStream>>(&self, rt: &R) {
         self.door.close(rt);
         for _ in 0..WAKES {
@@ -68,7 +70,7 @@ impl Place {
                 return;
             }
             if let Ok(address) = self.address() {
-                // Where the listener cannot be reached, the next client that comes wakes a thread.
+                // If the listener cannot be reached, the next client that comes wakes a thread.
                 let _ = TcpStream::connect(rt, address);
             }
             thread::sleep(rt, Duration::from_millis(PAUSE_MILLIS));

@@ -1,4 +1,4 @@
-// By what a node hands over the bytes of one port.
+// The right to take the bytes of one port from a node.
 
 ghost use Rattle.std.specs.Prelude.{◌≡◌, ◌++◌, IfOk, OnErr, OnOk};
 ghost use Rattle.connection.specs.Writing.{HandsOver};
@@ -8,8 +8,8 @@ ghost use Rattle.streams.specs.Tapping.{Began, HandsOut};
 use connection::Tap;
 use node::{Handed, Memory, NodeNaming, NodeState, Port};
 
-/// By this a node hands over what it puts out for a port, and nobody else's bytes. A connection has one, made with it, and it counts
-/// the bytes.
+/// The right to take what a node queued for one port, and for no other. A connection has one, made
+/// with it, and it counts the bytes.
 #[derive(Drop)]
 pub struct PortTap {
     port: Port,
@@ -26,7 +26,7 @@ impl Tap for PortTap {
 }
 
 impl PortTap {
-    /// One by which nothing was handed over.
+    /// Returns one by which nothing was handed over.
     pub(crate) fn new(port: Port) -> PortTap
         ensures { result ≡ record { port = port; handed = 0 } }
     {
@@ -40,8 +40,8 @@ impl PortTap {
         self.port
     }
 
-    /// Appends what a node put out for the port and did not hand over before, and tells whether more may come, as
-    /// [`NodeState::outgoing`]. The bytes are counted.
+    /// Appends what a node queued for the port and has not yet handed over, and says whether more
+    /// may come, as [`NodeState::outgoing`] does. The bytes are counted.
     pub fn hand_over<J: NodeNaming>(
         &mut self,
         node: &mut NodeState<J>,
@@ -51,14 +51,14 @@ impl PortTap {
         ensures ok { IfOk result (λ answer.
             HandsOver HandsOut self.old answer self.new out.old.items out.new.items) }
 
-        // All that the node put out for the port, and nothing else.
+        // All that the node queued for the port, and nothing else.
         ensures bytes { OnOk result
             (out.new.items ≡ out.old.items ++ bytes_of (listed_at self.old.port node.old.node.core)) }
         ensures left { OnOk result (node.new ≡ record node.old {
           node = record node.old.node { core = hands_over self.old.port node.old.node.core };
         }) }
 
-        // Want of memory changes nothing.
+        // Running out of memory changes nothing.
         ensures same { OnErr result (self.new ≡ self.old) }
         ensures kept { OnErr result (node.new ≡ node.old) }
         ensures err { OnErr result (out.new.items ≡ out.old.items) }

@@ -1,4 +1,4 @@
-// A connection's socket, to be written on.
+// A connection's socket, to be written to.
 
 use std::alloc::Global;
 use std::io;
@@ -6,14 +6,14 @@ use std::io::Write;
 use std::net::TcpStream;
 use std::sync::Arc;
 
-/// A connection's socket, which only the connection's pen writes on.
+/// A connection's socket, on which only the connection's pen writes.
 #[derive(Drop)]
 pub struct Socket {
     stream: Arc<TcpStream, Global>,
 }
 
 impl Socket {
-    /// Writes on this stream.
+    /// Returns the one that writes on this stream.
     pub(crate) fn new(stream: Arc<TcpStream, Global>) -> Socket {
         Socket { stream }
     }

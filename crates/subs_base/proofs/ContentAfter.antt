@@ -33,7 +33,7 @@ content_held m c f =
     ap (option_and_then (at f)) (lookup-map_values (λ x. x.entries) (is_at (slice_cmp nat_cmp c)) m.entries)
     ∙ opened f (get (slice_cmp nat_cmp) m c)
 
--- w comes to stand at the client and the filter
+-- w is then kept at the client and the filter
 pub content_changed :
     (m n : Map) (client filter : List ℕ) (w : Option QoS) (old new : Kept)
     → ((f : List ℕ) → held m client f ≡ get (slice_cmp nat_cmp) old f)
@@ -166,7 +166,7 @@ content_put m n client new outer =
     ∙ ap (λ b. cond b (get (slice_cmp nat_cmp) new f) (held m c f)) (tie client c) in
     λ i c f. (content_held n c f ∙ point c f ∙ ap (cond (bytes_eq client c) (get (slice_cmp nat_cmp) new f)) (sym (content_held m c f))) i
 
--- with no filters it is gone
+-- with no filters it is removed
 pub none_put : (before : Content) (client : List ℕ) (new : Kept) → new.entries ≡ [] → without_client before client ≡ with_filters before client (get (slice_cmp nat_cmp) new)
 none_put before client new empty =
     λ i c f. cond (bytes_eq client c) (sym (ap (lookup (is_at (slice_cmp nat_cmp f))) empty) i) (before c f)

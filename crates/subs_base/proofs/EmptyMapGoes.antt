@@ -37,18 +37,18 @@ pub no_entries : {X : Type 0} (entries : List X) → length entries ≡ 0 → en
 no_entries [] h = refl
 no_entries (x ∷ entries) h = absurd (omega arith)
 
--- what stands at a client of the list is what its map holds
+-- what is at a client of the list is what its map holds
 pub at_listed : (m : BTreeMap (List ℕ) (BTreeMap (List ℕ) QoS)) (shown : Clients) (client : List ℕ) → listed m.entries ≡ shown
     → at client shown ≡ option_map (λ kept. kept.entries) (get (slice_cmp nat_cmp) m client)
 at_listed m shown client is = sym (ap (at client) is) ∙ lookup-map_values (λ kept. kept.entries) (is_at (slice_cmp nat_cmp client)) m.entries
 
--- no empty map stands where there is none
+-- no empty map is left if there is none
 pub gone_none : (m : BTreeMap (List ℕ) (BTreeMap (List ℕ) QoS)) (shown : Clients) (client : List ℕ) → listed m.entries ≡ shown
     → None ≡ get (slice_cmp nat_cmp) m client → at client shown ≡ Some [] → ⊥
 gone_none m shown client is none e =
     false≢true (ap is_some (ap (option_map (λ kept. kept.entries)) none ∙ sym (at_listed m shown client is) ∙ e))
 
--- nor where there is another one
+-- nor if there is another one
 pub gone_some : (m : BTreeMap (List ℕ) (BTreeMap (List ℕ) QoS)) (shown : Clients) (client : List ℕ) (filters : BTreeMap (List ℕ) QoS) → listed m.entries ≡ shown
     → Some filters ≡ get (slice_cmp nat_cmp) m client → (length filters.entries ≡ 0 → ⊥) → at client shown ≡ Some [] → ⊥
 gone_some m shown client filters is some full e =
@@ -58,7 +58,7 @@ gone_some m shown client filters is some full e =
     option_map_or d f None = d
     option_map_or d f (Some x) = f x
 
--- the same of a map that was lent
+-- the same for a map that was lent
 pub lent_at : (m : BTreeMap (List ℕ) (BTreeMap (List ℕ) QoS)) (shown : Clients) (client : List ℕ) (lent : Option (Bor (BTreeMap (List ℕ) QoS))) → listed m.entries ≡ shown
     → option_copied lent ≡ get (slice_cmp nat_cmp) m client → option_map (λ filters. filters.now.entries) lent ≡ at client shown
 lent_at m shown client lent is there = opened lent ∙ ap (option_map (λ kept. kept.entries)) there ∙ sym (at_listed m shown client is)

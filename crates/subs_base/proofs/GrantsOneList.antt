@@ -33,7 +33,7 @@ same_greatest content topic c p q h k =
     let e : qos_number p ≡ qos_number q = omega arith in
     same_qos p q e
 
--- what stands in a list is its head or in its tail
+-- what is in a list is its head or in its tail
 parted : (x : List ℕ) (xs : List (List ℕ)) (c : List ℕ) → Contains (x ∷ xs) c → (x ≡ c) ⊎ Contains xs c
 parted x xs c (zero, l, e) = inl e
 parted x xs c (suc k, l, e) = inr (k, omega arith, e)
@@ -101,7 +101,7 @@ same_rows content topic (x ∷ xs) (y ∷ ys) sx sy gx gy to back =
     (same_tails y.0 x.0 (clients_of ys) (clients_of xs) (sym e) sy back) in
     λ i. (e i, q i) ∷ rest i
 
--- each client of the one stands in the other, since it asked for a filter
+-- each client of the one is in the other, since it asked for a filter
 in_other : (content : Content) (topic : List ℕ) (xs ys : List Row) → IsGranted content topic xs → IsGranted content topic ys → (c : List ℕ) → Contains (clients_of xs) c → Contains (clients_of ys) c
 in_other content topic xs ys h k c inside =
     All-contains (λ c. Contains (clients_of ys) c) (clients_of xs) c

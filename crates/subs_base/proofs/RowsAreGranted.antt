@@ -121,7 +121,7 @@ comes topic best (e ∷ es) p sorted is =
 
 -- ---- the rows
 
--- what a row stands on
+-- what a row comes from
 abbrev Origin : List ℕ → Clients → Row → Type 0
 Origin topic es row =
     (fs : Filters) × (at row.0 es ≡ Some fs) × (greatest_from topic None fs ≡ Some row.1) × IsStrictlySortedBy (slice_cmp nat_cmp) (keys_of fs)
@@ -175,7 +175,7 @@ complete topic (e ∷ es) c f q found is =
           ]
     ] refl found
 
--- a row that stands on a client's filters has the greatest QoS
+-- a row that comes from a client's filters has the greatest QoS
 is_greatest : (topic : List ℕ) (es : Clients) (row : Row) → Origin topic es row → IsGreatest (content_of es) topic row.0 row.1
 is_greatest topic es row o = record {
   asked =
@@ -217,12 +217,12 @@ pub appends_granted :
 appends_granted topic es old new sorted ordered is =
     (rows_of topic (listed es), rows_granted topic (listed es) (subst (IsStrictlySortedBy (slice_cmp nat_cmp)) (sym (keys_listed es)) sorted) ordered, is)
 
--- ---- what a walk over the clients has in hand
+-- ---- what a walk over the clients has so far
 
 abbrev Entries : Type 0
 Entries = List (List ℕ × BTreeMap (List ℕ) QoS)
 
--- what the clients that are left have stands in all
+-- what the clients that are left have is in all
 pub rest_is_there :
     (es rest : Entries) (client : List ℕ) (filters : BTreeMap (List ℕ) QoS) (all : Clients)
     → es ≡ (client, filters) ∷ rest → IsStrictlySortedBy (slice_cmp nat_cmp) (keys_of es)
@@ -233,7 +233,7 @@ rest_is_there es rest client filters all cut sorted there c fs found =
     subst (IsStrictlySortedBy (slice_cmp nat_cmp)) (ap (λ (xs : Entries). keys_of xs) cut ∙ sym (keys_listed ((client, filters) ∷ rest))) sorted in
     there c fs (ap (λ (xs : Entries). at c (listed xs)) cut ∙ later c (client, filters.entries) (listed rest) fs in_order found)
 
--- and so does a filter that matches of the client whose turn it is
+-- the same for a matching filter of the client whose turn it is
 pub head_is_wanted :
     (topic : List ℕ) (es rest : Entries) (client : List ℕ) (filters : BTreeMap (List ℕ) QoS) (all : Clients) (p : QoS)
     → es ≡ (client, filters) ∷ rest
@@ -244,7 +244,7 @@ head_is_wanted topic es rest client filters all p cut there sorted is =
     wanted_by topic all client filters.entries p
     (there client filters.entries (ap (λ (xs : Entries). at client (listed xs)) cut ∙ first (client, filters.entries) (listed rest))) sorted is
 
--- and has its row behind those before it
+-- and has its row after those before it
 pub row_appended :
     (topic : List ℕ) (es rest : Entries) (client key : List ℕ) (filters : BTreeMap (List ℕ) QoS) (p : QoS) (rows more : List Row)
     → es ≡ (client, filters) ∷ rest → greatest_from topic None filters.entries ≡ Some p → more ≡ rows ++ (key, p) ∷ [] → key ≡ client
@@ -256,7 +256,7 @@ row_appended topic es rest client key filters p rows more cut is added same =
     (ap (λ (v : Option QoS). row_of client v ++ rows_of topic (listed rest)) (sym is)
     ∙ ap (λ (xs : Entries). rows_of topic (listed xs)) (sym cut))
 
--- what stood in front stands in front of more
+-- what was in front is in front of more
 pub still_front : {X : Type 0} (before out xs more : List X) → more ≡ out ++ xs → before ≡ take (length before) out → before ≡ take (length before) more
 still_front before out xs more is e =
     let long = ap length e in let cut = length-take (length before) out in

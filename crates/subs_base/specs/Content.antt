@@ -2,7 +2,7 @@
 use Rattle.std.specs.Prelude.{ℕ, ◌&&◌, if◌then◌else◌, List, bytes_eq, Option, Some, None}
 use Rattle.packet.specs.declared.qos.QoS.{QoS}
 
--- at each client and filter the QoS of its subscription, and `None` where there is none
+-- at each client and filter the QoS of its subscription, and `None` if there is none
 abbrev pub Content : Type 0
 Content = List ℕ → List ℕ → Option QoS
 
@@ -15,7 +15,7 @@ abbrev pub with_row : Content → List ℕ → List ℕ → QoS → Content
 with_row content client filter qos c f =
     if bytes_eq client c && bytes_eq filter f then Some qos else content c f
 
--- the same characters alone are removed (MQTT 3.10.4)
+-- only a filter with the same characters is removed (MQTT 3.10.4)
 abbrev pub without_row : Content → List ℕ → List ℕ → Content
 without_row content client filter c f =
     if bytes_eq client c && bytes_eq filter f then None else content c f

@@ -12,7 +12,7 @@ use Rattle.subs_base.specs.Content.{Content}
 abbrev pub Row : Type 0
 Row = List ℕ × QoS
 
--- the client's row, where it gets the publication
+-- the client's row, if it gets the publication
 abbrev pub row_of : List ℕ → Option QoS → List Row
 row_of client None = []
 row_of client (Some qos) = (client, qos) ∷ []
@@ -40,12 +40,12 @@ pub record IsGranted (content : Content) (topic : List ℕ) (rows : List Row) : 
       → Matches filter topic
       → Contains (clients_of rows) client
 
--- somebody asked for a filter that matches the topic
+-- some client has a filter that matches the topic
 abbrev pub IsWanted : Content → List ℕ → Type 0
 IsWanted content topic =
     (client : List ℕ) × (filter : List ℕ) × (qos : QoS) × (content client filter ≡ Some qos) × Matches filter topic
 
--- those rows come behind the ones that were there
+-- those rows come after the ones that were there
 abbrev pub AppendsGranted : Content → List ℕ → List Row → List Row → Type 0
 AppendsGranted content topic old new =
     (rows : List Row) × IsGranted content topic rows × (new ≡ old ++ rows)

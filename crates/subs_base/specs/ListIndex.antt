@@ -15,7 +15,7 @@ Filters = List (List ℕ × QoS)
 abbrev pub Clients : Type 0
 Clients = List (List ℕ × Filters)
 
--- what stands at a text
+-- what is at a text
 abbrev pub at : {X : Type 0} → List ℕ → List (List ℕ × X) → Option X
 at text entries = lookup (is_at (slice_cmp nat_cmp text)) entries
 

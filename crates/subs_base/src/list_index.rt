@@ -99,14 +99,15 @@ impl SubIndex for ListIndex {
 }
 
 impl ListIndex {
-    /// The clients by their bytes, each with its filters by theirs.
+    /// Returns the clients by their bytes, each with its filters by theirs.
     pub fn clients(&self) -> &BTreeMap<ClientId, BTreeMap<Filter, QoS>>
         ensures { listed result.now.entries ≡ self.now }
     {
         &self.clients
     }
 
-    /// Puts these filters of a client in the place of those that it has. Without memory the index stays as it was.
+    /// Puts these filters of a client in place of those that it has. If memory runs out the index
+    /// stays as it was.
     pub fn put(
         &mut self,
         client: &ClientId,
@@ -124,7 +125,7 @@ impl ListIndex {
         Ok(())
     }
 
-    /// The filters of a client that has one, in the order of their bytes.
+    /// Returns the filters of a client that has one, in the order of their bytes.
     pub fn filters_of(&self, client: &ClientId) -> Option<&BTreeMap<Filter, QoS>>
         ensures { option_map (λ filters. filters.now.entries) result ≡ at client.now self.now }
     {
@@ -143,7 +144,7 @@ impl ListIndex {
         }
     }
 
-    /// Removes the client's map if no filter stands in it.
+    /// Removes the client's map if no filter is in it.
     fn drop_empty(&mut self, client: &ClientId)
         ensures same { content_of self.new ≡ content_of self.old }
         ensures gone { at client.now self.new ≢ Some [] }
@@ -182,7 +183,7 @@ fn clear_filter(filters: &mut BTreeMap<Filter, QoS>, filter: &Filter) -> bool
     filters.remove(filter).is_some()
 }
 
-/// Appends the clients' rows. Where memory is wanting, some of them may stand there.
+/// Appends the clients' rows. If memory runs out, some of them may be there.
 fn append_rows(
     clients: &BTreeMap<ClientId, BTreeMap<Filter, QoS>>,
     topic: &TopicName,

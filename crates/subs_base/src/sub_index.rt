@@ -18,19 +18,19 @@ use std::alloc::{AllocError, Global};
 pub trait SubIndex: Drop {
     ghost content: { Self → Content };
 
-    /// An index without subscriptions.
+    /// Returns an index without subscriptions.
     fn new(alloc: Global) -> Self
         ensures { content result ≡ no_subscriptions };
 
-    /// Sets the client's subscription of this filter, replacing an identical one, which takes no memory
-    /// (MQTT 3.8.4).
+    /// Sets the client's subscription of this filter, replacing an identical one, which takes no
+    /// memory (MQTT 3.8.4).
     fn set(&mut self, client: &ClientId, filter: &Filter, qos: QoS) -> Result<(), AllocError>
         ensures ok { OnOk result
             (content self.new ≡ with_row (content self.old) client.now filter.now qos) }
         ensures err { OnErr result (content self.new ≡ content self.old) }
         ensures absent { OnErr result (content self.old client.now filter.now ≡ None) };
 
-    /// Removes the client's subscription of this very filter, and says whether there was one
+    /// Removes the client's subscription of exactly this filter, and says whether there was one
     /// (MQTT 3.10.4). Takes no memory.
     fn clear(&mut self, client: &ClientId, filter: &Filter) -> bool
         ensures found { IsTrue result ↔ IsSome (content self.old client.now filter.now) }
@@ -42,8 +42,8 @@ pub trait SubIndex: Drop {
         ensures { content self.new ≡ without_client (content self.old) client.now };
 
     /// Appends a row for each client with a filter that matches the topic, with the greatest QoS of
-    /// these filters, in the order of the clients' bytes (MQTT 3.3.5). Without memory the rows stay
-    /// as they were. Where no filter matches it takes none.
+    /// these filters, in the order of the clients' bytes (MQTT 3.3.5). If memory runs out the rows
+    /// stay as they were. If no filter matches it takes none.
     fn granted(&self, topic: &TopicName, rows: &mut Vec<(ClientId, QoS)>) -> Result<(), AllocError>
         ensures ok { OnOk result
             (AppendsGranted (content self.now) topic.now rows.old.items rows.new.items) }

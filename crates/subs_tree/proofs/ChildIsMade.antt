@@ -1,4 +1,4 @@
--- A node is put in and linked, or taken out again where the link found no memory.
+-- A node is put in and linked, or taken out again if there was no memory for the link.
 use Rattle.std.proofs.Common.{◌≡◌, ℕ, List, [], ◌∷◌, ◌++◌, Bool, true, false, not, ◌&&◌, ◌||◌, ◌==◌, cond, Option, Some, None, refl, sym, ◌∙◌, ap, subst}
 use Rattle.std.specs.Prelude.{option_and_then}
 use Rattle.std.proofs.lemmas.Bool.{true≢false, eq-eqb, eqb-true}
@@ -11,7 +11,7 @@ use Rattle.subs_tree.specs.Changes.{Links, Opens, Closes, IsBare}
 use Rattle.subs_tree.proofs.Ways.{rows_below}
 use Rattle.subs_tree.proofs.Linked.{free_unreached, tree_opened, tree_linked, rows_linked, led_new}
 
--- rows where children and held rows are the same
+-- rows if children and held rows are the same
 pub same_rows : (old new : Shape) (root : Option ℕ) → new.child ≡ old.child → new.held ≡ old.held → rows new root ≡ rows old root
 same_rows old new root child held = λ i. rows (record { child = child i; held = held i; used = old.used }) root
 
@@ -23,7 +23,7 @@ still_used old mid root at n tree reached opens = opens.used at ∙ either (at =
     either true b h = refl
     either false b h = h
 
--- what a new child makes of a tree
+-- what a new child does to a tree
 pub record IsMade (old new : Shape) (root : Option ℕ) (at n : ℕ) (level : List ℕ) : Type 0 where
   pub tree : IsTree new.child new.used root
   pub rows : rows new root ≡ rows old root
@@ -74,7 +74,7 @@ unmade old mid last new root n tree opens same closes =
         by true e is = absurd (true≢false (sym is ∙ ap old.used (eqb-true m n e) ∙ opens.free))
         by false e is = is
 
--- ---- the way goes on
+-- ---- the way continues
 
 pub way_on : (path : Levels) (l : List ℕ) (ls : Levels) → is_all l ls ≡ false → (path ++ l ∷ []) ++ (place ls).0 ≡ path ++ (place (l ∷ ls)).0
 way_on path l ls other =
@@ -87,7 +87,7 @@ side_on l ls other = ap (λ v. (cond {A = Levels × Bool} v ([], true) (l ∷ (p
 pub place_all : (l : List ℕ) (ls : Levels) → is_all l ls ≡ true → place (l ∷ ls) ≡ ([], true)
 place_all l ls is = ap (λ v. cond {A = Levels × Bool} v ([], true) (l ∷ (place ls).0, (place ls).1)) is
 
--- nothing is asked for behind a level that is not there
+-- nothing is asked for after a level that is not there
 pub none_behind : (s : Shape) (root : Option ℕ) (path : Levels) (at : ℕ) (l : List ℕ) (ls : Levels) (c : List ℕ)
     → led s.child root path ≡ Some at → is_all l ls ≡ false → s.child at l ≡ None → rows s root (path ++ l ∷ ls) c ≡ None
 none_behind s root path at l ls c way other none =

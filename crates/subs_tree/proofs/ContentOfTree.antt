@@ -1,4 +1,4 @@
--- The content of a tree after a change, in the words of an index.
+-- The content of a tree after a change, in the terms of an index.
 use Rattle.std.proofs.Common.{◌≡◌, ℕ, List, [], ◌∷◌, Bool, true, false, ◌&&◌, cond, Option, Some, None, Result, Ok, Err, OnOk, OnErr, is_err, refl, sym, ◌∙◌, ap, bytes_eq, is_some}
 use Rattle.std.specs.Prelude.{option_and_then}
 use Rattle.std.specs.List.{join_with_byte}
@@ -17,7 +17,7 @@ text_of_levels : (text other : List ℕ) → levels text ≡ levels other → te
 text_of_levels text other is =
     sym (join_with_byte-slice_split 47 text) ∙ ap (join_with_byte 47) is ∙ join_with_byte-slice_split 47 other
 
--- two filters are one where their levels are
+-- two filters are equal if their levels are
 pub same_text : (f g : List ℕ) → same_levels (levels f) (levels g) ≡ bytes_eq f g
 same_text f g =
     elim (bytes_eq f g) as (λ v. bytes_eq f g ≡ v → same_levels (levels f) (levels g) ≡ v) [
@@ -35,8 +35,7 @@ swapped true false = refl
 swapped false true = refl
 swapped false false = refl
 
--- one row of the tree was set or taken out
--- what stands at the text of each filter
+-- one row of the tree was set or taken out what is at the text of each filter
 abbrev pub at_texts : Asked → Content
 at_texts asked client filter = asked (levels filter) client
 
@@ -53,7 +52,7 @@ row_put old new text filter client kept is after = λ i c f. go c f i
         ∙ ap (λ b. cond b kept (old (levels f) c))
         (swapped (same_levels (levels text) (levels f)) (bytes_eq client c) ∙ ap (λ b. bytes_eq client c && b) (same_text text f ∙ ap (λ t. bytes_eq t f) is))
 
--- a row that was new is taken back
+-- a row that was new is removed again
 pub put_back : (before : Content) (client filter : List ℕ) (qos : QoS) → before client filter ≡ None → without_row (with_row before client filter qos) client filter ≡ before
 put_back before client filter qos none = λ i c f. go c f i
   where

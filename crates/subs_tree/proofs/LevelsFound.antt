@@ -26,7 +26,7 @@ apart level query key differ agree =
           | false ↦ λ e. refl
         ] refl
 
--- w stands at the level, and at each other one what stood there
+-- w is at the level, and at each other one what was there
 pub updates_level :
     {K X : Type 0} (bytes : K → List ℕ) (m n : BTreeMap K X) (level : List ℕ) (w : Option X)
     → UpdatesBy (λ x y. slice_cmp nat_cmp (bytes x) (bytes y)) (λ k. slice_cmp nat_cmp level (bytes k)) m n w

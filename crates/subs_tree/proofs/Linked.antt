@@ -1,4 +1,4 @@
--- An empty node behind a new level changes no row, and leads nowhere else.
+-- An empty node after a new level changes no row, and leads nowhere else.
 use Rattle.std.proofs.Common.{◌≡◌, ◌≢◌, ℕ, List, [], ◌∷◌, ◌++◌, Bool, true, false, ◌&&◌, ◌||◌, ◌==◌, cond, Option, Some, None, refl, sym, ◌∙◌, ap, subst, bytes_eq, ◌⊎◌, inl, inr}
 use Rattle.std.specs.Prelude.{option_and_then}
 use Rattle.std.specs.Cmp.Lexicographic.{bytes_decides}
@@ -13,7 +13,7 @@ use Rattle.subs_tree.proofs.Ways.{led_more, row_at, rows_are}
 pub free_unreached : (child : Children) (used : ℕ → Bool) (root : Option ℕ) (n : ℕ) → IsTree child used root → used n ≡ false → (p : Levels) → led child root p ≡ Some n → ⊥
 free_unreached child used root n tree free p h = true≢false (sym (tree.used p n h) ∙ free)
 
--- the nodes stay a tree where one more number is used
+-- the nodes stay a tree if one more number is used
 pub tree_opened : (old new : Shape) (root : Option ℕ) (n : ℕ) → IsTree old.child old.used root → Opens old new n → IsTree new.child new.used root
 tree_opened old new root n tree opens =
     subst (λ (ch : Children). IsTree ch new.used root) (sym opens.child)
@@ -118,7 +118,7 @@ module _ (old new : Shape) (root : Option ℕ) (at n : ℕ) (level : List ℕ)
       go None h = absurd cc
       go (Some r) h = back old.child new.child at n level links.child none apart bare.child r p m h
 
-  -- the new node stands behind its level
+  -- the new node comes after its level
   pub led_new : (p : Levels) → led old.child root p ≡ Some at → led new.child root (p ++ level ∷ []) ≡ Some n
   led_new p h = led_more new.child root p level at (led_further p at h) ∙ links.child at level ∙ here (at == at) (bytes_eq level level) (eq-eqb at at refl) ((bytes_decides level level).1 refl)
     where

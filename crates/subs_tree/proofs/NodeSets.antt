@@ -100,7 +100,7 @@ pub sets_here :
 sets_here old new client kept rest here true c = ap (λ m. row_at m c) rest
 sets_here old new client kept rest here false c = here c
 
--- where the rows of both sides are the same, so are the node's
+-- if the rows of both sides are the same, so are the node's
 pub same_rows : (old new : Node) → row_at new.here ≡ row_at old.here → row_at new.rest ≡ row_at old.rest → held_in new ≡ held_in old
 same_rows old new here rest = λ i r c. go r c i
   where

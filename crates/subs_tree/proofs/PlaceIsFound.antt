@@ -21,7 +21,7 @@ row_found s root f at c way = rows_are s root f c ∙ ap (λ o. row_at s.held o 
 pub row_missing : (s : Shape) (root : Option ℕ) (f : Levels) (c : List ℕ) → led s.child root (place f).0 ≡ None → rows s root f c ≡ None
 row_missing s root f c way = rows_are s root f c ∙ ap (λ o. row_at s.held o (place f).1 c) way
 
--- nothing goes where there was nothing
+-- nothing goes if there was nothing
 pub nothing_goes : (a : Asked) (filter : Levels) (client : List ℕ) → a filter client ≡ None → a ≡ with_asked a filter client None
 nothing_goes a filter client none = λ i f c. go f c i
   where

@@ -1,4 +1,4 @@
--- The greatest of several QoS, and what stands at a client that was raised.
+-- The greatest of several QoS, and what is at a client that was raised.
 use Rattle.std.proofs.Common.{◌≡◌, ℕ, ◌≤◌, List, ◌∷◌, true, false, cond, Option, Some, None, Result, Ok, Err, OnOk, refl, sym, ◌∙◌, ap, subst, arith, ◌⊎◌, inl, inr, nat_lt, [], ◌++◌, length, take, codes}
 use Rattle.std.specs.BTreeMap.{BTreeMap, get, is_at, Updates}
 use Rattle.std.specs.Map.{lookup, keys_of}
@@ -72,7 +72,7 @@ turned x y e =
       | false ↦ λ h. refl
     ] refl
 
--- one client is raised, of a list in which it stands at the head
+-- one client is raised, of a list in which it is at the head
 pub raised_first :
     (m n : BTreeMap (List ℕ) QoS) (client : List ℕ) (qos : QoS) (es : List (List ℕ × QoS))
     → IsStrictlySortedBy (slice_cmp nat_cmp) (keys_of ((client, qos) ∷ es))
@@ -96,7 +96,7 @@ raised_first m n client qos es sorted updates c =
           (updates.0 c ∙ ap (λ b. cond b (greatest (get (slice_cmp nat_cmp) m client) (Some qos)) (get (slice_cmp nat_cmp) m c)) (turned c client e))
     ] refl
 
--- a client is raised that has the only row, or nobody is
+-- a client that has the only row is raised, or none is
 pub raised_one :
     (m n : BTreeMap (List ℕ) QoS) (client : List ℕ) (qos : QoS)
     → Updates (slice_cmp nat_cmp) m n client (greatest (get (slice_cmp nat_cmp) m client) (Some qos))
@@ -182,7 +182,7 @@ module _ (s : Shape) where
       (greatest (found_below s node level rest h.0) (found_below s node (codes "+") rest h.0)) one.0 one.1 in
       (h.0, r.0, r.1)
 
--- where some are left, some are found
+-- if some are left, some are found
 pub left_gives : (found : List (List ℕ × QoS)) (rows old rest : List (List ℕ × QoS)) (e : List ℕ × QoS) → rows ++ (e ∷ rest) ≡ old ++ found → old ≡ take (length old) rows →
     GivesSome (λ client. lookup (is_at (slice_cmp nat_cmp client)) found)
 left_gives [] rows old rest e whole front =

@@ -31,7 +31,7 @@ use Rattle.subs_tree.proofs.ContentOfTree.{at_texts, same_text}
 use Rattle.subs_tree.proofs.NodeSets.{turned}
 use Rattle.subs_tree.proofs.RowsSet.{one_at}
 
--- what a client has among rows that there may be
+-- what a client has among rows, if there are any
 abbrev pub of_rows : List ℕ → Option (List (List ℕ × QoS)) → Option QoS
 of_rows c o = option_and_then (λ rows. row_in rows c) o
 
@@ -148,7 +148,7 @@ keys_listed : (es : List (List ℕ × BTreeMap (List ℕ) QoS)) → keys_of (lis
 keys_listed [] = refl
 keys_listed (e ∷ es) = ap (λ ks. e.0 ∷ ks) (keys_listed es)
 
--- all that the list holds was told
+-- all that the list holds was added
 pub list_told : (es : List (List ℕ × BTreeMap (List ℕ) QoS)) → IsStrictlySortedBy (slice_cmp nat_cmp) (keys_of es) → AreOrdered (listed es) →
     clients_told (listed es) no_subscriptions ≡ content_of (listed es)
 list_told es sorted ordered = λ i c f. go c f i

@@ -1,4 +1,4 @@
--- What stands at each client once a row was set or taken out.
+-- What is at each client once a row was set or taken out.
 use Rattle.std.proofs.Common.{◌≡◌, ℕ, List, Bool, true, false, cond, Option, Some, None, refl, sym, ◌∙◌, ap, subst, bytes_eq, []}
 use Rattle.std.specs.BTreeMap.{BTreeMap, is_at, Updates}
 use Rattle.std.specs.Map.{lookup}

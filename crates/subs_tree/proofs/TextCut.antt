@@ -1,4 +1,4 @@
--- What a filter's text begins with, and what is behind it.
+-- What a filter's text begins with, and what is after it.
 use Rattle.std.proofs.Common.{◌≡◌, ℕ, ◌<◌, List, ◌∷◌, length, Option, Some, ◌∙◌, ap, arith, Bor}
 use Rattle.topics.specs.Text.{levels, levels_of}
 

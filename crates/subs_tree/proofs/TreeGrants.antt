@@ -177,7 +177,7 @@ module _ (s : Shape) where
 
 -- ---- the rows
 
--- each entry of a sorted list stands at its key
+-- each entry of a sorted list is at its key
 pub stands : (es : List Row) → IsStrictlySortedBy (slice_cmp nat_cmp) (keys_of es) → All (λ (e : Row). lookup (is_at (slice_cmp nat_cmp e.0)) es ≡ Some e.1) es
 stands [] sorted = All-nil (λ (e : Row). lookup (is_at (slice_cmp nat_cmp e.0)) [] ≡ Some e.1)
 stands (e ∷ es) sorted =

@@ -35,7 +35,7 @@ module _ (child cut : Children) (at n : ℕ) (level : List ℕ)
       let stops : None ≡ Some m = ap (option_and_then (λ b. reach child b xs)) (sym (bare x)) ∙ h in
       absurd cc
 
-  -- each way is left, but for the one to the node
+  -- each way is left, except the one to the node
   pub after : (k : ℕ) (p : Levels) (m : ℕ) → reach child k p ≡ Some m → (reach cut k p ≡ Some m) ⊎ (m ≡ n)
   after k [] m h = inl h
   after k (l ∷ p) m h = by ((k == at) && bytes_eq level l) refl (λ j. after j p m)
@@ -84,7 +84,7 @@ module _ (old mid new : Shape) (root : Option ℕ) (at n : ℕ) (level : List �
   same_child : new.child ≡ mid.child
   same_child = closes.child
 
-  -- each way stays but for the one to the node
+  -- each way stays except the one to the node
   pub led_stays : (p : Levels) (m : ℕ) → led old.child root p ≡ Some m → m ≢ n → led new.child root p ≡ Some m
   led_stays p m h apart =
       ap (λ (ch : Children). led ch root p) same_child

@@ -72,7 +72,7 @@ module _ (s : Shape) where
   from_rest node [] client qos is = (codes "#" ∷ [], is, refl, clean_hash)
   from_rest node (t ∷ ts) client qos is = (codes "#" ∷ [], is, refl, clean_hash)
 
-  -- a row that is found behind a level of the topic has its filter
+  -- a row that is found after a level of the topic has its filter
   pub named_origin :
       (node : ℕ) (level : List ℕ) (topic : Levels) (client : List ℕ) (qos : QoS)
       → has_no_wildcard level ≡ true → All (λ byte. (byte == 47) ≡ false) level

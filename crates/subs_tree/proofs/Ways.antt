@@ -1,4 +1,4 @@
--- Where levels lead, and that a filter's rows stand at its place.
+-- Where levels lead, and that a filter's rows are at its place.
 use Rattle.std.proofs.Common.{◌≡◌, ℕ, List, [], ◌∷◌, ◌++◌, Bool, true, false, ◌&&◌, cond, Option, Some, None, refl, sym, ◌∙◌, ap, ap₂, codes, bytes_eq}
 use Rattle.std.specs.Prelude.{option_and_then}
 use Rattle.std.specs.Cmp.Lexicographic.{bytes_decides}
@@ -24,7 +24,7 @@ pub same_levels_self : (f : Levels) → same_levels f f ≡ true
 same_levels_self [] = refl
 same_levels_self (x ∷ xs) = rw ((bytes_decides x x).1 refl) (same_levels_self xs)
 
--- levels behind levels
+-- levels after levels
 pub reach_append : (child : Children) (at : ℕ) (p q : Levels) → reach child at (p ++ q) ≡ option_and_then (λ k. reach child k q) (reach child at p)
 reach_append child at [] q = refl
 reach_append child at (l ∷ p) q = go (child at l) (λ b. reach_append child b p q)
@@ -46,12 +46,12 @@ led_more child root p l at h = led_append child root p (l ∷ []) ∙ ap (option
     one None = refl
     one (Some b) = refl
 
--- a level with its rest that is `#` alone
+-- a level and its rest are only `#`
 all_is : (l : List ℕ) (ls : Levels) → is_all l ls ≡ true → (l ∷ ls) ≡ (codes "#" ∷ [])
 all_is l [] is = ap (λ (x : List ℕ). x ∷ []) ((bytes_decides l (codes "#")).0 (and_parts _ _ is).0)
 all_is l (y ∷ ys) is = absurd (true≢false (sym (and_parts _ _ is).1))
 
--- ---- a place stands for one filter
+-- ---- a place corresponds to one filter
 
 abbrev unplace : Levels → Bool → Levels
 unplace p true = p ++ codes "#" ∷ []
@@ -73,7 +73,7 @@ unplaced (l ∷ ls) = by (is_all l ls) refl (unplaced ls)
 pub one_filter : (f g : Levels) → (place f).0 ≡ (place g).0 → (place f).1 ≡ (place g).1 → f ≡ g
 one_filter f g way side = sym (unplaced f) ∙ ap₂ unplace way side ∙ unplaced g
 
--- ---- the rows of a filter stand at its place
+-- ---- the rows of a filter are at its place
 
 abbrev pub row_at : Held → Option ℕ → Bool → List ℕ → Option QoS
 row_at held node rest client = option_and_then (λ at. held at rest client) node

@@ -1,4 +1,4 @@
--- The four changes of nodes: a client's row, a child, a new node, a node that is given up.
+-- The four changes of nodes: a client's row, a child, a new node, a node that is removed.
 use Rattle.std.specs.Prelude.{◌≡◌, ℕ, Bool, true, false, not, ◌&&◌, ◌||◌, ◌==◌, List, bytes_eq, Option, None, if◌then◌else◌}
 use Rattle.subs_base.specs.packet.declared.qos.QoS.{QoS}
 use Rattle.subs_tree.specs.Shape.{Shape}
@@ -23,7 +23,7 @@ SetsRow old new rest client kept =
 abbrev pub SetsSide : NodeRows → NodeRows → Bool → (List ℕ → Option QoS) → Type 0
 SetsSide old new rest kept = (r : Bool) (c : List ℕ) → new r c ≡ (if same_side rest r then kept c else old r c)
 
--- the child behind the level is this one
+-- the child after the level is this one
 abbrev pub SetsChild : NodeChildren → NodeChildren → List ℕ → Option ℕ → Type 0
 SetsChild old new level below = (l : List ℕ) → new l ≡ (if bytes_eq level l then below else old l)
 

@@ -17,7 +17,7 @@ abbrev pub held_in : Node → Bool → List ℕ → Option QoS
 held_in node true client = row_at node.rest client
 held_in node false client = row_at node.here client
 
--- the children of a node, `+` beside the others
+-- the children of a node, `+` and the others
 abbrev pub child_in : Node → List ℕ → Option ℕ
 child_in node level =
     option_map (λ id. id.number)
@@ -55,7 +55,7 @@ with_asked before filter client kept f c =
 abbrev pub with_rows : Asked → Levels → (List ℕ → Option QoS) → Asked
 with_rows before filter kept f c = if same_levels filter f then kept c else before f c
 
--- the client's subscriptions of these filters are gone
+-- the client's subscriptions of these filters are removed
 abbrev pub cleared : List ℕ → Filters → Content → Content
 cleared client filters before c f =
     if bytes_eq client c && is_some (at f filters) then None else before c f

@@ -5,11 +5,11 @@ use Rattle.topics.specs.Matching.{is_all}
 use Rattle.subs_base.specs.packet.declared.qos.QoS.{QoS}
 use Rattle.subs_base.specs.Content.{Content}
 
--- the number of the node behind each level of each node
+-- the number of the node after each level of each node
 abbrev pub Children : Type 0
 Children = ℕ → List ℕ → Option ℕ
 
--- at a node the clients of the filter that ends there, and (at true) of the one with `#` behind it
+-- at a node the clients of the filter that ends there, and (at true) of the one with `#` after it
 abbrev pub Held : Type 0
 Held = ℕ → Bool → List ℕ → Option QoS
 
@@ -30,6 +30,6 @@ asked shape at (level ∷ rest) client =
 abbrev pub rows : Shape → Option ℕ → Levels → List ℕ → Option QoS
 rows shape root filter client = option_and_then (λ at. asked shape at filter client) root
 
--- at each client and filter what stands at the filter's levels
+-- at each client and filter what is at the filter's levels
 abbrev pub shape_content : Shape → Option ℕ → Content
 shape_content shape root client filter = rows shape root (levels filter) client

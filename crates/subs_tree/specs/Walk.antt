@@ -1,4 +1,4 @@
--- Whom a walk along a topic's levels finds (MQTT 4.7.1).
+-- Which clients a walk along a topic's levels finds (MQTT 4.7.1).
 use Rattle.std.specs.Prelude.{◌≡◌, ℕ, true, false, List, [], ◌∷◌, codes, Option, Some, None, option_and_then, if◌then◌else◌, nat_lt}
 use Rattle.std.specs.BTreeMap.{BTreeMap, get}
 use Rattle.std.specs.Cmp.Lexicographic.{slice_cmp}
@@ -15,7 +15,7 @@ greatest None q = q
 greatest (Some p) None = Some p
 greatest (Some p) (Some q) = if nat_lt (qos_number p) (qos_number q) then Some q else Some p
 
--- each client stands at the greater of what it had and what it is given
+-- each client is at the greater of what it had and what it is given
 abbrev pub Raises : BTreeMap (List ℕ) QoS → BTreeMap (List ℕ) QoS → (List ℕ → Option QoS) → Type 0
 Raises old new given =
     (client : List ℕ)
@@ -34,11 +34,11 @@ found_at shape at (level ∷ rest) client =
     (option_and_then (λ below. found_at shape below rest client) (shape.child at level))
     (option_and_then (λ below. found_at shape below rest client) (shape.child at (codes "+"))))
 
--- the same behind the node of a level, if there is one
+-- the same after the node of a level, if there is one
 abbrev pub found_behind : Shape → Option ℕ → Levels → List ℕ → Option QoS
 found_behind shape node rest client = option_and_then (λ below. found_at shape below rest client) node
 
--- the same of the filters that go on with this level
+-- the same for the filters that continue with this level
 abbrev pub found_below : Shape → ℕ → List ℕ → Levels → List ℕ → Option QoS
 found_below shape at level rest client = option_and_then (λ below. found_at shape below rest client) (shape.child at level)
 

@@ -13,16 +13,16 @@ reach child at (level ∷ rest) = option_and_then (λ below. reach child below r
 abbrev pub led : Children → Option ℕ → Levels → Option ℕ
 led child root path = option_and_then (λ at. reach child at path) root
 
--- where the rows of a filter stand: along which levels, and whether at `#` beside the node
+-- where the rows of a filter are: along which levels, and whether at `#` beside the node
 abbrev pub place : Levels → Levels × Bool
 place [] = ([], false)
 place (level ∷ rest) = if is_all level rest then ([], true) else (level ∷ (place rest).0, (place rest).1)
 
--- no two ways lead to one node, and each node that a way leads to is used
+-- no two paths lead to one node, and each node that a path leads to is used
 pub record IsTree (child : Children) (marked : ℕ → Bool) (root : Option ℕ) : Type 0 where
   pub one_way : (p q : Levels) (at : ℕ) → led child root p ≡ Some at → led child root q ≡ Some at → p ≡ q
   pub used : (p : Levels) (at : ℕ) → led child root p ≡ Some at → marked at ≡ true
 
--- some way leads to the node
+-- some path leads to the node
 abbrev pub IsReached : Children → Option ℕ → ℕ → Type 0
 IsReached child root at = (path : Levels) × (led child root path ≡ Some at)

@@ -23,8 +23,8 @@ use topics::split_level;
 type Found = BTreeMap<ClientId, QoS>;
 
 impl Nodes {
-    /// Raises each client of a filter that matches the topic to its QoS there. No wildcard at the front matches a
-    /// topic that begins with `$` (MQTT 4.7.2).
+    /// Raises each client of a filter that matches the topic to its QoS there. No wildcard at the
+    /// front matches a topic that begins with `$` (MQTT 4.7.2).
     pub(crate) fn find(&self, topic: &[u8], found: &mut Found) -> Result<(), AllocError>
         ensures ok { OnOk result (Raises found.old found.new (found_for (shape self.now) (root_of self.now) topic.now)) }
         ensures some { OnErr result (GivesSome (found_for (shape self.now) (root_of self.now) topic.now)) }
@@ -39,7 +39,7 @@ impl Nodes {
         self.find_behind(child(&self.slab, root, level), behind, found)
     }
 
-    // The same of the filters that go on behind a node.
+    // Does the same for the filters that continue after a node.
     #[cycle(find_at)]
     fn find_at(&self, at: NodeId, topic: Option<&[u8]>, found: &mut Found) -> Result<(), AllocError>
         ensures ok { OnOk result
@@ -58,7 +58,7 @@ impl Nodes {
         self.find_behind(node.plus, behind, found)
     }
 
-    // The same behind the node of a level, if there is one.
+    // Does the same after the node of a level, if there is one.
     #[cycle(find_at)]
     fn find_behind(
         &self,
@@ -101,7 +101,7 @@ fn raise_each(clients: &BTreeMap<ClientId, QoS>, found: &mut Found) -> Result<()
     Ok(())
 }
 
-/// Sets the client's QoS to this one, if it is greater than what stands there.
+/// Sets the client's QoS to this one, if it is greater than what is there.
 fn raise(client: &ClientId, qos: QoS, found: &mut Found) -> Result<(), AllocError>
     ensures { OnOk result (Updates (slice_cmp nat_cmp) found.old found.new client.now
         (greatest (get (slice_cmp nat_cmp) found.old client.now) (Some qos))) }

@@ -1,4 +1,5 @@
-// The nodes of a whole list: its rows are gathered by filter, and each filter's then stand at its node at once.
+// The nodes of a whole list: its rows are gathered by filter, and then each filter's rows are put
+// at its node at once.
 
 ghost use Rattle.std.specs.Prelude.{◌≡◌, IfOk, OnOk};
 ghost use Rattle.std.specs.BTreeMap.{IsOrdered};
@@ -21,7 +22,7 @@ use topics::Filter;
 /// Each filter with its clients, in the order in which they came.
 pub(crate) type Groups = IndexMap<Filter, Group>;
 
-/// The clients of each filter of a list.
+/// Returns the clients of each filter of a list.
 pub(crate) fn gather(
     alloc: Global,
     clients: &BTreeMap<ClientId, BTreeMap<Filter, QoS>>,
@@ -71,7 +72,7 @@ fn add_row(
     Ok(())
 }
 
-/// The nodes of these filters.
+/// Returns the nodes of these filters.
 pub(crate) fn nodes_of(alloc: Global, groups: Groups) -> Result<Nodes, AllocError>
     ensures content { IfOk result (λ nodes. content_in nodes ≡ gathered (groups_of groups.entries)) }
     ensures sound { IfOk result IsSound }

@@ -31,7 +31,7 @@ impl Group {
         Ok(())
     }
 
-    /// Returns the same rows at their clients, of each of which the last counts.
+    /// Returns the same rows by their clients; of each client the last row counts.
     pub(crate) fn into_rows(self, alloc: Global) -> Result<Rows, AllocError>
         ensures { IfOk result (λ rows. row_at rows ≡ row_in (told self)) }
     {

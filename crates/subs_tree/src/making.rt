@@ -12,8 +12,8 @@ use std::alloc::AllocError;
 use topics::split_level;
 
 impl Nodes {
-    /// The place of the filter that goes on with this text behind a node. Nodes that are missing are made; without
-    /// memory some of them may stay.
+    /// Returns the place of the filter that continues with this text after a node. Nodes that are
+    /// missing are made; if memory runs out some of them may stay.
     pub(crate) fn make_place(
         &mut self,
         at: NodeId,
@@ -47,7 +47,7 @@ impl Nodes {
         self.make_place(child, behind)
     }
 
-    // The node behind a level, which is made where there is none.
+    // Returns the node after a level, which is made if there is none.
     fn child_or_new(&mut self, at: NodeId, level: &[u8]) -> Result<NodeId, AllocError>
         requires sound { IsSound self.old }
         requires there { IsThere self.old at.number }
@@ -64,7 +64,7 @@ impl Nodes {
         }
     }
 
-    // Makes the node behind a level.
+    // Makes the node after a level.
     fn add_child(&mut self, at: NodeId, level: &[u8]) -> Result<NodeId, AllocError>
         requires sound { IsSound self.old }
         requires there { IsThere self.old at.number }

@@ -1,4 +1,5 @@
-// A node: the clients of the filters that end at it, and the numbers of the nodes of the next levels.
+// A node: the clients of the filters that end at it, and the numbers of the nodes of the next
+// levels.
 
 ghost use Rattle.std.specs.Prelude.{◌≡◌, OnOk, OnErr, ◌↔◌, IsTrue, IsSome, is_some, true, false, Some, None, option_map};
 ghost use Rattle.subs_tree.specs.Rows.{row_at};
@@ -11,21 +12,22 @@ use std::alloc::{AllocError, Global};
 use std::collections::BTreeMap;
 use subs_base::packet::{ClientId, QoS};
 
-/// The subscriptions of the filters that end with the same levels, and the nodes of the next levels.
+/// The subscriptions of the filters that end with the same levels, and the nodes of the next
+/// levels.
 #[derive(Debug, Drop)]
 pub(crate) struct Node {
     /// The clients of the filter that ends here.
     pub(crate) here: Rows,
-    /// Those of the filter with `#` behind it.
+    /// Those of the filter with `#` after it.
     pub(crate) rest: Rows,
-    /// The nodes of the next levels, but for `+`.
+    /// The nodes of the next levels, except `+`.
     named: BTreeMap<Vec<u8>, NodeId>,
     /// The node of `+`.
     pub(crate) plus: Option<NodeId>,
 }
 
 impl Node {
-    /// A node that holds nothing.
+    /// Returns a node that holds nothing.
     pub(crate) fn new(alloc: Global) -> Node
         ensures { HoldsNothing result }
     {
@@ -37,7 +39,7 @@ impl Node {
         }
     }
 
-    /// The node behind the level.
+    /// Returns the node after the level.
     pub(crate) fn child(&self, level: &[u8]) -> Option<NodeId>
         ensures { option_map (λ id. id.number) result ≡ child_in self.now level.now }
     {
@@ -47,7 +49,7 @@ impl Node {
         self.named.get(level).copied()
     }
 
-    /// Puts a node behind a level.
+    /// Puts a node after a level.
     pub(crate) fn set_child(
         &mut self,
         alloc: Global,
@@ -66,7 +68,7 @@ impl Node {
         Ok(())
     }
 
-    /// Gives up the node behind a level.
+    /// Removes the node after a level.
     pub(crate) fn drop_child(&mut self, level: &[u8])
         ensures child { SetsChild (child_in self.old) (child_in self.new) level.now None }
         ensures rows { held_in self.new ≡ held_in self.old }
@@ -97,7 +99,7 @@ impl Node {
         self.here.set(alloc, client, qos)
     }
 
-    /// Puts these rows in the place of those at `#` beside the node, or at its own filter.
+    /// Puts these rows in place of those at `#` beside the node, or at its own filter.
     pub(crate) fn put(&mut self, rest: bool, rows: Rows)
         ensures rows { SetsSide (held_in self.old) (held_in self.new) rest (row_at rows) }
         ensures child { child_in self.new ≡ child_in self.old }
@@ -121,7 +123,7 @@ impl Node {
         self.here.clear(client)
     }
 
-    /// Whether the node has neither clients nor children.
+    /// Says whether the node has neither clients nor children.
     pub(crate) fn is_empty(&self) -> bool
         ensures { IsTrue result → HoldsNothing self.now }
     {

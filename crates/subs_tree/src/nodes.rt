@@ -1,4 +1,4 @@
-// The nodes, named by their numbers: one for each front of levels that some filter begins with.
+// The nodes, named by their numbers: one for each list of levels that some filter begins with.
 
 ghost use Rattle.std.specs.Prelude.{◌≡◌, OnOk, OnErr, IfOk, IfSome, ◌↔◌, IsTrue, IsSome, Some, None, option_map};
 ghost use Rattle.topics.specs.Text.{levels, levels_of};
@@ -17,7 +17,7 @@ use std::alloc::{AllocError, Global};
 use subs_base::packet::{ClientId, QoS};
 use topics::split_level;
 
-/// Nodes in a vector. The numbers of those that were given up are used again.
+/// Nodes in a vector. The numbers of removed nodes are used again.
 #[derive(Debug, Drop)]
 pub(crate) struct Nodes {
     pub(crate) slab: Slab<Node>,
@@ -26,7 +26,7 @@ pub(crate) struct Nodes {
 }
 
 impl Nodes {
-    /// No nodes.
+    /// Returns a vector without nodes.
     pub(crate) fn new(alloc: Global) -> Nodes
         ensures rows { rows_of result ≡ nothing }
         ensures sound { IsSound result }
@@ -38,8 +38,8 @@ impl Nodes {
         }
     }
 
-    /// Sets the client's subscription of the filter with this text. Without memory it leaves the rows as they
-    /// were, and gives up the nodes that it made.
+    /// Sets the client's subscription of the filter with this text. If memory runs out it leaves
+    /// the rows as they were, and removes the nodes that it made.
     pub(crate) fn set(&mut self, text: &[u8], client: &ClientId, qos: QoS) -> Result<(), AllocError>
         requires { IsSound self.old }
         ensures ok { OnOk result (rows_of self.new ≡ with_asked (rows_of self.old) (levels text.now) client.now (Some qos)) }
@@ -55,8 +55,8 @@ impl Nodes {
         set
     }
 
-    /// Puts these rows in the place of those of the filter with this text. Without memory some nodes that hold
-    /// nothing may stay.
+    /// Puts these rows in place of those of the filter with this text. If memory runs out some
+    /// nodes that hold nothing may stay.
     pub(crate) fn put(&mut self, text: &[u8], rows: Rows) -> Result<(), AllocError>
         requires { IsSound self.old }
         ensures ok { OnOk result (rows_of self.new ≡ with_rows (rows_of self.old) (levels text.now) (row_at rows)) }
@@ -68,8 +68,8 @@ impl Nodes {
         Ok(())
     }
 
-    /// Removes the client's subscription of the filter with this text, and says whether there was one. Nodes that
-    /// then hold nothing are given up.
+    /// Removes the client's subscription of the filter with this text, and says whether there was
+    /// one. Nodes that then hold nothing are removed.
     pub(crate) fn clear(&mut self, text: &[u8], client: &ClientId) -> bool
         requires { IsSound self.old }
         ensures found { IsTrue result ↔ IsSome (rows_of self.old (levels text.now) client.now) }
@@ -87,7 +87,7 @@ impl Nodes {
         found
     }
 
-    // The root, which is made where there is none.
+    // Returns the root, which is made if there is none.
     fn make_root(&mut self) -> Result<NodeId, AllocError>
         requires { IsSound self.old }
         ensures sound { IsSound self.new }
@@ -123,7 +123,8 @@ impl Nodes {
         set_at(&mut self.slab, self.alloc, place, client, qos)
     }
 
-    // The place of the filter that goes on with this text behind a node, if its nodes are there.
+    // Returns the place of the filter that continues with this text after a node, if its nodes are
+    // there.
     fn find_place(&self, at: NodeId, text: Option<&[u8]>) -> Option<Place>
         ensures node { option_map (λ found. found.node.number) result
             ≡ reach (shape self.now).child at.number (place (levels_of text.entry)).0 }
@@ -149,7 +150,7 @@ impl Nodes {
     }
 }
 
-/// Whether the level stands for every rest: `#` with nothing behind it (MQTT 4.7.1.2).
+/// Says whether the level matches every rest: `#` with nothing after it (MQTT 4.7.1.2).
 #[tactic(auto, using(topics::proofs::LevelByLevel::is_last_levels))]
 pub(crate) fn is_all(level: &[u8], behind: Option<&[u8]>) -> bool
     ensures { result ≡ is_all level.now (levels_of behind.entry) }

@@ -1,4 +1,4 @@
-// Nodes that came to hold nothing are given up.
+// Nodes that no longer hold anything are removed.
 
 ghost use Rattle.std.specs.Prelude.{◌≡◌, ◌++◌, ℕ};
 ghost use Rattle.topics.specs.Text.{Levels};
@@ -10,7 +10,8 @@ use crate::slots::{child, close, is_empty, unlink};
 use topics::split_level;
 
 impl Nodes {
-    /// Gives up the nodes that hold nothing, of those along these levels behind a node, the last first.
+    /// Removes the nodes that hold nothing, of those along these levels after a node, the last
+    /// first.
     pub(crate) fn prune(&mut self, at: NodeId, text: Option<&[u8]>)
         requires sound { IsSound self.old }
         requires there { IsThere self.old at.number }
@@ -33,7 +34,7 @@ impl Nodes {
         self.drop_empty(at, level);
     }
 
-    // Gives up the node behind a level if it holds nothing.
+    // Removes the node after a level if it holds nothing.
     fn drop_empty(&mut self, at: NodeId, level: &[u8])
         requires sound { IsSound self.old }
         requires there { IsThere self.old at.number }

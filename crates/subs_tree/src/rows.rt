@@ -21,7 +21,7 @@ pub(crate) enum Rows {
 }
 
 impl Rows {
-    /// Sets the client's row. Without memory all rows stay as they were.
+    /// Sets the client's row. If memory runs out all rows stay as they were.
     pub(crate) fn set(
         &mut self,
         alloc: Global,
@@ -67,7 +67,7 @@ impl Rows {
         }
     }
 
-    /// Returns whether there is no client.
+    /// Says whether there is no client.
     pub(crate) fn is_empty(&self) -> bool
         ensures { IsTrue result → listed self.now ≡ [] }
     {

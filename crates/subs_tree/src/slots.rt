@@ -12,7 +12,7 @@ use slab::Slab;
 use std::alloc::{AllocError, Global};
 use subs_base::packet::{ClientId, QoS};
 
-/// Where the rows of a filter stand: at a node, or at `#` beside it.
+/// Where the rows of a filter are: at a node, or at `#` beside it.
 #[derive(Clone, Copy, Debug)]
 pub(crate) struct Place {
     pub(crate) node: NodeId,
@@ -37,7 +37,7 @@ pub(crate) fn close(nodes: &mut Slab<Node>, at: NodeId)
     nodes.try_remove(at.number);
 }
 
-/// The node behind a level of a node.
+/// Returns the node after a level of a node.
 pub(crate) fn child(nodes: &Slab<Node>, at: NodeId, level: &[u8]) -> Option<NodeId>
     ensures { option_map (λ id. id.number) result ≡ (shape_of nodes.now).child at.number level.now }
 {
@@ -47,7 +47,7 @@ pub(crate) fn child(nodes: &Slab<Node>, at: NodeId, level: &[u8]) -> Option<Node
     }
 }
 
-/// Whether the node holds nothing.
+/// Says whether the node holds nothing.
 pub(crate) fn is_empty(nodes: &Slab<Node>, at: NodeId) -> bool
     ensures { IsTrue result → IsBare (shape_of nodes.now) at.number }
 {
@@ -57,7 +57,7 @@ pub(crate) fn is_empty(nodes: &Slab<Node>, at: NodeId) -> bool
     }
 }
 
-/// Puts a node behind a level of another.
+/// Puts a node after a level of another.
 pub(crate) fn link(
     nodes: &mut Slab<Node>,
     alloc: Global,
@@ -75,7 +75,7 @@ pub(crate) fn link(
     }
 }
 
-/// Gives up what is behind a level of a node.
+/// Removes what is after a level of a node.
 pub(crate) fn unlink(nodes: &mut Slab<Node>, at: NodeId, level: &[u8])
     requires { (shape_of nodes.old).used at.number ≡ true }
     ensures { Links (shape_of nodes.old) (shape_of nodes.new) at.number level.now None }
@@ -104,7 +104,7 @@ pub(crate) fn set_at(
     }
 }
 
-/// Puts these rows in the place of those at a place.
+/// Puts these rows in place of those at a place.
 pub(crate) fn put_at(nodes: &mut Slab<Node>, place: Place, rows: Rows)
     requires { (shape_of nodes.old).used place.node.number ≡ true }
     ensures { Fills (shape_of nodes.old) (shape_of nodes.new) place.node.number place.rest (row_at rows) }

@@ -1,4 +1,4 @@
-// The number of nodes, of which no clause speaks.
+// The number of nodes, about which there is no clause.
 
 use crate::tree_index::TreeIndex;
 use std::alloc::Global;
@@ -12,7 +12,7 @@ const FILTERS: u32 = 100_000;
 /// The root, `a`, 331 groups, in each of which is a `+`, and one for each filter.
 const NODES: usize = 1 + 1 + 331 + 331 + 100_000;
 
-/// A filter of four levels, of which some begin alike and some have a `+`.
+/// Returns a filter of four levels, of which some begin alike and some have a `+`.
 fn filter_of(alloc: Global, number: u32) -> Option<Filter> {
     let group = number % 331;
     let text = if number % 2 == 0 {
@@ -57,13 +57,13 @@ fn clear_all(alloc: Global, index: &mut TreeIndex, client: &ClientId) -> bool {
     true
 }
 
-/// How many nodes there are, and for how many there is room.
+/// Returns how many nodes there are, and for how many there is capacity.
 fn counts(index: &TreeIndex) -> (usize, usize) {
     (index.nodes.slab.len(), index.nodes.slab.capacity())
 }
 
-/// How many nodes all filters have, whether that stays so once they were dropped, set, cleared and set again, and whether the root
-/// alone was left in between.
+/// Returns how many nodes all filters have, whether that stays so once they were dropped, set,
+/// cleared and set again, and whether only the root was left in between.
 fn nodes_in_turn(alloc: Global) -> Option<(usize, bool, bool)> {
     let mut index = TreeIndex::new(alloc);
     let client = ClientId::new(alloc, "a").ok()?;
@@ -95,7 +95,7 @@ fn list_all(alloc: Global, list: &mut ListIndex, client: &ClientId) -> bool {
     true
 }
 
-/// How many nodes the tree has that is built of the list of all filters.
+/// Returns how many nodes the tree has that is built of the list of all filters.
 fn nodes_built(alloc: Global) -> Option<usize> {
     let client = ClientId::new(alloc, "a").ok()?;
     let mut list = ListIndex::new(alloc);

@@ -18,11 +18,11 @@ use subs_base::packet::{ClientId, QoS};
 use subs_base::{ListIndex, SubIndex};
 use topics::{Filter, TopicName};
 
-/// An index that walks the levels of a topic: a publication costs its levels and the rows that are
-/// found, whatever else stands there.
+/// An index that walks the levels of a topic: the cost of a publication depends on its levels and
+/// the rows that are found, not on other subscriptions.
 #[derive(Debug, Drop)]
 pub struct TreeIndex {
-    /// Each client with its filters, which go with it.
+    /// Each client with its filters, which are removed with it.
     clients: ListIndex,
     pub(crate) nodes: Nodes,
     alloc: Global,
@@ -115,7 +115,7 @@ fn clear_all(nodes: &mut Nodes, filters: &BTreeMap<Filter, QoS>, client: &Client
     }
 }
 
-/// Appends the rows. Where memory is wanting, some of them may stand there.
+/// Appends the rows. If memory runs out, some of them may be there.
 fn append_rows(
     found: &BTreeMap<ClientId, QoS>,
     rows: &mut Vec<(ClientId, QoS)>,

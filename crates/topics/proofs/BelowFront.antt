@@ -1,4 +1,4 @@
--- What a filter matches whose first levels have no wildcard is these levels, or stands below them.
+-- What a filter matches whose first levels have no wildcard is these levels, or is below them.
 use Rattle.std.proofs.Common.{◌≡◌, ℕ, List, [], ◌∷◌, ◌++◌, true, false, ◌&&◌, ◌==◌, bytes_eq, refl, sym, ap, ◌∙◌, inl, inr, ◌⊎◌, append_assoc}
 use Rattle.std.specs.Prelude.{not}
 use Rattle.std.specs.List.{onto_first, join_with_byte}
@@ -48,7 +48,7 @@ same_front (part ∷ front) rest (level ∷ topic) h matched =
     let same = (bytes_eq-Decides part level).0 parts.0 in
     (others.0, ap (λ (l : List ℕ). l ∷ topic) (sym same) ∙ ap (λ (ls : Levels). part ∷ ls) others.1)
 
--- levels joined with more behind them
+-- levels joined with more after them
 joined : (front others : Levels) → is_last front ≡ false
     → (join_with_byte 47 (front ++ others) ≡ join_with_byte 47 front) ⊎ ((more : List ℕ) × (join_with_byte 47 (front ++ others) ≡ join_with_byte 47 front ++ 47 ∷ more))
 joined [] others some = absurd cc

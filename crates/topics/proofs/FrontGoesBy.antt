@@ -1,4 +1,4 @@
--- A byte with which filter and topic both begin goes by: what is left matches where the whole does.
+-- A byte with which filter and topic both begin is skipped: what is left matches if the whole does.
 use Rattle.std.proofs.Common.{◌≡◌, ℕ, List, [], ◌∷◌, Bool, true, false, not, ◌&&◌, ◌||◌, ◌==◌, codes, bytes_eq, refl, subst, ◌∙◌}
 use Rattle.std.specs.List.{onto_first}
 use Rattle.std.proofs.lemmas.Bool.{and_parts, eq-eqb}

@@ -1,4 +1,4 @@
--- A filter without wildcards matches the topic of its own text alone.
+-- A filter without wildcards matches only the topic of its own text.
 use Rattle.std.proofs.Common.{◌≡◌, ℕ, List, [], ◌∷◌, Bool, true, false, ◌↔◌, codes, bytes_eq, refl, ap, ◌∙◌, sym, subst}
 use Rattle.std.specs.List.{join_with_byte}
 use Rattle.std.proofs.lemmas.Bool.{true≢false, and_parts, false_from_ne_true}

@@ -14,7 +14,7 @@ cut (x ∷ xs) (suc i) lt before at =
     slice_split-cons_no (λ b. b == 47) x xs (ne_eqb x 47 (before 0 (omega arith)))
     ∙ ap (onto_first x) (cut xs i (omega arith) (λ k h. before (suc k) (omega arith)) at)
 
--- no `/` stands before the place
+-- no `/` is before the place
 pub levels_cut : (text : List ℕ) (i : ℕ) → i < length text → ((k : ℕ) → k < i → get_or text k 0 ≡ 47 → ⊥) → get_or text i 0 ≡ 47 → levels text ≡ take i text ∷ levels (take (length text - (i + 1)) (drop (i + 1) text))
 levels_cut text i lt before at = rw (take_rest text (i + 1), add-one) (cut text i lt before at)
 

@@ -1,4 +1,4 @@
--- The test `is_match` is true exactly where the filter matches.
+-- The test `is_match` is true exactly if the filter matches.
 use Rattle.std.proofs.Common.{◌≡◌, ℕ, List, [], ◌∷◌, IsTrue, ◌↔◌, Bool, not, codes, Decides, refl, subst, sym}
 use Rattle.std.proofs.lemmas.Bool.Decides.{Decides-and, Decides-or}
 use Rattle.std.proofs.lemmas.Slice.Eq.{bytes_eq-Decides}

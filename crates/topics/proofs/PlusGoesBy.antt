@@ -1,4 +1,4 @@
--- A `+` goes by with the level that it stands for.
+-- A `+` is skipped with the level that it matches.
 use Rattle.std.proofs.Common.{◌≡◌, ℕ, zero, suc, ◌-◌, ◌<◌, List, [], ◌∷◌, true, false, ◌==◌, cond, length, get_or, take, drop, refl, ap, ◌∙◌, arith}
 use Rattle.std.specs.List.{onto_first}
 use Rattle.std.proofs.lemmas.Bool.{and_parts, eq-eqb, ne_eqb}
@@ -16,7 +16,7 @@ cut (x ∷ xs) zero lt before at = rw (eq-eqb x 47 at) refl
 cut (x ∷ xs) (suc i) lt before at =
     rw (ne_eqb x 47 (before 0 (omega arith))) (cut xs i (omega arith) (λ k h. before (suc k) (omega arith)) at)
 
--- no `/` stands before the place
+-- no `/` is before the place
 pub behind_cut : (text : List ℕ) (i : ℕ) → i < length text → ((k : ℕ) → k < i → get_or text k 0 ≡ 47 → ⊥) → get_or text i 0 ≡ 47 → take (length text - i) (drop i text) ≡ behind_level text
 behind_cut text i lt before at = rw (take_rest text i) (cut text i lt before at)
 
@@ -25,7 +25,7 @@ behind_none [] none = refl
 behind_none (x ∷ xs) none =
     rw (ne_eqb x 47 (none 0 (omega arith))) (behind_none xs (λ k h. none (suc k) (omega arith)))
 
--- the levels behind the first
+-- the levels after the first
 abbrev others : Levels → Levels
 others [] = []
 others (level ∷ rest) = rest
@@ -34,7 +34,7 @@ others_on : (b : ℕ) (parts : Levels) → others (onto_first b parts) ≡ other
 others_on b [] = refl
 others_on b (part ∷ parts) = refl
 
--- behind a level stand the others
+-- the others come after a level
 level_behind : (text : List ℕ) → levels (behind_level text) ≡ [] ∷ others (levels text)
 level_behind [] = refl
 level_behind (b ∷ text) =
@@ -51,7 +51,7 @@ name_behind (b ∷ text) h =
       | false ↦ name_behind text (no_wildcard_parts b text h).2
     ]
 
--- `+` is alone in its level, and stands for any first level
+-- `+` is alone in its level, and matches any first level
 plus_alone : (filter topic : Levels) → is_last filter ≡ false → is_last topic ≡ false → has_wildcards_in_place (onto_first 43 filter) ≡ true
     → (has_wildcards_in_place filter ≡ true) × (matches_rest filter ([] ∷ others topic) ≡ matches_rest (onto_first 43 filter) topic)
 plus_alone [] topic some_f some_t h = absurd cc

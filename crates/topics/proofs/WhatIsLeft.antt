@@ -1,4 +1,4 @@
--- What is left of a filter and a topic that begin with different bytes matches where nothing is left
+-- What is left of a filter and a topic that begin with different bytes matches if nothing is left
 -- of both, or `#` of the filter, or `/#` of the filter and nothing of the topic.
 use Rattle.std.proofs.Common.{◌≡◌, ◌≢◌, ℕ, List, [], ◌∷◌, Bool, true, false, not, ◌==◌, ◌&&◌, ◌||◌, codes, bytes_eq, length, refl, ap, ◌∙◌, sym, arith}
 use Rattle.std.specs.List.{onto_first, join_with_byte}
@@ -21,7 +21,7 @@ pub ended_is : (topic : List ℕ) → (length topic == 0) ≡ has_ended topic
 ended_is [] = refl
 ended_is (c ∷ topic) = ne_eqb (length (c ∷ topic)) 0 (λ e. omega arith)
 
--- `#` with more in its level stands in no place
+-- `#` with more in its level is in no place
 no_more : (b : ℕ) (level : List ℕ) (last : Bool) → may_stand (35 ∷ b ∷ level) last ≡ true → ⊥
 no_more b level last h = go (not (has 43 (b ∷ level))) last h
   where

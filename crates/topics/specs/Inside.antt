@@ -1,4 +1,4 @@
--- Words of the private functions that go through a text level by level.
+-- Definitions for the private functions that go through a text level by level.
 use Rattle.std.specs.Prelude.{
   ◌≡◌,
   ◌≢◌,
@@ -27,7 +27,7 @@ pub record IsPair (filter topic : List ℕ) : Type 0 where
   pub in_place : has_wildcards_in_place (levels filter) ≡ true
   pub name : has_no_wildcard topic ≡ true
 
--- what is left of such a pair, and matches where the whole pair does
+-- what is left of such a pair; it matches if the whole pair does
 pub record IsLeft (filter topic parts names : List ℕ) : Type 0 where
   pub pair : IsPair parts names
   pub same : matches_levels parts names ≡ matches_levels filter topic
@@ -43,7 +43,7 @@ abbrev pub behind_level : List ℕ → List ℕ
 behind_level [] = []
 behind_level (byte ∷ text) = if byte == 47 then byte ∷ text else behind_level text
 
--- of texts that are apart: nothing is left, or `#`, or `/#` and nothing of the topic
+-- for texts that are apart: nothing is left, or `#`, or `/#` and nothing of the topic
 abbrev pub ends_match : List ℕ → List ℕ → Bool
 ends_match [] names = length names == 0
 ends_match (part ∷ parts) names =

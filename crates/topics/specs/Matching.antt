@@ -19,7 +19,7 @@ use Rattle.std.specs.Prelude.{
 }
 use Rattle.topics.specs.Text.{Levels, levels, is_last}
 
--- `#` with nothing behind it stands for every rest, the empty one included (MQTT 4.7.1.2)
+-- `#` with nothing after it matches every rest, including the empty one (MQTT 4.7.1.2)
 abbrev pub IsAll : List ℕ → Levels → Type 0
 IsAll part filter = (part ≡ codes "#") × (filter ≡ [])
 

@@ -33,16 +33,16 @@ use Rattle.topics.specs.declared.malformed.MalformedKind.TheVariants as kinds
 abbrev pub Levels : Type 0
 Levels = List (List ℕ)
 
--- what stands between the `/`, which is 47, empty levels included (MQTT 4.7.1.1)
+-- the texts between the `/`, which is 47, including empty levels (MQTT 4.7.1.1)
 abbrev pub levels : List ℕ → Levels
 levels text = slice_split (λ byte. byte == 47) text
 
--- the levels of what follows, none where nothing does
+-- the levels of what follows, none if nothing does
 abbrev pub levels_of : Option (Bor (List ℕ)) → Levels
 levels_of None = []
 levels_of (Some text) = levels text.now
 
--- whether the byte stands anywhere in the text
+-- whether the byte occurs in the text
 abbrev pub has : ℕ → List ℕ → Bool
 has byte text = list_any (λ b. b == byte) text
 
@@ -87,7 +87,7 @@ filter_fault text =
     if not (has_length text && has_wildcards_in_place (levels text)) then Some kinds.Filter else
     if not (is_shallow text) then Some kinds.TooDeep else None
 
--- how a text is refused: by its first fault, and one without a fault for want of memory alone
+-- how a text is refused: by its first fault; a text without a fault only because memory ran out
 abbrev pub RefusesBy : Option MalformedKind → MalformedKind → Type 0
 RefusesBy fault kind = (fault ≡ Some kind) ⊎ ((fault ≡ None) × (kind ≡ kinds.Memory))
 

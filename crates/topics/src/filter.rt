@@ -13,7 +13,8 @@ use std::fmt;
 use std::marker::Model;
 
 /// A Topic Filter of 1 to 65,535 bytes and at most 32 levels, with its wildcards in their places:
-/// `+` alone in its level, `#` alone in the last one (MQTT 4.7.1). Compared and ordered by its bytes.
+/// `+` alone in its level, `#` alone in the last one (MQTT 4.7.1). It is compared and ordered by
+/// its bytes.
 #[derive(Debug, PartialEq, Eq, PartialOrd, Ord, Hash, Drop)]
 pub struct Filter {
     text: Text,
@@ -33,15 +34,15 @@ impl Model for Filter {
 }
 
 impl Filter {
-    /// The Topic Filter of this text. In this order: `Text` where U+0000 stands in it, `Filter`
-    /// where it is empty, has more than 65,535 bytes or a wildcard out of its place, `TooDeep`
-    /// where it has more than 32 levels, `Memory`.
+    /// Returns the Topic Filter of this text. In this order: `Text` if it contains U+0000, `Filter`
+    /// if it is empty, has more than 65,535 bytes or a wildcard out of its place, `TooDeep` if it
+    /// has more than 32 levels, `Memory`.
     #[tactic(auto, using(crate::proofs::Faultless::is_filter_none))]
     pub fn new(alloc: Global, text: &str) -> Result<Filter, MalformedKind>
         ensures value { IfOk result (λ filter. filter ≡ text.now) }
         ensures ok { OnOk result (filter_fault text.now ≡ None) }
 
-        // Memory may be wanting for a text without a fault only.
+        // Memory may run out only for a text without a fault.
         ensures err { IfErr result (RefusesBy (filter_fault text.now)) }
     {
         if let Some(fault) = fault_of(text.as_bytes()) {
@@ -51,9 +52,9 @@ impl Filter {
         Ok(Filter { text })
     }
 
-    /// The Topic Name of the same text, if the filter has no wildcard: the only one that it then
-    /// matches. The two share the text, so it takes no memory; it fails only where its owners can no
-    /// longer be counted.
+    /// Returns the Topic Name of the same text, if the filter has no wildcard: the only one that it
+    /// then matches. The two share the text, so it takes no memory; it fails only if its references
+    /// can no longer be counted.
     #[tactic(auto, using(crate::proofs::Faultless::is_topic_bare))]
     pub fn as_topic(&self) -> Result<Option<TopicName>, AllocError>
         ensures { IfOk result (λ topic. topic ≡ named_topic self.now) }
@@ -65,7 +66,7 @@ impl Filter {
         Ok(Some(TopicName::of_checked(text)))
     }
 
-    /// The text of this filter.
+    /// Returns the text of this filter.
     pub fn as_str(&self) -> &str
         ensures value { result.now ≡ self.now }
         ensures checked { IsTrue (is_filter self.now) }
@@ -74,7 +75,8 @@ impl Filter {
     }
 }
 
-/// The first fault of a text as a Topic Filter. Only a text with wildcards is gone through again.
+/// Returns the first fault of a text as a Topic Filter. Only a text with wildcards is scanned
+/// again.
 fn fault_of(text: &[u8]) -> Option<MalformedKind>
     ensures { result ≡ filter_fault text.now }
 {
@@ -91,7 +93,7 @@ fn fault_of(text: &[u8]) -> Option<MalformedKind>
     None
 }
 
-/// Whether the wildcards are in their places, as they are where there are none.
+/// Says whether the wildcards are in their places, as they are if there are none.
 #[tactic(auto, using(crate::proofs::OnePass::bare_is_in_place))]
 fn is_formed(text: &[u8], is_bare: bool) -> bool
     requires { is_bare ≡ has_no_wildcard text.now }
@@ -114,7 +116,7 @@ fn has_wildcards_in_place(text: &[u8]) -> bool
     true
 }
 
-/// Whether the level has no wildcard, or is one, `#` the last level only.
+/// Says whether the level has no wildcard, or is one, `#` only as the last level.
 fn may_stand(level: &[u8], last: bool) -> bool
     ensures { result ≡ may_stand level.now last }
 {

@@ -2,7 +2,7 @@
 
 ghost use Rattle.topics.specs.Laws.{MatchesIsTested, BareMatchesItself};
 
-/// The test `is_match` of the definitions is true exactly where a filter matches a topic.
+/// The test `is_match` of the definitions is true exactly if a filter matches a topic.
 pub fn matches_is_tested()
     ensures { MatchesIsTested }
 {}

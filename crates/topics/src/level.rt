@@ -6,8 +6,8 @@ ghost use Rattle.topics.specs.Text.{levels, levels_of, has_length, has_no_wildca
 /// The most bytes of a topic or a filter (MQTT 4.7.3).
 const MAX_BYTES: usize = 65_535;
 
-/// A text's first level, which may be empty (MQTT 4.7.1.1), and what follows its `/`, if one stands
-/// there. Takes no memory; its time grows with the bytes of the level.
+/// Returns a text's first level, which may be empty (MQTT 4.7.1.1), and what follows its `/`, if
+/// one is there. Takes no memory; its time grows with the bytes of the level.
 #[tactic(auto, using(crate::proofs::LevelByLevel::levels_cut, crate::proofs::LevelByLevel::levels_whole))]
 pub fn split_level(text: &[u8]) -> (&[u8], Option<&[u8]>)
     ensures { levels text.now ≡ result.0.now ∷ levels_of result.1 }
@@ -20,7 +20,7 @@ pub fn split_level(text: &[u8]) -> (&[u8], Option<&[u8]>)
     (text, None)
 }
 
-/// Whether no level follows.
+/// Says whether no level follows.
 #[tactic(auto, using(crate::proofs::LevelByLevel::is_last_levels))]
 pub(crate) fn is_last(rest: Option<&[u8]>) -> bool
     ensures { result ≡ is_last (levels_of rest.entry) }
@@ -43,14 +43,14 @@ pub(crate) fn has_no_wildcard(text: &[u8]) -> bool
     !text.contains(&b'+') && !text.contains(&b'#')
 }
 
-/// Whether the level is the wildcard for any one level.
+/// Says whether the level is the wildcard for any one level.
 pub(crate) fn is_plus(level: &[u8]) -> bool
     ensures { result ≡ bytes_eq level.now (codes "+") }
 {
     level == b"+".as_slice()
 }
 
-/// Whether the level is the wildcard for every rest.
+/// Says whether the level is the wildcard for every rest.
 pub(crate) fn is_hash(level: &[u8]) -> bool
     ensures { result ≡ bytes_eq level.now (codes "#") }
 {

@@ -7,7 +7,7 @@ use std::alloc::{AllocError, AllocFailed};
 use std::error::Error;
 use std::fmt;
 
-/// Why bytes or a text are not of the form that MQTT asks for. Each kind has a number of its own
+/// Why bytes or a text are not of the form that MQTT requires. Each kind has a number of its own
 /// ([`MalformedKind::number`]); `docs/REFUSALS.md` has the whole table.
 #[derive(Clone, Copy, Debug, PartialEq, Eq, Hash)]
 pub enum MalformedKind {
@@ -19,7 +19,7 @@ pub enum MalformedKind {
     Length,
     /// A packet above the size limit of this broker.
     TooLarge,
-    /// A text that is no well-formed UTF-8, or that has U+0000 (MQTT 1.5.3).
+    /// A text that is not well-formed UTF-8, or that has U+0000 (MQTT 1.5.3).
     Text,
     /// A Packet Identifier of zero (MQTT 2.3.1), or a Client Identifier outside its limits.
     Identifier,
@@ -31,16 +31,16 @@ pub enum MalformedKind {
     Filter,
     /// A field that does not fit, bytes left over, an empty list, or a byte outside its table.
     Shape,
-    /// A CONNECT of another protocol, or a packet that may not come here (MQTT 3.1.2).
+    /// A CONNECT of another protocol, or a packet that is not allowed here (MQTT 3.1.2).
     Protocol,
-    /// No memory was found.
+    /// Memory ran out.
     Memory,
-    /// A topic or a filter of more levels than this broker takes.
+    /// A topic or a filter with more levels than this broker accepts.
     TooDeep,
 }
 
 impl MalformedKind {
-    /// The number of this refusal, the same in every program and document of this broker.
+    /// Returns the number of this refusal, the same in every program and document of this broker.
     pub fn number(self) -> u8
         ensures { result ≡ number_of self }
     {

@@ -8,9 +8,9 @@ use crate::filter::Filter;
 use crate::level::is_hash;
 use crate::topic_name::TopicName;
 
-/// Whether the filter matches the topic (MQTT 4.7): `#` stands for any number of levels, none
-/// included, `+` for exactly one level, an empty one included, and other levels for themselves. A
-/// filter that begins with a wildcard matches no topic that begins with `$`. Takes no memory; its
+/// Says whether the filter matches the topic (MQTT 4.7): `#` matches any number of levels,
+/// including none, `+` exactly one level, including an empty one, and any other level only itself.
+/// A filter that begins with a wildcard matches no topic that begins with `$`. Takes no memory; its
 /// time grows with the bytes of both texts.
 #[tactic(auto, using(crate::proofs::MatchingIsTested::answer_tested))]
 pub fn matches(filter: &Filter, topic: &TopicName) -> bool
@@ -27,7 +27,8 @@ fn is_match(filter: &[u8], topic: &[u8]) -> bool
     !is_hidden(filter, topic) && matches_levels(filter, topic)
 }
 
-/// What both texts begin with goes by, and each `+` with the level that it stands for.
+/// Says whether the texts match level by level: what both begin with is skipped, and so is each `+`
+/// with the level that it matches.
 #[tactic(auto, using(crate::proofs::LeftInALoop::some_first))]
 fn matches_levels(filter: &[u8], topic: &[u8]) -> bool
     requires { IsPair filter.now topic.now }
@@ -40,7 +41,7 @@ fn matches_levels(filter: &[u8], topic: &[u8]) -> bool
     ends_match(parts, names)
 }
 
-/// What is left of the texts behind the bytes with which both begin.
+/// Returns what is left of the texts after the bytes with which both begin.
 #[tactic(auto, using(crate::proofs::LeftInALoop::front_step))]
 fn behind_front<'a>(filter: &'a [u8], topic: &'a [u8]) -> (&'a [u8], &'a [u8])
     requires { IsPair filter.now topic.now }
@@ -60,7 +61,7 @@ fn behind_front<'a>(filter: &'a [u8], topic: &'a [u8]) -> (&'a [u8], &'a [u8])
     (parts, names)
 }
 
-/// The text from its first `/` on.
+/// Returns the text from its first `/` on.
 #[tactic(auto, using(crate::proofs::PlusGoesBy::behind_cut, crate::proofs::PlusGoesBy::behind_none))]
 fn behind_level(text: &[u8]) -> &[u8]
     ensures { result.now ≡ behind_level text.now }
@@ -73,7 +74,7 @@ fn behind_level(text: &[u8]) -> &[u8]
     &[]
 }
 
-/// Whether what is left matches, where no byte goes by any more.
+/// Says whether what is left matches, once the next bytes differ.
 fn ends_match(parts: &[u8], names: &[u8]) -> bool
     ensures { result ≡ ends_match parts.now names.now }
 {

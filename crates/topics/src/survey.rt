@@ -1,17 +1,17 @@
-// What a text is asked for, in one pass over its bytes.
+// What is checked in a text, in one pass over its bytes.
 
 ghost use Rattle.std.specs.Prelude.{◌≡◌};
 ghost use Rattle.topics.specs.Text.{has, has_no_wildcard, is_shallow};
 
-/// The most levels that this broker takes.
+/// The most levels that this broker accepts.
 const MAX_LEVELS: usize = 32;
 
 /// What one pass over a text finds.
 #[derive(Clone, Copy)]
 pub(crate) struct Survey {
-    /// Whether U+0000 stands in it.
+    /// Whether U+0000 is in it.
     pub(crate) has_null: bool,
-    /// Whether neither `+` nor `#` stands in it.
+    /// Whether neither `+` nor `#` is in it.
     pub(crate) has_no_wildcard: bool,
     /// Whether it has at most 32 levels.
     pub(crate) is_shallow: bool,

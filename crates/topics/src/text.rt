@@ -1,4 +1,4 @@
-// A text with many owners.
+// A reference-counted text.
 
 ghost use Rattle.std.specs.Prelude.{◌≡◌, Some, IfOk, bytes_eq};
 ghost use Rattle.std.specs.Cmp;
@@ -21,9 +21,9 @@ use std::hash::{Hash, Hasher};
 use std::marker::Model;
 use std::sync::ArcStr;
 
-/// A text that is never changed, compared and ordered by its bytes, which are what a contract sees.
-/// A copy is one more owner of the same bytes: it takes no memory, and fails only where the owners
-/// can no longer be counted.
+/// A text that is never changed, compared and ordered by its bytes, which are its value in
+/// contracts. A copy is one more reference to the same bytes: it takes no memory, and fails only if
+/// the references can no longer be counted.
 #[derive(Debug, Drop)]
 pub struct Text {
     text: ArcStr,
@@ -39,7 +39,7 @@ impl Model for Text {
 }
 
 impl Text {
-    /// A text of these bytes, which are copied once.
+    /// Returns a text of these bytes, which are copied once.
     pub fn new(alloc: Global, text: &str) -> Result<Text, AllocError>
         ensures { IfOk result (λ it. it ≡ text.now) }
     {
@@ -47,7 +47,7 @@ impl Text {
         Ok(Text { text })
     }
 
-    /// The text.
+    /// Returns the text.
     pub fn as_str(&self) -> &str
         ensures { result.now ≡ self.now }
     {

@@ -32,15 +32,15 @@ impl Model for TopicName {
 }
 
 impl TopicName {
-    /// The Topic Name of this text. In this order: `Text` where U+0000 stands in it, `Topic` where
-    /// it is empty, has more than 65,535 bytes or a wildcard, `TooDeep` where it has more than 32
+    /// Returns the Topic Name of this text. In this order: `Text` if it contains U+0000, `Topic` if
+    /// it is empty, has more than 65,535 bytes or a wildcard, `TooDeep` if it has more than 32
     /// levels, `Memory`.
     #[tactic(auto, using(crate::proofs::Faultless::is_topic_none))]
     pub fn new(alloc: Global, text: &str) -> Result<TopicName, MalformedKind>
         ensures value { IfOk result (λ name. name ≡ text.now) }
         ensures ok { OnOk result (topic_fault text.now ≡ None) }
 
-        // Memory may be wanting for a text without a fault only.
+        // Memory may run out only for a text without a fault.
         ensures err { IfErr result (RefusesBy (topic_fault text.now)) }
     {
         if let Some(fault) = fault_of(text.as_bytes()) {
@@ -50,7 +50,7 @@ impl TopicName {
         Ok(TopicName { text })
     }
 
-    // The Topic Name of a text without a fault.
+    // Returns the Topic Name of a text without a fault.
     pub(crate) fn of_checked(text: Text) -> TopicName
         requires { is_topic text ≡ true }
         ensures { result ≡ text }
@@ -58,7 +58,7 @@ impl TopicName {
         TopicName { text }
     }
 
-    /// The text of this name.
+    /// Returns the text of this name.
     pub fn as_str(&self) -> &str
         ensures value { result.now ≡ self.now }
         ensures checked { IsTrue (is_topic self.now) }
@@ -67,7 +67,7 @@ impl TopicName {
     }
 }
 
-/// The first fault of a text as a Topic Name.
+/// Returns the first fault of a text as a Topic Name.
 fn fault_of(text: &[u8]) -> Option<MalformedKind>
     ensures { result ≡ topic_fault text.now }
 {

@@ -1,5 +1,5 @@
-//! The transcript of a script that is played: a line for each event, one for each publication that a client
-//! took in behind it, and one for the end.
+//! The transcript of a played script: a line for each event, one for each publication that a client
+//! accepted in it, and one for the end.
 #![tactic(auto)]
 
 mod writing;

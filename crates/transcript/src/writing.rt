@@ -16,8 +16,8 @@ pub fn write_idle(alloc: Global, index: u64, text: &mut Vec<u8>) -> Result<(), A
     text.extend_from_slice(line.as_str().as_bytes())
 }
 
-/// Appends the line of an event that happened, with how many messages were sent so far and how long the
-/// agreed list is: `7 ok msgs=3 agreed=1`.
+/// Appends the line of an event that happened, with how many messages were sent so far and how long
+/// the agreed list is: `7 ok msgs=3 agreed=1`.
 pub fn write_done(
     alloc: Global,
     index: u64,
@@ -31,8 +31,8 @@ pub fn write_done(
     text.extend_from_slice(line.as_str().as_bytes())
 }
 
-/// Appends the line of a publication that a client took in: `accepted b 1 2 0 t/1 x`, with the client's
-/// name and the number of its session; the rest as a subscriber prints it.
+/// Appends the line of a publication that a client accepted: `accepted b 1 2 0 t/1 x`, with the
+/// client's name and the number of its session; the rest as a subscriber prints it.
 pub fn write_accepted(
     alloc: Global,
     client: &ClientId,

@@ -1,4 +1,4 @@
--- PrintsJoin.antt: what is printed of two lists, one after the other, is what is printed of both.
+-- PrintsJoin.antt: what is printed of two lists, one after another, is what is printed of both.
 use Rattle.std.proofs.Common.{◌≡◌, ℕ, ◌+◌, ◌-◌, List, [], ◌∷◌, ◌++◌, length, refl, sym, ap, subst, ◌∙◌, append_assoc, length-append, Option, suc, zero}
 use Rattle.std.specs.Prelude.{Result, Ok, Err, OnOk}
 use native.Mathlib.Omega.{arith}
@@ -52,11 +52,11 @@ shows_join xs ys left middle rest a b c one two = (
 pub shows_none : (left : ℕ) (a : Option (List ℕ)) → Shows [] left left a a
 shows_none left a = (omega arith, subst (Appends a a) (sym (lines_none left)) (Appends-nil a))
 
--- nothing was heard
+-- nothing was received
 pub hears_none : (old : Listening) (a : Option (List ℕ)) → Hears old a old a
 hears_none old a = ([], Trace.starts, refl, shows_none old.left a)
 
--- what was heard, and what was heard after it
+-- what was received, and what was received after it
 pub hears_join : (a b c : Option (List ℕ)) (old middle new : Listening)
     → Hears old a middle b → Hears middle b new c → Hears old a new c
 hears_join a b c old middle new one two = (
@@ -96,7 +96,7 @@ pub asks_made : (caller new : Called) (count left : ℕ) {seen : Listening} → 
 asks_made caller new count left is trace =
     subst (λ (s : Listening). Asks s (made_of new count left)) is (trace, refl, refl)
 
--- where the call that followed was done
+-- if the call that followed was done
 pub asks_hears_ok : {T E : Type 0} (a b : Option (List ℕ)) (old middle new : Listening) (result : Result T E)
     → Asks old middle → OnOk result (Hears middle a new b) → OnOk result (Hears old a new b)
 asks_hears_ok a b old middle new (Ok value) one two = asks_hears a b old middle new one two

@@ -26,7 +26,7 @@ pub traces_follow : {start middle end : Called} {more : List Accepted}
     → Trace start [] middle → Trace middle more end → Trace start more end
 traces_follow before after = traces_join before after
 
--- where a call that followed was done
+-- if a call that followed was done
 pub traces_follow_ok : {T E : Type 0} {start middle : Called} (end : Called) (more : List Accepted) (result : Result T E)
     → Trace start [] middle → OnOk result (Trace middle more end) → OnOk result (Trace start more end)
 traces_follow_ok end more (Ok value) before after = traces_follow before after

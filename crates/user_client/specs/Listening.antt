@@ -12,11 +12,11 @@ pub record Listening : Type 0 where
   pub count : ℕ
   pub left : ℕ
 
--- it begins anew
+-- it begins from the start
 abbrev pub begun : Listening → Listening
 begun listening = record listening { left = listening.count }
 
--- what is printed of these, in order, where so many are still to be printed
+-- what is printed for these, in order, when this many are still to be printed
 abbrev pub lines_of : ℕ → List Accepted → List ℕ
 lines_of left accepted = flat_map line_of (take left accepted)
 

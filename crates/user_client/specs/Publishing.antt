@@ -4,12 +4,12 @@ use Rattle.packet.specs.declared.publish.Publish.{Publish}
 use Rattle.client_base.specs.State.{kept_count}
 use Rattle.user_client.specs.Tracing.{Called}
 
--- a client, and its publication where that has QoS 0: else the client keeps it
+-- a client, and its publication if that has QoS 0: otherwise the client keeps it
 pub record Publishing : Type 0 where
   pub caller : Called
   pub once : Option Publish
 
--- what is answered is acknowledged, whole: the client keeps no publication
+-- what is answered is acknowledged as a whole: the client keeps no publication
 abbrev pub IsAcknowledgedAs : Option Publish → Called → Type 0
 IsAcknowledgedAs None caller = kept_count caller.core.state ≡ 0
 IsAcknowledgedAs (Some publish) caller = ⊤

@@ -1,4 +1,5 @@
--- What a client does on its connections, step by step: calls of its keeper, and bytes of its servers (MQTT 4.3, 4.4).
+-- What a client does on its connections, step by step: calls of its keeper, and bytes of its
+-- servers (MQTT 4.3, 4.4).
 use Rattle.std.specs.Prelude.{◌≡◌, ◌≢◌, ℕ, Bool, false, ◌||◌, List, [], ◌++◌, Result, Ok, Err}
 use Rattle.packet.specs.declared.qos.QoS.{QoS}
 use Rattle.client_base.specs.declared.accepted.Accepted.{Accepted}
@@ -9,16 +10,16 @@ use Rattle.client_base.specs.Steps.{Call, keeper_step}
 use Rattle.client.specs.Core.{Core, Does, Opens, Leaves, publication_with, without_accepted}
 use Rattle.client.specs.Reading.{OnBytes}
 
--- a client, and whether a server has accepted a connection of it
+-- a client, and whether a server has accepted one of its connections
 pub record Called : Type 0 where
   pub core : Core
   pub was_accepted : Bool
 
--- the client does this, and nothing changes but its keeper
+-- the client does this, and nothing changes except its keeper
 abbrev pub with_core : Core → Called → Called
 with_core core called = record called { core = core }
 
--- the server sent bytes: whether it has accepted a connection by now
+-- the server sent bytes: whether it has now accepted a connection
 abbrev pub after_bytes : Core → Called → Called
 after_bytes core called =
     record { core = core; was_accepted = called.was_accepted || is_online core.state.stage }
@@ -27,7 +28,7 @@ after_bytes core called =
 abbrev pub IsFirst : Called → Core → Type 0
 IsFirst called core = called.was_accepted ≡ false → core.state.present ≡ false
 
--- One step. Bytes of a server that lost the session are none.
+-- One step. There is no step for bytes of a server that lost the session.
 pub data Step (old : Called) : Called → Type 0 where
   opens : (core : Core) → Opens (keeper_step Call.Opens old.core.state) old.core (Ok tt) core
       → Step old (with_core core old)
@@ -48,7 +49,7 @@ pub data Step (old : Called) : Called → Type 0 where
       → Leaves (keeper_step Call.Disconnects old.core.state) old.core (Ok tt) core
       → Step old (with_core core old)
 
--- Steps one after the other, and what was accepted and taken out meanwhile, in order.
+-- Steps one after another, and what was accepted and taken out in them, in order.
 pub data Trace (start : Called) : List Accepted → Called → Type 0 where
   starts : Trace start [] start
   goes : {taken : List Accepted} {old : Called} (new : Called)

@@ -1,4 +1,4 @@
-// A client, and whether a server has accepted a connection of it.
+// A client, and whether a server has accepted one of its connections.
 
 ghost use Rattle.std.specs.Prelude.{◌≡◌, ◌≢◌, ◌++◌, false, OnOk, Err, []};
 ghost use Rattle.client_base.specs.declared.error.ClientError.TheVariants as errors;
@@ -13,10 +13,10 @@ use std::alloc::Global;
 use std::marker::Model;
 use topics::{Filter, TopicName};
 
-/// What came of the bytes that a server sent.
+/// The result of bytes that a server sent.
 #[derive(Clone, Copy, Debug, PartialEq, Eq)]
 pub(crate) enum News {
-    /// The server has not accepted the connection yet.
+    /// The server has not yet accepted the connection.
     Waits,
     /// The server accepted the connection just now.
     Accepted,
@@ -26,7 +26,7 @@ pub(crate) enum News {
     Lost,
 }
 
-/// A client, and whether a server has accepted a connection of it.
+/// A client, and whether a server has accepted one of its connections.
 #[derive(Drop)]
 pub(crate) struct Caller {
     pub(crate) core: ClientCore,
@@ -42,7 +42,7 @@ impl Model for Caller {
 }
 
 impl Caller {
-    /// Makes a client of this identifier, with keep alive 0, that was never connected.
+    /// Returns a client with this identifier, with keep alive 0, that was never connected.
     pub(crate) fn new(alloc: Global, id: ClientId) -> Caller
         ensures { result ≡ record { core = new_core id 0; was_accepted = false } }
     {
@@ -72,7 +72,7 @@ impl Caller {
         Ok(self.core.publish(topic, qos, retain, payload)?)
     }
 
-    /// Asks for the publications of a filter.
+    /// Subscribes to a filter.
     pub(crate) fn subscribe(&mut self, filter: &Filter, qos: QoS) -> Result<(), ClientFault>
         ensures trace { OnOk result (Trace self.old [] self.new) }
     {
@@ -86,7 +86,7 @@ impl Caller {
         self.core.take_accepted()
     }
 
-    /// Hands over what the client wrote and did not hand over before.
+    /// Hands over what the client wrote and has not yet handed over.
     pub(crate) fn outgoing(&mut self, out: &mut Vec<u8>) -> Result<(), ClientFault>
         ensures trace { Trace self.old [] self.new }
         ensures kept { self.new.core.state ≡ self.old.core.state }
@@ -95,7 +95,7 @@ impl Caller {
         Ok(self.core.outgoing(out)?)
     }
 
-    /// Ends the connection, if memory is found for a DISCONNECT.
+    /// Ends the connection, with a DISCONNECT if there is memory for it.
     pub(crate) fn disconnect(&mut self)
         ensures trace { Trace self.old [] self.new }
         ensures kept { kept_count self.new.core.state ≡ kept_count self.old.core.state }
@@ -103,8 +103,8 @@ impl Caller {
         let _ = self.core.disconnect();
     }
 
-    /// Takes in what the server sent. A server that had a session before the first accepted connection, and one that lost it
-    /// later, is a fault.
+    /// Takes what the server sent. It is a fault if a server had a session before the first
+    /// accepted connection, or lost it later.
     pub(crate) fn take_in(&mut self, piece: &[u8]) -> Result<News, ClientFault>
         ensures trace { OnOk result (Trace self.old [] self.new) }
     {
@@ -116,7 +116,7 @@ impl Caller {
         Ok(news_of(goes_on, was_connected, is_connected))
     }
 
-    // Before the first accepted connection the server may have no session of the client.
+    // Checks that before the first accepted connection the server has no session of the client.
     fn is_first(&self) -> Result<(), ClientFault>
         ensures { OnOk result (IsFirst self.now self.now.core) }
     {
@@ -127,7 +127,8 @@ impl Caller {
     }
 }
 
-// Whether the connection goes on after this answer to a piece. A session that is lost is a fault, and so is memory.
+// Says whether the connection stays open after this answer to a piece. A lost session is a fault,
+// and it is a fault too if memory ran out.
 fn goes_on(heard: Result<(), ClientError>) -> Result<bool, ClientFault>
     ensures { OnOk result (heard ≢ Err errors.SessionLost) }
 {
@@ -139,7 +140,8 @@ fn goes_on(heard: Result<(), ClientError>) -> Result<bool, ClientFault>
     }
 }
 
-// What came, where the server had accepted the connection before or not, and has now or not.
+// Returns what came, by whether the server had accepted the connection before, and whether it has
+// now.
 fn news_of(goes_on: bool, was_connected: bool, is_connected: bool) -> News {
     if !goes_on {
         News::Lost

@@ -7,14 +7,14 @@ use topics::MalformedKind;
 /// Why a client did not do what it was asked for.
 #[derive(Clone, Copy, Debug, PartialEq, Eq)]
 pub enum ClientFault {
-    /// The identifier, the topic, the filter or the message was refused, by this number. No connection
-    /// was opened.
+    /// The identifier, the topic, the filter or the message was refused, by this number. No
+    /// connection was opened.
     Refused(u8),
     /// The server had a session of this identifier before.
     SessionPresent,
     /// All connections were lost, or the server lost the session.
     Lost,
-    /// No memory was found.
+    /// Memory ran out.
     Memory,
     /// What was received could not be written out.
     Output,

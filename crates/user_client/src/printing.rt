@@ -6,8 +6,8 @@ ghost use Rattle.user_client.specs.Printing.{digit, is_plain, line_of, printed, 
 use client::Accepted;
 use std::alloc::AllocError;
 
-/// Appends the line of a publication: QoS, RETAIN as 0 or 1, topic and payload, with one space between
-/// them and a line feed behind.
+/// Appends the line of a publication: QoS, RETAIN as 0 or 1, topic and payload, with one space
+/// between them and a line feed at the end.
 pub fn print_line(accepted: &Accepted, line: &mut Vec<u8>) -> Result<(), AllocError>
     ensures { OnOk result (line.new.items ≡ line.old.items ++ line_of accepted.now) }
 {
@@ -19,8 +19,8 @@ pub fn print_line(accepted: &Accepted, line: &mut Vec<u8>) -> Result<(), AllocEr
     line.extend_from_slice(b"\n")
 }
 
-/// Appends a text, in which each byte from 0x21 to 0x7E but the backslash stands for itself, and every
-/// other is `\x` and two hexadecimal digits.
+/// Appends a text, in which each byte from 0x21 to 0x7E except the backslash is written as it is,
+/// and every other byte is `\x` and two hexadecimal digits.
 pub fn print_text(text: &[u8], line: &mut Vec<u8>) -> Result<(), AllocError>
     ensures { OnOk result (line.new.items ≡ line.old.items ++ printed text.now) }
 {
@@ -40,14 +40,14 @@ fn print_byte(byte: u8, line: &mut Vec<u8>) -> Result<(), AllocError>
     }
 }
 
-// Whether a byte stands for itself.
+// Says whether a byte is written as it is.
 fn is_plain(byte: u8) -> bool
     ensures { result ≡ is_plain byte }
 {
     0x21 <= byte && byte <= 0x7E && byte != b'\\'
 }
 
-// The hexadecimal digit of a number below 16.
+// Returns the hexadecimal digit of a number below 16.
 fn digit(number: u8) -> u8
     requires { number < 16 }
     ensures { result ≡ digit number }

@@ -22,8 +22,8 @@ use topics::TopicName;
 pub struct Publisher {
     alloc: Global,
     caller: Caller,
-    // A publication at QoS 0, which is sent on each connection until one has taken it. At QoS 1 and 2 the client keeps it until
-    // its handshake has ended.
+    // A publication at QoS 0, which is sent on each connection until one has taken it. At QoS 1 and
+    // 2 the client keeps it until its handshake has ended.
     once: Option<Publish>,
 }
 
@@ -35,20 +35,20 @@ impl Model for Publisher {
     ghost view = { λ p. record { caller = p.caller; once = p.once } };
 }
 
-/// How far a publisher came on one connection.
+/// The progress of a publisher on one connection.
 #[derive(Clone, Copy, Debug, PartialEq, Eq)]
 enum Progress {
     /// It waits for the server.
     Waits,
-    /// The publication is acknowledged, or written where nothing is to be answered.
+    /// The publication is acknowledged, or written if no answer is needed.
     Done,
     /// The connection is lost.
     Lost,
 }
 
 impl Publisher {
-    /// Makes a client of this identifier with its publication. They are refused in this order: identifier,
-    /// topic, and a packet that would be too large.
+    /// Returns a client with this identifier and its publication. They are refused in this order:
+    /// identifier, topic, and a packet that would be too large.
     pub fn new(
         alloc: Global,
         id: &str,
@@ -75,8 +75,9 @@ impl Publisher {
         })
     }
 
-    /// Publishes over the connections of these servers, at most `tries` of them: at QoS 1 and 2 until
-    /// the handshake has ended, at QoS 0 until a connection has taken the bytes. What comes of the DISCONNECT does not matter.
+    /// Publishes over the connections of these servers, at most `tries` of them: at QoS 1 and 2
+    /// until the handshake has ended, at QoS 0 until a connection has taken the bytes. The fate of
+    /// the DISCONNECT does not matter.
     pub fn run<S: Servers>(&mut self, servers: &mut S, tries: u32) -> Result<(), ClientFault>
         ensures acknowledged { OnOk result (IsAcknowledged self.new) }
         ensures trace { OnOk result (Trace self.old.caller [] self.new.caller) }
@@ -93,7 +94,7 @@ impl Publisher {
         Err(ClientFault::Lost)
     }
 
-    // One connection: whether the publication was acknowledged, or written.
+    // Uses one connection. Returns whether the publication was acknowledged, or written.
     fn visit<D: Read + Write + Drop>(&mut self, stream: D) -> Result<bool, ClientFault>
         ensures acknowledged { IfOk result (λ done. done ≡ true → IsAcknowledged self.new) }
         ensures trace { OnOk result (Trace self.old.caller [] self.new.caller) }
@@ -115,7 +116,7 @@ impl Publisher {
         Ok(false)
     }
 
-    // Writes, reads once, and goes on after what came.
+    // Writes, reads once, and continues by what came.
     fn turn<D: Read + Write>(
         &mut self,
         stream: &mut Counted<D>,
@@ -129,7 +130,7 @@ impl Publisher {
         self.go_on(news, stream)
     }
 
-    // Goes on after what came on a connection.
+    // Continues by what came on a connection.
     fn go_on<D: Read + Write>(
         &mut self,
         news: News,
@@ -149,7 +150,7 @@ impl Publisher {
     }
 }
 
-// How far a publication is that the client keeps.
+// Returns the progress of a publication that the client keeps.
 fn kept_on(news: News, caller: &Caller) -> Progress
     ensures { result ≡ Progress.Done → kept_count caller.now.core.state ≡ 0 }
 {
@@ -176,7 +177,7 @@ fn send_once<D: Read + Write>(
     Ok(written(is_whole))
 }
 
-// How far a publication at QoS 0 is after it was written, or not.
+// Returns the progress of a publication at QoS 0 after it was written, or not.
 fn written(is_whole: bool) -> Progress {
     if is_whole {
         Progress::Done
@@ -185,7 +186,7 @@ fn written(is_whole: bool) -> Progress {
     }
 }
 
-// How far a publisher is whose publication is not done.
+// Returns the progress of a publisher whose publication is not done.
 fn after(news: News) -> Progress
     ensures { result ≢ Progress.Done }
 {
@@ -196,7 +197,7 @@ fn after(news: News) -> Progress
     }
 }
 
-// A publication at QoS 0.
+// Returns a publication at QoS 0.
 fn unanswered(topic: TopicName, retain: bool, payload: Payload) -> Result<Publish, ClientFault> {
     let publish = Publish {
         topic,

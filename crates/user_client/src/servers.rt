@@ -1,15 +1,15 @@
-// Where connections come from.
+// The source of connections.
 
 use std::io::{Read, Write};
 
-/// Where the connections of one client come from, one after the other.
+/// The source of one client's connections, one after another.
 pub trait Servers: Drop {
-    /// What bytes are read from and written to.
+    /// The stream that bytes are read from and written to.
     type Stream: Read + Write + Drop;
 
     /// Opens the next connection, if it can be opened.
     fn open(&mut self) -> Option<Self::Stream>;
 
-    /// Waits a while, behind a connection that was lost.
+    /// Waits a while after a connection that was lost.
     fn rest(&mut self);
 }

@@ -26,7 +26,8 @@ pub struct Subscriber {
     filter: Filter,
     qos: QoS,
     count: u32,
-    // How many publications are still to be printed. Once one is printed, the server has the subscription.
+    // How many publications are still to be printed. Once one is printed, the server has the
+    // subscription.
     left: u32,
 }
 
@@ -39,8 +40,8 @@ impl Model for Subscriber {
 }
 
 impl Subscriber {
-    /// Makes a client of this identifier that asks for a filter, and stops after `count` publications. The
-    /// identifier is refused first, then the filter.
+    /// Returns a client with this identifier that subscribes to a filter, and stops after `count`
+    /// publications. The identifier is checked first, then the filter.
     pub fn new(
         alloc: Global,
         id: &str,
@@ -61,8 +62,8 @@ impl Subscriber {
     }
 
     /// Prints over the connections of these servers, at most `tries` of them, a line for each
-    /// publication, which is flushed before its receipt is answered. What comes of the last answers and of the DISCONNECT does
-    /// not matter.
+    /// publication, which is flushed before the publication is answered. The fate of the last
+    /// answers and of the DISCONNECT does not matter.
     pub fn run<S: Servers, W: Write + Drop>(
         &mut self,
         servers: &mut S,
@@ -85,7 +86,7 @@ impl Subscriber {
         Err(ClientFault::Lost)
     }
 
-    // One connection: whether all was printed.
+    // Uses one connection. Returns whether everything was printed.
     fn visit<D: Read + Write + Drop, W: Write>(
         &mut self,
         stream: D,
@@ -111,7 +112,7 @@ impl Subscriber {
         Ok(false)
     }
 
-    // Writes, reads once, and goes on after what came: whether the connection is lost.
+    // Writes, reads once, and continues by what came. Returns whether the connection is lost.
     fn turn<D: Read + Write, W: Write>(
         &mut self,
         stream: &mut Counted<D>,
@@ -126,7 +127,7 @@ impl Subscriber {
         Ok(news == News::Lost)
     }
 
-    // Asks for the filter on a new connection, and prints what was accepted.
+    // Subscribes to the filter on a new connection, and prints what was accepted.
     fn go_on<W: Write>(&mut self, news: News, output: &mut W) -> Result<(), ClientFault>
         ensures printed { OnOk result
             (Hears self.old (W.contents output.old) self.new (W.contents output.new)) }
@@ -135,8 +136,8 @@ impl Subscriber {
         self.print_accepted(output)
     }
 
-    // Asks for the filter where a connection was accepted: before anything was printed the subscription may have been lost
-    // with the connection before.
+    // Subscribes to the filter if a connection was accepted: until something is printed, the
+    // subscription may have been lost with the connection before.
     fn ask(&mut self, news: News) -> Result<(), ClientFault>
         ensures asked { OnOk result (Asks self.old self.new) }
     {
@@ -157,12 +158,12 @@ impl Subscriber {
     }
 }
 
-// Whether the filter is to be asked for.
+// Says whether the client is to subscribe again.
 fn is_to_ask(news: News, left: u32, count: u32) -> bool {
     news == News::Accepted && left == count
 }
 
-// Prints these, as many as are to be printed: how many then are.
+// Prints these, as many as are still to be printed. Returns how many are still to be printed then.
 fn print_all<W: Write>(
     alloc: Global,
     accepted: &[Accepted],
@@ -178,7 +179,7 @@ fn print_all<W: Write>(
     Ok(rest)
 }
 
-// Prints one more, if one is to be printed.
+// Prints one more, if one is still to be printed.
 fn print_next<W: Write>(
     alloc: Global,
     accepted: &Accepted,

@@ -12,7 +12,7 @@ use node_base::{Counted, ReadOutcome, Written};
 use std::alloc::Global;
 use std::io::{Read, Write};
 
-/// Opens the next connection, after a while where one was opened before.
+/// Opens the next connection, after a while if one was opened before.
 pub(crate) fn next_stream<S: Servers>(servers: &mut S, opened: u32) -> Option<S::Stream> {
     if opened > 0 {
         servers.rest();
@@ -20,7 +20,7 @@ pub(crate) fn next_stream<S: Servers>(servers: &mut S, opened: u32) -> Option<S:
     servers.open()
 }
 
-/// Writes what the client has for the server, reads once, and takes in what came.
+/// Writes what the client has for the server, reads once, and takes what came.
 pub(crate) fn exchange<D: Read + Write>(
     alloc: Global,
     stream: &mut Counted<D>,
@@ -38,7 +38,8 @@ pub(crate) fn exchange<D: Read + Write>(
     }
 }
 
-// The next piece that the server sent, at the front of the room; None where the connection is lost.
+// Returns the next piece that the server sent, at the front of the buffer; None if the connection
+// is lost.
 fn next_piece<'r, D: Read>(stream: &mut Counted<D>, room: &'r mut [u8]) -> Option<&'r [u8]> {
     if room.is_empty() {
         return None;
@@ -49,7 +50,8 @@ fn next_piece<'r, D: Read>(stream: &mut Counted<D>, room: &'r mut [u8]) -> Optio
     }
 }
 
-/// Takes leave of the server. The client has done what it was asked for, so nothing hangs on whether the server hears of it.
+/// Disconnects from the server. The client has done what it was asked for, so it does not matter
+/// whether the DISCONNECT reaches the server.
 pub(crate) fn leave<D: Read + Write>(alloc: Global, stream: &mut Counted<D>, caller: &mut Caller)
     ensures trace { Trace caller.old [] caller.new }
     ensures kept { kept_count caller.new.core.state ≡ kept_count caller.old.core.state }
@@ -58,7 +60,7 @@ pub(crate) fn leave<D: Read + Write>(alloc: Global, stream: &mut Counted<D>, cal
     let _ = send(alloc, stream, caller);
 }
 
-/// Writes what the client has for the server: whether all of it was taken.
+/// Writes what the client has for the server. Returns whether all of it was taken.
 pub(crate) fn send<D: Read + Write>(
     alloc: Global,
     stream: &mut Counted<D>,

@@ -1,5 +1,5 @@
-//! The broker as a program: it serves MQTT clients over TCP, publishes or prints as a client does itself, and
-//! plays scripts of nodes and clients in memory.
+//! The broker as a program: it serves MQTT clients over TCP, publishes or prints as a client
+//! itself, and plays scripts of nodes and clients in memory.
 #![tactic(auto)]
 
 mod standard_error;
@@ -22,7 +22,8 @@ fn main(rt: HostRuntime) -> ExitCode {
     ExitCode::from(run(&rt))
 }
 
-// Does what the words of the command line say, over the standard streams, and gives the exit status.
+// Does what the words of the command line say, over the standard streams, and returns the exit
+// status.
 fn run<R>(rt: &R) -> u8
 where
     R: Env + Files + Input + Print + Eprint + Threads + Wait + Clock + Sync + AllocGlobal,
@@ -43,7 +44,7 @@ where
     }
 }
 
-// The words of the command line.
+// Returns the words of the command line.
 fn words<R: Env + AllocGlobal>(rt: &R) -> Result<Vec<String>, Fault> {
     match env::args(rt) {
         Ok(words) => Ok(words.collect(rt.alloc())?),
@@ -51,7 +52,7 @@ fn words<R: Env + AllocGlobal>(rt: &R) -> Result<Vec<String>, Fault> {
     }
 }
 
-// Why there are no words: memory ran out, or one of them is no UTF-8.
+// Returns why there are no words: memory ran out, or one of them is not UTF-8.
 fn fault_of(kind: ErrorKind) -> Fault
     ensures memory { kind ≡ ErrorKind.OutOfMemory → result ≡ Fault.Memory }
     ensures words { kind ≢ ErrorKind.OutOfMemory → result ≡ Fault.Words }

@@ -3,14 +3,14 @@
 use std::io::{ErrorKind, Write};
 use std::{io, str};
 
-/// Standard error. It takes texts alone.
+/// Standard error. It takes only texts.
 #[derive(Drop)]
 pub struct StandardError<'a, R> {
     rt: &'a R,
 }
 
 impl<'a, R: Eprint> StandardError<'a, R> {
-    /// That of a program.
+    /// Returns the standard error of a program.
     pub fn new(rt: &'a R) -> StandardError<'a, R> {
         StandardError { rt }
     }

@@ -1,4 +1,4 @@
-// How a run goes on: which event is drawn next.
+// How a run continues: which event is drawn next.
 
 use crate::draw::Draw;
 use crate::saying::{published, subscribed, unsubscribed};
@@ -6,7 +6,7 @@ use packet::ClientId;
 use std::alloc::Global;
 use world::{Config, Event, Members, World};
 
-/// What a run knows of the world that it goes through.
+/// What a run knows about the world that it goes through.
 #[derive(Drop)]
 pub struct Course {
     alloc: Global,
@@ -14,7 +14,8 @@ pub struct Course {
     nodes: u8,
     /// The message that comes next.
     next: u64,
-    /// How many subscriptions were drawn, and how many publications; each of these carries its number.
+    /// How many subscriptions were drawn, and how many publications; each of these carries its
+    /// number.
     asked: u64,
     serial: u64,
     /// How many connections were opened, and the last one of each client with the one before.
@@ -29,7 +30,8 @@ pub struct Course {
 }
 
 impl Course {
-    /// Begins the run of a seed, in a world whose ballot 1 has node 1 as its primary. None where it ran out of memory.
+    /// Begins the run of a seed, in a world whose ballot 1 has node 1 as its primary. None if it
+    /// ran out of memory.
     pub fn new(alloc: Global, seed: u64, nodes: u8) -> Option<Course> {
         let mut primaries = Vec::new(alloc);
         primaries.push(1).ok()?;
@@ -48,7 +50,8 @@ impl Course {
         })
     }
 
-    /// Draws the next event: mostly one that leads on, now and then one that disturbs. None where it ran out of memory.
+    /// Draws the next event: mostly one that continues what is in transit, now and then one that
+    /// disturbs. None if it ran out of memory.
     pub fn draws(&mut self, world: &World, clients: &[ClientId]) -> Option<Event> {
         let place = (self.draw.below(clients.len() as u64) % 256) as u8;
         let name = clients.get(place as usize)?.clone().ok()?;
@@ -64,7 +67,7 @@ impl Course {
         }
     }
 
-    /// Takes note of an event that happened. None where it ran out of memory.
+    /// Takes note of an event that happened. None if it ran out of memory.
     pub fn happened(&mut self, event: &Event, clients: &[ClientId]) -> Option<()> {
         match event {
             Event::Assign(config) => self.primaries.push(config.primary).ok(),
@@ -113,7 +116,8 @@ impl Course {
         }
     }
 
-    // What moves goes on: messages between nodes, bytes of connections. Where nothing moves, something begins.
+    // Draws an event that continues what is in transit: a message between nodes, or bytes of a
+    // connection. If nothing is in transit, something begins.
     fn goes_on(&mut self, world: &World, name: ClientId, place: u8) -> Option<Event> {
         let connection = self.connection(place);
         let waits = self.next < world.messages();
@@ -155,7 +159,8 @@ impl Course {
         }
     }
 
-    // How many bytes are carried: mostly all that wait, else some of them, none, or one too many.
+    // Returns how many bytes are carried: mostly all that wait, otherwise some of them, none, or
+    // one too many.
     fn share(&mut self, waiting: usize) -> u64 {
         let waiting = waiting as u64;
         if self.draw.one_in(4) {
@@ -165,7 +170,8 @@ impl Course {
         }
     }
 
-    // The next message comes. Of some the turn is passed over, and some come again, or late.
+    // Draws the delivery of the next message. Some messages are skipped, and some come again, or
+    // late.
     fn delivers(&mut self, world: &World) -> Event {
         if self.draw.one_in(10) {
             return Event::Deliver(self.draw.below(world.messages().saturating_add(1)));
@@ -191,7 +197,7 @@ impl Course {
         Some(Event::Assign(Config { members, primary }))
     }
 
-    // A node may crash where another member of the active ballot runs.
+    // A node may crash if another member of the active ballot runs.
     fn may_crash(&self, world: &World, node: u8) -> bool {
         let (_, members) = world.active();
         let is_left = |it: &u8| *it != node && self.runs(*it);
@@ -212,7 +218,7 @@ impl Course {
         Some(members)
     }
 
-    // The active primary; node 1 where there is none.
+    // Returns the active primary; node 1 if there is none.
     fn active_primary(&self, world: &World) -> u8 {
         let (ballot, _) = world.active();
         let at = ballot.saturating_sub(1) as usize;
@@ -252,7 +258,7 @@ impl Course {
     }
 }
 
-// Whether a client is connected, as far as it knows.
+// Says whether a client is connected, as far as it knows.
 fn is_served(world: &World, name: &ClientId) -> bool {
     world.client(name).is_some_and(|core| core.connected())
 }

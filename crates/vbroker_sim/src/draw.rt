@@ -1,6 +1,6 @@
 // Numbers that follow from a seed.
 
-/// A sequence of numbers that follows from its seed alone.
+/// A sequence of numbers that depends only on its seed.
 #[derive(Clone, Copy)]
 pub struct Draw {
     state: u64,

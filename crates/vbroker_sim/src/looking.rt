@@ -4,7 +4,7 @@ use packet::{ClientId, QoS};
 use sim_looks::{Broken, Watch, made_by};
 use world::{Event, World};
 
-/// Takes note of an event that happened. None where it ran out of memory, as in each call here.
+/// Takes note of an event that happened. None if it ran out of memory, as in each call here.
 pub fn notes(watch: &mut Watch, event: &Event, clients: &[ClientId]) -> Option<()> {
     let place = |name: &ClientId| clients.iter().position(|it| it == name);
     match event {

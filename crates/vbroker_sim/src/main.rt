@@ -1,6 +1,7 @@
-//! Draws runs of whole worlds from seeds: crashes, cuts, changes of configuration, messages that come late, never, again or in
-//! another order, connections cut at any byte. It looks after each event whether what was promised holds. Of a run that
-//! fails it prints a script, shortened, which `vbroker play` replays.
+//! Draws runs of whole worlds from seeds: crashes, cuts, changes of configuration, messages that
+//! come late, never, again or in another order, connections cut at any byte. It looks after each
+//! event whether what was promised holds. Of a run that fails it prints a script, shortened, which
+//! `vbroker play` replays.
 #![tactic(auto)]
 
 mod course;
@@ -60,7 +61,7 @@ fn simulate(rt: &HostRuntime, options: &Options) -> Result<()> {
     Ok(())
 }
 
-// Prints how far a run came.
+// Prints how far a run went.
 fn tell(rt: &HostRuntime, seed: u64, counts: Counts) -> Result<()> {
     let (happened, agreed, messages) = (counts.happened, counts.agreed, counts.messages);
     let (ballot, accepted) = (counts.ballot, counts.accepted);

@@ -6,8 +6,8 @@ use world::{Config, Members, World};
 
 const NAMES: [&str; 8] = ["a", "b", "c", "d", "e", "f", "g", "h"];
 
-/// A world in which a run begins: how many nodes it has, how many of them are members of ballot 1, whose primary is node 1,
-/// and its clients.
+/// A world in which a run begins: how many nodes it has, how many of them are members of ballot 1
+/// (node 1 is its primary), and its clients.
 #[derive(Drop)]
 pub struct Opening {
     pub nodes: u8,
@@ -16,8 +16,8 @@ pub struct Opening {
 }
 
 impl Opening {
-    /// Returns the world of a seed: one to seven nodes, of which it draws how many are members, and at most eight clients. None
-    /// where it ran out of memory.
+    /// Returns the world of a seed: one to seven nodes, how many of them are members, and at most
+    /// eight clients. None if it ran out of memory.
     pub fn new(alloc: Global, seed: u64, nodes: u8, count: u8) -> Option<Opening> {
         let mut clients = Vec::new(alloc);
         for name in NAMES.iter().take(count as usize) {
@@ -32,7 +32,7 @@ impl Opening {
         })
     }
 
-    /// Opens the world. None where it ran out of memory.
+    /// Opens the world. None if it ran out of memory.
     pub fn opens(&self, alloc: Global) -> Option<World> {
         let mut members = Vec::new(alloc);
         for node in 1..=self.members {

@@ -11,13 +11,13 @@ pub struct Options {
     /// How many nodes and clients a world has: one to seven, and one to eight.
     pub nodes: u8,
     pub clients: u8,
-    /// Whether a line tells what came of each run, and whether its script is printed.
+    /// Whether a line says the result of each run, and whether its script is printed.
     pub counts: bool,
     pub scripts: bool,
 }
 
 impl Options {
-    /// Returns those that hold where nothing else is said.
+    /// Returns the default options.
     pub fn usual() -> Options {
         Options {
             seed: 1,
@@ -30,7 +30,8 @@ impl Options {
         }
     }
 
-    /// Sets one by its word, as `--seed 7`. False where there is no such word, or the number is not in its range.
+    /// Sets one by its word, as `--seed 7`. False if there is no such word, or the number is not in
+    /// its range.
     pub fn set(&mut self, word: &str, value: &str) -> bool {
         let Ok(number) = value.parse::<u64>() else {
             return false;

@@ -8,7 +8,7 @@ use sim_looks::{Broken, Watch};
 use std::alloc::Global;
 use world::{Event, World};
 
-/// What came of a run: its events, what does not hold after the last of them, and how far it came.
+/// The result of a run: its events, what does not hold after the last of them, and how far it came.
 #[derive(Drop)]
 pub struct Run {
     pub opening: Opening,
@@ -49,7 +49,8 @@ impl Counts {
     }
 }
 
-/// Draws the run of a seed, up to the first event after which something does not hold. None where it ran out of memory.
+/// Draws the run of a seed, up to the first event after which something does not hold. None if it
+/// ran out of memory.
 pub fn drawn(alloc: Global, options: &Options, seed: u64) -> Option<Run> {
     let opening = Opening::new(alloc, seed, options.nodes, options.clients)?;
     let mut world = opening.opens(alloc)?;
@@ -97,7 +98,8 @@ fn plays(
     Some((ends(&watch, world)?.err(), happened))
 }
 
-/// Plays the events without those that are left out, and returns what does not hold. None where it ran out of memory.
+/// Plays the events without those that are left out, and returns what does not hold. None if it ran
+/// out of memory.
 pub fn replayed(
     alloc: Global,
     opening: &Opening,

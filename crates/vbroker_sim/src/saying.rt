@@ -12,12 +12,12 @@ const TOPICS: [&str; 4] = ["t/1", "t/2", "u", "t/1/x"];
 
 const FILTERS: [&str; 8] = ["t/#", "#", "t/1", "t/#", "t/+", "#", "+", "+/1/#"];
 
-/// Draws a subscription. None where it ran out of memory.
+/// Draws a subscription. None if it ran out of memory.
 pub fn subscribed(alloc: Global, draw: &mut Draw, name: ClientId) -> Option<Event> {
     Some(Event::Subscribe(name, filter(alloc, draw)?, qos(draw)))
 }
 
-/// Draws that a filter is given up. None where it ran out of memory.
+/// Draws an unsubscription. None if it ran out of memory.
 pub fn unsubscribed(alloc: Global, draw: &mut Draw, name: ClientId) -> Option<Event> {
     Some(Event::Unsubscribe(name, filter(alloc, draw)?))
 }
@@ -36,7 +36,8 @@ fn qos(draw: &mut Draw) -> QoS {
     }
 }
 
-/// Draws a publication that carries which client made it, by its place, and its number. None where it ran out of memory.
+/// Draws a publication that carries which client made it, by its place, and its number. None if it
+/// ran out of memory.
 pub fn published(
     alloc: Global,
     draw: &mut Draw,

@@ -3,8 +3,8 @@
 use crate::run::{Run, replayed};
 use std::alloc::Global;
 
-/// Returns which events are left out. First halves are, then quarters, and so on to single events. None where it ran out of
-/// memory.
+/// Returns which events may be left out. It tries halves first, then quarters, and so on to single
+/// events. None if it ran out of memory.
 pub fn shortened(alloc: Global, run: &Run) -> Option<Vec<bool>> {
     let mut out = Vec::new(alloc);
     for _ in run.events.as_slice() {

@@ -2,7 +2,8 @@
 
 ghost use Rattle.way_numbers.specs.Lengths.{WaysAreShort};
 
-/// Says how many messages lead a ballot with so many other members to its start, and how many answer one command there.
+/// Says how many messages lead a ballot with this many other members to its start, and how many
+/// answer one command there.
 pub fn ways_are_short()
     ensures { WaysAreShort }
 {}

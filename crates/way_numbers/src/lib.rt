@@ -1,4 +1,5 @@
-//! The numbers of the messages of a way out, as lists: they follow by arithmetic from what was sent before, so nothing is simulated.
+//! The numbers of the messages of a way out, as lists: they follow by arithmetic from what was sent
+//! before, so nothing is simulated.
 #![tactic(auto)]
 
 mod laws;

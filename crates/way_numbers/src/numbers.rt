@@ -5,10 +5,12 @@ ghost use Rattle.ways_out.specs.Deliveries.{asked_and_answered, numbers_from, wa
 
 use std::alloc::{AllocError, Global};
 
-/// Returns the numbers of the messages that lead a new ballot to its start, in the order in which they are to come.
+/// Returns the numbers of the messages that lead a new ballot to its start, in the order in which
+/// they have to be delivered.
 ///
-/// `sent` messages were sent before. The member at `place` among the `members` of the active ballot is asked for its log,
-/// and the new ballot has so many `others` beside its primary. Running out of memory is the only error.
+/// `sent` messages were sent before. The member at `place` among the `members` of the active ballot
+/// is asked for its log, and the new ballot has this many `others` besides its primary. Running out
+/// of memory is the only error.
 pub fn way_out(
     alloc: Global,
     sent: u64,
@@ -32,8 +34,8 @@ pub fn way_out(
     Ok(numbers)
 }
 
-/// Returns the numbers of the messages that let the others hold the next command and answer, where so many messages were
-/// sent before it. Running out of memory is the only error.
+/// Returns the numbers of the messages that let the others hold the next command and answer, if
+/// this many messages were sent before it. Running out of memory is the only error.
 pub fn answers(alloc: Global, sent: u64, others: u64) -> Result<Vec<u64>, AllocError>
     requires { sent + 2 * others < 2 ^ 64 }
     ensures { IfOk result (λ numbers. numbers.items ≡ asked_and_answered sent others) }
@@ -53,7 +55,7 @@ fn push_asked(numbers: &mut Vec<u64>, from: u64, others: u64) -> Result<(), Allo
     push_from(numbers, from + others, others)
 }
 
-// Appends so many numbers, each one more than the one before.
+// Appends this many numbers, each one more than the one before.
 fn push_from(numbers: &mut Vec<u64>, from: u64, count: u64) -> Result<(), AllocError>
     requires { from + count < 2 ^ 64 }
     ensures { OnOk result (numbers.new.items ≡ numbers.old.items ++ numbers_from from count) }

@@ -41,7 +41,7 @@ granted C m b from config waiting e = ap (activated C m b from) e ∙ same
     same : activated C m b from (Some (b, config)) ≡ record { state = with_active b config m; receiver = from; body = Activated b }
     same = rw (eq-eqb b b refl) refl
 
--- where it ends: the ballot is active, and all its members hold its start
+-- the end: the ballot is active, and all its members hold its start
 pub record IsActivated {S C O : Type 0} (rules : Rules S C O) (b : ℕ) (log : List C) (place : ℕ) (os : List ℕ) (config : Config) (a : Moment S C O)
     (ks : List ℕ) (long : ℕ) : Type 0 where
   pub behind : Moment S C O

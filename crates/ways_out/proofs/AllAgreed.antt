@@ -1,4 +1,5 @@
--- AllAgreed.antt: what the active primary holds and all other members have told is the agreed list, by the last moment alone.
+-- AllAgreed.antt: what the active primary holds and all other members have acknowledged is the
+-- agreed list, by the last moment alone.
 use Rattle.std.proofs.Common.{◌≡◌, ℕ, ◌+◌, ◌≤◌, ◌⊎◌, inl, inr, List, [], ◌∷◌, ◌++◌, length, Some, ap, sym, ◌∙◌, subst, arith}
 use Rattle.std.specs.Prelude.{slice_get}
 use Rattle.std.proofs.lemmas.Bool.{cases_eq}
@@ -49,7 +50,7 @@ module _ {S C O : Type 0} (rules : Rules S C O) (config : Config) (a : Moment S 
   list_is = sym ((known.serves.sound.nodes place r stands).primary_log active.leads.0 active.line
       (ap known.history.given serves.held ∙ given) active.leads.2 (ap known.history.line serves.held ∙ lined)) ∙ serves.log_is
 
-  -- all its members have told it
+  -- all its members have acknowledged it
   chosen : ((m : ℕ) → In m os → Told a.world known.history m a.master.active (length log)) → IsChosenIn a.world known.history a.master.active (length log)
   chosen told = (active.leads.0, given, λ m i. by m (subst (λ ms. In m ms) same i) (cases_eq m (place + 1)))
     where

@@ -70,7 +70,7 @@ takes_one {S = S} {C = C} {O = O} rules b place k r one m given a sent stands ru
       others = λ n ne. get_set_other a.world.nodes place n _ ne;
     }
 
--- of messages that stand, those but the last, and the last
+-- of messages that were sent, those except the last, and the last
 pub front_stands : {C : Type 0} (to : ℕ) (reply : Body C) (all : List (ℕ × Message C)) (j : ℕ) (xs : List ℕ) (x : ℕ) →
     StandFrom all j (from_each to reply (xs ++ x ∷ [])) → StandFrom all j (from_each to reply xs)
 front_stands to reply all j [] x s = tt

@@ -1,4 +1,5 @@
--- Answering.antt: a command that the primary of a led ballot is told is answered at its place.
+-- Answering.antt: a command that is proposed to the primary of a led ballot is answered at its
+-- place.
 use Rattle.std.proofs.Common.{◌≡◌, ℕ, ◌+◌, ◌*◌, ◌<◌, List, [], ◌∷◌, ◌++◌, length, map, Some, refl, ap, sym, ◌∙◌, subst, arith, length-append}
 use Rattle.std.specs.Prelude.{slice_get}
 use Rattle.std.proofs.lemmas.List.{take_all}
@@ -51,7 +52,7 @@ module _ {S C O : Type 0} (rules : Rules S C O) (b place : ℕ) (r : ReplicaStat
   adds : replica_step rules r (Proposes c) ≡ added rules r c
   adds = proposed-adds rules r c (ap is_active serves.leads.role) (omega (arith, long, room))
 
-  -- alone it is answered at once
+  -- if it is the sole member, it is answered at once
   pub answers_alone : os ≡ [] → AnswersCommand rules b log c [] (place + 1) (replica_step rules r (Proposes c))
   answers_alone none =
       subst (λ (o : Outcome S C O). AnswersCommand rules b log c [] (place + 1) o) (sym row)

@@ -15,7 +15,7 @@ use Rattle.ways_out.specs.Deliveries.{AreApart, Delivered, NodeIs, after_outcome
 use Rattle.ways_out.specs.Deliveries.Delivered.{all_came, to_node}
 use Rattle.ways_out.proofs.Standing.{StandFrom, stand_more}
 
--- what a node makes of it: it answers, and then this holds of it
+-- what a node does to it: it answers, and then this holds for it
 pub record Answers {S C O : Type 0} (rules : Rules S C O) (b p : ℕ) (body reply : Body C) (After : ℕ → ReplicaState S C → Type 0)
     (m : ℕ) (r : ReplicaState S C) : Type 0 where
   pub runs : r.stopped ≡ false
@@ -41,7 +41,7 @@ pub record Answered {S C O : Type 0} (rules : Rules S C O) (b p : ℕ) (reply : 
 
 module _ {S C O : Type 0} (rules : Rules S C O) (b p : ℕ) (body reply : Body C) (Before After : ℕ → ReplicaState S C → Type 0)
     (answers : (m : ℕ) (r : ReplicaState S C) → Before m r → Answers rules b p body reply After m r) where
-  -- the first of them, where the others then do
+  -- the first of them, if the others then do
   first_answers : (a : Moment S C O) (k m : ℕ) (ms : List ℕ) → (In m ms → ⊥) → slice_get a.world.sent k ≡ Some (m, record { from = p; body = body }) →
       StandFrom a.world.sent (k + 1) (to_each p body ms) → ((j : ℕ) → In j (m ∷ ms) → NodeIs Before a.world.nodes j) →
       ((next : Moment S C O) → StandFrom next.world.sent (k + 1) (to_each p body ms) → ((j : ℕ) → In j ms → NodeIs Before next.world.nodes j) →

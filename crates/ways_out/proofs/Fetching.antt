@@ -45,7 +45,7 @@ joined_is {S = S} {C = C} b r most = by (cases_lt r.joined b)
     by (inl low) = ap (λ x. let one : ReplicaState S C = cond x (record r { joined = b; role = Backup }) r in one.joined) (lt-ltb r.joined b low)
     by (inr high) = ap (λ x. let one : ReplicaState S C = cond x (record r { joined = b; role = Backup }) r in one.joined) (le-ltb r.joined b high) ∙ (let e : r.joined ≡ b = omega (arith, most, high) in e)
 
--- where it ends
+-- the end
 pub record IsFetched {S C O : Type 0} (rules : Rules S C O) (b : ℕ) (log : List C) (place source : ℕ) (r : ReplicaState S C) (os : List ℕ) (a : Moment S C O)
     (ks : List ℕ) (master : MasterState) (long : ℕ) : Type 0 where
   pub behind : Moment S C O

@@ -37,7 +37,7 @@ module _ {S C O : Type 0} (rules : Rules S C O) (b place : ℕ) (reply : Body C)
     (runs : (came left : List ℕ) → (state came left).stopped ≡ false) (joined : (came left : List ℕ) → (state came left).joined ≡ b)
     (goes_on : (came : List ℕ) (m : ℕ) (left : List ℕ) → (left ≡ [] → ⊥) → (In m left → ⊥) →
     received rules (state came (m ∷ left)) m reply ≡ record { state = state (came ++ m ∷ []) left; effects = [] }) where
-  -- the first of them, where the others then do
+  -- the first of them, if the others then do
   first_comes : (a : Moment S C O) (k m : ℕ) (came ms : List ℕ) (last : ℕ) → (In m (ms ++ last ∷ []) → ⊥) →
       slice_get a.world.sent k ≡ Some (place + 1, record { from = m; body = reply }) → StandFrom a.world.sent (k + 1) (from_each (place + 1) reply ms) →
       slice_get a.world.nodes place ≡ Some (state came (m ∷ (ms ++ last ∷ []))) →

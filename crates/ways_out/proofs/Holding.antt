@@ -26,7 +26,7 @@ use Rattle.ways_out.proofs.LeaderRows.{held_goes_on, held_last}
 use Rattle.ways_out.proofs.Rows.{append_answers, messages_to_followed}
 use Rattle.ways_out.proofs.Standing.{StandFrom, stand_in, stand_new}
 
--- where it ends: all members hold it, and it is committed
+-- the end: all members hold it, and it is committed
 pub record AllHold {S C O : Type 0} (rules : Rules S C O) (b : ℕ) (log : List C) (place : ℕ) (os : List ℕ) (a : Moment S C O) (ks : List ℕ)
     (long : ℕ) : Type 0 where
   pub behind : Moment S C O

@@ -20,7 +20,7 @@ use Rattle.ways_out.proofs.LeaderRows.{installed_goes_on, installed_last, instal
 use Rattle.ways_out.proofs.Rows.{install_answers, messages_to_each, outputs_to_each}
 use Rattle.ways_out.proofs.Standing.{stand_at, stand_in, stand_new}
 
--- where it ends: the log is installed at all members, and the primary has asked for its ballot
+-- the end: the log is installed at all members, and the primary has asked for its ballot
 pub record IsInstalled {S C O : Type 0} (rules : Rules S C O) (b : ℕ) (log : List C) (place : ℕ) (r : ReplicaState S C) (os : List ℕ) (a : Moment S C O)
     (ks : List ℕ) (asked : ℕ) : Type 0 where
   pub behind : Moment S C O
@@ -45,7 +45,7 @@ get_new (y ∷ all) x = get_new all x
 
 module _ {S C O : Type 0} (rules : Rules S C O) (b : ℕ) (log : List C) (place : ℕ) (r : ReplicaState S C) (runs : r.stopped ≡ false) (id : r.id ≡ place + 1)
     (joined : r.joined ≡ b) (role : r.role ≡ Fetching) (applied : r.committed ≤ length log) where
-  -- alone it asks at once
+  -- the sole member asks at once
   pub alone : (a : Moment S C O) (k from : ℕ) → others r.id r.members ≡ [] → slice_get a.world.sent k ≡ Some (place + 1, record { from = from; body = State b log }) →
       slice_get a.world.nodes place ≡ Some r → IsInstalled rules b log place r [] a (k ∷ []) (length a.world.sent)
   alone a k from are sent stands =
@@ -71,7 +71,7 @@ module _ {S C O : Type 0} (rules : Rules S C O) (b : ℕ) (log : List C) (place 
       one : Taken rules b place (installing b log r []) (message_to O (place + 1) (Activate b) master ∷ []) a (k ∷ [])
       one = takes_one rules b place k r (installing b log r []) (record { from = from; body = State b log }) _ a sent stands runs row refl joined
 
-  -- and else when all others have answered
+  -- and otherwise when all others have answered
   pub with_others : (a : Moment S C O) (k from x : ℕ) (xs : List ℕ) → others r.id r.members ≡ x ∷ xs → AreApart (x ∷ xs) → (In (place + 1) (x ∷ xs) → ⊥) →
       slice_get a.world.sent k ≡ Some (place + 1, record { from = from; body = State b log }) → slice_get a.world.nodes place ≡ Some r →
       ((m : ℕ) → In m (x ∷ xs) → NodeIs (CanTake b (length log)) a.world.nodes m) →

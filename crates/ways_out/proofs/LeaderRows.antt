@@ -1,4 +1,4 @@
--- LeaderRows.antt: what each message of the way makes of the new primary.
+-- LeaderRows.antt: what each message of the way does to the new primary.
 use Rattle.std.proofs.Common.{◌≡◌, ℕ, suc, ◌+◌, ◌<◌, ◌≤◌, cond, min, max, true, false, Bool, List, [], ◌∷◌, ◌++◌, length, map, take, drop, refl, ap, sym, ◌∙◌, subst, arith, length-append, append_assoc}
 use Rattle.std.specs.Prelude.{◌==◌, ◌&&◌, nat_lt, nat_le}
 use Rattle.std.specs.List.{list_any}
@@ -91,7 +91,7 @@ least_one n held [] low some = absurd (some refl)
 least_one n held (m ∷ ms) low some =
     ap (λ k. least k (progress_at held ms)) (let e : min n held ≡ held = omega (arith, low) in e) ∙ least_at held held ms (omega arith)
 
--- where others are to hold it first, it is sent to them, and nothing is committed
+-- if others are to hold it first, it is sent to them, and nothing is committed
 pub added_waits : {S C O : Type 0} (rules : Rules S C O) (r : ReplicaState S C) (c : C) (ms : List ℕ) → (ms ≡ [] → ⊥) →
     r.progress ≡ progress_at (length r.log) ms → r.committed ≡ length r.log → added rules r c ≡ record {
       state = record r { log = r.log ++ c ∷ [] };
@@ -108,7 +108,7 @@ added_waits {S = S} {C = C} {O = O} rules r c ms some progress committed =
         ap (least (length (r.log ++ c ∷ []))) progress ∙ least_one (length (r.log ++ c ∷ [])) (length r.log) ms (omega (arith, long)) some in
         omega (arith, e, committed)
 
--- where there are no others, it is committed at once
+-- if there are no others, it is committed at once
 pub added_alone : {S C O : Type 0} (rules : Rules S C O) (r : ReplicaState S C) (c : C) → r.progress ≡ [] → r.committed ≡ length r.log →
     added rules r c ≡ record {
       state = applied_to rules (record r { log = r.log ++ c ∷ [] }) (length r.log + 1);
@@ -201,7 +201,7 @@ least_known n held came left is some =
     ∙ ap (λ k. least k (progress_at held left)) (least_at n (held + 1) came (omega (arith, is)))
     ∙ least_one n held left (omega (arith, is)) some
 
--- the new primary hears of one that is not the last, and of the last
+-- the new primary receives an answer that is not the last, and the last
 module _ {S C O : Type 0} (rules : Rules S C O) (b : ℕ) (r : ReplicaState S C) (log : List C) (c : C) (lead : LeadsIn b r) (long : r.log ≡ log ++ c ∷ [])
     (committed : r.committed ≡ length log) where
   count : length r.log ≡ length log + 1

@@ -1,4 +1,5 @@
--- PastsGoOn.antt: what comes in a way out is a past that goes on, so what was agreed begins what is agreed after it.
+-- PastsGoOn.antt: what comes in a way out is a past that continues, so what was agreed begins what
+-- is agreed after it.
 use Rattle.std.proofs.Common.{◌≡◌, ℕ, ◌+◌, inl, List, [], ◌∷◌, ◌++◌, None, Option, refl, subst}
 use Rattle.machine.specs.Machine.{Rules}
 use Rattle.lists.specs.Lists.{IsPrefixOf}
@@ -24,7 +25,7 @@ thinned_same : {C O : Type 0} (xs : List (Effect C O)) → Thinned xs xs
 thinned_same [] = none
 thinned_same (x ∷ xs) = keeps (thinned_same xs)
 
--- a past goes on to a moment
+-- a past continues to a moment
 pub record Goes {S C O : Type 0} (rules : Rules S C O) (config : Config) (past : List (Moment S C O)) (b : Moment S C O) : Type 0 where
   pub between : List (Moment S C O)
   pub came : Past rules config (b ∷ (between ++ past))

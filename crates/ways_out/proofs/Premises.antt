@@ -1,4 +1,5 @@
--- Premises.antt: what a past says of nodes that live: each can take the log of any member of the active configuration, and that member can give it.
+-- Premises.antt: what a past says about nodes that live: each can take the log of any member of the
+-- active configuration, and that member can give it.
 use Rattle.std.proofs.Common.{◌≡◌, ℕ, ◌+◌, ◌<◌, ◌≤◌, ◌⊎◌, inl, inr, false, List, ◌∷◌, length, Some, refl, sym, subst, arith}
 use Rattle.std.specs.Prelude.{slice_get}
 use Rattle.std.proofs.lemmas.List.{length-take-le}

@@ -1,13 +1,14 @@
--- Standing.antt: messages that stand one after the other among those that were sent, and nodes at their places.
+-- Standing.antt: messages that are one after another among those that were sent, and nodes at their
+-- places.
 use Rattle.std.proofs.Common.{◌≡◌, ℕ, zero, suc, ◌+◌, List, [], ◌∷◌, ◌++◌, length, Some, refl, subst, append_assoc, length-append}
 use Rattle.std.specs.Prelude.{slice_get}
 
--- these stand from a place on
+-- these are at the places from this one on
 abbrev pub StandFrom : {X : Type 0} → List X → ℕ → List X → Type 0
 StandFrom all k (x ∷ xs) = (slice_get all k ≡ Some x) × StandFrom all (k + 1) xs
 StandFrom all k [] = Unit {0}
 
--- what stands, stands where more comes after
+-- they are still there if more comes after
 pub get_more : {X : Type 0} (all more : List X) (k : ℕ) (x : X) → slice_get all k ≡ Some x → slice_get (all ++ more) k ≡ Some x
 get_more [] more k x e = cc
 get_more (y ∷ all) more zero x e = e
@@ -21,7 +22,7 @@ get_behind : {X : Type 0} (all : List X) (x : X) (xs : List X) → slice_get (al
 get_behind [] x xs = refl
 get_behind (y ∷ all) x xs = get_behind all x xs
 
--- what comes after stands from there on
+-- what is added is at the places from there on
 pub stand_new : {X : Type 0} (all xs : List X) → StandFrom (all ++ xs) (length all) xs
 stand_new all [] = tt
 stand_new {X = X} all (x ∷ xs) = (

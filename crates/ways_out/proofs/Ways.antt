@@ -35,9 +35,9 @@ way_out_count sent members place count =
     let c = numbers_count (asked_at sent members count + 2) count in let d = numbers_count (asked_at sent members count + 2 + count) count in
     omega (arith, one, two, three, a, b, c, d)
 
--- ---- the three parts, one after the other
+-- ---- the three parts, one after another
 
--- where it ends
+-- the end
 pub record IsOut {S C O : Type 0} (rules : Rules S C O) (b : ℕ) (log : List C) (place : ℕ) (os : List ℕ) (master : MasterState) (a : Moment S C O)
     (ks : List ℕ) (long : ℕ) : Type 0 where
   pub behind : Moment S C O
@@ -74,7 +74,7 @@ module _ {S C O : Type 0} (rules : Rules S C O) (silent : (s : S) (b : ℕ) → 
   are_here : others r1.id r1.members ≡ os
   are_here = ap (λ n. others n config.members) can.id ∙ are
 
-  -- alone
+  -- as the sole member
   out_alone : os ≡ [] → Fetched → Out
   out_alone none f =
       record {

@@ -1,5 +1,5 @@
--- Deliveries.antt: messages that come to their receivers one after the other, exactly, each named
--- by its number, and the numbers of those that lead a new ballot to its start.
+-- Deliveries.antt: messages that come to their receivers one after another, exactly, each named by
+-- its number, and the numbers of those that lead a new ballot to its start.
 use Rattle.lists.specs.Lists.{In}
 use Rattle.std.specs.Prelude.{ℕ, zero, suc, ◌+◌, ◌≡◌, false, List, [], ◌∷◌, ◌++◌, slice_get, Some}
 use Rattle.machine.specs.Machine.{Rules}
@@ -18,7 +18,7 @@ use Rattle.agreement.specs.Steps.{tells_from_master}
 abbrev pub after_outcome : {S C O : Type 0} → ℕ → Outcome S C O → Moment S C O → Moment S C O
 after_outcome n o a = record { master = a.master; world = moved a.world n o.state o.effects }
 
--- the moment after an Activate that the master hears
+-- the moment after an Activate that the master receives
 abbrev pub after_activate : {S C O : Type 0} → ℕ → ℕ → Moment S C O → Moment S C O
 after_activate {C = C} from ballot a =
     record {
@@ -34,7 +34,7 @@ assigned_moment {C = C} config a =
       world = tells_from_master a.world (assigned C a.master config);
     }
 
--- messages come, one after the other, to nodes that run, give no outputs then, and have joined the
+-- messages come, one after another, to nodes that run, give no outputs then, and have joined the
 -- ballot after them, or to the master
 pub data Delivered {S C O : Type 0} (rules : Rules S C O) (ballot : ℕ) :
     Moment S C O → List ℕ → Moment S C O → Type 0 where
@@ -50,7 +50,7 @@ pub data Delivered {S C O : Type 0} (rules : Rules S C O) (ballot : ℕ) :
       Delivered rules ballot (after_activate from asked a) ks b →
       Delivered rules ballot a (k ∷ ks) b
 
--- a node of this number stands among the nodes, and this holds of it
+-- the node of this number exists, and this holds for it
 pub record NodeIs {S C : Type 0} (P : ℕ → ReplicaState S C → Type 0)
     (nodes : List (ReplicaState S C)) (m : ℕ) : Type 0 where
   pub place : ℕ
@@ -73,13 +73,13 @@ numbers_from k (suc count) = k ∷ numbers_from (k + 1) count
 abbrev pub asked_and_answered : ℕ → ℕ → List ℕ
 asked_and_answered k others = numbers_from k others ++ numbers_from (k + others) others
 
--- the number of the Activate, by the count of messages sent before, the count of members of the active ballot, and
--- that of the members of the new one beside its primary
+-- the number of the Activate, by the count of messages sent before, the count of members of the
+-- active ballot, and that of the members of the new one besides its primary
 abbrev pub asked_at : ℕ → ℕ → ℕ → ℕ
 asked_at sent members others = sent + members + 2 + (others + others)
 
--- the messages of a way out, where the member at this place of the active ballot is asked for its
--- log: NewBallot, Join, State; Install and Installed; Activate, Activated; Append and Held
+-- the messages of a way out, if the member at this place of the active ballot is asked for its log:
+-- NewBallot, Join, State; Install and Installed; Activate, Activated; Append and Held
 abbrev pub way_out : ℕ → ℕ → ℕ → ℕ → List ℕ
 way_out sent members place others =
     sent ∷ (sent + 1 + place) ∷ (sent + 1 + members)

@@ -1,4 +1,4 @@
--- Inside.antt: what proofs say of nodes on the way; no law cites it.
+-- Inside.antt: what proofs say about nodes during a way out; no law cites it.
 use Rattle.std.specs.Prelude.{ℕ, ◌+◌, ◌≡◌, ◌≤◌, ◌<◌, false, List, [], ◌++◌}
 use Rattle.whole.specs.Role.TheVariants.{Fetching, Installing}
 use Rattle.whole.specs.Replica.{ReplicaState, progress_at}
@@ -32,7 +32,7 @@ abbrev pub installing : {S C : Type 0} →
 installing ballot log r lacking =
     record r { held_in = ballot; log = log; role = Installing; lacking = lacking }
 
--- the primary, where these others are known to hold one place more than those
+-- the primary, if these others are known to hold one place more than those
 abbrev pub known : {S C : Type 0} → ℕ → ReplicaState S C → List ℕ → List ℕ → ReplicaState S C
 known held r came left =
     record r { progress = progress_at (held + 1) came ++ progress_at held left }

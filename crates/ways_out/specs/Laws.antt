@@ -18,12 +18,12 @@ use Rattle.agreement.specs.World.{outputs}
 use Rattle.ways_out.specs.Deliveries.{AreApart, Delivered, NodeIs, after_outcome, assigned_moment, numbers_from, way_out}
 use Rattle.ways_out.specs.Following.{Follows, Runs, RunsWith, Serves}
 
--- the machine gives nothing at the start of a ballot
+-- the machine outputs nothing at the start of a ballot
 abbrev pub StartsGiveNothing : {S C O : Type 0} → Rules S C O → Type 0
 StartsGiveNothing {S = S} rules = (s : S) (b : ℕ) → rules.gives s (rules.start_of b) ≡ []
 
--- what a way out asks for: the master would not refuse the configuration, and the nodes that it
--- names run; so does the member at a place of the active configuration, whose whole log this is,
+-- the conditions of a way out: the master would not refuse the configuration, and the nodes that it
+-- names run; the member at a place of the active configuration, whose whole log this is, runs too,
 -- and the log has room for the ballot's start
 pub record CanBeLed {S C O : Type 0} (a : Moment S C O) (new : Config) (place source : ℕ)
     (log : List C) : Type 0 where
@@ -44,7 +44,7 @@ pub record IsLed {S C O : Type 0} (ballot : ℕ) (new : Config) (log : List C)
   pub each : (m : ℕ) → In m (others new.primary new.members) →
       NodeIs (Follows ballot log) b.world.nodes m
 
--- a past goes on to a later moment, where this list is agreed; what was agreed before begins it
+-- a past continues to a later moment, if this list is agreed; what was agreed before begins it
 pub record GoesOnTo {S C O : Type 0} (rules : Rules S C O) (config : Config)
     (past : List (Moment S C O)) (b : Moment S C O) (agreed : List C) : Type 0 where
   pub between : List (Moment S C O)
@@ -71,14 +71,14 @@ pub record LeadsOut {S C O : Type 0} (rules : Rules S C O) (config : Config)
       In (new.primary, record { from = m; body = Held (a.master.given + 1) (length log + 1) }) last.world.sent
   pub goes : GoesOnTo rules config past last (log ++ rules.start_of (a.master.given + 1) ∷ [])
 
--- where starts give nothing there is a way out at each moment of a group
+-- if starts have no output, there is a way out at each moment of a group
 abbrev pub HasWayOut : {S C O : Type 0} → Rules S C O → Type 0
 HasWayOut {S} {C} {O} rules =
     StartsGiveNothing rules → (config : Config) (a : Moment S C O) (past : List (Moment S C O)) →
     Past rules config (a ∷ past) → (new : Config) (place source : ℕ) (log : List C) →
     CanBeLed a new place source log → LeadsOut rules config (a ∷ past) a new place log
 
--- all other members of the active ballot have told the whole log of its active primary
+-- all other members of the active ballot have acknowledged the whole log of its active primary
 pub record AllHoldIt {S C O : Type 0} (a : Moment S C O) (primary : ℕ) (log : List C)
     (others_of : List ℕ) : Type 0 where
   pub primary_serves : NodeIs (Serves a.master.active log others_of) a.world.nodes primary
@@ -94,8 +94,8 @@ WhatAllHoldIsAgreed {S} {C} {O} rules =
     Past rules config (a ∷ past) → (primary : ℕ) (log : List C) (others_of : List ℕ) →
     AllHoldIt a primary log others_of → IsAgreed config (a ∷ past) log
 
--- a step of the primary that answers a command after a log: it gives what the machine answers
--- there, before any message, and serves the longer log then
+-- a step of the primary that answers a command after a log: it outputs what the machine answers
+-- there, before any message, and then serves the longer log
 pub record AnswersCommand {S C O : Type 0} (rules : Rules S C O) (ballot : ℕ) (log : List C) (c : C)
     (others_of : List ℕ) (primary : ℕ) (o : Outcome S C O) : Type 0 where
   pub rest : List (Effect C O)
@@ -103,9 +103,9 @@ pub record AnswersCommand {S C O : Type 0} (rules : Rules S C O) (ballot : ℕ) 
   pub gives : o.effects ≡ map (Out (length log)) (rules.gives (replay rules log) c) ++ rest
   pub serves : Serves ballot (log ++ c ∷ []) others_of primary o.state
 
--- a proposal to the primary at a place, whose replica this is, where others follow: it gives
--- nothing. The others are sent the command, and answer; the primary takes all answers but the last,
--- and when that one comes, it answers the command
+-- a proposal to the primary at a place, whose replica this is, when others follow: it outputs
+-- nothing. The others are sent the command, and answer; the primary takes all answers except the
+-- last, and when that one comes, it answers the command
 pub record IsHeldByAll {S C O : Type 0} (rules : Rules S C O) (a : Moment S C O) (place ballot : ℕ)
     (r : ReplicaState S C) (log : List C) (c : C) (front : List ℕ) (last : ℕ) : Type 0 where
   pub quiet : outputs (replica_step rules r (Proposes c)).effects ≡ []
@@ -126,8 +126,8 @@ pub record IsHeldByAll {S C O : Type 0} (rules : Rules S C O) (a : Moment S C O)
   pub each : (m : ℕ) → In m (front ++ last ∷ []) →
       NodeIs (Follows ballot (log ++ c ∷ [])) before.world.nodes m
 
--- the primary of a led ballot answers the next command: at once where it is alone, and else when
--- all others have answered
+-- the primary of such a ballot answers the next command: at once if it is the only member, and
+-- otherwise when all others have answered
 abbrev pub CommandsAreAnswered : {S C O : Type 0} → Rules S C O → Type 0
 CommandsAreAnswered {S} {C} {O} rules =
     (config : Config) (a : Moment S C O) (past : List (Moment S C O)) →

@@ -4,22 +4,24 @@ ghost use Rattle.ways_out.specs.Laws.{CommandsAreAnswered, HasWayOut, WhatAllHol
 
 use machine::Machine;
 
-/// States that a group can always be led on: where the members of a new configuration and one member of the
-/// active one run, and a ballot and a place are left, the messages of a list lead to the next ballot. It is active
-/// then, and all its members hold the log of that member followed by the ballot's start. This is the agreed list, and
-/// what was agreed before begins it.
+/// States that a group can always be led on: if the members of a new configuration and one member
+/// of the active one run, and a ballot and a place are left, the messages of a list lead to the
+/// next ballot. It is active then, and all its members hold the log of that member followed by the
+/// ballot's start. This is the agreed list, and what was agreed before begins it.
 pub fn has_way_out<M: Machine>()
     ensures { HasWayOut M.rules }
 {}
 
-/// States what is agreed once all answered: where all other members of the active ballot have told the whole log of its
-/// active primary, that log is the agreed list. This is seen at the last moment alone.
+/// States what is agreed once all answered: if all other members of the active ballot have
+/// acknowledged the whole log of its active primary, that log is the agreed list. This is stated of
+/// the last moment only.
 pub fn what_all_hold_is_agreed<M: Machine>()
     ensures { WhatAllHoldIsAgreed M.rules }
 {}
 
-/// States that the primary of a ballot, whose other members hold all of its log, answers the next command at its place:
-/// at once where it is alone, and otherwise when all others have told that they hold it too.
+/// States that the primary of a ballot, whose other members hold all of its log, answers the next
+/// command at its place: at once if it is the only member, and otherwise when all others have
+/// acknowledged that they hold it too.
 pub fn commands_are_answered<M: Machine>()
     ensures { CommandsAreAnswered M.rules }
 {}

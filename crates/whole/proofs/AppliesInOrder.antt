@@ -1,4 +1,4 @@
--- AppliesInOrder.antt: places that are applied one after the other give the replay and its outputs.
+-- AppliesInOrder.antt: places that are applied one after another give the replay and its outputs.
 use Rattle.std.proofs.Common.{◌≡◌, ℕ, ◌+◌, List, [], ◌∷◌, ◌++◌, length, map, ap, sym, ◌∙◌, append_assoc, arith}
 use Rattle.ballot_base.specs.machine.Machine.{Rules, replay_from}
 use Rattle.whole.specs.Messages.{Effect}
@@ -6,7 +6,7 @@ use Rattle.whole.specs.Messages.Effect.{Out}
 use Rattle.whole.specs.Applying.{outputs_from}
 pub use Rattle.ballot_base.proofs.AppliesInOrder.{replay_from-append, part_none, replay_goes_on}
 
--- commands behind others give what they give in the state that those leave
+-- commands after others give what they give in the state that those leave
 pub outputs_from-append : {S C O : Type 0} (rules : Rules S C O) (s : S) (place : ℕ) (xs ys : List C) →
     outputs_from rules s place (xs ++ ys)
     ≡ outputs_from rules s place xs

@@ -129,7 +129,7 @@ pub on_activated-adds : {S C O : Type 0} (rules : Rules S C O) (r : ReplicaState
 unfolding on_activated
 on_activated-adds rules r b e = rw e refl
 
--- the log that is sent where members lack it, and where none does
+-- the log that is sent if members lack it, and if none does
 pub installs-some : {S C : Type 0} (O : Type 0) (r : ReplicaState S C) (members : List ℕ) → (members ≡ [] → ⊥) →
     installs O r members ≡ message_to_each O r.id (Install r.joined r.log) members
 installs-some O r [] some = absurd (some refl)

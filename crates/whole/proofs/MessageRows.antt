@@ -1,4 +1,4 @@
--- MessageRows.antt: what the rows of messages and ticks give, where their conditions hold and where not.
+-- MessageRows.antt: what the rows of messages and ticks give, if their conditions hold and if not.
 use Rattle.std.proofs.Common.{◌≡◌, ℕ, ◌<◌, ◌≤◌, true, false, List, [], ◌∷◌, ◌++◌, length, max, refl, ap, sym, ◌∙◌, ◌⊎◌, inl, inr}
 use Rattle.std.proofs.lemmas.Bool.{lt-leb, le-leb, cases_lt}
 use Rattle.ballot_base.specs.machine.Machine.{Rules}
@@ -30,7 +30,7 @@ abbrev pub progress_raised : {S C O : Type 0} → ℕ → ℕ → Outcome S C O 
 progress_raised member held o =
     record { state = record o.state { progress = raised member held o.state.progress }; effects = o.effects }
 
--- progress can be raised behind a commit as well as before it
+-- progress can be raised after a commit as well as before it
 pub commit_at-raised : {S C O : Type 0} (rules : Rules S C O) (r : ReplicaState S C) (member held n : ℕ) →
     commit_at rules (record r { progress = raised member held r.progress }) n
     ≡ progress_raised member held (commit_at rules r n)
@@ -51,7 +51,7 @@ commit_at-raised {S = S} {C = C} {O = O} rules r member held n = by_order (cases
         commit_at-stays rules (record r { progress = raised member held r.progress }) n below
         ∙ ap (progress_raised member held) (sym (commit_at-stays rules r n below))
 
--- Append at a replica that does not follow the ballot, or behind a gap
+-- Append at a replica that does not follow the ballot, or after a gap
 pub on_append-elsewhere : {S C : Type 0} (O : Type 0) (r : ReplicaState S C) (from ballot place : ℕ) (command : C) →
     follows r ballot ≡ false → on_append O r from ballot place command ≡ nothing_done O r
 unfolding on_append

@@ -1,11 +1,11 @@
--- Applying.antt: places of a log that are applied, and what they give.
+-- Applying.antt: applied places of a log, and their outputs.
 use Rattle.std.specs.Prelude.{ℕ, ◌+◌, List, [], ◌∷◌, ◌++◌, map, take, drop}
 use Rattle.ballot_base.specs.machine.Machine.{Rules, replay, replay_from}
 use Rattle.whole.specs.Messages.{Effect}
 use Rattle.whole.specs.Messages.Effect.{Out}
 use Rattle.whole.specs.Replica.{ReplicaState}
 
--- the outputs of commands that are done one after the other from a state, each with its place
+-- the outputs of commands that are done one after another from a state, each with its place
 abbrev pub outputs_from : {S C O : Type 0} → Rules S C O → S → ℕ → List C → List (Effect C O)
 outputs_from rules s place [] = []
 outputs_from rules s place (command ∷ commands) =
@@ -17,7 +17,8 @@ abbrev pub outputs_between : {S C O : Type 0} → Rules S C O → List C → ℕ
 outputs_between rules log from to =
     outputs_from rules (replay rules (take from log)) from (drop from (take to log))
 
--- what the places below `held` that are not applied yet give, and the replica once they are applied
+-- the outputs of the places below `held` that are not yet applied, and the replica once they are
+-- applied
 abbrev pub outputs_to : {S C O : Type 0} → Rules S C O → ReplicaState S C → ℕ → List (Effect C O)
 outputs_to rules r held =
     outputs_from rules r.machine r.committed (drop r.committed (take held r.log))

@@ -11,7 +11,7 @@ use Rattle.whole.specs.Applying.{applied_to}
 use Rattle.whole.specs.Serving.{most_places, added}
 use Rattle.whole.specs.Replica.{ReplicaState, is_fetching, is_installing, others, progress_at}
 
--- a new primary asks the earlier ballot's members, itself included where it is one, for their logs
+-- a new primary asks the earlier ballot's members, itself included if it is one, for their logs
 unfoldable pub on_new_ballot : {S C : Type 0} (O : Type 0) →
     ReplicaState S C → ℕ → List ℕ → ℕ → List ℕ → Outcome S C O
 on_new_ballot O r ballot members previous previous_members =
@@ -30,7 +30,7 @@ on_new_ballot O r ballot members previous previous_members =
     }
     else nothing_done O r
 
--- Join(ballot, previous): whoever joins leaves all lower ballots, and sends its log
+-- Join(ballot, previous): the replica leaves all lower ballots, and sends its log
 unfoldable pub on_join : {S C : Type 0} (O : Type 0) → ReplicaState S C → ℕ → ℕ → ℕ → Outcome S C O
 on_join O r from ballot previous =
     if nat_le r.joined ballot && nat_le previous r.held_in
@@ -40,7 +40,7 @@ on_join O r from ballot previous =
     }
     else nothing_done O r
 
--- the log goes to the members that lack it; with none, the master may activate the ballot
+-- the log is sent to the members that lack it; if there is none, the master may activate the ballot
 abbrev pub installs : {S C : Type 0} (O : Type 0) → ReplicaState S C → List ℕ → List (Effect C O)
 installs O r [] = message_to O r.id (Activate r.joined) master ∷ []
 installs O r (member ∷ members) =
@@ -62,7 +62,7 @@ on_state O r ballot log =
     else nothing_done O r
 
 -- Install(ballot, log): a log is taken once, unless it lacks an applied place; later it is only
--- answered, since more may have been added behind it
+-- answered, since more may have been added after it
 unfoldable pub on_install : {S C : Type 0} (O : Type 0) →
     ReplicaState S C → ℕ → ℕ → List C → Outcome S C O
 on_install O r from ballot log =
@@ -82,7 +82,7 @@ abbrev pub activates : {S C : Type 0} (O : Type 0) → ReplicaState S C → List
 activates O r [] = message_to O r.id (Activate r.joined) master ∷ []
 activates O r (member ∷ members) = []
 
--- Installed(ballot, ..): the sender lacks the log no more
+-- Installed(ballot, ..): the sender no longer lacks the log
 unfoldable pub on_installed : {S C : Type 0} (O : Type 0) → ReplicaState S C → ℕ → ℕ → Outcome S C O
 on_installed O r from ballot =
     let fewer = record r { lacking = others from r.lacking } in
@@ -91,8 +91,8 @@ on_installed O r from ballot =
     then record { state = fewer; effects = activates O fewer fewer.lacking }
     else nothing_done O r
 
--- Activated(ballot), where no member lacks the log: its places are applied, their outputs dropped,
--- and the start of the ballot is added behind them
+-- Activated(ballot), if no member lacks the log: its places are applied, their outputs dropped, and
+-- the start of the ballot is added after them
 unfoldable pub on_activated : {S C O : Type 0} → Rules S C O → ReplicaState S C → ℕ → Outcome S C O
 on_activated {O = O} rules r ballot =
     let active = record (applied_to rules r (length r.log)) {
@@ -111,7 +111,7 @@ on_superseded O r ballot =
     then record { state = record r { role = Backup }; effects = [] }
     else nothing_done O r
 
--- a new primary says again what it waits for
+-- a new primary repeats what it waits for
 abbrev pub on_tick_fetching : {S C : Type 0} (O : Type 0) → ReplicaState S C → Outcome S C O
 on_tick_fetching O r =
     record {

@@ -1,4 +1,4 @@
--- Losses.antt: a step in which memory was wanting.
+-- Losses.antt: a step in which memory ran out.
 use Rattle.std.specs.Prelude.{ℕ, ◌≡◌, ◌⊎◌, true, List, [], ◌∷◌}
 use Rattle.ballot_base.specs.machine.Machine.{Rules}
 use Rattle.whole.specs.Messages.{Message, Effect}
@@ -6,15 +6,15 @@ use Rattle.whole.specs.Messages.Effect.{To}
 use Rattle.whole.specs.Replica.{ReplicaState}
 use Rattle.whole.specs.Sending.{Outcome}
 
--- the first list is the second with some messages missing; no output is
+-- the first list is the second with some messages missing; no output is missing
 pub data Thinned {C O : Type 0} : List (Effect C O) → List (Effect C O) → Type 0 where
   none : Thinned [] []
   keeps : {e : Effect C O} {xs ys : List (Effect C O)} → Thinned xs ys → Thinned (e ∷ xs) (e ∷ ys)
   loses : {receiver : ℕ} {m : Message C} {xs ys : List (Effect C O)} →
       Thinned xs ys → Thinned xs (To receiver m ∷ ys)
 
--- a replica that found no memory while it applied: its fields stay as before the call, and its
--- machine, which may have done a part, is shown no more
+-- a replica that ran out of memory while it applied: its fields stay as before the call, and its
+-- machine, which may have done a part, is no longer shown
 abbrev pub halted : {S C O : Type 0} → Rules S C O → ReplicaState S C → ReplicaState S C
 halted rules r = record r { stopped = true; machine = rules.opening }
 

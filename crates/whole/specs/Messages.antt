@@ -1,7 +1,8 @@
--- Messages.antt: what nodes say to each other where each holds its whole log, and what a step hands out.
+-- Messages.antt: the messages of nodes if each holds its whole log, and the effects of a step.
 use Rattle.std.specs.Prelude.{ℕ, List}
 
--- what one node says to another, by its kind; the first number of each is the ballot that it speaks of
+-- what one node says to another, by its kind; the first number of each is the ballot that it speaks
+-- of
 pub data Body (C : Type 0) : Type 0 where
   NewBallot : ℕ → List ℕ → ℕ → List ℕ → Body C
   Join : ℕ → ℕ → Body C

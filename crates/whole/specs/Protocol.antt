@@ -10,7 +10,7 @@ use Rattle.whole.specs.Serving.{proposed, on_append, on_held, on_commit, on_tick
 use Rattle.whole.specs.Changing.{on_new_ballot, on_join, on_state, on_install, on_installed, on_activated, on_superseded, on_tick_fetching, on_tick_installing}
 use Rattle.whole.specs.Replica.{ReplicaState}
 
--- what a replica takes in at one step
+-- the input of a replica in one step
 pub data Input (C : Type 0) : Type 0 where
   Receives : Message C → Input C
   Proposes : C → Input C

@@ -50,7 +50,8 @@ opening_member rules id config =
       stopped = false;
     }
 
--- how a node opens: the primary of ballot 1 is active at once, with progress 0 for each other member
+-- how a node opens: the primary of ballot 1 is active at once, with progress 0 for each other
+-- member
 abbrev pub opening : {S C O : Type 0} → Rules S C O → ℕ → Config → ReplicaState S C
 opening rules id config =
     if id == config.primary

@@ -1,4 +1,4 @@
--- Sending.antt: what a step makes of a replica and hands out.
+-- Sending.antt: the outcome of a step: the replica after it, and its effects.
 use Rattle.std.specs.Prelude.{ℕ, List, [], ◌++◌, map}
 use Rattle.whole.specs.Messages.{Body, Effect}
 use Rattle.whole.specs.Messages.Effect.{To}
@@ -6,16 +6,16 @@ use Rattle.ballot_base.specs.declared.status.Progress.{Progress}
 use Rattle.whole.specs.Replica.{ReplicaState}
 pub use Rattle.ballot_base.specs.Sending.{master}
 
--- what a replica is after a step, and what the step hands out
+-- the replica after a step, and the effects of the step
 pub record Outcome (S C O : Type 0) : Type 0 where
   pub state : ReplicaState S C
   pub effects : List (Effect C O)
 
--- nothing changes and nothing is handed out
+-- nothing changes and there are no effects
 abbrev pub nothing_done : {S C : Type 0} (O : Type 0) → ReplicaState S C → Outcome S C O
 nothing_done O r = record { state = r; effects = [] }
 
--- a message of this replica to a node, to several, and to each node that it keeps a progress of
+-- a message of this replica to a node, to several, and to each node whose progress it keeps
 abbrev pub message_to : {C : Type 0} (O : Type 0) → ℕ → Body C → ℕ → Effect C O
 message_to O id body receiver = To receiver (record { from = id; body = body })
 
@@ -26,6 +26,6 @@ abbrev pub message_to_followed : {C : Type 0} (O : Type 0) →
     ℕ → Body C → List Progress → List (Effect C O)
 message_to_followed O id body progress = map (λ reached. message_to O id body reached.member) progress
 
--- an outcome behind messages that were sent first
+-- an outcome after messages that were sent first
 abbrev pub sent_first : {S C O : Type 0} → List (Effect C O) → Outcome S C O → Outcome S C O
 sent_first effects outcome = record { state = outcome.state; effects = effects ++ outcome.effects }

@@ -1,5 +1,5 @@
 -- Serving.antt: the rows of the protocol inside a ballot: Append, Held, Commit, proposals, ticks.
--- Receivers are taken in rising order. A message that no row's condition covers changes nothing.
+-- Receivers are in rising order. A message that no row's condition covers changes nothing.
 use Rattle.std.specs.Prelude.{ℕ, Bool, List, [], ◌∷◌, ◌++◌, length, max, slice_get, Option, Some, None, ◌==◌, ◌&&◌, nat_lt, nat_le, if◌then◌else◌}
 use Rattle.std.specs.List.{flat_map}
 use Rattle.ballot_base.specs.machine.Machine.{Rules}
@@ -11,8 +11,8 @@ use Rattle.whole.specs.Sending.{Outcome, nothing_done, message_to, message_to_fo
 use Rattle.whole.specs.Replica.{ReplicaState, is_active, is_backup}
 pub use Rattle.ballot_base.specs.Serving.{least, raised_progress, raised, most_places}
 
--- places below `held` that are not applied yet are applied, their outputs given, and the other
--- members hear of it
+-- places below `held` that are not yet applied are applied, their outputs returned, and the other
+-- members sent a Commit
 unfoldable pub commit_at : {S C O : Type 0} → Rules S C O → ReplicaState S C → ℕ → Outcome S C O
 commit_at {O = O} rules r held =
     if nat_lt r.committed held
@@ -26,7 +26,7 @@ commit_at {O = O} rules r held =
 unfoldable pub commit : {S C O : Type 0} → Rules S C O → ReplicaState S C → Outcome S C O
 commit rules r = commit_at rules r (least (length r.log) r.progress)
 
--- a command is added behind the log and sent to the other members; what all hold is committed
+-- a command is added after the log and sent to the other members; what all hold is committed
 unfoldable pub added : {S C O : Type 0} → Rules S C O → ReplicaState S C → C → Outcome S C O
 added {O = O} rules r command =
     sent_first
@@ -47,7 +47,7 @@ follows r ballot = (r.joined == ballot && r.held_in == ballot) && is_backup r.ro
 abbrev pub leads : {S C : Type 0} → ReplicaState S C → ℕ → Bool
 leads r ballot = r.joined == ballot && is_active r.role
 
--- a log that takes a command where its place is the next one
+-- a log that takes a command if its place is the next one
 abbrev pub extended : {C : Type 0} → ℕ → C → List C → List C
 extended place command log = if place == length log then log ++ command ∷ [] else log
 
@@ -71,7 +71,7 @@ on_held {O = O} rules r from ballot held =
     then commit rules (record r { progress = raised from held r.progress })
     else nothing_done O r
 
--- Commit(ballot, held): the outputs are the primary's to give, and a backup drops them
+-- Commit(ballot, held): only the primary returns the outputs, a backup drops them
 unfoldable pub on_commit : {S C O : Type 0} → Rules S C O → ReplicaState S C → ℕ → ℕ → Outcome S C O
 on_commit {O = O} rules r ballot held =
     if follows r ballot && nat_le held (length r.log)
@@ -89,7 +89,7 @@ abbrev pub appends_behind : {C : Type 0} (O : Type 0) →
 appends_behind O id ballot log progress =
     flat_map (λ reached. append_at O id ballot reached (slice_get log reached.held)) progress
 
--- an active primary says again what the other members lack, and what is committed
+-- an active primary repeats what the other members lack, and what is committed
 unfoldable pub on_tick_active : {S C : Type 0} (O : Type 0) → ReplicaState S C → Outcome S C O
 on_tick_active O r =
     record {

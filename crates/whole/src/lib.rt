@@ -1,3 +1,3 @@
-//! The protocol's step on whole logs, as definitions: a model beside the step of `ballot_base`, on which
-//! the laws of `agreement` stand. No code has these types.
+//! The protocol's step on whole logs, as definitions: a model corresponding to the step of
+//! `ballot_base`, for which the laws of `agreement` are proved. No code has these types.
 #![tactic(auto)]

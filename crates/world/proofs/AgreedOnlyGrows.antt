@@ -1,4 +1,4 @@
--- AgreedOnlyGrows.antt: what nodes agreed on before is a beginning of what they agree on then.
+-- AgreedOnlyGrows.antt: what nodes agreed on before is a prefix of what they agree on then.
 use Rattle.std.proofs.Common.{ℕ, List, ◌∷◌, ◌++◌, sym, ap, ◌∙◌, subst}
 use Rattle.lists.specs.Lists.{IsPrefixOf}
 use Rattle.lists.specs.Lists.In.{here}
@@ -24,7 +24,7 @@ use Rattle.world.specs.Goes.{AgreedGrows, Goes, NodesGo}
 use Rattle.world.specs.Goes.Goes.{rests, goes_on}
 use Rattle.world.proofs.OneAgreed.{one_agreed}
 
--- A group that went on from another: its past goes on from the past of that one.
+-- A group that continued from another: its past continues from the past of that one.
 record LeadsOn (nodes : ℕ) (config : Config) (g : Group) (earlier : List (Moment State Command Output)) (h : Group) : Type 0 where
   pub went : Went nodes config h
   pub of : HasPast config h (groups_of went) (all_put went)

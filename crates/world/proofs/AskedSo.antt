@@ -126,7 +126,7 @@ asked_counted (events.Notice number) old asked mid new before counted is counts 
 asked_counted (events.Subscribe name filter qos) old asked mid new before counted is counts by = by
 asked_counted (events.Unsubscribe name filter) old asked mid new before counted is counts by = by
 
--- what a step says of it
+-- what a step says about it
 abbrev pub StepAsks : Event → WorldState → Result (Unit {0}) Idle → WorldState → Type 0
 StepAsks event old result new =
     (asked : List (ℕ × Publication)) × IsAsked event old result asked new × WorldGoesBy asked old new × KeepsReached asked old new
@@ -142,7 +142,7 @@ idle_asks event old idle result new err same =
     let goes = world_rests old new same in
     subst (λ (r : Result (Unit {0}) Idle). StepAsks event old r new) (sym err) ([], refl, goes, keeps_reached [] old new goes)
 
--- ---- events, one after the other
+-- ---- events, one after another
 
 -- so far
 abbrev pub HasAsked : List Event → WorldState → WorldState → Type 0

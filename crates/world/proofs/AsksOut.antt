@@ -1,5 +1,6 @@
--- All that is under way up comes to the new primary, which awaits it: the CONNECT of a client whose session is there. Its answer is
--- under way down after the messages of the others, where there are any.
+-- All that is in transit up comes to the new primary, which awaits it: the CONNECT of a client
+-- whose session is there. Its answer is in transit down after the messages of the others, if there
+-- are any.
 use Rattle.std.proofs.Common.{◌≡◌, ◌⊎◌, inl, inr, ◌<◌, ◌≤◌, ◌+◌, ◌*◌, ℕ, suc, true, false, List, [], ◌∷◌, ◌++◌, Some, Ok, drop, length, map, refl, ap, ◌∙◌, subst, append_assoc, arith}
 use Rattle.std.specs.List.{position}
 use Rattle.std.proofs.lemmas.List.{length-append, map-append}

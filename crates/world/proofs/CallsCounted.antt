@@ -1,4 +1,5 @@
--- CallsCounted.antt: a call of a client takes its world where it may go, want of memory is counted, and a refusal changes nothing.
+-- CallsCounted.antt: a call of a client takes its world where it may go; if memory runs out, that
+-- is counted; and a refusal changes nothing.
 use Rattle.std.proofs.Common.{◌≡◌, ◌≤◌, ℕ, Bool, true, false, if◌then◌else◌, [], Some, Result, Ok, Err, IsOk, IsErr, OnErr, slice_get, refl, sym, ◌∙◌, subst}
 use Rattle.std.proofs.lemmas.Bool.{both_ways}
 use Rattle.client_base.specs.declared.error.ClientError.{ClientError}
@@ -62,7 +63,7 @@ call_counted old i client piped (Err errors.SessionLost) result new found follow
 call_counted old i client piped (Err errors.Protocol) result new found follows rises counts = idle_call old i client piped result new found follows counts
 call_counted old i client piped (Err (errors.Malformed kind)) result new found follows rises counts = idle_call old i client piped result new found follows counts
 
--- ---- what a client hears
+-- ---- what a client receives
 
 pub hearing_counted : (old : WorldState) (i : ℕ) (client : WorldClient) (piped : Piped) (had : Bool) (new : WorldState) → slice_get old.clients i ≡ Some client →
     FollowsAll client.piped piped → old.losses ≤ (forgetful old).losses →
@@ -70,6 +71,6 @@ pub hearing_counted : (old : WorldState) (i : ℕ) (client : WorldClient) (piped
 hearing_counted old i client piped true new found follows rises is = subst (λ w. GoesOn old w) (sym is) (client_goes_on old i client piped found follows)
 hearing_counted old i client piped false new found follows rises is = subst (λ w. GoesOn old w) (sym is) (client_goes_forgetful old i client piped found follows rises)
 
--- one that hears nothing stays as it is
+-- one that receives nothing stays as it is
 pub stays_all : (old new : Piped) → new ≡ old → FollowsAll old new
 stays_all old new same m s = record { next = m; goes = ClientGoes.stays; publishes = refl; stands = subst (λ p. StandsFor p m) (sym same) s }

@@ -47,7 +47,7 @@ pub record LosesCall (name : List ℕ) (cannot : Option Core → Type 0) (does :
   pub lost : (done ≡ old) ⊎ ClientDoes name loses old done
   pub counted : new ≡ record done { losses = one_more old.losses }
 
--- what comes of something that a client does
+-- the result of something that a client does
 abbrev pub ClientMeets : List ℕ → (Option Core → Type 0) → (Bool → Piped → Piped → Type 0) → (Piped → Piped → Type 0) → WorldState → Result (Unit {0}) Idle → WorldState → Type 0
 ClientMeets name cannot does loses old (Err idle) new = cannot (core_named name old.clients) × (new ≡ old)
 ClientMeets name cannot does loses old (Ok done) new = IsCalled name cannot does old new ⊎ LosesCall name cannot does loses old new
@@ -140,7 +140,7 @@ same_publication a b retain qos topic payload =
     ap (λ (x : Bool). publication_with x a.qos a.topic a.payload) retain ∙ ap (λ (x : QoS). publication_with b.retain x a.topic a.payload) qos
     ∙ ap (λ (x : List ℕ). publication_with b.retain b.qos x a.payload) topic ∙ ap (λ (x : List ℕ). publication_with b.retain b.qos b.topic x) payload
 
--- a client that is asked tells what it refuses
+-- a client that is asked says what it refuses
 refused_by : (refusal : Option ClientError) (turn : Turn) (state : ClientState) → is_some refusal ≡ true → (unless_refused refusal turn state).refusal ≡ None → ⊥
 refused_by None turn state some none = both_ways false refl some
 refused_by (Some cause) turn state some none = none-some cause (sym none)

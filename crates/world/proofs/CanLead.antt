@@ -32,7 +32,7 @@ use Rattle.escaping_nodes.specs.world_nodes.Nodes.{NodesState, StandsFor}
 use Rattle.world.specs.Escaping.{CanEscape, configuration_of, held_in, is_running, is_up}
 use Rattle.world.specs.World.{WorldState}
 
--- nodes that a group stands for are seen as its moment
+-- nodes that a group corresponds to are seen as its moment
 pub seen_as : (g : Group) (n : NodesState) → StandsFor g n → IsSeen (moment_of g) n
 seen_as g n s = record { master = s.master; nodes = ap (map replica_of) s.nodes; sent = s.sent; archive = s.archive }
 

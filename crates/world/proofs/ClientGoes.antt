@@ -1,4 +1,4 @@
--- ClientGoes.antt: where a client goes, its world does.
+-- ClientGoes.antt: if a client takes a step, its world does.
 use Rattle.std.proofs.Common.{◌≡◌, ◌≤◌, ℕ, List, [], ◌++◌, Some, set, slice_get, refl, sym, ap, ap₂, ◌∙◌, subst, arith}
 use Rattle.std.proofs.lemmas.List.{append-nil, map-append, set-set}
 use Rattle.lists.proofs.Places.{get_set}
@@ -30,7 +30,7 @@ record StepsBy (asked : List (ℕ × Publication)) (w : World) (cs : List Client
   pub steps : Steps w (record w { clients = cs })
   pub asked_is : published_along steps ≡ asked
 
--- where one client goes, and the place at which it stands then
+-- the step of one client, and its place then
 record StepsTo (asked : List Publication) (w : World) (i : ℕ) (d : ClientPipes) : Type 0 where
   pub by : StepsBy (from_client i asked) w (set w.clients i d)
   pub at : slice_get (with_client i d w).clients i ≡ Some d
@@ -109,7 +109,7 @@ pub same_piped : (old : WorldState) (i : ℕ) (client : WorldClient) (piped : Pi
 same_piped old i client piped found same =
     ap (λ (p : Piped). with_piped i client p old) same ∙ ap (λ (cs : List WorldClient). record old { clients = cs }) (set_itself old.clients i client found)
 
--- and connections lead where they led
+-- and connections lead to the same nodes
 pub housed_still : (clients : List WorldClient) (connections : List Place) (i : ℕ) (client : WorldClient) (piped : Piped) → slice_get clients i ≡ Some client →
     leads piped.ways ≡ leads client.piped.ways → AreHoused (leads_of clients) connections →
     AreHoused (leads_of (set clients i (record client { piped = piped }))) connections

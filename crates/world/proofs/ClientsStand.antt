@@ -7,7 +7,7 @@ use Rattle.world_pipes.specs.Standing.{StandsFor as ClientStands}
 use Rattle.world.specs.declared.world.WorldClient.{WorldClient}
 use Rattle.world.specs.Standing.{ClientsStand}
 
--- the model's client for which one at a place stands
+-- the model's client to which the one at a place corresponds
 pub record StandsAt (cs : List ClientPipes) (i : ℕ) (piped : Piped) : Type 0 where
   pub c : ClientPipes
   pub at : slice_get cs i ≡ Some c

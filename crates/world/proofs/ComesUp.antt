@@ -1,4 +1,4 @@
--- ComesUp.antt: bytes that come to a node are gone from the connection.
+-- ComesUp.antt: bytes that come to a node are no longer on the connection.
 use Rattle.std.proofs.Common.{◌≡◌, ◌-◌, ◌≤◌, ℕ, suc, List, [], ◌++◌, take, drop, length, slice_get, Some, refl, sym, ap, ◌∙◌, subst, arith}
 use Rattle.std.proofs.lemmas.List.{take-append-drop, take-append-le, drop-append-le}
 use Rattle.std.proofs.lemmas.Option.{same_Some}

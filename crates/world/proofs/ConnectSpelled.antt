@@ -20,7 +20,7 @@ use Rattle.escaping_nodes.specs.Answered.{session_present}
 pub verdict_spelled : (p : Packet) → IsPacket p → verdict (spelling p) ≡ Ok (p, [])
 verdict_spelled p whole = ap verdict (sym (append-nil (spelling p))) ∙ verdict_again p (spelling p) [] whole (spelling_is p whole).0
 
--- one packet alone was written
+-- only one packet was written
 pub alone : (p : Packet) (out : List ℕ) → IsPacket p → AppendsAll [] out (p ∷ []) → out ≡ spelling p
 alone p out whole (between, (bytes, spells, is), last) = last ∙ is ∙ (spelling_is p whole).1 bytes spells
 

@@ -1,4 +1,4 @@
--- Messages come to their receivers exactly, one after the other, as a way out of the model has them.
+-- Messages come to their receivers exactly, one after another, as a way out of the model has them.
 use Rattle.std.proofs.Common.{◌≡◌, ◌-◌, ◌+◌, ℕ, suc, Bool, true, false, if◌then◌else◌, List, [], ◌∷◌, Option, Some, None, map, refl, sym, ap, ◌∙◌, subst, arith}
 use Rattle.std.specs.Prelude.{slice_get}
 use Rattle.std.proofs.lemmas.Option.{none-some, same_Some}
@@ -39,7 +39,7 @@ use Rattle.world.proofs.GroupGoes.GoesApart.{acts as goes_by}
 use Rattle.world.proofs.PassesOn.{Passes, gathers_passes, passes_join, passes_rest}
 use Rattle.world.proofs.Turned.{mapped_from}
 
--- ---- the nodes change, by a deed in which connections have no part
+-- ---- the nodes change, by a call in which connections have no part
 
 pub passes_apart : (ks : List ℕ) (old : WorldState) (new : NodesState) → AreHoused (leads_of old.clients) old.connections → new.losses ≡ old.nodes.losses → GoesApart old.nodes new →
     Come old.nodes ks new → Passes ks old (with_nodes new old)
@@ -57,7 +57,7 @@ runs_there (Some d) c e = by d.core.replica.state.stopped refl e
     by true f g = absurd (none-some c g)
     by false f g = (g, sym (ap (λ (z : CountedCore). z.core.replica.state.stopped) (same_Some d c g)) ∙ f)
 
--- a node took a message, and what it put out then went down
+-- a node took a message, and what it queued then went down
 pub record AtNode (k at : ℕ) (message : Message Command) (old new : WorldState) : Type 0 where
   pub node : CountedCore
   pub there : slice_get old.nodes.nodes at ≡ Some node
@@ -141,7 +141,7 @@ module _ (a : Moment State Command Output) (w : WorldState) (seen : IsSeen a w.n
   can_ask from asked sent cannot =
       subst (λ (o : Option (ℕ × Message Command)). ComesToNobody o w.nodes) (sent_to 0 (record { from = from; body = Activate asked }) sent) cannot
 
--- ---- one after the other
+-- ---- one after another
 
 pub walk : (ballot : ℕ) (a b : Moment State Command Output) (ks : List ℕ) → Delivered rules ballot a ks b → (old new : WorldState) → Run (map events.Deliver ks) old new →
     LosesNothing old new → IsSeen a old.nodes → AreCalm ballot old.nodes → AreHoused (leads_of old.clients) old.connections → Passes ks old new

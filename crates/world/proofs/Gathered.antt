@@ -1,4 +1,4 @@
--- Gathered.antt: connections are asked one behind the other, from the newest to the oldest.
+-- Gathered.antt: connections are asked one after another, from the newest to the oldest.
 use Rattle.std.proofs.Common.{◌≡◌, inl, inr, ◌<◌, ◌-◌, ℕ, zero, suc, Bool, true, false, List, ◌++◌, Some, length, set, slice_get, refl, sym, ap, ◌∙◌, subst, arith}
 use Rattle.escaping_nodes.specs.world_nodes.Goes.{node_of}
 use Rattle.escaping_nodes.specs.world_nodes.Steps.{forgetful}

@@ -52,7 +52,7 @@ all_named x port core ports = by (listed_at port core) refl
     by None e = refl
     by (Some d) e = named d (ports d (found_in (is_at port) core.connections d e) (eq_is d.port.0 port.0 (found_passes (is_at port) core.connections d e)))
 
--- the world behind it
+-- the world after it
 abbrev pub put_down : ℕ → WorldClient → Piped → NodesState → WorldState → WorldState
 put_down i client later new old = record old { nodes = new; clients = set old.clients i (record client { piped = later }) }
 
@@ -90,14 +90,14 @@ module _ {nodes : ℕ} {config : Config} {cs : List Client} (m : World) (trail :
         };
       }
 
-  -- with none, where the node is unknown, or there is no memory for them
+  -- with none, if the node is unknown, or there is no memory for them
   hands_nothing : (later : Piped) → slice_get old.clients place.client ≡ Some client → NodesStay old.nodes new → later ≡ client.piped → GoesTo [] m (put_down place.client client later new old)
   hands_nothing later at stay still =
       subst (λ (z : Piped). GoesTo [] m (put_down place.client client z new old)) (sym still)
       (subst (λ (l : List WorldClient). GoesTo [] m (let w : WorldState = record old { nodes = new; clients = l } in w)) (sym (set_itself old.clients place.client client at))
       (record { behind = m; steps = rests; asked_is = refl; stands = record { nodes = stay m.group s.nodes; clients = s.clients } }))
 
--- what its node put out for the connection of a number goes down, or nothing does
+-- what its node queued for the connection of a number goes down, or nothing does
 pub puts_down : (old : WorldState) (number : ℕ) (place : Place) (client : WorldClient) (new : NodesState) (later : Piped) → LeadsThere (leads_of old.clients) number place
     → slice_get old.clients place.client ≡ Some client → MayPutDown place.at place.node (record { 0 = number }) old.nodes client.piped new later
     → WorldGoes old (put_down place.client client later new old)

@@ -1,4 +1,5 @@
--- GroupGoes.antt: what nodes and their master do by themselves is a step of the world, whatever memory does.
+-- GroupGoes.antt: what nodes and their master do by themselves is a step of the world, even if
+-- memory runs out.
 use Rattle.std.proofs.Common.{◌≡◌, ◌⊎◌, inl, inr, ◌≤◌, ◌-◌, ℕ, zero, suc, true, Option, Some, None, Result, Ok, Err, OnOk, OnErr, refl, arith}
 use Rattle.std.specs.Prelude.{slice_get}
 use Rattle.ballot.specs.Body.{Body}
@@ -28,9 +29,9 @@ use Rattle.world.proofs.NodesGoOn.{nodes_forget, nodes_rest, nodes_stay, staying
 abbrev pub with_nodes : NodesState → WorldState → WorldState
 with_nodes nodes w = record w { nodes = nodes }
 
--- ---- what is done by itself
+-- ---- what is done without connections
 
--- a deed in which connections have no part, or nothing
+-- a call in which connections have no part, or nothing
 pub data GoesApart (old new : NodesState) : Type 0 where
   stays : NodesStay old new → GoesApart old new
   acts : (deed : Option (ℕ × Deed)) → is_apart deed ≡ true → ((g : Group) → NodesStand g old → GoesBy deed g new) → GoesApart old new

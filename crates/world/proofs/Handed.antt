@@ -1,4 +1,4 @@
--- Handed.antt: where bytes are handed over, or come to a node, the world goes on.
+-- Handed.antt: when bytes are handed over, or come to a node, the world continues.
 use Rattle.std.proofs.Common.{◌≡◌, inl, inr, ◌<◌, ◌≤◌, ◌-◌, ℕ, Bool, true, false, List, Some, None, Result, Ok, Err, OnErr, length, slice_get, refl, sym, ap, ◌∙◌, subst, arith}
 use Rattle.std.specs.Prelude.{IfOk, IfSome, drop, take}
 use Rattle.std.proofs.lemmas.Option.{same_Some}
@@ -32,7 +32,7 @@ same_client : (old : WorldState) (i : ℕ) (client : WorldClient) (new : NodesSt
 same_client old i client new later found still =
     ap (λ (p : Piped). put_down i client p new old) still ∙ ap (λ (l : List WorldClient). record old { nodes = new; clients = l }) (set_itself old.clients i client found)
 
--- what is told of the end, and what went down; or nothing did
+-- what is known about the end, and what went down; or nothing went down
 pub hands : (old : WorldState) (number : ℕ) (place : Place) (client : WorldClient) (way : Way) (is_open : Bool) (new : NodesState) (later : Piped) → slice_get old.clients place.client ≡ Some client
     → slice_get client.piped.ways place.at ≡ Some way → PutsDown place.at place.node (port_of number) old.nodes client.piped new later is_open
     → MayHandOn number place old is_open (put_down place.client client later new old)
@@ -96,7 +96,7 @@ takes_on (Ok true) old number count place client new later housed at positive fo
 takes_on (Ok false) old number count place client new later housed at positive found nodes took same still = takes_nothing old place.client client new later found took.0 took.1
 takes_on (Err e) old number count place client new later housed at positive found nodes took same still = takes_nothing old place.client client new later found same still
 
--- what comes is what was under way
+-- what comes is what was in transit
 pub takes_part : (place : Place) (port : Port) (count : ℕ) (old : NodesState) (client : Piped) (new : NodesState) (later : Piped) (waiting piece : List ℕ)
     → place.at < length client.ways → IfSome (slice_get client.ways place.at) (λ way. waiting ≡ way.up) → 0 < count → count ≤ length waiting
     → (running old.nodes place.node ≡ None → ⊥) → piece ≡ take count waiting
@@ -119,7 +119,7 @@ takes_part place port count old client new later waiting piece below up some par
     of_some : (P : Way → Type 0) (way : Way) → slice_get client.ways place.at ≡ Some way → IfSome (slice_get client.ways place.at) P → P way
     of_some P way e i = subst (λ o. IfSome o P) e i
 
--- where there is no memory for it, it could have come
+-- if there is no memory for it, it could have come
 pub can_take : (place : Place) (count : ℕ) (old : NodesState) (client : Piped) (waiting : List ℕ) → place.at < length client.ways → IfSome (slice_get client.ways place.at) (λ way. waiting ≡ way.up)
     → 0 < count → count ≤ length waiting → (running old.nodes place.node ≡ None → ⊥) → CanTake place count old client
 can_take place count old client waiting below up some part runs =
@@ -130,7 +130,7 @@ can_take place count old client waiting below up some part runs =
     of_some : (P : Way → Type 0) (way : Way) → slice_get client.ways place.at ≡ Some way → IfSome (slice_get client.ways place.at) P → P way
     of_some P way e i = subst (λ o. IfSome o P) e i
 
--- and the connection leads where it did
+-- and the connection leads to the same node
 pub less_leads : (client later : Piped) (at count : ℕ) (way : Way) → slice_get client.ways at ≡ Some way
     → IfSome (slice_get client.ways at) (λ way. later ≡ with_less at count way client) → leads later.ways ≡ leads client.ways
 less_leads client later at count way found less =
@@ -147,7 +147,7 @@ takes_up_on (Ok true) old number count place client new later owned taken = reco
 takes_up_on (Ok false) old number count place client new later owned taken = (unchanged old place.client client new later owned taken.0 taken.1, client, owned, taken.2)
 takes_up_on (Err e) old number count place client new later owned taken = tt
 
--- and where they cannot, nothing is changed
+-- and if they cannot, nothing is changed
 pub takes_none : {X E : Type 0} (r : Result X E) (old : WorldState) (place : Place) (client : WorldClient) (new : NodesState) (later : Piped) → slice_get old.clients place.client ≡ Some client
     → OnErr r (new ≡ old.nodes) → OnErr r (later ≡ client.piped) → OnErr r (put_down place.client client later new old ≡ old)
 takes_none (Ok x) old place client new later owned same still = tt

@@ -1,4 +1,4 @@
--- HousedOn.antt: connections still stand where they are known to stand.
+-- HousedOn.antt: connections are still at their known places.
 use Rattle.std.proofs.Common.{◌≡◌, ◌⊎◌, inl, inr, ◌≤◌, ℕ, zero, suc, Bool, List, [], ◌∷◌, ◌++◌, Some, length, set, slice_get, refl, sym, ap, ◌∙◌, subst, arith}
 use Rattle.std.proofs.lemmas.List.{length-append, length-set}
 use Rattle.std.proofs.lemmas.Option.{same_Some, none-some}
@@ -41,7 +41,7 @@ front_or_last (z ∷ xs) x y (suc i) e = by (front_or_last xs x y i e)
     by (inl there) = inl there
     by (inr (last, is)) = inr (ap suc last, is)
 
--- the client at place i has it behind those that it had
+-- the client at place i has it after those that it had
 pub housed_more : (all : List (List (ℕ × Port))) (connections : List Place) (i : ℕ) (ways : List (ℕ × Port)) (node number : ℕ) (place : Place)
     → slice_get all i ≡ Some ways → number ≡ suc (length connections) → place.client ≡ i → place.at ≡ length ways → suc node ≡ place.node → AreHoused all connections
     → AreHoused (set all i (ways ++ (node, record { 0 = number }) ∷ [])) (connections ++ place ∷ [])

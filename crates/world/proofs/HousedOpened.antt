@@ -1,4 +1,4 @@
--- HousedOpened.antt: behind an opening each connection stands where it is known to stand.
+-- HousedOpened.antt: after an opening each connection is at its known place.
 use Rattle.std.proofs.Common.{◌≡◌, ℕ, suc, List, [], ◌∷◌, ◌++◌, Some, length, set, slice_get, sym, ap, ◌∙◌, subst}
 use Rattle.std.proofs.lemmas.List.{length-map, map-append, map-set}
 use Rattle.escaping_client.specs.client.Core.{Core}
@@ -14,7 +14,7 @@ use Rattle.world.proofs.HousedOn.{housed_more}
 abbrev lead : Way → ℕ × Port
 lead way = (way.node, way.port)
 
--- the new one is behind those that the client had
+-- the new one is after those that the client had
 pub housed_opened : (clients : List WorldClient) (connections : List Place) (i : ℕ) (client : WorldClient) (piped : Piped) (node number : ℕ) (place : Place) (core : Core)
     → slice_get clients i ≡ Some client → piped ≡ sent_up core client.piped.ways (new_way node (record { 0 = number })) → number ≡ suc (length connections) → place.client ≡ i
     → place.at ≡ length client.piped.ways → suc node ≡ place.node → AreHoused (leads_of clients) connections

@@ -107,14 +107,14 @@ expelled name node old between new can expels exact gathers still =
       uncounted = still;
     }
 
--- nobody has this name
+-- no client has this name
 pub no_client : (name : List ℕ) (clients : List WorldClient) (place : Option ℕ) (none : Bool) → place ≡ position (is_named name) clients → is_some place ≡ not none → none ≡ true
     → position (is_named name) clients ≡ None
 no_client name clients None none at is e = sym at
 no_client name clients (Some i) true at is e = cc
 no_client name clients (Some i) false at is e = cc
 
--- somebody has it, and the node takes a proposal
+-- a client has it, and the node takes a proposal
 pub may_expel : (name : List ℕ) (node : ℕ) (w : WorldState) (place : Option ℕ) (none : Bool) → place ≡ position (is_named name) w.clients → is_some place ≡ not none → none ≡ false
     → (proposing w.nodes.nodes node ≡ None → ⊥) → CannotHappen (events.Expel name node) w → ⊥
 may_expel name node w None true at is e proposes cannot = cc
@@ -263,14 +263,14 @@ hears_nothing number place count old client housed at positive owned cannot =
     by (inl other) = inl (held_there number old c ∙ other)
     by (inr few) = inr (subst (λ (o : Option Way). IsNoPart count (down_of o)) (sym (way_found number old c)) few)
 
--- what is heard exactly is heard
+-- what is received exactly is received
 hears_less : (count : ℕ) (old new : Piped) → HearsThem true count old new → HearsThem false count old new
 hears_less count old new h = (h.0, λ yes. absurd (both_ways false refl yes), h.2)
 
 does_less : (number count : ℕ) (old new : WorldState) → Does true (events.CarryDown number count) old new → Does false (events.CarryDown number count) old new
 does_less number count old new d = (d.0, d.1, hears_less count d.0.client.piped d.1 d.2, d.3)
 
--- want of memory is counted
+-- running out of memory is counted
 pub heard_meets : (number : ℕ) (place : Place) (count : ℕ) (had : Bool) (old : WorldState) (client : WorldClient) (piped : Piped) (new : WorldState) → AreHoused (leads_of old.clients) old.connections
     → slice_get old.connections (number - 1) ≡ Some place → 0 < number → slice_get old.clients place.client ≡ Some client → HearsOn had place.at count client.piped piped
     → new ≡ (if had then with_piped place.client client piped old else forgetful (with_piped place.client client piped old))
@@ -289,7 +289,8 @@ never_opened number count w none = inl (ap (λ (o : Option Place). is_held o w.c
 
 -- ---- whole steps
 
--- an event that was done is counted where its nodes counted a loss, and one that is counted already is not counted again
+-- an event that was done is counted if its nodes counted a loss, and one that is counted already is
+-- not counted again
 pub step_happens : (event : Event) (old mid new : WorldState) (before counted : ℕ) → before ≡ old.nodes.losses → counted ≡ old.losses → Meets event old (Ok tt) mid
     → (TakesNoMemory event old → mid.nodes.losses ≡ old.nodes.losses) → IsCounted before counted mid new → Happens event old (Ok tt) new
 step_happens event old mid new before counted is so_many (inl d) quiet (inl none) =

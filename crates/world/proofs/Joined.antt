@@ -1,4 +1,4 @@
--- Joined.antt: steps of worlds, one behind the other.
+-- Joined.antt: steps of worlds, one after another.
 use Rattle.std.proofs.Common.{◌≡◌, ◌<◌, ◌≤◌, ◌^◌, ◌-◌, ℕ, List, [], ◌++◌, refl, sym, ap, ap₂, ◌∙◌, subst, arith, append_assoc}
 use Rattle.std.proofs.lemmas.List.{append-nil}
 use Rattle.ballot.specs.Config.{Config}
@@ -45,7 +45,7 @@ reached_asked trail (goes_on steps step) =
 
 -- ---- worlds in code
 
--- of a world the nodes and the clients alone stand for one of the model
+-- only the nodes and the clients of a world matter for its correspondence to one of the model
 pub stands_as : (m : World) (a b : WorldState) → b.nodes ≡ a.nodes → b.clients ≡ a.clients → StandsFor m a → StandsFor m b
 stands_as m a b nodes clients s =
     record {
@@ -73,7 +73,7 @@ asked_goes_join asked later a b c one two nodes config cs m trail s =
 pub world_goes_join : (a b c : WorldState) → WorldGoes a b → WorldGoes b c → WorldGoes a c
 world_goes_join a b c one two = asked_goes_join [] [] a b c one two
 
--- where nothing is lost from end to end, nothing is on the way
+-- if nothing is lost from end to end, nothing is on the way
 pub worlds_split : (a b c : WorldState) → a.losses ≤ b.losses → b.losses ≤ c.losses → LosesNothing a c → LosesNothing a b × LosesNothing b c
 worlds_split a b c x y none =
     let same = none.0 in let low = none.1 in (
@@ -96,7 +96,7 @@ goes_on_join a b c one two =
     let x = one.rises in let y = two.rises in
     record { rises = omega (arith, x, y); nodes = nodes_join a.nodes b.nodes c.nodes one.nodes two.nodes; goes = world_goes_join a b c one.goes two.goes }
 
--- nothing is published behind it
+-- nothing is published after it
 pub goes_on_then : (asked : List (ℕ × Publication)) (a b c : WorldState) → GoesOnBy asked a b → GoesOn b c → GoesOnBy asked a c
 goes_on_then asked a b c one two =
     let x = one.rises in let y = two.rises in

@@ -1,4 +1,4 @@
--- LeadsKept.antt: where connections lead stays as it is.
+-- LeadsKept.antt: the nodes to which connections lead stay the same.
 use Rattle.std.proofs.Common.{◌≡◌, ◌<◌, ◌-◌, ℕ, suc, List, Some, set, slice_get, sym, ap, ◌∙◌, subst, arith}
 use Rattle.std.proofs.lemmas.List.{map-set}
 use Rattle.std.proofs.lemmas.Option.{same_Some}
@@ -16,7 +16,7 @@ leads_in client = leads client.piped.ways
 abbrev lead : Way → ℕ × Port
 lead way = (way.node, way.port)
 
--- a client changes whose connections lead where they did
+-- a client changes, and its connections lead to the same nodes
 pub housed_set : (clients : List WorldClient) (i : ℕ) (old new : WorldClient) → slice_get clients i ≡ Some old → leads new.piped.ways ≡ leads old.piped.ways
     → leads_of (set clients i new) ≡ leads_of clients
 housed_set clients i old new at same =
@@ -28,12 +28,12 @@ pub housed_client : (clients : List WorldClient) (connections : List Place) (i :
 housed_client clients connections i old new at same h =
     subst (λ (all : List (List (ℕ × Port))). AreHoused all connections) (sym (housed_set clients i old new at same)) h
 
--- a connection changes that leads where it did
+-- a connection changes, and leads to the same node
 pub leads_set : (ways : List Way) (i : ℕ) (old new : Way) → slice_get ways i ≡ Some old → lead new ≡ lead old → leads (set ways i new) ≡ leads ways
 leads_set ways i old new at same =
     map-set lead ways i new ∙ ap (set (leads ways) i) same ∙ set_itself (leads ways) i (lead old) (get_mapped lead ways i old at)
 
--- the connection that stands at a place
+-- the connection that is at a place
 pub record IsLed (ways : List Way) (number : ℕ) (place : Place) : Type 0 where
   pub way : Way
   pub found : slice_get ways place.at ≡ Some way
@@ -53,7 +53,7 @@ led clients number place client there at =
       port = ap (λ (z : ℕ × Port). z.1) r.is;
     }
 
--- where the connection of a number stands
+-- the place of the connection of a number
 pub led_there : (all : List (List (ℕ × Port))) (connections : List Place) (number : ℕ) (place : Place) → AreHoused all connections
     → slice_get connections (number - 1) ≡ Some place → 0 < number → LeadsThere all number place
 led_there all connections number place h at positive =

@@ -22,7 +22,8 @@ use Rattle.world.proofs.LeadsKept.{housed_client}
 use Rattle.world.proofs.NamesKept.{names_set, position_kept}
 use Rattle.world.proofs.StandsThere.{core_found}
 
--- The world in which it holds none. Only where it held one is that another world, and there this client alone has changed.
+-- The world in which it holds none. That is another world only if the client held one, and there
+-- only this client has changed.
 pub record HasLeft (name : List ℕ) (core : Core) (more : List Event) (old new : WorldState) : Type 0 where
   pub after : WorldState
   pub before : Core

@@ -99,7 +99,7 @@ module _ (config : Config) {nodes : ℕ} {cs : List Client} (m : World) (trail :
   number : first ≡ suc place
   number = let e = primary.number in omega (arith, e)
 
-  -- it stands at its place
+  -- it is at its place
   record Standing : Type 0 where
     node : CountedCore
     stands : slice_get l.mid.nodes.nodes place ≡ Some node

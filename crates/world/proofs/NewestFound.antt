@@ -1,4 +1,5 @@
--- The newest connection of a world is found by its number, and what is under way on it comes up, or down.
+-- The newest connection of a world is found by its number, and what is in transit on it comes up,
+-- or down.
 use Rattle.std.proofs.Common.{◌≡◌, ◌⊎◌, inl, inr, ◌<◌, ◌≤◌, ◌-◌, ◌==◌, ℕ, suc, Bool, true, false, if◌then◌else◌, List, [], Option, Some, None, drop, length, slice_get, take, refl, sym, ap, ◌∙◌, subst, arith}
 use Rattle.std.proofs.lemmas.Bool.{and_from, both_ways, eq-eqb}
 use Rattle.std.proofs.lemmas.List.{length-set, take_all}
@@ -44,7 +45,7 @@ pub running_at : (place : ℕ) (nodes : List CountedCore) (node : CountedCore) �
     running nodes (suc place) ≡ Some node
 running_at place nodes node stands runs = ap unless_stopped stands ∙ ap (λ (b : Bool). if b then None else Some node) runs
 
--- ---- where it stands
+-- ---- its place
 
 abbrev pub its_place : ℕ → ℕ → ℕ → Bool → Place
 its_place i at node is_open = record { client = i; at = at; node = node; is_open = is_open }
@@ -82,7 +83,7 @@ module _ (i at number node : ℕ) (core : Core) (up down : List ℕ) (b : Bool) 
       (ap (λ (k : Core). is_open k.state.stage) s.core_is ∙ holding)
       (eq-eqb (suc at) (length s.client.piped.ways) (sym s.many))
 
-  -- so some bytes of those under way down can come
+  -- so some bytes of those in transit down can come
   pub can_come_down : (count : ℕ) → is_open core.state.stage ≡ true → 0 < count → count ≤ length down →
       (is_held (place_numbered number w.connections) w.clients ≡ false) ⊎ IsNoPart count (down_of (way_of number w)) → ⊥
   can_come_down count holding some part (inl not_held) = both_ways (is_held (place_numbered number w.connections) w.clients) not_held (is_held_on holding)
@@ -92,7 +93,7 @@ module _ (i at number node : ℕ) (core : Core) (up down : List ℕ) (b : Bool) 
       by (inl e) = omega (arith, e, some)
       by (inr low) = let same = ap (λ (l : List ℕ). length l) s.down_is in omega (arith, same, low, part)
 
--- ---- all that is under way up comes to its node
+-- ---- all that is in transit up comes to its node
 
 module _ (i at number place : ℕ) (core : Core) (up : List ℕ) (w : WorldState) (s : IsNewest i at number (suc place) core up [] true w) (positive : 0 < number) (node : CountedCore)
     (stands : slice_get w.nodes.nodes place ≡ Some node) (count : ℕ) (many : length up ≡ count) where

@@ -1,4 +1,4 @@
--- Steps of nodes, one behind the other.
+-- Steps of nodes, one after another.
 use Rattle.std.proofs.Common.{◌≡◌, ◌<◌, ◌≤◌, ◌^◌, ◌-◌, ℕ, sym, subst, arith}
 use Rattle.ballot.specs.Config.{Config}
 use Rattle.exact_model.proofs.of_group_model.of_snapshots.PastsAgree.{has_agreed, nodes_agree}
@@ -29,7 +29,7 @@ pub nodes_rest : (old new : NodesState) → new ≡ old → NodesGoOn old new
 nodes_rest old new same =
     subst (λ (n : NodesState). NodesGoOn old n) (sym same) (record { rises = omega arith; goes = staying_goes old old (λ g s. s) })
 
--- ---- one behind the other
+-- ---- one after another
 
 goes_join : {f g h : Group} → Goes f g → Goes g h → Goes f h
 goes_join one rests = one
@@ -48,7 +48,7 @@ nodes_join a b c one two =
       goes = nodes_go_join a b c one.goes two.goes;
     }
 
--- where nothing is lost from end to end, nothing is on the way
+-- if nothing is lost from end to end, nothing is on the way
 pub nodes_split : (a b c : NodesState) → a.losses ≤ b.losses → b.losses ≤ c.losses → NodesLoseNothing a c → NodesLoseNothing a b × NodesLoseNothing b c
 nodes_split a b c x y none =
     let same = none.0 in let low = none.1 in (

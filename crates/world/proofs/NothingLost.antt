@@ -1,4 +1,4 @@
--- NothingLost.antt: what was done with losses allowed was done exactly where the nodes counted none.
+-- NothingLost.antt: what was done with losses allowed was done exactly if the nodes counted none.
 use Rattle.std.specs.Prelude.{min}
 use Rattle.std.proofs.Common.{◌≡◌, ◌⊎◌, inl, inr, ◌≤◌, ◌<◌, ◌^◌, ◌-◌, ℕ, zero, suc, Bool, true, false, Option, Some, None, length, ap, arith}
 use Rattle.ballot.specs.Body.{Body}
@@ -27,7 +27,7 @@ use Rattle.world.specs.World.{WorldState}
 abbrev pub Rises : NodesState → NodesState → Type 0
 Rises old new = min old.losses (2 ^ 64 - 1) ≤ new.losses
 
--- where nothing is lost from end to end, nothing is on the way
+-- if nothing is lost from end to end, nothing is on the way
 pub rises_split : (a b c : NodesState) → Rises a b → Rises b c → NodesLoseNothing a c → NodesLoseNothing a b × NodesLoseNothing b c
 rises_split a b c x y none =
     let same = none.0 in let low = none.1 in (

@@ -1,4 +1,5 @@
--- Offered.antt: a new connection is offered to its node, and taken back where the node does not take it.
+-- Offered.antt: a new connection is offered to its node, and removed again if the node does not
+-- take it.
 use Rattle.std.proofs.Common.{◌≡◌, ◌⊎◌, inl, inr, ◌-◌, ℕ, zero, suc, Bool, true, false, List, Option, Some, None, slice_get, slice_set, if◌then◌else◌, Ok, refl, sym, ap, ◌∙◌, subst, arith}
 use Rattle.std.specs.Option.{is_some}
 use Rattle.std.specs.Prelude.{Err, OnErr, OnOk, Result}
@@ -49,9 +50,9 @@ still_there node item old new t none = by t.way
     by (inl exact) = at_once _ (ap (λ (n : NodesState). n.nodes) exact)
     by (inr losing) = at_once losing.node (ap (λ (n : NodesState). n.nodes) losing.is)
 
--- ---- what it makes of a new connection
+-- ---- what it does to a new connection
 
--- whether it hears of it
+-- whether it is reported to the node
 pub not_heard : {X : Type 0} (r : Result X Idle) (P : Type 0) → is_err r ≡ true → OnErr r P → P
 not_heard (Ok x) P err same = absurd (both_ways false refl err)
 not_heard (Err e) P err same = same
@@ -71,12 +72,12 @@ hears_of_one false node port old new core stands known step acts =
 
 -- ---- the client's part
 
--- its node heard of it, or did not
+-- it was reported to its node, or not
 heard : (node : ℕ) (port : Port) (old new : NodesState) → HearsOfOne false node port old new → (new ≡ old) ⊎ TakesIn node (Opened port 0) old new
 heard node port old new (inl same) = inl same
 heard node port old new (inr hears) = inr hears.step
 
--- its connection is offered to the node, and taken back where that does not take it
+-- its connection is offered to the node, and removed again if that does not take it
 pub reaches : (taken : Bool) (node : ℕ) (port : Port) (old new : NodesState) (client mid later : Piped)
     → Opens (node - 1) port (keeper_step Call.Opens client.core.state) client (Ok tt) mid → ConnectingFollows (node - 1) port client (Ok tt) mid
     → HearsOfOne taken node port old new → later ≡ (if taken then mid else taken_back mid) → Reaches taken node port old client new later
@@ -87,7 +88,7 @@ reaches false node port old new client mid later opens follows hears is =
     subst (λ (p : Piped). Reaches false node port old client new p) (sym is)
     (taking_back_follows (node - 1) port client mid opens, hears, inr (mid, opens, refl, heard node port old new hears))
 
--- without one its connections lead where they led
+-- without one its connections lead to the same nodes
 pub back_leads : (taken : Bool) (node : ℕ) (port : Port) (client mid later : Piped) → Opens (node - 1) port (keeper_step Call.Opens client.core.state) client (Ok tt) mid
     → later ≡ (if taken then mid else taken_back mid) → taken ≡ false → leads later.ways ≡ leads client.ways
 back_leads true node port client mid later opens is none = absurd (both_ways true none refl)

@@ -20,14 +20,14 @@ shut place = record place { is_open = false }
 
 -- ---- one of them
 
--- the connection of this number, which stands at this place among them
+-- the connection of this number, which is at this place among them
 pub record IsOpenAt (s : ℕ) (ps : List Place) (at number : ℕ) : Type 0 where
   pub i : ℕ
   pub numbered : number ≡ s + i
   pub place : Place
   pub found : slice_get ps i ≡ Some place
   pub up : place.is_open ≡ true
-  -- where it is closed, it is none of them any more
+  -- if it is closed, it is no longer one of them
   pub closed : open_from s (set ps i (record place { is_open = false })) ≡ remove (open_from s ps) at
 
 first_open : (s : ℕ) (p : Place) (ps : List Place) (at number : ℕ) → p.is_open ≡ true → ((k : ℕ) → slice_get (open_from (suc s) ps) k ≡ Some number → IsOpenAt (suc s) ps k number)
@@ -94,7 +94,7 @@ stands_open ps at number e =
       up = r.up;
     }
 
--- the number that stands at a place of the list that a world keeps
+-- the number that is at a place of the list that a world keeps
 pub opened : (kept : List ℕ) (ps : List Place) (at number : ℕ) → kept ≡ open_from 1 ps → at < length (open_from 1 ps) → number ≡ get_or kept at number
     → slice_get (open_from 1 ps) at ≡ Some number
 opened kept ps at number is few there' =
@@ -110,7 +110,7 @@ closes ps at number place e stands =
     let same : place ≡ r.place = same_Some place r.place (sym stands ∙ ap (slice_get ps) less ∙ r.found) in
     sym (ap (λ (p : Place). open_from 1 (set ps (number - 1) (shut p))) same ∙ ap (λ (k : ℕ). open_from 1 (set ps k (shut r.place))) less ∙ r.closed)
 
--- where one stands whose end is open
+-- the place of one whose end is open
 pub stands_at : (s : ℕ) (ps : List Place) (i : ℕ) (place : Place) → slice_get ps i ≡ Some place → place.is_open ≡ true
     → slice_get (open_from s ps) (length (open_from s (take i ps))) ≡ Some (s + i)
 stands_at s [] i place e up = absurd (none-some place e)
@@ -150,7 +150,7 @@ open_no_more s (q ∷ ps) p shut_is = by q.is_open refl (open_no_more (suc s) ps
     by true is same = open_up s q (ps ++ p ∷ []) is ∙ ap (λ (l : List ℕ). s ∷ l) same ∙ sym (open_up s q ps is)
     by false is same = open_shut s q (ps ++ p ∷ []) is ∙ same ∙ sym (open_shut s q ps is)
 
--- ---- the newest of the first so many
+-- ---- the newest of the first `k`
 
 counted_up : (ps : List Place) (k : ℕ) (p : Place) → slice_get ps k ≡ Some p → p.is_open ≡ true
     → length (open_from 1 (take (suc k) ps)) ≡ suc (length (open_from 1 (take k ps)))
@@ -163,7 +163,7 @@ counted_shut : (ps : List Place) (k : ℕ) (p : Place) → slice_get ps k ≡ So
     → length (open_from 1 (take (suc k) ps)) ≡ length (open_from 1 (take k ps))
 counted_shut ps k p at is = ap (λ (l : List Place). length (open_from 1 l)) (take_next ps k p at) ∙ ap length (open_no_more 1 (take k ps) p is)
 
--- it is open, and all behind it are closed
+-- it is open, and all after it are closed
 pub record IsNewest (ps : List Place) (k m : ℕ) : Type 0 where
   pub i : ℕ
   pub place : Place
@@ -216,7 +216,7 @@ newest ps (suc k) m within many = by at_k.0 at_k.1 at_k.0.is_open refl (newest p
           behind = one_more_shut ps k p r.i at is r.behind;
         }
 
--- where there is none, all are closed
+-- if there is none, all are closed
 pub none_open : (ps : List Place) (k : ℕ) → k ≤ length ps → length (open_from 1 (take k ps)) ≡ 0 → (j : ℕ) (q : Place) → j < k → slice_get ps j ≡ Some q → q.is_open ≡ false
 none_open ps zero within none j q low e = absurd (omega (arith, low))
 none_open ps (suc k) within none j q low e = by at_k.0 at_k.1 at_k.0.is_open refl (same_or_other j k) (none_open ps k)

@@ -53,7 +53,7 @@ pub connects_on : (i node : ℕ) (old new : WorldState) → AreHoused (leads_of 
     → GoesOn old new
 connects_on i node old new housed losses nodes one = record { rises = omega (arith, losses); nodes = nodes; goes = connects_goes i node old new housed one }
 
--- what a client that has it makes of the world
+-- what a client that has it does to the world
 pub connects_at : (i node number at : ℕ) (old : WorldState) (client : WorldClient) (between : NodesState) (piped : Piped) (after : List Place) → slice_get old.clients i ≡ Some client
     → number ≡ suc (length old.connections) → at ≡ length client.piped.ways → after ≡ old.connections ++ record { client = i; at = at; node = node; is_open = true } ∷ []
     → HasNew node (port_of number) old.nodes client.piped between piped → ConnectsAt i node old (record (with_piped i client piped old) { nodes = between; connections = after })
@@ -70,7 +70,7 @@ connects_at i node number at old client between piped after found counted last i
 
 -- ---- it does not take it, or there is no memory for it
 
--- the nodes alone
+-- only the nodes
 turned : (old : WorldState) (new : NodesState) (node : ℕ) (port : Port) → AreHoused (leads_of old.clients) old.connections → length old.connections < port.0
     → HearsOfOne false node port old.nodes new → WorldGoes old (with_nodes new old)
 turned old new node port housed beyond (inl same) nodes config cs m trail s = world_stands old new (nodes_stay old.nodes new same) nodes config cs m trail s
@@ -122,17 +122,17 @@ opens_none node old i number client new later found counted none =
 
 -- ---- what is asked for is done
 
--- the connection that was asked for, exactly where the nodes counted no loss
+-- the connection that was asked for, exactly if the nodes counted no loss
 record IsOpened (name : List ℕ) (node : ℕ) (old new : WorldState) : Type 0 where
   less : OpensOne false name node old new
   exact : NodesLoseNothing old.nodes new.nodes → OpensOne true name node old new
 
--- where its node has a name left
+-- if its node has a name left
 roomy : (whole : Bool) (name : List ℕ) (node : ℕ) (old new : WorldState) → is_full (node_of old.nodes.nodes node) ≡ false → OpensOne whole name node old new
     → OpensUnless (is_full (node_of old.nodes.nodes node)) whole name node old new
 roomy whole name node old new left one = subst (λ (full : Bool). OpensUnless full whole name node old new) (sym left) one
 
--- and where it has none
+-- and if it has none
 spent : (whole : Bool) (name : List ℕ) (node : ℕ) (old new : WorldState) → is_full (node_of old.nodes.nodes node) ≡ true → new ≡ old
     → OpensUnless (is_full (node_of old.nodes.nodes node)) whole name node old new
 spent whole name node old new none same = subst (λ (full : Bool). OpensUnless full whole name node old new) (sym none) same

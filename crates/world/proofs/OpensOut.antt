@@ -1,4 +1,5 @@
--- A client opens a connection at the primary of the new ballot: its CONNECT is all that is under way, and the primary awaits it.
+-- A client opens a connection at the primary of the new ballot: its CONNECT is all that is in
+-- transit, and the primary awaits it.
 use Rattle.std.proofs.Common.{◌≡◌, ◌⊎◌, inl, inr, ◌<◌, ◌-◌, ◌&&◌, ℕ, suc, Bool, true, false, not, List, [], ◌∷◌, ◌++◌, Option, Some, length, slice_get, refl, sym, ap, ◌∙◌, subst, arith}
 use Rattle.std.specs.List.{position}
 use Rattle.std.proofs.lemmas.Bool.{both_ways}
@@ -52,7 +53,7 @@ use Rattle.world.proofs.StandsOn.{IsNewest}
 use Rattle.world.proofs.StandsThere.{core_found}
 use Rattle.world.proofs.WaitsOn.{own_waits}
 
--- the world then: the connection is its newest, and these bytes are under way up on it
+-- the world then: the connection is its newest, and these bytes are in transit up on it
 pub record HasOpened (name : List ℕ) (state : ClientState) (a : Moment State Command Output) (ballot place : ℕ) (os : List ℕ) (log : List Command) (number : ℕ) (old after : WorldState) : Type 0 where
   pub awaits : IsOpened a after.nodes ballot place os log (port_of number)
   pub i : ℕ
@@ -185,7 +186,7 @@ module _ (name : List ℕ) (before : Core) (a : Moment State Command Output) (ba
               passes.nodes;
         }
 
-  -- so a run goes on from there
+  -- so a run continues from there
   pub record OpenedTo (more : List Event) (new : WorldState) : Type 0 where
     pub after : WorldState
     pub has : HasOpened name before.state a ballot place os log (next_number old) old after

@@ -1,4 +1,4 @@
--- PutsDown.antt: what a node hands over is put behind what is under way down.
+-- PutsDown.antt: what a node hands over is put after what is in transit down.
 use Rattle.std.proofs.Common.{◌≡◌, inl, inr, ◌↔◌, ◌≤◌, ◌-◌, ℕ, Bool, List, ◌++◌, Option, Some, None, Result, Ok, Err, OnErr, slice_get, refl, sym, ap, ◌∙◌, subst}
 use Rattle.std.specs.Prelude.{IfSome, IfOk, IsErr}
 use Rattle.std.proofs.lemmas.List.{append-nil, set-set}
@@ -44,7 +44,7 @@ handed_down r is_open node port old new before after eq idle does same = by r eq
     by (Ok h) eq idle does same = one h eq does
     by (Err x) eq idle does same = inl (subst (HandsExactly node port old before new after is_open) (sym (idle.0 refl)) (same.0, same.1 ∙ sym (append-nil before), eq))
 
--- whatever memory does
+-- even if memory runs out
 pub may_hand_down : (r : Result Handed Idle) (node : ℕ) (port : Port) (old new : NodesState) (before behind : List ℕ) → IfOk r (λ handed. HandsIn node port old new before behind handed)
     → OnErr r ((new ≡ old) × (behind ≡ before)) → MayHandDown node port old before new behind
 may_hand_down (Ok h) node port old new before behind does same = by does
@@ -54,7 +54,7 @@ may_hand_down (Ok h) node port old new before behind does same = by does
     by (inr rests) = inl (nodes_forget old new rests.0, rests.1)
 may_hand_down (Err e) node port old new before behind does same = inl (nodes_stay old new same.0, same.1)
 
--- and so the nodes go on
+-- and so the nodes continue
 pub handing_goes : (node : ℕ) (port : Port) (old new : NodesState) (before behind : List ℕ) → old.losses ≤ new.losses → MayHandDown node port old before new behind → NodesGoOn old new
 handing_goes node port old new before behind rises (inl stays) = record { rises = rises; goes = staying_goes old new stays.0 }
 handing_goes node port old new before behind rises (inr hands) = record { rises = rises; goes = acts_go (Some (node - 1, gives port)) old new hands.0 }

@@ -1,4 +1,5 @@
--- The primary puts the CONNACK out first, and it is under way down: at once, or with the last answer of the others.
+-- The primary puts the CONNACK out first, and it is in transit down: at once, or with the last
+-- answer of the others.
 use Rattle.std.proofs.Common.{◌≡◌, ◌<◌, ◌+◌, ◌*◌, ℕ, zero, suc, Bool, true, List, [], ◌∷◌, ◌++◌, Option, Some, None, slice_get, refl, sym, ap, ◌∙◌, subst, append_assoc, arith}
 use Rattle.std.specs.List.{position}
 use Rattle.std.proofs.lemmas.Option.{none-some, same_Some}
@@ -38,7 +39,7 @@ use Rattle.world.proofs.PassesOn.{Passes, gathers_passes}
 use Rattle.world.proofs.StandsOn.{IsNewest, own_gathered}
 use Rattle.world.proofs.WaitsOn.{newest_with}
 
--- the CONNACK comes first of what is under way down on a client's newest connection
+-- the CONNACK comes first of what is in transit down on a client's newest connection
 pub record IsAnswered (name : List ℕ) (i at number place : ℕ) (core : Core) (old after : NodesState) (w : WorldState) : Type 0 where
   pub up : List ℕ
   pub down : List ℕ
@@ -49,7 +50,7 @@ pub record IsAnswered (name : List ℕ) (i at number place : ℕ) (core : Core) 
   pub nodes : NodesGo old after
   pub master : after.master ≡ old.master
 
--- .. in a world from which a run goes on
+-- .. in a world from which a run continues
 pub record AnsweredTo (name : List ℕ) (i at number place : ℕ) (core : Core) (old : NodesState) (more : List Event) (new : WorldState) : Type 0 where
   pub after : WorldState
   pub is : IsAnswered name i at number place core old after.nodes after

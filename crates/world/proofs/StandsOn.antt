@@ -1,4 +1,5 @@
--- The newest connection of a client, while connections are asked: what its node put out for it goes down, and nothing else happens to it.
+-- The newest connection of a client, while connections are asked for bytes: what its node queued
+-- for it goes down, and nothing else happens to it.
 use Rattle.std.proofs.Common.{◌≡◌, ◌⊎◌, inl, inr, ◌<◌, ◌-◌, ◌==◌, ◌&&◌, ℕ, zero, suc, Bool, true, false, List, ◌++◌, Option, Some, length, set, slice_get, refl, sym, ap, ◌∙◌, subst, arith}
 use Rattle.std.proofs.lemmas.Bool.{eq-eqb, ne_eqb}
 use Rattle.std.proofs.lemmas.List.{length-set}
@@ -20,7 +21,7 @@ use Rattle.world.proofs.LeadsKept.{IsLed, led, led_there}
 use Rattle.world.proofs.PassesOn.{at_number, where_passes}
 use Rattle.world.proofs.StandsThere.{numbered_at}
 
--- it is the newest of all: where it stands at its client and its node, and what is under way on it
+-- it is the newest of all: where it is at its client and its node, and what is in transit on it
 pub record IsNewest (i at number node : ℕ) (core : Core) (up down : List ℕ) (is_open : Bool) (w : WorldState) : Type 0 where
   pub client : WorldClient
   pub found : slice_get w.clients i ≡ Some client

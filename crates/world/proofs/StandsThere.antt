@@ -1,4 +1,5 @@
--- StandsThere.antt: a connection that was opened is found, with its client and what is under way on it.
+-- StandsThere.antt: a connection that was opened is found, with its client and what is in transit
+-- on it.
 use Rattle.std.proofs.Common.{◌≡◌, ◌<◌, ◌-◌, ℕ, zero, suc, Bool, if◌then◌else◌, List, Option, Some, None, length, slice_get, ap, ◌∙◌, arith}
 use Rattle.std.specs.List.{position}
 use Rattle.std.proofs.lemmas.Bool.{ne_eqb}

@@ -3,7 +3,7 @@ use Rattle.std.proofs.Common.{◌≡◌, ℕ, zero, suc, List, [], ◌∷◌, �
 use Rattle.std.proofs.lemmas.List.{reverse-append, reverse-reverse}
 use Rattle.std.proofs.lemmas.Option.{same_Some, none-some}
 
--- ---- what stands at a place
+-- ---- what is at a place
 
 record SplitAt {X : Type 0} (xs : List X) (i : ℕ) (y : X) : Type 0 where
   front : List X
@@ -25,7 +25,7 @@ get_seam : {X : Type 0} (front : List X) (y : X) (back : List X) → slice_get (
 get_seam [] y back = refl
 get_seam (z ∷ zs) y back = get_seam zs y back
 
--- what stands at a place of a mapped list stood there before
+-- what is at a place of a mapped list was there before
 pub record MappedFrom {X Y : Type 0} (f : X → Y) (xs : List X) (n : ℕ) (y : Y) : Type 0 where
   pub x : X
   pub found : slice_get xs n ≡ Some x
@@ -66,7 +66,7 @@ one_turned front y back =
     joined [] = refl
     joined (z ∷ zs) = ap (λ r. z ∷ r) (joined zs)
 
--- where what stands at a place of a list stands in the one that is turned round
+-- the place of an element of a list in the reversed list
 pub record IsTurned {X : Type 0} (xs : List X) (i : ℕ) (y : X) : Type 0 where
   pub place : ℕ
   pub found : slice_get (reverse xs) place ≡ Some y

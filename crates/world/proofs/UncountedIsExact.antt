@@ -1,4 +1,4 @@
--- UncountedIsExact.antt: an event that was not idle was done exactly, where no loss was counted.
+-- UncountedIsExact.antt: an event that was not idle was done exactly, if no loss was counted.
 use Rattle.std.proofs.Common.{inl, inr, ap, arith}
 use Rattle.std.specs.Prelude.{Ok}
 use Rattle.world.specs.declared.event.Event.{Event}

@@ -1,4 +1,5 @@
--- Walked.antt: to ask the connections whose end is open alone is to ask all, since the others are passed over.
+-- Walked.antt: asking only the connections whose end is open is asking all, since the others are
+-- skipped.
 use Rattle.std.proofs.Common.{◌≡◌, inl, inr, ◌⊎◌, ◌≤◌, ◌<◌, ◌+◌, ◌-◌, ◌==◌, ◌&&◌, ℕ, zero, suc, Bool, true, false, List, Some, length, set, slice_get, take, refl, sym, ap, ◌∙◌, subst, arith}
 use Rattle.std.proofs.lemmas.Bool.{eq-eqb, ne_eqb}
 use Rattle.std.proofs.lemmas.List.{length-set, take-set, take_all}
@@ -16,7 +17,7 @@ use Rattle.world.proofs.OpenEnds.{IsNewest, newest, none_open, stands_at}
 use Rattle.world.proofs.StandsThere.{numbered_at}
 use Rattle.world.proofs.Turned.{there}
 
--- ---- those that are passed over
+-- ---- those that are skipped
 
 never : (b : Bool) → (b && false) ≡ false
 never true = refl
@@ -59,7 +60,7 @@ all_passed node count (suc n) low initial now below within shut g = by (same_or_
 
 -- ---- the walk
 
--- so many of those whose end is open are still to be asked
+-- this many of those whose end is open are still to be asked
 pub record IsWalking (node at : ℕ) (initial now : WorldState) : Type 0 where
   pub number : ℕ
   pub within : number ≤ length now.connections
@@ -75,7 +76,7 @@ walk_begins node at w counted rests =
       gathering = record { goes = rests; rest = λ later more. more };
     }
 
--- the newest of them, by the place at which it stands among them
+-- the newest of them, by its place among them
 next_found : (node at : ℕ) (initial now : WorldState) (w : IsWalking node (suc at) initial now) (r : IsNewest now.connections w.number at)
     → slice_get (open_from 1 now.connections) at ≡ Some (1 + r.i)
 next_found node at initial now w r =
@@ -138,7 +139,7 @@ asks_none node at number place w stands found positive other =
     elsewhere =
         ap (is_open_at node) (numbered_at number w.connections (Some place) positive found) ∙ ap (λ (b : Bool). b && place.is_open) (ne_eqb place.node node other)
 
--- it leads to the node, and this is told of its end
+-- it leads to the node, and this is known about its end
 pub asks_one : (node at number : ℕ) (place : Place) (is_open : Bool) (old mid new : WorldState) → slice_get (open_from 1 old.connections) at ≡ Some number
     → slice_get old.connections (number - 1) ≡ Some place → 0 < number → place.is_open ≡ true → place.node ≡ node → mid.connections ≡ old.connections
     → MayHandOn number place old is_open mid → new ≡ marked number place is_open mid → AsksAt node at old new

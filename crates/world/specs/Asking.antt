@@ -12,7 +12,8 @@ use Rattle.world.specs.Doing.{Asks}
 use Rattle.world.specs.Happening.{Happens}
 use Rattle.world.specs.World.{WorldState}
 
--- the client of this identifier was asked to publish: its call was done, once, though its connection may be lost with it
+-- the client of this identifier was asked to publish: its call was done, once, and the client may
+-- have lost its connection in it
 pub record AsksOne (name : List ℕ) (p : Publication) (old : WorldState) (asked : List (ℕ × Publication)) (new : WorldState) : Type 0 where
   pub client : Named name old
   pub piped : Piped
@@ -25,17 +26,17 @@ pub record AsksNone (old : WorldState) (asked : List (ℕ × Publication)) (new 
   pub is : new ≡ record old { losses = one_more old.losses }
   pub none : asked ≡ []
 
--- only a Publish asks
+-- only a Publish asks a client
 abbrev pub AskedBy : Event → WorldState → List (ℕ × Publication) → WorldState → Type 0
 AskedBy (events.Publish name p) old asked new = AsksOne name p old asked new ⊎ AsksNone old asked new
 AskedBy _ old asked new = asked ≡ []
 
--- and only one that was not idle
+-- and only an event that was not idle
 abbrev pub IsAsked : Event → WorldState → Result (Unit {0}) Idle → List (ℕ × Publication) → WorldState → Type 0
 IsAsked event old (Err idle) asked new = asked ≡ []
 IsAsked event old (Ok done) asked new = AskedBy event old asked new
 
--- events, one after the other, and what they asked
+-- events, one after another, and what they asked
 abbrev pub RunAsks : List Event → WorldState → List (ℕ × Publication) → WorldState → Type 0
 RunAsks [] old asked new = (asked ≡ []) × (new ≡ old)
 RunAsks (event ∷ events) old asked new =

@@ -30,7 +30,7 @@ abbrev pub Refuses : Call → Option Core → Type 0
 Refuses call None = Unit {0}
 Refuses call (Some core) = (keeper_step call core.state).refusal ≡ None → ⊥
 
--- whether a node is there, runs, and is the primary of an active ballot
+-- whether a node exists, runs, and is the primary of an active ballot
 abbrev pub is_serving : Option CountedCore → Bool
 is_serving None = false
 is_serving (Some node) = serves node.core

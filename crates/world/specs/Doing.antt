@@ -1,4 +1,4 @@
--- What an event does: exactly, or where losses are allowed (`whole` is false) perhaps with losses.
+-- What an event does: exactly, or, if losses are allowed (`whole` is false), perhaps with losses.
 use Rattle.std.specs.Prelude.{◌≡◌, ◌⊎◌, ℕ, suc, ◌-◌, Bool, true, false, not, List, [], ◌∷◌, ◌++◌, Option, Some, None, Result, Ok, Err, length, slice_get, take}
 use Rattle.ballot.specs.Config.{Config}
 use Rattle.ballot.specs.Message.{Message}
@@ -24,7 +24,7 @@ use Rattle.world.specs.Found.{Connected, Named, port_of, with_less, with_piped}
 use Rattle.world.specs.Gathering.{Gathers, TakesItem}
 use Rattle.world.specs.World.{WorldState}
 
--- the master gives a ballot, and an answer of it is heard
+-- the master gives a ballot, or answers an Activate
 abbrev pub Assigns : Bool → Config → NodesState → NodesState → Type 0
 Assigns true config old new = new ≡ behind_giving config old
 Assigns false config old new = GivesIn config old new
@@ -38,7 +38,7 @@ abbrev pub CutsLog : Bool → ℕ → NodesState → NodesState → Type 0
 CutsLog true node old new = CutsExactly node old new
 CutsLog false node old new = CutsIn node old new
 
--- a node proposes that the session of a client ends
+-- a node proposes to end the session of a client
 abbrev pub Proposes : Bool → List ℕ → ℕ → NodesState → NodesState → Type 0
 Proposes true name node old new = TakesExactly node (items.Expel name) old new
 Proposes false name node old new = ExpelsIn name node old new
@@ -48,17 +48,17 @@ abbrev pub receiver_of : Option (ℕ × Message Command) → ℕ
 receiver_of None = 0
 receiver_of (Some (receiver, message)) = receiver
 
--- the client of this identifier does this, and nothing else is changed
+-- the client of this identifier does this, and nothing else changes
 abbrev pub ClientDoes : List ℕ → (Piped → Piped → Type 0) → WorldState → WorldState → Type 0
 ClientDoes name does old new =
     (c : Named name old) × (piped : Piped) × does c.client.piped piped × (new ≡ with_piped c.at c.client piped old)
 
--- what it writes is on its way; where losses are allowed, its connection may be lost instead
+-- what it writes is in transit; if losses are allowed, its connection may be lost instead
 abbrev pub Asks : Call → Bool → Piped → Piped → Type 0
 Asks call true old new = Calls (keeper_step call old.core.state) old (Ok sendings.Sent) new
 Asks call false old new = (sending : Sending) × Calls (keeper_step call old.core.state) old (Ok sending) new
 
--- it is lost: it found no memory for what the client wrote
+-- it is lost: there was no memory for what the client wrote
 abbrev pub LosesAsking : Call → Piped → Piped → Type 0
 LosesAsking call old new = Calls (keeper_step call old.core.state) old (Ok sendings.Lost) new
 
@@ -69,16 +69,16 @@ Leaves false old new = (sending : Sending) × TakesLeave (keeper_step Call.Disco
 abbrev pub LosesLeaving : Piped → Piped → Type 0
 LosesLeaving old new = TakesLeave (keeper_step Call.Disconnects old.core.state) old (Ok sendings.Lost) new
 
--- what is under way stays
+-- what is in transit stays
 abbrev pub Loses : Piped → Piped → Type 0
 Loses old new = new ≡ record old { core = gone old.core }
 
--- whatever it makes of the bytes; it runs out of memory only where losses are allowed
+-- whatever it does with the bytes; it runs out of memory only if losses are allowed
 abbrev pub HearsThem : Bool → ℕ → Piped → Piped → Type 0
 HearsThem whole count old new =
     (result : Result (Unit {0}) ClientError) × (whole ≡ true → result ≡ Err errors.Memory → ⊥) × Hears count old result new
 
--- a client has a new connection to a node: its CONNECT is under way on it, under the next number
+-- a client has a new connection to a node: its CONNECT is in transit on it, under the next number
 abbrev pub next_number : WorldState → ℕ
 next_number w = suc (length w.connections)
 
@@ -92,13 +92,14 @@ with_connection {w = w} c piped node =
           ++ record { client = c.at; at = length c.client.piped.ways; node = node; is_open = true } ∷ [];
     }
 
--- its node takes the connection, and what it put out then goes down
+-- its node takes the connection, and what the node queued then goes down
 abbrev pub OpensOne : Bool → List ℕ → ℕ → WorldState → WorldState → Type 0
 OpensOne whole name node old new =
     (c : Named name old) × (piped : Piped) × ConnectsTo node (next_number old) c.client.piped piped
     × TakesItem whole node (items.Opened (port_of (next_number old)) 0) (with_connection c piped node) new
 
--- No connection comes about: the client runs out of memory, or its node does not take the connection, and it is taken back.
+-- There is no new connection: the client runs out of memory, or its node does not take the
+-- connection, and it is removed.
 abbrev pub NoneOpens : ℕ → Port → NodesState → Piped → NodesState → Piped → Type 0
 NoneOpens node port old client new later =
     ((cause : ClientError) × Connects (node - 1) port (keeper_step Call.Opens client.core.state) client (Err cause) later × (new ≡ old))
@@ -111,7 +112,8 @@ OpensNone name node old new =
     × NoneOpens node (port_of (next_number old)) old.nodes c.client.piped between piped
     × (new ≡ record (with_piped c.at c.client piped old) { nodes = between })
 
--- Whether the names of its ballot are spent. Then the connection is closed at once, without a byte: nothing is left of it.
+-- Whether the names of the node's ballot are used up. Then the connection is closed at once,
+-- without a byte: nothing is left of it.
 abbrev pub is_full : Option CountedCore → Bool
 is_full None = false
 is_full (Some node) = not (is_connection_name (next_name node.core))
@@ -151,8 +153,8 @@ Does whole (events.Publish name publication) old new = ClientDoes name (Asks (Ca
 Does whole (events.Subscribe name filter qos) old new = ClientDoes name (Asks (Call.Subscribes filter qos) whole) old new
 Does whole (events.Unsubscribe name filter) old new = ClientDoes name (Asks (Call.Unsubscribes filter) whole) old new
 
--- Where memory runs out, and at no node: a client makes its call, and its connection is lost; it has no memory for what it hears; or no
--- connection comes about.
+-- How memory runs out at a client and not at a node: a client makes its call, and its connection is
+-- lost; it has no memory for what it receives; or there is no new connection.
 abbrev pub LosesAtClient : Event → WorldState → WorldState → Type 0
 LosesAtClient (events.Open name node) old new = OpensNone name node old new
 LosesAtClient (events.CarryDown number count) old new =

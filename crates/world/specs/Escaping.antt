@@ -34,7 +34,7 @@ abbrev pub is_up : Option CountedCore → Bool
 is_up None = false
 is_up (Some node) = not node.core.replica.state.stopped
 
--- whether the node of a number is there and has not stopped
+-- whether the node of a number exists and has not stopped
 abbrev pub is_running : List CountedCore → ℕ → Bool
 is_running nodes node = is_up (node_of nodes node)
 
@@ -42,9 +42,9 @@ abbrev pub held_in : Option CountedCore → ℕ
 held_in None = 0
 held_in (Some node) = places node.core.replica.state.log
 
--- The master gives the next ballot to these members, and each of them runs. Of the active configuration the first member that runs,
--- which its place tells, has room for two more commands. The client has a session that is not clean after the whole log of that
--- member, agreed or not.
+-- The master gives the next ballot to these members, and each of them runs. The first member of the
+-- active configuration that runs, given by its index, has room for two more commands. The client
+-- has a session that is not clean after the whole log of that member, agreed or not.
 pub record CanEscape (members : List ℕ) (name : Client) (w : WorldState) : Type 0 where
   pub granted : refusal w.nodes.master (configuration_of members) ≡ None
   pub live : list_all (is_running w.nodes.nodes) members ≡ true
@@ -59,8 +59,8 @@ pub record CanEscape (members : List ℕ) (name : Client) (w : WorldState) : Typ
 
 -- ---- what it leads to
 
--- The ballot that was to be given next is active. What was agreed before begins what is agreed now. The client is online, and its
--- last CONNACK told that its session is present.
+-- The ballot that was to be given next is active. What was agreed before is a prefix of what is
+-- agreed now. The client is online, and its last CONNACK said that its session is present.
 pub record HasEscaped (name : Client) (old new : WorldState) : Type 0 where
   pub active : new.nodes.master.active ≡ old.nodes.master.given + 1
   pub agreed : (before after : List Command) → AgreeOn old.nodes before → AgreeOn new.nodes after → IsPrefixOf before after
@@ -69,7 +69,7 @@ pub record HasEscaped (name : Client) (old new : WorldState) : Type 0 where
   pub online : is_online core.state.stage ≡ true
   pub present : core.state.present ≡ true
 
--- whatever led to the world, where no event of these loses anything
+-- whatever happened before, if none of these events loses anything
 abbrev pub LeadsOut : Client → WorldState → List Event → Type 0
 LeadsOut name w events =
     (nodes : ℕ) (config : Config) (clients : List Client) (new : WorldState) → IsReached nodes config clients w → Run events w new → LosesNothing w new →

@@ -26,14 +26,14 @@ core_at (Some at) clients = core_of (slice_get clients at)
 abbrev pub core_named : List ℕ → List WorldClient → Option Core
 core_named name clients = core_at (position (is_named name) clients) clients
 
--- there it is
+-- it is found at this index
 pub record Named (name : List ℕ) (w : WorldState) : Type 0 where
   pub at : ℕ
   pub first : position (is_named name) w.clients ≡ Some at
   pub client : WorldClient
   pub stands : slice_get w.clients at ≡ Some client
 
--- the client at this place has become this, and nothing else is changed
+-- the client at this index has become this one, and nothing else changes
 abbrev pub with_piped : ℕ → WorldClient → Piped → WorldState → WorldState
 with_piped at client piped w = record w { clients = set w.clients at (record client { piped = piped }) }
 
@@ -55,11 +55,11 @@ way_at (Some place) clients = way_in (slice_get clients place.client) place.at
 abbrev pub way_of : ℕ → WorldState → Option Way
 way_of number w = way_at (place_numbered number w.connections) w.clients
 
--- by which its node knows it
+-- the port by which its node knows it
 abbrev pub port_of : ℕ → Port
 port_of number = record { 0 = number }
 
--- There it is: where it stands, whose it is, and what is under way on it.
+-- A connection is found: its state, its client, and what is in transit on it.
 pub record Connected (number : ℕ) (w : WorldState) : Type 0 where
   pub place : Place
   pub numbered : place_numbered number w.connections ≡ Some place
@@ -68,10 +68,10 @@ pub record Connected (number : ℕ) (w : WorldState) : Type 0 where
   pub way : Way
   pub stands : slice_get client.piped.ways place.at ≡ Some way
 
--- these bytes are under way down on a client's connection at this place
+-- these bytes are in transit down on the client's connection at this index
 abbrev pub with_down : ℕ → Way → List ℕ → Piped → Piped
 with_down at way bytes client = record client { ways = set client.ways at (record way { down = bytes }) }
 
--- the first so many bytes are gone from those under way up
+-- this many bytes are removed from the front of those in transit up
 abbrev pub with_less : ℕ → ℕ → Way → Piped → Piped
 with_less at count way client = record client { ways = set client.ways at (record way { up = drop count way.up }) }

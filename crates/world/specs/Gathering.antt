@@ -1,4 +1,5 @@
--- What a node put out goes down on its connections: exactly, or where losses are allowed (`whole` is false) perhaps with losses.
+-- What a node queued goes down on its connections: exactly, or, if losses are allowed (`whole` is
+-- false), perhaps with losses.
 use Rattle.std.specs.Prelude.{◌≡◌, ◌⊎◌, ℕ, zero, suc, ◌-◌, ◌==◌, ◌&&◌, Bool, true, false, List, [], ◌++◌, Option, Some, None, length, set}
 use Rattle.exact_model.specs.node_model.Moves.Deed.{gives}
 use Rattle.world_pipes.specs.world_base.Core.{CountedCore}
@@ -14,9 +15,9 @@ use Rattle.world.specs.declared.place.Place.{Place}
 use Rattle.world.specs.Found.{Connected, place_numbered, port_of, with_down, with_piped}
 use Rattle.world.specs.World.{WorldState}
 
--- ---- what a node tells of a port, if it is there
+-- ---- what a node says about a port, if the node exists
 
--- the bytes that it put out and did not hand over before
+-- the bytes that it queued and has not yet handed over
 abbrev pub put_out : Port → Option CountedCore → List ℕ
 put_out port None = []
 put_out port (Some node) = bytes_of (listed_at port node.core)
@@ -37,8 +38,8 @@ Gives (Some core) node port old new = new ≡ behind_deed (node - 1) core (gives
 
 -- ---- one connection
 
--- What its node put out for it is under way down, behind what was, and its end there counts as open exactly where the node
--- tells that it is.
+-- What its node queued for it is in transit down, after what was, and its end there counts as open
+-- exactly if the node says that it is.
 pub record IsAsked (number : ℕ) (old new : WorldState) : Type 0 where
   pub c : Connected number old
   pub node : Option CountedCore
@@ -56,7 +57,8 @@ abbrev pub is_open_at : ℕ → Option Place → Bool
 is_open_at node None = false
 is_open_at node (Some place) = (place.node == node) && place.is_open
 
--- where losses are allowed: or its node ran out of memory, so nothing went down, its end stays as it was, and that is counted
+-- if losses are allowed: or its node ran out of memory, so nothing went down, its end stays as it
+-- was, and that is counted
 abbrev pub MayBeAsked : Bool → ℕ → WorldState → WorldState → Type 0
 MayBeAsked true number old new = IsAsked number old new
 MayBeAsked false number old new = IsAsked number old new ⊎ (new ≡ record old { nodes = forgetful old.nodes })
@@ -67,7 +69,7 @@ AskedWhere whole false number old new = new ≡ old
 
 -- ---- the connections of a node
 
--- the first so many connections, from the newest of these to the oldest
+-- this many connections, from the newest of these to the oldest
 abbrev pub GathersAmong : Bool → ℕ → ℕ → WorldState → WorldState → Type 0
 GathersAmong whole zero node old new = new ≡ old
 GathersAmong whole (suc before) node old new =
@@ -79,12 +81,12 @@ abbrev pub Gathers : Bool → ℕ → WorldState → WorldState → Type 0
 Gathers whole zero old new = new ≡ old
 Gathers whole (suc at) old new = GathersAmong whole (length old.connections) (suc at) old new
 
--- a node takes just this item; where losses are allowed, perhaps with losses
+-- a node takes just this item; if losses are allowed, perhaps with losses
 abbrev pub TakesWhere : Bool → ℕ → Item → NodesState → NodesState → Type 0
 TakesWhere true node item old new = TakesExactly node item old new
 TakesWhere false node item old new = TakesIn node item old new
 
--- and what it put out then goes down
+-- and what it queued then goes down
 abbrev pub TakesItem : Bool → ℕ → Item → WorldState → WorldState → Type 0
 TakesItem whole node item old new =
     (between : NodesState) × TakesWhere whole node item old.nodes between × Gathers whole node (record old { nodes = between }) new

@@ -1,4 +1,4 @@
--- What the nodes of a world do is what may happen in a group, and so they agree.
+-- What the nodes of a world do may happen in a group, and so they agree.
 use Rattle.std.specs.Prelude.{◌≡◌, ◌⊎◌, ◌<◌, ◌≤◌, ◌^◌, ◌-◌, ℕ, List, ◌∷◌}
 use Rattle.lists.specs.Lists.{IsPrefixOf}
 use Rattle.ballot.specs.Losses.{one_more}
@@ -13,19 +13,19 @@ use Rattle.exact_model.specs.group_model.Order.{KeepsOrder}
 use Rattle.escaping_nodes.specs.world_nodes.Nodes.{NodesState, StandsFor}
 use Rattle.world.specs.World.{WorldState}
 
--- ---- steps of a group, one behind the other
+-- ---- steps of a group, one after another
 
 pub data Goes (g : Group) : Group → Type 0 where
   rests : Goes g g
   goes_on : {h k : Group} → Goes g h → MayGo h k → Goes g k
 
--- a group goes on so, and then stands for these nodes
+-- a group moves in this way, and then corresponds to these nodes
 pub record GoesTo (g : Group) (new : NodesState) : Type 0 where
   pub behind : Group
   pub goes : Goes g behind
   pub stands : StandsFor behind new
 
--- each group that stands for the nodes before does
+-- each group that corresponds to the nodes before moves in this way
 abbrev pub NodesGo : NodesState → NodesState → Type 0
 NodesGo old new = (g : Group) → StandsFor g old → GoesTo g new
 
@@ -36,7 +36,7 @@ pub record NodesGoOn (old new : NodesState) : Type 0 where
 
 -- ---- worlds
 
--- the count is exact as long as it stands below its greatest number
+-- the count is exact as long as it is below its greatest number
 abbrev pub LosesNothing : WorldState → WorldState → Type 0
 LosesNothing old new = (new.losses ≡ old.losses) × (old.losses < 2 ^ 64 - 1)
 
@@ -44,16 +44,17 @@ LosesNothing old new = (new.losses ≡ old.losses) × (old.losses < 2 ^ 64 - 1)
 abbrev pub CountsOnce : WorldState → WorldState → Type 0
 CountsOnce old new = (new.losses ≡ old.losses) ⊎ (new.losses ≡ one_more old.losses)
 
--- its count never falls, and its nodes go on as a group
+-- its count never falls, and its nodes move as a group
 pub record WorldGoesOn (old new : WorldState) : Type 0 where
   pub rises : old.losses ≤ new.losses
   pub goes : NodesGo old.nodes new.nodes
 
 -- ---- agreement
 
--- The nodes are those of a group that went on from its opening with so many nodes, in this configuration. There is an agreed
--- list; the nodes agree on it, hold it, and what their replicas gave is its answers in order; and of each connection it has,
--- as each log has, a beginning of the packets that nodes put for it, in order.
+-- The nodes are those of a group that moved from its opening with this many nodes, in this
+-- configuration. There is an agreed list; the nodes agree on it, hold it, and the outputs of their
+-- replicas are its answers in order; and for each connection it has, as each log has, a prefix of
+-- the packets that nodes proposed for it, in order.
 pub record AreReached (nodes : ℕ) (config : Config) (new : NodesState) : Type 0 where
   pub group : Group
   pub went : Went nodes config group
@@ -65,11 +66,11 @@ pub record AreReached (nodes : ℕ) (config : Config) (new : NodesState) : Type 
   pub holds : Holds (moment_of group).master (moment_of group).world list
   pub leaves : LeftInOrder rules (moment_of group ∷ order.of.earlier) (moment_of group).world list
 
--- nodes that are reached still are behind it
+-- nodes that can be reached can still be reached after it
 abbrev pub StaysReached : NodesState → NodesState → Type 0
 StaysReached old new = (nodes : ℕ) (config : Config) → AreReached nodes config old → AreReached nodes config new
 
--- .. and the list on which they agreed before is a beginning of the list on which they agree then
+-- .. and the list on which they agreed before is a prefix of the list on which they agree then
 abbrev pub AgreedGrows : NodesState → NodesState → Type 0
 AgreedGrows old new =
     (nodes : ℕ) (config : Config) (before : AreReached nodes config old) →

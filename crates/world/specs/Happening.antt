@@ -1,4 +1,4 @@
--- What happens in a world: what comes of one event and of a list of them, and how a world begins.
+-- What happens in a world: what one event and a list of events do, and how a world begins.
 use Rattle.std.specs.Prelude.{◌≡◌, ◌⊎◌, ◌<◌, ◌^◌, ◌-◌, ℕ, true, false, List, [], ◌∷◌, Result, Ok, Err, map}
 use Rattle.ballot.specs.Config.{Config}
 use Rattle.ballot.specs.Losses.{one_more}
@@ -15,7 +15,7 @@ use Rattle.world.specs.Cannot.{CannotHappen}
 use Rattle.world.specs.Doing.{Does, LosesAtClient}
 use Rattle.world.specs.Quiet.{TakesNoMemory}
 
--- ---- what comes of events
+-- ---- what events do
 
 -- the event can happen, what it asks was done, and no loss is counted
 pub record HappensExactly (event : Event) (old new : WorldState) : Type 0 where
@@ -23,8 +23,9 @@ pub record HappensExactly (event : Event) (old new : WorldState) : Type 0 where
   pub does : Does true event old new
   pub uncounted : new.losses ≡ old.losses
 
--- The event can happen and takes memory; nothing was done, or what the event asks was done with losses; and one loss is counted. Where
--- something was done, memory ran out at a client, or the nodes counted a loss. Their count stays at 2^64 - 1, and tells nothing there.
+-- The event can happen and takes memory; nothing was done, or what the event asks was done with
+-- losses; and one loss is counted. If something was done, memory ran out at a client, or the nodes
+-- counted a loss. Their count saturates at 2^64 - 1, and shows nothing there.
 pub record HappensLosing (event : Event) (old new : WorldState) : Type 0 where
   pub can : CannotHappen event old → ⊥
   pub needs : TakesNoMemory event old → old.nodes.losses < 2 ^ 64 - 1 → ⊥
@@ -33,12 +34,13 @@ pub record HappensLosing (event : Event) (old new : WorldState) : Type 0 where
   pub lost : (done ≡ old) ⊎ LosesAtClient event old done ⊎ (NodesLoseNothing old.nodes done.nodes → ⊥)
   pub counted : new ≡ record done { losses = one_more old.losses }
 
--- Idle comes exactly where the event cannot happen, and then nothing is changed. Else the event was done exactly, or a loss is counted.
+-- Idle comes exactly if the event cannot happen, and then nothing changes. Otherwise the event was
+-- done exactly, or a loss is counted.
 abbrev pub Happens : Event → WorldState → Result (Unit {0}) Idle → WorldState → Type 0
 Happens event old (Err idle) new = CannotHappen event old × (new ≡ old)
 Happens event old (Ok done) new = HappensExactly event old new ⊎ HappensLosing event old new
 
--- events, one behind the other
+-- events, one after another
 abbrev pub Run : List Event → WorldState → WorldState → Type 0
 Run [] old new = new ≡ old
 Run (event ∷ events) old new =

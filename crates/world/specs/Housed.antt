@@ -1,11 +1,11 @@
--- What holds of every `World`, by its fields.
+-- What holds for every `World`, by its fields.
 use Rattle.std.specs.Prelude.{◌≡◌, ◌≤◌, ℕ, suc, List, [], ◌∷◌, Some, if◌then◌else◌, length, map, slice_get}
 use Rattle.world_pipes.specs.world_base.declared.Port.{Port}
 use Rattle.world_pipes.specs.declared.way.Way.{Way}
 use Rattle.world.specs.declared.place.Place.{Place}
 use Rattle.world.specs.declared.world.WorldClient.{WorldClient}
 
--- where connections lead: each to the place of its node, by its port, the oldest first
+-- where connections lead: each to the index of its node, by its port, the oldest first
 abbrev pub leads : List Way → List (ℕ × Port)
 leads ways = map (λ (way : Way). (way.node, way.port)) ways
 
@@ -13,7 +13,8 @@ leads ways = map (λ (way : Way). (way.node, way.port)) ways
 abbrev pub leads_of : List WorldClient → List (List (ℕ × Port))
 leads_of clients = map (λ (client : WorldClient). leads client.piped.ways) clients
 
--- A connection of this number stands at a client's place, and leads to its node, by the port of its number.
+-- The connection of this number is at a client's index, and leads to its node, by the port of its
+-- number.
 pub record LeadsThere (all : List (List (ℕ × Port))) (number : ℕ) (place : Place) : Type 0 where
   pub ways : List (ℕ × Port)
   pub node : ℕ
@@ -22,15 +23,16 @@ pub record LeadsThere (all : List (List (ℕ × Port))) (number : ℕ) (place : 
   pub numbered : suc node ≡ place.node
 
 pub record AreHoused (all : List (List (ℕ × Port))) (connections : List Place) : Type 0 where
-  -- connection n + 1 stands at place n
+  -- connection n + 1 is at index n
   pub known : (n : ℕ) (place : Place) → slice_get connections n ≡ Some place → LeadsThere all (suc n) place
-  -- no port beyond the number of connections was used
+  -- no port above the number of connections was used
   pub used : (i at node : ℕ) (port : Port) (ways : List (ℕ × Port)) → slice_get all i ≡ Some ways → slice_get ways at ≡ Some (node, port)
       → port.0 ≤ length connections
 
 -- ---- whose end is open
 
--- the numbers of those of these connections whose end at their node is open, rising; the first of them has this number
+-- the numbers of those of these connections whose end at their node is open, rising; the first of
+-- these connections has this number
 abbrev pub open_from : ℕ → List Place → List ℕ
 open_from number [] = []
 open_from number (place ∷ places) =

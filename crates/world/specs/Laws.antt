@@ -1,4 +1,4 @@
--- Laws of what comes of events. The calls of `laws.rt` prove them.
+-- Laws about what events do. The calls of `laws.rt` prove them.
 use Rattle.std.specs.Prelude.{◌≡◌, ◌<◌, ◌≤◌, ◌^◌, ◌-◌, ℕ, false, List, Some, Ok}
 use Rattle.world_pipes.specs.world_base.Core.{CountedCore}
 use Rattle.escaping_nodes.specs.world_nodes.Goes.{node_of}
@@ -9,7 +9,8 @@ use Rattle.world.specs.Goes.{LosesNothing}
 use Rattle.world.specs.Happening.{Happens, HappensExactly}
 use Rattle.world.specs.World.{WorldState}
 
--- where the count of losses is as before, and not at its greatest number, an event that was not idle was done exactly
+-- if the count of losses is as before, and not at its greatest number, an event that was not idle
+-- was done exactly
 abbrev pub UncountedIsExact : Type 0
 UncountedIsExact = (event : Event) (old new : WorldState) → Happens event old (Ok tt) new → LosesNothing old new → HappensExactly event old new
 
@@ -20,7 +21,7 @@ OpensPastTheLast =
     core.core.last_name ≡ record { ballot = core.core.replica.state.joined; count = 2 ^ 40 } → old.nodes.losses < 2 ^ 64 - 1 →
     Happens (events.Open name node) old (Ok tt) new → new ≡ old
 
--- one that gave none over 2^40 - 1 has a name left
+-- a node that gave no number above 2^40 - 1 has a name left
 abbrev pub HasRoomBefore : Type 0
 HasRoomBefore =
     (core : CountedCore) → 0 < core.core.replica.state.joined → core.core.replica.state.joined ≤ 2 ^ 32 → core.core.last_name.count < 2 ^ 40 →

@@ -24,20 +24,21 @@ HoldsNothing node n = (core : CountedCore) → node_of n.nodes node ≡ Some cor
 abbrev pub IsQuietAt : ℕ → Item → NodesState → Type 0
 IsQuietAt node item n = RestsAt node item n × HoldsNothing node n
 
--- so does a message that comes, as one that the master does not heed
+-- the same for a message that arrives, including one that the master ignores
 abbrev pub ComesQuietly : Option (ℕ × Message Command) → NodesState → Type 0
 ComesQuietly None n = ⊥
 ComesQuietly (Some (zero, message)) n = IsUnheeded message.body
 ComesQuietly (Some (suc at, message)) n = IsQuietAt (suc at) (items.Peer message) n
 
--- and the end of a connection
+-- the same for the end of a connection
 abbrev pub EndsQuietly : ℕ → Option Place → NodesState → Type 0
 EndsQuietly number None n = ⊥
 EndsQuietly number (Some place) n = IsQuietAt place.node (items.Ended (port_of number)) n
 
--- An event takes no memory where a client only loses its connection, where an Open finds no name left, where a message comes to the
--- master that it does not heed, and where a message, a tick, the end of a connection or a crash comes to a node that sends nothing then,
--- adds nothing to its log, takes no log, applies nothing, and has nothing to hand over.
+-- An event takes no memory if a client only loses its connection, if an Open finds no name left, if
+-- a message reaches the master that it ignores, and if a message, a tick, the end of a connection
+-- or a crash reaches a node that then sends nothing, adds nothing to its log, takes no log, applies
+-- nothing, and has nothing to hand over.
 abbrev pub TakesNoMemory : Event → WorldState → Type 0
 TakesNoMemory (events.Deliver number) w = ComesQuietly (slice_get w.nodes.sent number) w.nodes
 TakesNoMemory (events.Tick node) w = IsQuietAt node (items.Tick 0) w.nodes

@@ -1,4 +1,4 @@
--- Which worlds of the model a world in code stands for, and how these go on.
+-- Which worlds of the model a world in code corresponds to, and how these move.
 use Rattle.std.specs.Prelude.{◌≡◌, ℕ, List, [], ◌∷◌, ◌++◌, map, Option, Some, None, slice_get}
 use Rattle.ballot.specs.Config.{Config}
 use Rattle.broker_base.specs.Place.{Client}
@@ -14,38 +14,39 @@ use Rattle.world_pipes.specs.Standing.{StandsFor as ClientStands}
 use Rattle.world.specs.World.{WorldState}
 use Rattle.world.specs.declared.world.WorldClient.{WorldClient}
 
--- each client for the model's client at its place
+-- each client corresponds to the model's client at its index
 abbrev pub ClientsStand : List WorldClient → List ClientPipes → Type 0
 ClientsStand (client ∷ clients) (c ∷ cs) = ClientStands client.piped c × ClientsStand clients cs
 ClientsStand [] [] = Unit {0}
 ClientsStand _ _ = ⊥
 
--- A world in code stands for one of the model: its nodes for the group, its clients for the clients. What was written,
--- handled and agreed before is history: no field keeps it.
+-- A world in code corresponds to one of the model: its nodes to the group, its clients to the
+-- clients. What was written, handled and agreed before is history: no field keeps it.
 pub record StandsFor (m : World) (w : WorldState) : Type 0 where
   pub nodes : NodesStand m.group w.nodes
   pub clients : ClientsStand w.clients m.clients
 
--- ---- how it goes on
+-- ---- how it moves
 
--- steps of a world, one behind the other
+-- steps of a world, one after another
 pub data Steps (m : World) : World → Type 0 where
   rests : Steps m m
   goes_on : {n o : World} → Steps m n → WorldStep n o → Steps m o
 
--- what clients publish with them, the oldest first
+-- what clients publish in these steps, the oldest first
 abbrev pub published_along : {m n : World} → Steps m n → List (ℕ × Publication)
 published_along rests = []
 published_along (goes_on steps step) = published_along steps ++ published_in step
 
--- a world goes on so, its clients publish this on the way, and then the world in code stands for it
+-- A world of the model moves by steps in which its clients publish this, and the world in code
+-- corresponds to the one after them.
 pub record GoesTo (asked : List (ℕ × Publication)) (m : World) (new : WorldState) : Type 0 where
   pub behind : World
   pub steps : Steps m behind
   pub asked_is : published_along steps ≡ asked
   pub stands : StandsFor behind new
 
--- whichever world that can be reached stood for it before
+-- each reachable world of the model that corresponded to it before moves in this way
 abbrev pub WorldGoesBy : List (ℕ × Publication) → WorldState → WorldState → Type 0
 WorldGoesBy asked old new =
     (nodes : ℕ) (config : Config) (cs : List Client) (m : World) → Reached nodes config cs m → StandsFor m old → GoesTo asked m new
@@ -54,10 +55,11 @@ WorldGoesBy asked old new =
 abbrev pub WorldGoes : WorldState → WorldState → Type 0
 WorldGoes old new = WorldGoesBy [] old new
 
--- ---- what is promised of it
+-- ---- what is promised for it
 
--- A world in code stands for one that is reached with so many nodes, in this configuration, with these clients, each of which
--- has an identifier of its own: and so the headline holds of each client, by the list on which its nodes agree.
+-- A world in code corresponds to one that can be reached with this many nodes, in this
+-- configuration, with these clients, each of which has an identifier of its own. So the headline
+-- holds for each client, by the list on which its nodes agree.
 pub record IsReached (nodes : ℕ) (config : Config) (cs : List Client) (w : WorldState) : Type 0 where
   pub apart : AreApart cs
   pub world : World
@@ -65,7 +67,7 @@ pub record IsReached (nodes : ℕ) (config : Config) (cs : List Client) (w : Wor
   pub stands : StandsFor world w
   pub exact : IsExact trail
 
--- what its clients published on the way to it: with each publication the place of its client
+-- what its clients published until then: each publication with the index of its client
 abbrev pub asked_on : {nodes : ℕ} {config : Config} {cs : List Client} {w : WorldState} → IsReached nodes config cs w → List (ℕ × Publication)
 asked_on reached = published_on reached.trail
 
@@ -77,12 +79,12 @@ connections_in None = []
 abbrev pub connections_at : ℕ → World → List Connection
 connections_at i world = connections_in (slice_get world.clients i)
 
--- a world that is reached still is after it, and this was published since
+-- a world that can be reached still can after it, and this was published since
 abbrev pub KeepsReached : List (ℕ × Publication) → WorldState → WorldState → Type 0
 KeepsReached asked old new =
     (nodes : ℕ) (config : Config) (cs : List Client) (before : IsReached nodes config cs old) →
     (after : IsReached nodes config cs new) × (asked_on after ≡ asked_on before ++ asked)
 
--- the identifiers of clients, in their order
+-- the identifiers of clients, in order
 abbrev pub identifiers : List WorldClient → List Client
 identifiers clients = map (λ (c : WorldClient). c.name) clients

@@ -1,11 +1,12 @@
--- A world as it is seen.
+-- The model of a world.
 use Rattle.std.specs.Prelude.{ℕ, List}
 use Rattle.world.specs.declared.place.Place.{Place}
 use Rattle.world.specs.declared.world.WorldClient.{WorldClient}
 use Rattle.escaping_nodes.specs.world_nodes.Nodes.{NodesState}
 
--- The nodes with their master; the clients, each by its identifier with all its connections; where each connection stands, the
--- first opened first; and the count of steps in which memory was wanting, up to 2^64 - 1.
+-- The nodes with their master; the clients, each with its identifier and all its connections; the
+-- state of each connection, the first opened first; and the count of steps in which memory ran out,
+-- up to 2^64 - 1.
 pub record WorldState : Type 0 where
   pub nodes : NodesState
   pub clients : List WorldClient

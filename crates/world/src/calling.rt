@@ -48,8 +48,8 @@ impl World {
         Ok(())
     }
 
-    // A client that holds no connection opens one to a node that serves clients. Where there is
-    // none then, since memory ran out, that is counted, unless the nodes counted it already.
+    // Lets a client that holds no connection open one to a node that serves clients. If it then has
+    // none, because memory ran out, that is counted, unless the nodes have counted it already.
     fn begin(&mut self, client: usize, node: u8)
         requires some { client < length self.old.clients }
         requires free { IfSome (slice_get self.old.clients client)
@@ -67,7 +67,8 @@ impl World {
         }
     }
 
-    // A client has a connection to a node, by which its CONNECT is on its way. Whether it has is the result.
+    // Gives a client a connection to a node, with its CONNECT in transit. Returns whether it has
+    // one.
     fn connect(&mut self, client: usize, node: u8) -> bool
         requires some { client < length self.old.clients }
         requires free { IfSome (slice_get self.old.clients client)
@@ -191,7 +192,7 @@ impl World {
         self.called(done)
     }
 
-    // Behind a call of a client: a refusal is idle, want of memory is counted.
+    // Ends a call of a client: a refusal is idle, running out of memory is counted.
     fn called(&mut self, done: Result<Sending, ClientError>) -> Result<(), Idle>
         ensures { Counts done self.old result self.new }
     {
@@ -205,7 +206,7 @@ impl World {
         }
     }
 
-    // Whether a node has no name left in its ballot.
+    // Says whether a node has no name left in its ballot.
     fn is_full(&self, node: u8) -> bool
         ensures { result ≡ is_full (node_of self.now.nodes.nodes node) }
     {
@@ -215,7 +216,7 @@ impl World {
         }
     }
 
-    // Whether a node is a running active primary.
+    // Says whether a node is a running active primary.
     fn serves(&self, node: u8) -> bool
         ensures { result ≡ is_serving (node_of self.now.nodes.nodes node) }
     {
@@ -229,7 +230,8 @@ impl World {
     }
 }
 
-// A client that holds no connection opens one to a node, which hears of it. Whether it has one then is the result.
+// Lets a client that holds no connection open one to a node, to which it is reported. Returns
+// whether the client then has one.
 fn reach(nodes: &mut Nodes, piped: &mut PipedClient, node: u8, port: Port) -> bool
     requires node { 0 < node }
     requires free { is_holding piped.old ≡ false }
@@ -243,7 +245,8 @@ fn reach(nodes: &mut Nodes, piped: &mut PipedClient, node: u8, port: Port) -> bo
     }
 }
 
-// A node hears of a client's new connection, and one that it does not take is taken back. Whether it takes it is the result.
+// Reports a client's new connection to a node, and removes it again if the node does not take it.
+// Returns whether the node takes it.
 fn offer(nodes: &mut Nodes, piped: &mut PipedClient, node: u8, port: Port) -> bool
     ensures nodes { NodesGoOn nodes.old nodes.new }
     ensures takes { HearsOfOne result node port nodes.old nodes.new }
@@ -256,7 +259,7 @@ fn offer(nodes: &mut Nodes, piped: &mut PipedClient, node: u8, port: Port) -> bo
     taken
 }
 
-// Whether a node that hears of a new connection takes it.
+// Reports a new connection to a node, and says whether the node takes it.
 fn takes(nodes: &mut Nodes, node: u8, port: Port) -> bool
     ensures nodes { NodesGoOn nodes.old nodes.new }
     ensures takes { HearsOfOne result node port nodes.old nodes.new }
@@ -270,7 +273,7 @@ fn takes(nodes: &mut Nodes, node: u8, port: Port) -> bool
     }
 }
 
-// A client loses its connection.
+// Lets a client lose its connection.
 fn lose(piped: &mut PipedClient)
     ensures lost { Loses piped.old piped.new }
     ensures goes { FollowsAll piped.old piped.new }
@@ -279,7 +282,7 @@ fn lose(piped: &mut PipedClient)
     piped.abandon();
 }
 
-// A client takes leave.
+// Lets a client disconnect.
 fn leave(piped: &mut PipedClient) -> Result<Sending, ClientError>
     ensures leaves { TakesLeave (keeper_step Call.Disconnects piped.old.core.state)
         piped.old result piped.new }
@@ -289,7 +292,7 @@ fn leave(piped: &mut PipedClient) -> Result<Sending, ClientError>
     piped.disconnect()
 }
 
-// A client publishes a copy.
+// Lets a client publish a copy.
 fn publish_copy(piped: &mut PipedClient, publication: &Publication) -> Result<Sending, ClientError>
     ensures calls { IsCall (Call.Publishes publication.now) piped.old result piped.new }
     ensures goes { CallingFollows (publication.now ∷ []) piped.old result piped.new }
@@ -300,7 +303,7 @@ fn publish_copy(piped: &mut PipedClient, publication: &Publication) -> Result<Se
     piped.publish(copied.topic, copied.qos, retain, copied.payload)
 }
 
-// A client asks for the publications of a copy of a filter.
+// Lets a client subscribe to a copy of a filter.
 fn subscribe_copy(
     piped: &mut PipedClient,
     filter: &Filter,
@@ -314,7 +317,7 @@ fn subscribe_copy(
     piped.subscribe(copied, qos)
 }
 
-// A client gives up a copy of a filter.
+// Lets a client unsubscribe from a copy of a filter.
 fn unsubscribe_copy(piped: &mut PipedClient, filter: &Filter) -> Result<Sending, ClientError>
     ensures calls { IsCall (Call.Unsubscribes filter.now) piped.old result piped.new }
     ensures goes { CallingFollows [] piped.old result piped.new }

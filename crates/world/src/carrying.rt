@@ -1,4 +1,4 @@
-// Bytes come to a node, or to a client.
+// Bytes reach a node, or a client.
 
 ghost use Rattle.std.specs.Prelude.{◌≡◌, ◌⊎◌, ◌≤◌, ◌<◌, ◌-◌, ◌↔◌, true, false, Some, None, length, slice_get, if◌then◌else◌, IfOk, OnErr};
 ghost use Rattle.escaping_nodes.specs.world_nodes.Goes.{running};
@@ -29,8 +29,8 @@ impl World {
         }
     }
 
-    // The first so many bytes on a connection come to its node, and what it puts out then goes on its way. Where there is no memory
-    // for them, they wait on, and that is counted.
+    // Carries this many bytes from the front of a connection to its node, and what the node then
+    // queues goes down. If there is no memory for them, they keep waiting, and that is counted.
     fn bring_up(&mut self, place: Place, number: u64, count: u64) -> Result<(), Idle>
         requires stands { slice_get self.old.connections (number - 1) ≡ Some place }
         requires positive { 0 < number }
@@ -48,8 +48,8 @@ impl World {
         Ok(())
     }
 
-    // The first so many bytes on a connection come to its node. Whether there was memory for them is the result: else they
-    // wait on.
+    // Carries this many bytes from the front of a connection to its node. Returns whether there was
+    // memory for them: if not, they keep waiting.
     fn take_up(&mut self, place: Place, number: u64, count: u64) -> Result<bool, Idle>
         requires stands { slice_get self.old.connections (number - 1) ≡ Some place }
         requires positive { 0 < number }
@@ -87,7 +87,7 @@ impl World {
         }
     }
 
-    // Want of memory is counted.
+    // Counts running out of memory.
     fn remember(&mut self, had_memory: bool)
         ensures { self.new ≡ (if had_memory then self.old else forgetful self.old) }
     {
@@ -97,8 +97,8 @@ impl World {
     }
 }
 
-// The first so many bytes on a connection come to its node, which knows it by this port. Whether there was memory for them
-// is the result: else they wait on.
+// Carries this many bytes from the front of a connection to its node, which knows it by this port.
+// Returns whether there was memory for them: if not, they keep waiting.
 fn take_up(
     alloc: Global,
     nodes: &mut Nodes,
@@ -132,7 +132,7 @@ fn take_up(
     Ok(true)
 }
 
-// Whether a node is there, and has not stopped.
+// Says whether a node exists, and has not stopped.
 fn runs(nodes: &Nodes, node: u8) -> bool
     ensures { (result ≡ false) ↔ (running nodes.now.nodes node ≡ None) }
 {
@@ -142,8 +142,8 @@ fn runs(nodes: &Nodes, node: u8) -> bool
     }
 }
 
-// The first so many bytes that wait on a connection come to its client, where it holds that. Whether there was memory is
-// the result.
+// Carries this many bytes that wait on a connection to its client, if the client holds it. Returns
+// whether there was memory.
 fn hear_on(piped: &mut PipedClient, at: usize, count: u64) -> Result<bool, Idle>
     requires { at < length piped.old.ways }
     ensures goes { FollowsAll piped.old piped.new }
@@ -161,7 +161,7 @@ fn hear_on(piped: &mut PipedClient, at: usize, count: u64) -> Result<bool, Idle>
     Ok(piped.hear(count as usize) != Err(ClientError::Memory))
 }
 
-// Whether some bytes are carried, and no more than wait.
+// Says whether some bytes are carried, and no more than wait.
 fn is_part(count: u64, waiting: usize) -> bool
     ensures yes { result ≡ true → (0 < count) × (count ≤ waiting) }
     ensures no { result ≡ false → (count ≡ 0) ⊎ (waiting < count) }

@@ -1,4 +1,4 @@
-// Why no way out of a world is told.
+// Why no way out of a world is returned.
 
 ghost use Rattle.std.specs.Prelude.{◌≡◌};
 ghost use Rattle.world.specs.Refusals.{escape_number};
@@ -8,12 +8,12 @@ use std::error::Error;
 use std::fmt;
 use world_pipes::world_base::Memory;
 
-/// Why no way out of a world is told.
+/// Why no way out of a world is returned.
 #[derive(Clone, Copy, Debug, PartialEq, Eq)]
 pub enum EscapeError {
     /// There is none for these members and this client.
     Idle,
-    /// A growth was refused.
+    /// Memory ran out.
     Memory,
 }
 

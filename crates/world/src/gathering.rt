@@ -1,4 +1,4 @@
-// What a node put out goes on its way.
+// What a node queued goes down to its clients.
 
 ghost use Rattle.std.specs.Prelude.{◌≡◌, ◌<◌, ◌-◌, true, false, Some, length, slice_get};
 ghost use Rattle.escaping_nodes.specs.world_nodes.Nodes.{NodesState};
@@ -16,7 +16,8 @@ use world_pipes::PipedClient;
 use world_pipes::world_base::{Handed, Port};
 
 impl World {
-    // What a node put out goes on its way down, on each connection whose end there is open. The master, node 0, has none.
+    // Carries down what a node queued, on each connection whose end there is open. The master, node
+    // 0, has none.
     pub(crate) fn gather(&mut self, node: u8)
         ensures goes { GoesOn self.old self.new }
         ensures gathers { Gathers false node self.old self.new }
@@ -28,7 +29,8 @@ impl World {
         }
     }
 
-    // The same on the connections whose end is open, whichever node that is at, from the newest to the oldest.
+    // Does the same on the connections whose end is open, at whichever node, from the newest to the
+    // oldest.
     fn gather_open(&mut self, node: u8)
         ensures goes { GoesOn self.old self.new }
         ensures gathers { GathersAmong false (length self.old.connections) node self.old self.new }
@@ -42,7 +44,8 @@ impl World {
         }
     }
 
-    // The same on the one at this place among those whose end is open, where it leads to the node.
+    // Does the same on the one at this index among those whose end is open, if it leads to the
+    // node.
     fn ask_at(&mut self, node: u8, at: usize)
         requires { at < length (open_from 1 self.old.connections) }
         ensures goes { GoesOn self.old self.new }
@@ -59,14 +62,15 @@ impl World {
         }
     }
 
-    // How many connections have an open end at their node.
+    // Returns how many connections have an open end at their node.
     fn open_len(&self) -> usize
         ensures { result ≡ length (open_from 1 self.now.connections) }
     {
         self.open_ends.len()
     }
 
-    // The connection at this place among those whose end is open: its number, and where it stands.
+    // Returns the connection at this index among those whose end is open: its number, and its
+    // state.
     fn open_at(&self, at: usize) -> (u64, Place)
         requires { at < length (open_from 1 self.now.connections) }
         ensures number { slice_get (open_from 1 self.now.connections) at ≡ Some result.0 }
@@ -78,7 +82,7 @@ impl World {
         (number, self.connections[number as usize - 1])
     }
 
-    // The end of the connection at this place among those whose end is open is closed.
+    // Closes the end of the connection at this index among those whose end is open.
     fn close(&mut self, at: usize, place: Place, number: u64)
         requires number { slice_get (open_from 1 self.old.connections) at ≡ Some number }
         requires place { slice_get self.old.connections (number - 1) ≡ Some place }
@@ -90,7 +94,7 @@ impl World {
         self.open_ends.remove(at);
     }
 
-    // What its node put out for a connection goes on its way down. Whether its end there is open is the result.
+    // Carries down what its node queued for a connection. Returns whether its end there is open.
     fn hand_on(&mut self, place: Place, number: u64) -> bool
         requires stands { slice_get self.old.connections (number - 1) ≡ Some place }
         requires positive { 0 < number }
@@ -112,7 +116,7 @@ impl World {
     }
 }
 
-// What a node put out for a port goes on its way down on a connection. Whether its end is open is the result.
+// Carries down what a node queued for a port on a connection. Returns whether its end is open.
 fn hand_down(
     alloc: Global,
     nodes: &mut Nodes,
@@ -135,7 +139,7 @@ fn hand_down(
     is_open
 }
 
-// What a node put out for a port is handed over. Whether its end is open is the result.
+// Hands over what a node queued for a port. Returns whether its end is open.
 fn hands_over(nodes: &mut Nodes, node: u8, port: Port, bytes: &mut Vec<u8>) -> bool
     ensures nodes { NodesGoOn nodes.old nodes.new }
     ensures quiet { StaysQuiet node nodes.old nodes.new }
@@ -146,7 +150,7 @@ fn hands_over(nodes: &mut Nodes, node: u8, port: Port, bytes: &mut Vec<u8>) -> b
     tells_open(nodes.hand_over(node, port, bytes))
 }
 
-// Whether a node's answer tells that an end is open.
+// Says whether a node's answer means that an end is open.
 fn tells_open(answer: Result<Handed, Idle>) -> bool
     ensures { result ≡ tells_open answer }
 {

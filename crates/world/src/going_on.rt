@@ -27,7 +27,7 @@ impl World {
         Ok(())
     }
 
-    // The receiver of a message; 0 for the master, and where none was sent.
+    // Returns the receiver of a message; 0 for the master, and if none was sent.
     fn receiver(&self, number: u64) -> u8
         ensures { result ≡ receiver_of (slice_get self.now.nodes.sent number) }
     {
@@ -105,7 +105,7 @@ impl World {
         }
     }
 
-    // A node sees the end of a connection.
+    // Lets a node notice the end of a connection.
     fn end(&mut self, place: Place, number: u64) -> Result<(), Idle>
         requires stands { slice_get self.old.connections (number - 1) ≡ Some place }
         requires up { place.is_open ≡ true }

@@ -1,8 +1,8 @@
-// Laws of what comes of events. The calls do nothing; their contracts are the laws.
+// Laws about what events do. The calls do nothing; their contracts are the laws.
 
 ghost use Rattle.world.specs.Laws.{HasRoomBefore, OpensPastTheLast, UncountedIsExact};
 
-/// States that an event which was not idle was done exactly, where no loss was counted.
+/// States that an event which was not idle was done exactly, if no loss was counted.
 pub fn uncounted_is_exact()
     ensures { UncountedIsExact }
 {}

@@ -26,19 +26,21 @@ use world_pipes::world_base::{Config, Members, Memory};
 const MOST_MESSAGES: u64 = 4_611_686_018_427_387_904;
 
 impl World {
-    /// Returns a list of events that leads out of where the world stands, at most 6n + 5 for n members: to a ballot of these
-    /// members, the first of them its primary, and to the client online with its session present. It changes nothing.
+    /// Returns a list of events that leads out of this world, at most 6n + 5 for n members: to a
+    /// ballot of these members, the first of them its primary, and to the client online with its
+    /// session present. It changes nothing.
     ///
-    /// Given to [`World::run`], where no loss is counted, the ballot that is given next is active then, and what was agreed
-    /// before begins what is agreed. [`EscapeError::Idle`] comes where there is none: for members that no ballot may have,
-    /// after the last ballot, where one of them or all of the active configuration have stopped, where the log that is to be
-    /// fetched has no two places left, and where the client is unknown or has no session after it.
-    /// [`EscapeError::Memory`] comes where memory runs out.
+    /// When they are given to [`World::run`], and no loss is counted, the ballot that is given next
+    /// is active, and what was agreed before is a prefix of what is agreed. [`EscapeError::Idle`]
+    /// comes if there is no way out: for members that no ballot may have, after the last ballot, if
+    /// one of them or all of the active configuration have stopped, if the log that is to be
+    /// fetched has no two places left, and if the client is unknown or has no session after it.
+    /// [`EscapeError::Memory`] comes if memory runs out.
     pub fn escape(&self, members: &[u8], client: &ClientId) -> Result<Vec<Event>, EscapeError>
         ensures short { IfOk result (λ events. length events.items ≤ 6 * length members.now + 5) }
         ensures leads_out { IfOk result (λ events. LeadsOut client.now self.now events.items) }
 
-        // Memory aside, Idle comes exactly where a way out may not be had.
+        // Unless memory runs out, `Idle` comes exactly if there is no way out.
         ensures idle { IsErrOf result EscapeError.Idle → CanEscape members.now client.now self.now → ⊥ }
         ensures can { OnOk result (CanEscape members.now client.now self.now) }
     {
@@ -60,7 +62,7 @@ impl World {
         Ok(self.way_out(config, client, place, at)?)
     }
 
-    // Whether the master gives the next ballot to a configuration, and all its members run.
+    // Says whether the master gives the next ballot to a configuration, and all its members run.
     fn can_lead(&self, config: &Config) -> bool
         ensures { (result ≡ true) ↔ ((refusal self.now.nodes.master config.now ≡ None)
             × (list_all (is_running self.now.nodes.nodes) config.now.members ≡ true)) }
@@ -68,14 +70,15 @@ impl World {
         self.nodes.can_assign(config) && self.are_running(config.members.as_slice())
     }
 
-    // Whether all these nodes are there and have not stopped.
+    // Says whether all these nodes exist and have not stopped.
     fn are_running(&self, members: &[u8]) -> bool
         ensures { result ≡ list_all (is_running self.now.nodes.nodes) members.now }
     {
         members.iter().all(|member| self.is_running(*member))
     }
 
-    // The first member of the active configuration that runs, where its log has room for two more: its place, and its number.
+    // Returns the first member of the active configuration that runs, if its log has room for two
+    // more: its index, and its number.
     fn fetched(&self) -> Option<(usize, u8)>
         ensures some { IfSome result (λ found. IsFetchedFrom self.now found.0 found.1) }
         ensures none { result ≡ None → (place source : ℕ) → IsFetchedFrom self.now place source → ⊥ }
@@ -90,7 +93,7 @@ impl World {
         }
     }
 
-    // The place of the first member of the active configuration that runs.
+    // Returns the index of the first member of the active configuration that runs.
     fn first_running(&self) -> Option<usize>
         ensures below { IfSome result (λ place. place < length self.now.nodes.master.members) }
         ensures exact { result ≡ position (is_running self.now.nodes.nodes) self.now.nodes.master.members }
@@ -99,7 +102,7 @@ impl World {
         members.iter().position(|member| self.is_running(*member))
     }
 
-    // How many places the log of a node has; 0 where it is not there.
+    // Returns how many places the log of a node has; 0 if the node does not exist.
     fn held(&self, node: u8) -> u64
         ensures { result ≡ held_in (node_of self.now.nodes.nodes node) }
     {
@@ -109,7 +112,7 @@ impl World {
         }
     }
 
-    // Whether a node is there and has not stopped.
+    // Says whether a node exists and has not stopped.
     fn is_running(&self, node: u8) -> bool
         ensures { result ≡ is_running self.now.nodes.nodes node }
     {
@@ -119,7 +122,7 @@ impl World {
         }
     }
 
-    // Whether a client has a session that is not clean after the whole log of a node.
+    // Says whether a client has a session that is not clean after the whole log of a node.
     fn has_session(&self, node: u8, client: &ClientId) -> Result<bool, Memory>
         ensures yes { IfOk result (λ has. has ≡ true
             → session_of (past_of usual_limits (log_of self.now.nodes node)) client.now ≡ Some false) }
@@ -129,8 +132,8 @@ impl World {
         self.nodes.welcomes_back(node, client)
     }
 
-    // The events of a way out for the client at a place, where the member at `place` of the active configuration is asked for
-    // its log.
+    // Returns the events of a way out for the client at an index, when the member at `place` of the
+    // active configuration is asked for its log.
     fn way_out(
         &self,
         config: Config,
@@ -165,7 +168,7 @@ impl World {
     }
 }
 
-// A configuration by its members: the first of them is its primary.
+// Returns a configuration by its members: the first of them is its primary.
 fn configuration(alloc: Global, members: &[u8]) -> Result<Config, Memory>
     ensures { IfOk result (λ config. config ≡ configuration_of members.now) }
 {
@@ -174,7 +177,7 @@ fn configuration(alloc: Global, members: &[u8]) -> Result<Config, Memory>
     Ok(Config { members, primary })
 }
 
-// The first of some members; 0 where there is none.
+// Returns the first of some members; 0 if there is none.
 fn primary_of(members: &[u8]) -> u8
     ensures { result ≡ (configuration_of members.now).primary }
 {

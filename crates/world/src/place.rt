@@ -1,11 +1,11 @@
-// Where a connection of a world stands.
+// The state of a connection of a world.
 
-/// Where a connection of a world stands: at its client, and at its node.
+/// The state of a connection of a world: at its client, and at its node.
 #[derive(Clone, Copy, Debug, PartialEq, Eq)]
 pub struct Place {
-    /// The place of its client.
+    /// The index of its client.
     pub client: usize,
-    /// Its place among the connections of the client, oldest first.
+    /// Its index among the connections of the client, oldest first.
     pub at: usize,
     /// The number of its node.
     pub node: u8,

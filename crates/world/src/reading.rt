@@ -1,4 +1,4 @@
-// What is read of the agreed list, and of a world's clients and connections.
+// What can be read of the agreed list, and of a world's clients and connections.
 
 ghost use Rattle.std.specs.Prelude.{ℕ, List, ◌≡◌, ◌<◌, ◌-◌, ◌++◌, length, [], None, Some, IfSome, slice_get};
 ghost use Rattle.std.specs.List.{position};
@@ -18,7 +18,7 @@ use world_pipes::ClientCore;
 use world_pipes::world_base::Command;
 
 impl WorldClient {
-    // Whether it has this identifier.
+    // Says whether it has this identifier.
     pub(crate) fn is_named(&self, name: &ClientId) -> bool
         ensures { result ≡ is_named name.now self.now }
     {
@@ -27,12 +27,14 @@ impl WorldClient {
 }
 
 impl World {
-    /// Returns the list on which the nodes agree, the longest that is chosen in a ballot that was active, in two parts:
-    /// the second goes on where the first ends. It takes no longer, however much was sent.
+    /// Returns the list on which the nodes agree, the longest that is chosen in a ballot that was
+    /// active, in two parts: the second continues where the first ends. It takes no longer, however
+    /// much was sent.
     pub fn agreed(&self) -> (&[Command], &[Command])
         ensures agreed { AgreeOn self.now.nodes (result.0.now ++ result.1.now) }
 
-        // The nodes that are reached agree on it, and by it each client of a world that is reached is exact.
+        // Nodes that can be reached agree on it, and by it each client of a world that can be
+        // reached is exact.
         ensures reached { (nodes : ℕ) (config : Config)
             (reached : AreReached nodes config self.now.nodes) →
             result.0.now ++ result.1.now ≡ reached.list }
@@ -43,7 +45,7 @@ impl World {
         self.nodes.agreed()
     }
 
-    /// Its length. It takes no longer, however much was sent.
+    /// Returns its length. It takes no longer, however much was sent.
     pub fn agreed_len(&self) -> u64
         ensures agreed { AgreeOnSoMany self.now.nodes result }
         ensures reached { (nodes : ℕ) (config : Config)
@@ -55,13 +57,14 @@ impl World {
         self.nodes.agreed_len()
     }
 
-    /// A client, if there is one of this identifier.
+    /// Returns the client with this identifier, if there is one.
     pub fn client(&self, client: &ClientId) -> Option<&ClientCore>
         ensures some { IfSome result
             (λ core. core_named client.now self.now.clients ≡ Some core.now) }
         ensures none { result ≡ None → core_named client.now self.now.clients ≡ None }
 
-        // What it shows is as promised, by what it was asked to publish and the list on which the nodes agree.
+        // What it shows is as promised, by what it was asked to publish and the list on which the
+        // nodes agree.
         ensures promised { (nodes : ℕ) (config : Config) (clients : List Client)
             (reached : IsReached nodes config clients self.now) (at : ℕ) →
             position (is_named client.now) self.now.clients ≡ Some at → IfSome result (λ core.
@@ -72,7 +75,8 @@ impl World {
         Some(found.piped.core())
     }
 
-    /// The bytes that wait to be carried up on a connection; none for one that was never opened.
+    /// Returns the bytes that wait to be carried up on a connection; none for one that was never
+    /// opened.
     pub fn up(&self, connection: u64) -> &[u8]
         ensures some { IfSome (way_of connection self.now) (λ way. result.now ≡ way.up) }
         ensures none { way_of connection self.now ≡ None → result.now ≡ [] }
@@ -89,7 +93,8 @@ impl World {
         found.piped.up(place.at)
     }
 
-    /// The bytes that wait to be carried down on a connection; none for one that was never opened.
+    /// Returns the bytes that wait to be carried down on a connection; none for one that was never
+    /// opened.
     pub fn down(&self, connection: u64) -> &[u8]
         ensures some { IfSome (way_of connection self.now) (λ way. result.now ≡ way.down) }
         ensures none { way_of connection self.now ≡ None → result.now ≡ [] }
@@ -106,7 +111,7 @@ impl World {
         found.piped.down(place.at)
     }
 
-    // Where a client stands.
+    // Returns the index of a client.
     pub(crate) fn place_of(&self, client: &ClientId) -> Option<usize>
         ensures below { IfSome result (λ at. at < length self.now.clients) }
         ensures exact { result ≡ position (is_named client.now) self.now.clients }
@@ -114,7 +119,7 @@ impl World {
         self.clients.iter().position(|found| found.is_named(client))
     }
 
-    // Where a connection stands.
+    // Returns the state of a connection.
     pub(crate) fn place(&self, number: u64) -> Option<Place>
         ensures stands { IfSome result (λ place.
             (0 < number) × (slice_get self.now.connections (number - 1) ≡ Some place)) }

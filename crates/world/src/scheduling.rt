@@ -1,4 +1,4 @@
-// The events of a way out, in their order.
+// The events of a way out, in order.
 
 ghost use Rattle.std.specs.Prelude.{◌≡◌, ◌≤◌, ◌<◌, ◌+◌, ◌*◌, ◌^◌, ◌-◌, ◌∷◌, ◌++◌, length, map, OnOk};
 ghost use Rattle.escaping_nodes.specs.cut_ways.ways_out.Deliveries.{way_out};
@@ -13,8 +13,8 @@ use way_numbers::{answers, way_out};
 use world_pipes::PipedClient;
 use world_pipes::world_base::{Config, Memory};
 
-/// Appends an Assign, and that the messages come which lead its ballot to the start. So many were `sent` before, and the member
-/// at `place` of so many `members` is asked for its log.
+/// Appends an Assign, and the deliveries that lead its ballot to the start. `sent` messages were
+/// sent before, and the member at `place` of this many `members` is asked for its log.
 pub(crate) fn push_group(
     alloc: Global,
     way: &mut Vec<Event>,
@@ -35,7 +35,8 @@ pub(crate) fn push_group(
     push_messages(way, numbers.as_slice())
 }
 
-/// Appends that a client opens a connection to the new primary, once it has lost what it holds, and that its CONNECT comes up.
+/// Appends the events by which a client opens a connection to the new primary, once it has lost the
+/// one that it holds, and its CONNECT arrives.
 pub(crate) fn push_client(
     way: &mut Vec<Event>,
     piped: &PipedClient,
@@ -53,7 +54,7 @@ pub(crate) fn push_client(
     Ok(())
 }
 
-// Appends that a client loses the connection that it holds; nothing where it holds none.
+// Appends that a client loses the connection that it holds; nothing if it holds none.
 fn push_leaving(way: &mut Vec<Event>, piped: &PipedClient, client: &ClientId) -> Result<(), Memory>
     ensures { OnOk result
         (way.new.items ≡ way.old.items ++ leaving (is_holding piped.now) client.now) }
@@ -65,7 +66,8 @@ fn push_leaving(way: &mut Vec<Event>, piped: &PipedClient, client: &ClientId) ->
     Ok(())
 }
 
-/// Appends that the others hold the command and answer, where so many messages were sent before, and that the CONNACK comes down.
+/// Appends the events by which the others hold the command and answer, when this many messages were
+/// sent before, and the CONNACK comes down.
 pub(crate) fn push_answers(
     alloc: Global,
     way: &mut Vec<Event>,
@@ -82,7 +84,7 @@ pub(crate) fn push_answers(
     Ok(())
 }
 
-// Appends that the messages of these numbers come.
+// Appends the deliveries of the messages with these numbers.
 fn push_messages(way: &mut Vec<Event>, numbers: &[u64]) -> Result<(), Memory>
     ensures { OnOk result (way.new.items ≡ way.old.items ++ map events.Deliver numbers.now) }
 {

@@ -24,7 +24,7 @@ use std::marker::Model;
 use world_pipes::PipedClient;
 use world_pipes::world_base::{Config, Memory, OpeningError};
 
-/// A client of a world by its identifier.
+/// A client of a world, with its identifier.
 #[derive(Drop)]
 pub struct WorldClient {
     /// The identifier.
@@ -33,16 +33,17 @@ pub struct WorldClient {
     pub piped: PipedClient,
 }
 
-/// Nodes with their master, and clients that keep their side of the handshakes, with a pipe of bytes each way on
-/// every connection. Whatever is on its way comes late, again or never, as events say.
+/// Nodes with their master, and clients that keep their side of the handshakes, with a pipe of
+/// bytes each way on every connection. Whatever is in transit arrives late, again or never, as
+/// events say.
 #[derive(Drop)]
 pub struct World {
     pub(crate) alloc: Global,
     pub(crate) nodes: Nodes,
     pub(crate) clients: Vec<WorldClient>,
-    // Connection n + 1 stands at place n.
+    // Connection n + 1 is at index n.
     pub(crate) connections: Vec<Place>,
-    // The numbers of those whose end at the node is open, rising.
+    // The numbers of the connections whose end at the node is open, rising.
     pub(crate) open_ends: Vec<u64>,
     pub(crate) losses: u64,
 }
@@ -68,15 +69,15 @@ impl Model for World {
 
 impl World {
     /// Opens nodes 1 to `nodes` in ballot 1, and clients that were never connected.
-    /// [`OpeningError::BadMembers`] comes for more than 15 nodes, for a configuration that no ballot
-    /// may have, and for a member over `nodes`.
+    /// [`OpeningError::BadMembers`] comes for more than 15 nodes, for a configuration that no
+    /// ballot may have, and for a member above `nodes`.
     pub fn opening(
         alloc: Global,
         nodes: u8,
         config: Config,
         clients: &[ClientId],
     ) -> Result<World, OpeningError>
-        // Where each client has an identifier of its own, each is exact; none was asked to publish.
+        // If each client has an identifier of its own, each is exact; none was asked to publish.
         ensures exact { AreApart clients.now → IfOk result
             (λ world. (reached : IsReached nodes config clients.now world) × (asked_on reached ≡ [])) }
         ensures clients { IfOk result (λ world. identifiers world.clients ≡ clients.now) }
@@ -98,19 +99,19 @@ impl World {
         })
     }
 
-    /// Lets one thing happen. [`Idle`] comes for what cannot happen now, and changes nothing. If
-    /// memory runs out, messages are lost, connections are closed, nothing happens, or a node stops;
-    /// that is counted.
+    /// Lets one event happen. [`Idle`] comes for what cannot happen now, and changes nothing. If
+    /// memory runs out, messages are lost, connections are closed, nothing happens, or a node
+    /// stops; that is counted.
     pub fn step(&mut self, event: &Event) -> Result<(), Idle>
-        // Whatever led up to here, and whatever memory did, each client is exact behind the event:
-        // the world goes by steps of the model, some of them perhaps with losses.
-        // Of publications, its clients are asked just what the event asks.
+        // Whatever happened before, and even if memory ran out, each client is exact after the
+        // event: the world moves by steps of the model, some of them perhaps with losses. Its
+        // clients are asked to publish just what the event asks.
         ensures exact { (asked : List (ℕ × Publication)) × IsAsked event.now self.old result asked self.new
             × WorldGoesBy asked self.old self.new × KeepsReached asked self.old self.new }
-        // Its nodes go on as a group, and agree behind the event.
+        // Its nodes move as a group, and agree after the event.
         ensures goes { WorldGoesOn self.old self.new }
         ensures reached { StaysReached self.old.nodes self.new.nodes }
-        // What was agreed is a beginning of what is agreed after the event.
+        // What was agreed is a prefix of what is agreed after the event.
         ensures grown { AgreedGrows self.old.nodes self.new.nodes }
         // What the event asks is done, or it cannot happen. Or a loss is counted, for an event that
         // can happen and takes memory: then nothing is done, or what the event asks, with losses,
@@ -131,16 +132,16 @@ impl World {
         Ok(())
     }
 
-    /// Lets events happen one after the other. Idle ones are passed over.
+    /// Lets events happen one after another. Idle ones are skipped.
     pub fn run(&mut self, events: &[Event])
-        // Whatever led up to here, and whatever memory did, each client is exact behind the events.
-        // Of publications, its clients are asked just what the events ask, in their order.
+        // Whatever happened before, and even if memory ran out, each client is exact after the
+        // events. Its clients are asked to publish just what the events ask, in order.
         ensures exact { (asked : List (ℕ × Publication)) × RunAsks events.now self.old asked self.new
             × WorldGoesBy asked self.old self.new × KeepsReached asked self.old self.new }
-        // Its nodes go on as a group, and agree behind them.
+        // Its nodes move as a group, and agree after the events.
         ensures goes { WorldGoesOn self.old self.new }
         ensures reached { StaysReached self.old.nodes self.new.nodes }
-        // What was agreed is a beginning of what is agreed after them.
+        // What was agreed is a prefix of what is agreed after them.
         ensures grown { AgreedGrows self.old.nodes self.new.nodes }
         // Each event has happened, or could not.
         ensures runs { Run events.now self.old self.new }
@@ -150,14 +151,14 @@ impl World {
         }
     }
 
-    /// How many messages nodes and their master sent so far.
+    /// Returns how many messages nodes and their master sent so far.
     pub fn messages(&self) -> u64
         ensures { result ≡ length self.now.nodes.sent }
     {
         self.nodes.messages()
     }
 
-    /// The active ballot and its members.
+    /// Returns the active ballot and its members.
     pub fn active(&self) -> (u64, &[u8])
         ensures ballot { result.0 ≡ self.now.nodes.master.active }
         ensures members { result.1.now ≡ self.now.nodes.master.members }
@@ -165,14 +166,14 @@ impl World {
         self.nodes.active()
     }
 
-    /// In how many steps memory was wanting. The count stays at 2^64 - 1.
+    /// Returns how many steps ran out of memory (saturates at 2^64 - 1).
     pub fn losses(&self) -> u64
         ensures { result ≡ self.now.losses }
     {
         self.losses
     }
 
-    // Memory was wanting, which is counted.
+    // Counts that memory ran out.
     pub(crate) fn lose(&mut self)
         ensures lost { self.new ≡ record self.old { losses = one_more self.old.losses } }
         ensures rises { self.old.losses ≤ self.new.losses }
@@ -180,8 +181,8 @@ impl World {
         self.losses = self.losses.saturating_add(1);
     }
 
-    // Counts a step in which the nodes ran out of memory: they had counted `before`. Does not count it again where the
-    // world did so already: it had counted `counted`.
+    // Counts a step in which the nodes ran out of memory: they had counted `before`. Does not count
+    // it again if the world did so already: it had counted `counted`.
     fn count(&mut self, before: u64, counted: u64)
         ensures counts { IsCounted before counted self.old self.new }
         ensures nodes { self.new.nodes ≡ self.old.nodes }
@@ -193,7 +194,8 @@ impl World {
         }
     }
 
-    // Whether the nodes counted no step in which memory was wanting since they had counted so many.
+    // Says whether the nodes have counted no step in which memory ran out since they had counted
+    // `before`.
     pub(crate) fn is_whole(&self, before: u64) -> bool
         ensures yes { result ≡ true →
             (self.now.nodes.losses ≡ before) × (before < 2 ^ 64 - 1) }
@@ -230,7 +232,7 @@ impl World {
     }
 }
 
-// Clients that were never connected.
+// Returns clients that were never connected.
 fn new_clients(alloc: Global, clients: &[ClientId]) -> Result<Vec<WorldClient>, Memory>
     ensures stand { IfOk result (λ made. ClientsStand made.items (map new_client clients.now)) }
     ensures named { IfOk result (λ made. identifiers made.items ≡ clients.now) }
@@ -243,7 +245,7 @@ fn new_clients(alloc: Global, clients: &[ClientId]) -> Result<Vec<WorldClient>, 
     Ok(made)
 }
 
-// A client that was never connected.
+// Returns a client that was never connected.
 fn new_one(alloc: Global, client: &ClientId) -> Result<WorldClient, Memory>
     ensures stands { IfOk result (λ made. StandsFor made.piped (new_client client.now)) }
     ensures named { IfOk result (λ made. made.name ≡ client.now) }

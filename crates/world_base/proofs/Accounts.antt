@@ -1,4 +1,4 @@
--- Accounts.antt: what was done where memory may have been wanting, one thing behind the other.
+-- Accounts.antt: what was done if memory may have run out, one thing after the other.
 use Rattle.std.proofs.Common.{◌≡◌, ℕ, zero, suc, ◌+◌, ◌-◌, ◌≤◌, List, [], ◌++◌, append_assoc, refl, sym, ap, subst, ◌∙◌, arith}
 use Rattle.std.proofs.lemmas.List.{append-nil}
 use Rattle.node_connections.specs.broker_model.declared.command.Command.{Command}
@@ -63,7 +63,7 @@ ran_then P Q a b c x y z one two =
     }
 
 module _ (Next : CoreState → Account → Type 0) where
-  -- the last one is done behind the others
+  -- the last one is done after the others
   one_more : (n : ℕ) (core : CoreState) (one two : Account) → Repeated n Next core one → Next one.core two →
       Repeated (suc n) Next core (joined one two)
   one_more zero core one two none next =

@@ -1,4 +1,4 @@
--- Answering.antt: what the replica alone did where memory may have been wanting, and with what it gave.
+-- Answering.antt: what the replica did if memory may have run out, and what it gave.
 use Rattle.std.proofs.Common.{◌≡◌, ◌≤◌, ◌<◌, ℕ, Bool, true, false, not, if◌then◌else◌, ◌⊎◌, inl, inr, List, [], ◌++◌, length, Result, Ok, Err, refl, sym, ap, subst, ◌∙◌}
 use Rattle.std.specs.Prelude.{OnOk, OnErr, IsErr}
 use Rattle.std.specs.Result.{is_ok, IsErrOf}
@@ -69,7 +69,7 @@ drives_all input a b c given x y acts delivered =
       appended = delivered.appended;
     }
 
--- the same as the code has it: the node was changed no more behind it
+-- the same as the code has it: the node was changed no more after it
 pub acts_kept : (input : Input Command) (old : CoreState) (new : CountedReplica State Command) (before behind : List (Effect Command Output))
     (after : CoreState) → before ≡ [] →
     (old.replica.state.stopped ≡ false → Stepped rules old.replica (replica_step rules old.replica.state input) new before behind) →
@@ -107,7 +107,7 @@ room_in old serving not_full = by (cases_lt (places old.replica.state.log) most_
 full_in : (old : CoreState) → serves old ≡ true → most_places ≤ places old.replica.state.log → has_room old ≡ false
 full_in old serving over = sym (has_room_by old false serving (sym (le-ltb (places old.replica.state.log) most_places over)))
 
--- a replica that is stopped behind a proposal found no memory
+-- a replica that is stopped after a proposal found no memory
 stopped_by : (old : CountedReplica State Command) (command : Command) (new : CountedReplica State Command) (given : List (Effect Command Output)) →
     is_active old.state.role ≡ true → old.state.stopped ≡ false → new.state.stopped ≡ true →
     Steps rules old (proposed rules old.state command) new given →

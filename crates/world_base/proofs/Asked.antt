@@ -1,4 +1,4 @@
--- Asked.antt: a proposal without losses is taken exactly where there is room.
+-- Asked.antt: a proposal without losses is taken exactly if there is room.
 use Rattle.std.proofs.Common.{◌≡◌, ℕ, ◌<◌, ◌≤◌, ◌^◌, ◌-◌, Bool, true, false, not, ◌&&◌, ◌⊎◌, inl, inr, List, length, nat_lt, Result, Ok, Err, refl, sym, ap, ◌∙◌, arith}
 use Rattle.std.specs.Result.{is_ok, IsErrOf}
 use Rattle.std.proofs.lemmas.Bool.{lt-ltb, le-ltb, cases_lt}
@@ -40,7 +40,7 @@ proposed-stopped r command active = by_order (cases_lt (places r.log) most_place
     by_order (inr full) =
         ap (λ (o : Outcome State Command Output). o.state.stopped) (proposed-full rules r command active full)
 
--- the count of losses tells them while it is below its greatest number
+-- the count of losses shows them while it is below its greatest number
 pub no_loss : (old new : ℕ) → new ≡ one_more old → new ≡ old → old < 2 ^ 64 - 1 → ⊥
 no_loss old new more same below = omega arith
 

@@ -70,7 +70,7 @@ none_waits test (c ∷ cs) each = by (test c) (none_waits test cs each.1)
     by true rest = each.0
     by false rest = rest
 
--- nothing is handed over where nothing waits
+-- nothing is handed over if nothing waits
 pub nothing_handed : (port : Port) (core : CoreState) → WaitsNothing core → bytes_of (listed_at port core) ≡ []
 nothing_handed port core each = none_waits (is_at port) core.connections each
 
@@ -84,7 +84,7 @@ hands_over_waits port core each = by (listed_at port core)
 
 -- ---- an item
 
--- what it makes of a node, quietly
+-- what it does to a node, quietly
 record GoesCalmly (item : Item) (core : CoreState) : Type 0 where
   next : CoreState
   is : takes_in item core ≡ quiet next

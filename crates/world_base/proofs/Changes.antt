@@ -1,4 +1,5 @@
--- Changes.antt: a change of a connection is done at its place, and where there is none nothing changes.
+-- Changes.antt: a change of a connection is done at its place, and if there is none nothing
+-- changes.
 use Rattle.std.proofs.Common.{◌≡◌, ℕ, Bool, true, false, Option, Some, None, Result, Ok, Err, List, get_or, set, sym, ap, ◌∙◌}
 use Rattle.std.specs.List.{position}
 use Rattle.std.specs.Result.{is_ok, OnOk}
@@ -57,7 +58,7 @@ pub named_nowhere : (name : ConnectionName) (change : Connection → Connection)
 unfolding changes_named
 named_nowhere name change = nowhere (is_open_named name) change
 
--- the same of the node alone
+-- the same for only the node
 abbrev as_running : CoreState → Running
 as_running core = record { core = core; wanting = false }
 

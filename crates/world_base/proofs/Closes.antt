@@ -18,13 +18,13 @@ use Rattle.world_base.specs.Turns.{quiet, then_also, proposes, has_room}
 use Rattle.world_base.proofs.Asked.{left_true}
 use Rattle.world_base.proofs.TurnsJoin.{turns_idle, turns_join, turns_as, turns_behind, turns_quiet}
 
--- where no connection of the port is open nothing is done
+-- if no connection of the port is open nothing is done
 pub ends_none : (port : Port) (r : Running) (out : List (Effect Command Output)) → open_at port r.core ≡ None →
     Turns r r out out (ends port r.core)
 unfolding ends
 ends_none port r out none = subst (λ (t : Turn). Turns r r out out t) (rw none refl) (turns_idle r out)
 
--- the broker heard of the connection, and hears that it was lost
+-- the connection's CONNECT was proposed, and its loss is reported to the broker
 pub ends_proposed : (port : Port) (c : Connection) (a b r : Running) (x y : List (Effect Command Output)) →
     open_at port a.core ≡ Some c → is_proposed c.stage ≡ true → b ≡ record a { core = changes port closed a.core } →
     Turns b r x y (proposes (commands.Lost c.name) b.core) → Turns a r x y (ends port a.core)

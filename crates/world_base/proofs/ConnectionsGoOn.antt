@@ -90,7 +90,7 @@ goes_refused code c stays =
       put = refl;
     }
 
--- bytes that are put out stand behind all others, or the connection is closed
+-- bytes that are queued come after all others, or the connection is closed
 goes_put : (bytes : List ℕ) (c : Connection) → is_over c.stage ≡ false → GoesOn bytes c (put_out bytes c)
 goes_put bytes c stays = by (nat_le (length c.pending + length bytes) most_pending)
   where
@@ -109,7 +109,7 @@ goes_put bytes c stays = by (nat_le (length c.pending + length bytes) most_pendi
         }
     by false = goes_failing bytes c
 
--- one thing and then another: behind the first it was closed, or is open
+-- one thing and then another: after the first it was closed, or is open
 closed_between : (xs ys : List ℕ) (c d e : Connection) → is_over d.stage ≡ true → GoesOn xs c d → GoesOn ys d e → GoesOn (xs ++ ys) c e
 closed_between xs ys c d e over one two =
     record {

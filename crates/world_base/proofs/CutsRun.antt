@@ -47,7 +47,7 @@ cut_exactly core new false r same below = by_need (cases_Bool (can_cut core.repl
     by_need (inl can) = let e : new.losses ≡ min (core.replica.losses + 1) (2 ^ 64 - 1) = r.tells refl can in absurd (omega (arith, e, same, below))
     by_need (inr cannot) = rw cannot (ap (λ (x : CountedReplica State Command). let z : CoreState = record core { replica = x } in z) (r.idle cannot).1)
 
--- so it is what was done, unless memory was wanting
+-- so it is what was done, unless memory ran out
 pub cut_does : (old new : Running) (replica : CountedReplica State Command) (result : Bool) (before : ℕ) → ReplicaCut old.core replica result →
     before ≡ old.core.replica.losses → new.core ≡ record old.core { replica = replica } →
     (new.wanting ≡ false → (old.wanting ≡ false) × ((replica.losses ≡ before) × (before < 2 ^ 64 - 1))) → Does old new (cuts old.core)

@@ -1,4 +1,4 @@
--- Delivering.antt: what the replica gave was done one by one, where memory may have been wanting.
+-- Delivering.antt: what the replica gave was done one by one, if memory may have run out.
 use Rattle.std.proofs.Common.{◌≡◌, ℕ, Bool, true, false, if◌then◌else◌, List, [], ◌∷◌, ◌++◌, append_assoc, refl, sym, ap, ◌∙◌}
 use Rattle.std.proofs.lemmas.List.{append-nil}
 use Rattle.node_connections.specs.broker_model.declared.command.Command.{Command}
@@ -18,7 +18,7 @@ delivers_both _ ys _ _ c _ n (does served more) behind = does served (delivers_b
 delivers_both _ ys _ _ c _ n (tells more) behind = tells (delivers_both _ ys _ _ c _ n more behind)
 delivers_both _ ys _ _ c _ n (loses more) behind = loses (delivers_both _ ys _ _ c _ n more behind)
 
--- where nothing was given nothing is done
+-- if nothing was given nothing is done
 pub delivers_nothing : (given : List (Effect Command Output)) (a b : CoreState) (messages : List (Effect Command Output)) →
     Delivers given a b messages → given ≡ [] → (b ≡ a) × (messages ≡ [])
 delivers_nothing _ _ _ _ nothing none = (refl, refl)

@@ -1,4 +1,4 @@
--- EndsRun.antt: how connections end and what is asked for them, where memory may have been wanting.
+-- EndsRun.antt: how connections end and what is asked for them, if memory may have run out.
 use Rattle.std.proofs.Common.{◌≡◌, ◌⊎◌, inl, inr, ℕ, Bool, true, false, List, Some, None, refl, sym, ap, subst, ◌∙◌}
 use Rattle.std.specs.List.{find}
 use Rattle.node_connections.specs.broker_model.Connection.{ConnectionName}
@@ -43,7 +43,7 @@ ran_told port c a b r taken x y found heard shut ran =
     (λ did runs. told c found heard (as_proposes taken (commands.Lost c.name) (changes port closed a) did
     (subst (λ (k : CoreState). ProposedBy taken (commands.Lost c.name) k did) shut runs))) ran
 
--- the broker hears of it where it heard of its CONNECT
+-- it is reported to the broker if its CONNECT was proposed
 pub ran_tells : (heard taken : Bool) (name : ConnectionName) (a b : CoreState) (x y : List (Effect Command Output)) → heard ≡ true →
     Ran (ProposedBy taken (commands.Lost name)) a b x y → Ran (TellsLost heard name) a b x y
 ran_tells heard taken name a b x y is ran =

@@ -1,4 +1,4 @@
--- Failures.antt: the first connection that failed, and that the broker hears of it.
+-- Failures.antt: the first connection that failed, and that it is reported to the broker.
 use Rattle.std.proofs.Common.{◌≡◌, List, Some, None, refl, ap, subst, ◌∙◌}
 use Rattle.std.specs.List.{find}
 use Rattle.node_connections.specs.broker_model.declared.command.Command.{Command}
@@ -32,7 +32,7 @@ failed_one c a b r x y found shut turns =
     subst (λ (t : Turn). Turns a r x y t) (rw found refl)
     (turns_behind a b r x y (closes_failed a.core) (proposes (commands.Lost c.name)) shut turns)
 
--- where none failed nothing is done, and then nothing more
+-- if none failed nothing is done, and then nothing more
 pub none_again : (a b c : Running) → (find has_failed a.core.connections ≡ None → b ≡ a) →
     (find has_failed b.core.connections ≡ None → c ≡ b) → find has_failed a.core.connections ≡ None → c ≡ a
 none_again a b c first next none =

@@ -1,4 +1,4 @@
--- FoundWhere.antt: some item of a list passes a test exactly where one is found.
+-- FoundWhere.antt: some item of a list passes a test exactly if one is found.
 use Rattle.std.proofs.Common.{◌≡◌, Bool, true, false, ◌||◌, if◌then◌else◌, List, [], ◌∷◌, Option, Some, refl}
 use Rattle.std.specs.List.{find, list_any}
 use Rattle.std.specs.Option.{is_some}

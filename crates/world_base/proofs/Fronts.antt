@@ -70,7 +70,7 @@ becomes_itself port core c new found is =
     (changed_same (is_open_at port) (λ _. new) (λ x. x) core.connections c found is
     ∙ changed_not (is_open_at port) core.connections)
 
--- ---- what the front makes of the node
+-- ---- what the front does to the node
 
 -- no connection of the port is open
 pub nothing_open : (now : ℕ) (port : Port) (r : Running) (out : List (Effect Command Output)) →
@@ -135,7 +135,8 @@ turns_other awaits port name packet a b x is other shut =
     subst (λ (f : Bool). Turns a b x x (if f then begins port name packet a.core else says port name packet a.core)) (sym is)
     (other_turns port name packet a b x other shut)
 
--- a connection that is closed behind a change, and the broker hears that it is lost where it heard of its CONNECT
+-- a connection that is closed after a change, and its loss is reported to the broker if its CONNECT
+-- was proposed
 abbrev pub Told : Connection → CoreState → Turn
 Told c core = if is_proposed c.stage then proposes (commands.Lost c.name) core else quiet core
 

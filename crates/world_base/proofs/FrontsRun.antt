@@ -1,4 +1,5 @@
--- FrontsRun.antt: what is done by what the unread bytes of a connection begin with, where memory may have been wanting.
+-- FrontsRun.antt: what is done by what the unread bytes of a connection begin with, if memory may
+-- have run out.
 use Rattle.std.proofs.Common.{◌≡◌, ℕ, Bool, true, false, if◌then◌else◌, List, Some, None, ◌⊎◌, inl, inr, refl, sym, ap, subst, ◌∙◌}
 use Rattle.packet.specs.RefusalCode.{RefusalCode}
 use Rattle.packet.specs.declared.packet.Packet.{Packet}
@@ -129,7 +130,7 @@ pub ran_wanting : (now : ℕ) (port : Port) (c new : Connection) (a b r : CoreSt
     Ran (TellsLost (is_proposed c.stage) c.name) b r x y → Ran (ReadsNext now port) a r x y
 ran_wanting now port c new a b r x y found did is ran = closed_there now port c new a b r x y found did is ran
 
--- where no whole packet stands at the front, the next time nothing is done either
+-- if no whole packet is at the front, the next time nothing is done either
 pub idle_open : (now : ℕ) (port : Port) (core : CoreState) → open_at port core ≡ None → ReadsNext now port core (quietly core)
 idle_open now port core e = ends (ends_none e)
   where

@@ -1,4 +1,5 @@
--- GapsClosed.antt: in a step where memory may be wanting each connection goes on, and one with a gap is closed.
+-- GapsClosed.antt: in a step when memory may run out each connection continues, and one with a gap
+-- is closed.
 use Rattle.std.proofs.Common.{◌≡◌, ◌⊎◌, inl, inr, ℕ, zero, suc, Bool, true, false, not, ◌&&◌, if◌then◌else◌, List, [], ◌∷◌, ◌++◌, length, refl, sym, ap, subst, ◌∙◌}
 use Rattle.std.proofs.lemmas.List.{append-nil}
 use Rattle.std.specs.List.{list_any}
@@ -32,7 +33,7 @@ use Rattle.world_base.specs.Reading.{changes, open_at, refused, unread_of}
 use Rattle.world_base.specs.Step.{next_name, opens}
 use Rattle.world_base.proofs.ConnectionsGoOn.{apart_on, changed_on, delivers_on, each_both, each_itself, goes_closed, goes_failing, goes_refused, goes_still}
 
--- each connection goes on in what was done
+-- each connection continues in what was done
 abbrev Goes : CoreState → Account → Type 0
 Goes core did = AreNamedApart core.connections → EachGoesOn did.given core.connections did.core.connections
 
@@ -40,7 +41,7 @@ quietly_on : (core new : CoreState) (did : Account) → did ≡ quietly new → 
 quietly_on core new did is on apart =
     subst (λ (d : Account). EachGoesOn d.given core.connections d.core.connections) (sym is) on
 
--- behind a change in which the replica gave nothing
+-- after a change in which the replica gave nothing
 behind_on : (core mid : CoreState) (did : Account) → EachGoesOn [] core.connections mid.connections → Goes mid did → Goes core did
 behind_on core mid did on more apart =
     each_both [] did.given core.connections mid.connections did.core.connections on
@@ -183,7 +184,7 @@ cut_on core did (nothing_to_cut none is) = quietly_on core _ did is (each_itself
 cut_on core did (cuts_log can reads is) = quietly_on core _ did is (each_itself core.connections)
 cut_on core did (forgets_cut can is) = quietly_on core _ did is (each_itself core.connections)
 
--- where no connection is opened
+-- if no connection is opened
 with_none_new : (item : Item) (core : CoreState) (did : Account) → IsNew item core [] → Goes core did → GoOn item core did
 with_none_new item core did is on =
     record {
@@ -240,7 +241,7 @@ opened_on port now core did acts = by acts.first (opens_one port core)
     by (inl is) (inr more) = one is more
     by (inr is) any = none is
 
--- behind each item the broker hears of the failed ones
+-- after each item the failed ones are reported to the broker
 acts_by : (item : Item) (core : CoreState) (did : Account) → IsNew item core [] →
     ((k : CoreState) (d : Account) → TakesIn item k d → Goes k d) → ActsOn item core did → GoOn item core did
 acts_by item core did is on acts =

@@ -1,4 +1,4 @@
--- HandsOver.antt: what was put out is handed over at the place of its connection.
+-- HandsOver.antt: what was queued is handed over at the place of its connection.
 use Rattle.std.proofs.Common.{◌≡◌, ℕ, Option, Some, None, List, get_or, set, refl, sym, ap, ◌∙◌}
 use Rattle.std.specs.List.{position, filter}
 use Rattle.node_connections.specs.declared.port.Port.{Port}

@@ -26,7 +26,7 @@ pub ends_some : {X : Type 0} {P : Type 0} (xs : List X) (x : X) → xs ++ x ∷ 
 ends_some [] x e = absurd cc
 ends_some (y ∷ xs) x e = absurd cc
 
--- where nothing is to be handed out, nothing was
+-- if nothing is to be handed out, nothing was
 missing_nothing : (given effects : List (Effect Command Output)) → effects ≡ [] → Thinned given effects → given ≡ []
 missing_nothing _ _ e none_missing = refl
 missing_nothing _ _ e (keeps t) = absurd cc
@@ -39,7 +39,7 @@ given_nothing old o new given e (inr (inl (same, thinned), counted)) = missing_n
 given_nothing old o new given e (inr (inr (inl (same, is)), counted)) = is
 given_nothing old o new given e (inr (inr (inr (same, is)), counted)) = is
 
--- the replica alone
+-- only the replica
 pub heard_quietly : (message : Message Command) (old mid new : Running) (replica : CountedReplica State Command) (before behind : List (Effect Command Output)) (losses : ℕ) →
     before ≡ [] →
     (old.core.replica.state.stopped ≡ false →

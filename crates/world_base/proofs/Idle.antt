@@ -88,7 +88,7 @@ nothing_changes port change core none =
 pub closes_nothing : (port : Port) (r : Running) → open_at port r.core ≡ None → r ≡ record r { core = changes port closed r.core }
 closes_nothing port r none = ap (λ (k : CoreState). let r2 : Running = record r { core = k } in r2) (sym (nothing_changes port closed r.core none))
 
--- one of which the broker heard is told
+-- one whose CONNECT was proposed counts as told
 pub told_then : {X : Type 0} (o : Option Connection) (c : Connection) → o ≡ Some c → is_proposed c.stage ≡ true → is_told o ≡ false → X
 told_then o c is proposed untold = (let e : is_told o ≡ true = rw is proposed in absurd cc)
 
@@ -153,7 +153,7 @@ takes_idle (Expel client) core none = inr (no_room none refl)
 takes_idle Cut core none = nothing_to_cut none refl
 takes_idle Crash core none = elim none [ ]
 
--- no connection of a port is open where none is found
+-- no connection of a port is open if none is found
 pub none_open_at : (port : Port) (core : CoreState) (place : Option ℕ) (none : Bool) →
     place ≡ position (is_open_at port) core.connections → is_some place ≡ not none → (none ≡ true) ↔ (open_at port core ≡ None)
 none_open_at port core None true at is = ((λ _. none_found (is_open_at port) core.connections at), (λ _. refl))
@@ -173,7 +173,7 @@ pub ran_ignored : (item : Item) (a b : CoreState) (x y : List (Effect Command Ou
 ran_ignored item a b x y idle ran =
     ran_then (TakesIn item) LosesAllFailed a a b x x y (ran_quietly (TakesIn item) a a x (takes_idle item a idle)) ran
 
--- where nothing failed there are none
+-- if nothing failed there are none
 pub quiet_ignored : (a b : Running) → (find has_failed a.core.connections ≡ None → b ≡ a) → find has_failed a.core.connections ≡ None →
     b.wanting ≡ a.wanting
 quiet_ignored a b none failed = ap (λ (r : Running). r.wanting) (none failed)
@@ -186,7 +186,7 @@ heeded : (item : Item) (a c : Running) (ignored : Bool) → ignored ≡ false �
     c.wanting ≡ a.wanting
 heeded item a c ignored is decides idle = (let e = decides.1 idle in absurd cc)
 
--- a message that is heeded is heard quietly
+-- a message that has an effect is heard quietly
 heard_then : (message : Message Command) (a b c : Running) (ignored : Bool) → ignored ≡ false → (ignored ≡ true) ↔ DoesNothing (Peer message) a.core →
     (IsHeardQuietly message a.core → ReadsNone message a.core → IsCalm a b) → (find has_failed b.core.connections ≡ None → c ≡ b) →
     IsIgnored (Receives message) a.core ⊎ IsHeardQuietly message a.core → ReadsNone message a.core → find has_failed a.core.connections ≡ None →
@@ -194,8 +194,8 @@ heard_then : (message : Message Command) (a b c : Running) (ignored : Bool) → 
 heard_then message a b c ignored is decides heard none (inl idle) reads failed = heeded (Peer message) a c ignored is decides (idle, reads)
 heard_then message a b c ignored is decides heard none (inr quiet) reads failed = calm_then a b c (heard quiet reads) none failed
 
--- what takes no memory, and does something, is a message that is heard quietly, a crash or the end of a connection of which the broker
--- did not hear
+-- what takes no memory, and does something, is a message that is heard quietly, a crash or the end
+-- of a connection whose CONNECT was not proposed
 pub quiet_otherwise : (item : Item) (a b c : Running) (ignored : Bool) → ignored ≡ false → (ignored ≡ true) ↔ DoesNothing item a.core →
     ((message : Message Command) → item ≡ Peer message → IsHeardQuietly message a.core → ReadsNone message a.core → IsCalm a b) →
     (item ≡ Crash → IsCalm a b) → ((port : Port) → item ≡ Ended port → is_told (open_at port a.core) ≡ false → IsCalm a b) →
@@ -210,7 +210,7 @@ quiet_otherwise (Expel client) a b c ignored is decides heard crash ended none t
 quiet_otherwise Cut a b c ignored is decides heard crash ended none takes failed = heeded Cut a c ignored is decides takes
 quiet_otherwise Crash a b c ignored is decides heard crash ended none takes failed = calm_then a b c (crash refl) none failed
 
--- no other connection fails where one is closed
+-- no other connection fails if one is closed
 pub closing_fails_none : (test : Connection → Bool) (cs : List Connection) → find has_failed cs ≡ None → find has_failed (changed test closed cs) ≡ None
 closing_fails_none test [] none = refl
 closing_fails_none test (c ∷ cs) none = by (test c) (has_failed c) refl (closing_fails_none test cs) none

@@ -1,4 +1,4 @@
--- ItemsRun.antt: what an item does where memory may have been wanting, and the step around it.
+-- ItemsRun.antt: what an item does if memory may have run out, and the step around it.
 use Rattle.std.proofs.Common.{◌≡◌, ◌⊎◌, inl, inr, ℕ, Bool, true, false, if◌then◌else◌, List, None, refl, sym, ap, subst, ◌∙◌}
 use Rattle.std.specs.List.{find}
 use Rattle.std.proofs.lemmas.List.{append_cancel_left}

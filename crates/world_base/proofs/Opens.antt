@@ -62,7 +62,7 @@ opened port r name ballot count c all accepted is b n new added =
     (as_name name ballot count b n)
     ∙ ap (λ (x : ConnectionName). record r { core = record r.core { last_name = x; connections = r.core.connections ++ fresh port x ∷ [] } }) is)
 
--- the same of the node alone
+-- the same for only the node
 pub opened_core : (port : Port) (core : CoreState) (name : ConnectionName) (ballot count : ℕ) (c : Connection) (all : List Connection) →
     accepts port core ≡ true → name ≡ next_name core → ballot ≡ name.ballot → count ≡ name.count →
     c ≡ fresh port name → all ≡ core.connections ++ c ∷ [] →

@@ -1,4 +1,4 @@
--- Places.antt: a connection that was looked up by a test stands at a place of the list, and changing it
+-- Places.antt: a connection that was looked up by a test is at a place of the list, and changing it
 -- there is the change of the first connection that passes the test.
 use Rattle.std.proofs.Common.{◌≡◌, ℕ, ◌<◌, zero, suc, Bool, true, false, cond, ltb, Option, Some, None, List, [], ◌∷◌, length, get_or, set, refl, sym, ap, ◌∙◌, arith}
 use Rattle.std.specs.List.{position, position_or_len, find}
@@ -8,7 +8,7 @@ use Rattle.std.proofs.lemmas.Bool.Decides.{nat_tests}
 use Rattle.node_connections.specs.declared.connection.Connection.{Connection}
 use Rattle.node_connections.specs.Connections.{changed}
 
--- where no connection passes, none is found and none is changed
+-- if no connection passes, none is found and none is changed
 fails_found : (test : Connection → Bool) (cs : List Connection) →
     ((k : ℕ) (d : Connection) → k < length cs → test (get_or cs k d) ≡ false) → find test cs ≡ None
 fails_found test [] fails = refl
@@ -85,7 +85,7 @@ pub same_found : (test : Connection → Bool) (cs : List Connection) (c d : Conn
     find test cs ≡ Some d → d ≡ c
 same_found test cs c d found again = cc
 
--- who stands at a place is found
+-- who is at a place is found
 pub none_placed : (test : Connection → Bool) (cs : List Connection) (i : ℕ) → Some i ≡ position test cs → find test cs ≡ None → ⊥
 none_placed test [] i e none = absurd cc
 none_placed test (c ∷ cs) i e none =

@@ -1,4 +1,5 @@
--- ProposalsAreSteps.antt: what a command does to a replica, where memory may be wanting, is a step of its own.
+-- ProposalsAreSteps.antt: what a command does to a replica, when memory may run out, is a step of
+-- its own.
 use Rattle.std.proofs.Common.{◌≡◌, ◌≤◌, ◌<◌, ◌⊎◌, inl, inr, Bool, true, false, not, ◌&&◌, List, [], length, nat_lt, refl, sym, subst, ◌∙◌}
 use Rattle.std.proofs.lemmas.Bool.{lt-ltb, le-ltb, cases_lt}
 use Rattle.broker.specs.broker_base.State.{State}

@@ -1,4 +1,5 @@
--- Proposes.antt: what comes to the replica is what it makes of it, and what is given is done at once.
+-- Proposes.antt: what comes to the replica is what it does to it, and what is given is done at
+-- once.
 use Rattle.std.proofs.Common.{◌≡◌, true, false, List, refl, ap, subst, ◌∙◌}
 use Rattle.broker.specs.broker_base.State.{State}
 use Rattle.node_connections.specs.broker_model.declared.command.Command.{Command}

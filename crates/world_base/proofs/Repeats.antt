@@ -13,7 +13,7 @@ use Rattle.world_base.proofs.TurnsJoin.{turns_as, turns_idle, turns_join}
 abbrev given_by : CoreState → List (Effect Command Output) → Turn
 given_by core messages = record { core = core; messages = messages }
 
--- nothing more behind it
+-- nothing more after it
 ends_quiet : (t : Turn) → then_also t quiet ≡ t
 ends_quiet t = ap (given_by t.core) (append-nil t.messages)
 
@@ -21,7 +21,7 @@ joins : (t : Turn) (f g : CoreState → Turn) → then_also t (λ core. then_als
 joins t f g = ap (given_by (g (f t.core).core).core) (sym (append_assoc t.messages (f t.core).messages (g (f t.core).core).messages))
 
 module _ (next : CoreState → Turn) where
-  -- the last one is done behind the others
+  -- the last one is done after the others
   one_more : (n : ℕ) (core : CoreState) → repeated (suc n) next core ≡ then_also (repeated n next core) next
   unfolding repeated
   one_more zero core = ends_quiet (next core)
@@ -57,7 +57,7 @@ module _ (next : CoreState → Turn) where
       subst (λ (t : Turn). Turns a c x z t) (sym (one_more n a.core))
       (turns_join a b c x y z (repeated n next a.core) next done more)
 
-  -- the last one tells that the next would do nothing
+  -- the last one says that the next would do nothing
   pub repeats_enough : (n all : ℕ) (a b : Running) (x y : List (Effect Command Output)) → n ≤ all →
       Turns a b x y (repeated n next a.core) → (b.wanting ≡ false → next b.core ≡ quiet b.core) →
       Turns a b x y (repeated all next a.core)

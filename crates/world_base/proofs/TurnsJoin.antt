@@ -1,4 +1,4 @@
--- TurnsJoin.antt: two things that a node does, one after the other, are done as one.
+-- TurnsJoin.antt: two things that a node does, one after another, are done as one.
 use Rattle.std.proofs.Common.{◌≡◌, true, false, List, [], ◌∷◌, ◌++◌, append_assoc, refl, sym, ap, subst, ◌∙◌}
 use Rattle.std.specs.List.{fold, filter}
 use Rattle.std.proofs.lemmas.List.{append-nil}
@@ -63,7 +63,7 @@ turns_push a b c x y z given e one two =
         ∙ ap (λ (l : List (Effect Command Output)). let t : Turn = record { core = fold served a.core (given ++ e ∷ []); messages = l } in t)
         (sym (filter-append is_message given (e ∷ [])))
 
--- memory was wanting before: nothing exact is said
+-- memory ran out before: nothing exact is said
 pub turns_wanting : (a b c : Running) (x y : List (Effect Command Output)) (t u : Turn) → b.wanting ≡ true →
     Turns b c x y t → Turns a c x y u
 turns_wanting a b c x y t u lost turns =
@@ -73,7 +73,7 @@ turns_wanting a b c x y t u lost turns =
       exact = λ whole. (let kept = wanting_kept b c t.core (turns.exact whole).0 whole in absurd cc);
     }
 
--- the same turn, where no memory was wanting
+-- the same turn, if memory suffices
 pub turns_as : (a c : Running) (x y : List (Effect Command Output)) (t u : Turn) → (c.wanting ≡ false → t ≡ u) →
     Turns a c x y t → Turns a c x y u
 turns_as a c x y t u same turns =
@@ -86,7 +86,7 @@ turns_as a c x y t u same turns =
       );
     }
 
--- something behind a change without messages
+-- something after a change without messages
 pub turns_behind : (a b c : Running) (x y : List (Effect Command Output)) (core : CoreState) (next : CoreState → Turn) →
     b ≡ record a { core = core } → Turns b c x y (next b.core) → Turns a c x y (next core)
 turns_behind a b c x y core next e turns =

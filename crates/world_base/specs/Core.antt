@@ -11,19 +11,19 @@ use Rattle.ballot.specs.Effect.{Effect}
 use Rattle.ballot.specs.Replica.{CountedReplica, is_active, opening}
 use Rattle.node_connections.specs.declared.connection.Connection.{Connection}
 
--- what a node keeps; its connections stand in the order in which they were opened
+-- what a node keeps; its connections are in the order in which they were opened
 pub record CoreState : Type 0 where
   pub replica : CountedReplica State Command
   -- the name of the connection that it accepted last; number 0 of ballot 0 before the first
   pub last_name : ConnectionName
   pub connections : List Connection
 
--- a node with the number of its steps in which memory was wanting, up to 2^64 - 1
+-- a node with the number of its steps in which memory ran out, up to 2^64 - 1
 pub record CountedCore : Type 0 where
   pub core : CoreState
   pub losses : ℕ
 
--- what something makes of a node, and the messages to other nodes that it hands out
+-- a node after something was done, and the messages to other nodes that were sent
 pub record Turn : Type 0 where
   pub core : CoreState
   pub messages : List (Effect Command Output)

@@ -1,4 +1,5 @@
--- Connections that were closed because there was no room for what was put out: the broker hears that they are lost.
+-- Connections that were closed because there was no room for what was to be sent: their loss is
+-- reported to the broker.
 use Rattle.std.specs.Prelude.{length, Option, Some, None}
 use Rattle.std.specs.List.{find}
 use Rattle.node_connections.specs.broker_model.declared.command.Command.TheVariants as commands
@@ -15,10 +16,10 @@ abbrev pub loses_if : Option Connection → CoreState → Turn
 loses_if None core = quiet core
 loses_if (Some c) core = proposes (commands.Lost c.name) (closes_failed core)
 
--- the broker hears of it
+-- its loss is reported to the broker
 unfoldable pub loses_failed : CoreState → Turn
 loses_failed core = loses_if (find has_failed core.connections) core
 
--- so it does of all of them; what it puts out then may close others, of which it hears too
+-- the same for all of them; what is then sent may close others, which are reported too
 abbrev pub loses_all_failed : CoreState → Turn
 loses_all_failed core = repeated (length core.connections) loses_failed core

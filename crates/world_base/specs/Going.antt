@@ -1,4 +1,5 @@
--- What becomes of each connection in a step of a node in which memory may be wanting: one with a gap is closed.
+-- How each connection changes in a step of a node in which memory may run out: one with a gap is
+-- closed.
 use Rattle.std.specs.Prelude.{◌≡◌, ◌⊎◌, ℕ, true, false, if◌then◌else◌, List, [], ◌∷◌, ◌++◌}
 use Rattle.node_connections.specs.broker_model.Connection.{ConnectionName, same_connection}
 use Rattle.node_connections.specs.broker_model.declared.command.Command.{Command}
@@ -20,7 +21,7 @@ use Rattle.world_base.specs.Lossy.{Account}
 use Rattle.world_base.specs.LossyStep.{ActsOn}
 use Rattle.world_base.specs.Step.{next_name}
 
--- the bytes of all that the replica gave for a connection, in order
+-- the bytes of all that the replica output for a connection, in order
 abbrev pub bytes_by : Output → ConnectionName → List ℕ
 bytes_by (outputs.Send to packet) name = if same_connection name to then spelling packet else []
 bytes_by (outputs.Close to) name = []
@@ -34,9 +35,10 @@ bytes_for (To receiver message ∷ given) name = bytes_for given name
 abbrev pub IsRefusal : List ℕ → Type 0
 IsRefusal bytes = (code : RefusalCode) × (bytes ≡ spelling (packets.Connack (connacks.Refused code)))
 
--- A connection further on has its port and its name. One that was closed is, with the same bytes to be handed over. Where
--- it is open, it was, and these bytes stand behind what was to be handed over, whole. Of one that was closed meanwhile a
--- beginning of them does, and perhaps the node's refusal.
+-- A connection after a step has the port and the name from before. If it was closed, it still is,
+-- with the same bytes to hand over. If it is open, it was open, and all these bytes were appended
+-- to what was to be handed over. If it was closed meanwhile, a prefix of these bytes was, and
+-- perhaps the node's refusal.
 pub record GoesOn (bytes : List ℕ) (c d : Connection) : Type 0 where
   pub port : d.port ≡ c.port
   pub name : d.name ≡ c.name
@@ -48,24 +50,24 @@ pub record GoesOn (bytes : List ℕ) (c d : Connection) : Type 0 where
   pub refusal : (answer ≡ []) ⊎ IsRefusal answer
   pub put : d.pending ≡ c.pending ++ (front ++ answer)
 
--- each of a list does, in its order, and none comes or goes
+-- each connection of a list changes in this way, in order, and none is added or removed
 abbrev pub EachGoesOn : List (Effect Command Output) → List Connection → List Connection → Type 0
 EachGoesOn given [] [] = Unit {0}
 EachGoesOn given [] (d ∷ ds) = ⊥
 EachGoesOn given (c ∷ cs) [] = ⊥
 EachGoesOn given (c ∷ cs) (d ∷ ds) = GoesOn (bytes_for given c.name) c d × EachGoesOn given cs ds
 
--- no two have one name
+-- no two have the same name
 abbrev pub AreNamedApart : List Connection → Type 0
 AreNamedApart [] = Unit {0}
 AreNamedApart (c ∷ cs) = Each (λ (d : Connection). same_connection d.name c.name ≡ false) cs × AreNamedApart cs
 
--- an item opens a connection, if any, of its port, which has the next name
+-- an item opens at most one connection, at its port, with the next name
 abbrev pub IsNew : Item → CoreState → List Connection → Type 0
 IsNew (Opened port now) core new = (new ≡ []) ⊎ (new ≡ fresh port (next_name core) ∷ [])
 IsNew _ core new = new ≡ []
 
--- what a step does before connections are settled, where no two have one name, or get one
+-- what a step does before connections are settled, if no two have the same name, or will get one
 pub record GoOn (item : Item) (core : CoreState) (did : Account) : Type 0 where
   pub new : List Connection
   pub is_new : IsNew item core new

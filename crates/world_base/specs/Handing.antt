@@ -1,4 +1,4 @@
--- What a node hands over of the bytes that it put out for a port.
+-- What a node hands over of the bytes that it queued for a port.
 use Rattle.std.specs.Prelude.{List, map, Option, Some, None}
 use Rattle.std.specs.List.{find, filter}
 use Rattle.node_connections.specs.declared.port.Port.{Port}
@@ -12,7 +12,7 @@ pub use Rattle.node_connections.specs.Pending.{answer_of, bytes_of, is_idle}
 abbrev pub listed_at : Port → CoreState → Option Connection
 listed_at port core = find (is_at port) core.connections
 
--- what is left: a closed connection is gone with its last bytes
+-- what is left: a closed connection is removed with its last bytes
 abbrev pub left_by : Port → CoreState → Option Connection → CoreState
 left_by port core None = core
 left_by port core (Some c) =
@@ -21,6 +21,7 @@ left_by port core (Some c) =
 unfoldable pub hands_over : Port → CoreState → CoreState
 hands_over port core = left_by port core (listed_at port core)
 
--- the ports of those that are open with nothing to hand over: for each other port something is to be handed over, or it is closed
+-- the ports of the connections that are open with nothing to hand over: for each other port there
+-- is something to hand over, or it is closed
 abbrev pub idle_ports : CoreState → List Port
 idle_ports core = map (λ (c : Connection). c.port) (filter is_idle core.connections)

@@ -1,4 +1,4 @@
--- What the helpers of a step say of it.
+-- What the helpers of a step ensure about it.
 use Rattle.std.specs.Prelude.{◌≡◌, Bool, true, false, List, [], ◌++◌, None}
 use Rattle.std.specs.List.{find}
 use Rattle.broker.specs.broker_base.State.{State}
@@ -19,28 +19,28 @@ use Rattle.world_base.specs.LossyStep.{Begins, Says}
 use Rattle.world_base.specs.Lossy.{Account, Declines, Delivers, Proposes, Takes, quietly}
 use Rattle.world_base.specs.Turns.{has_room}
 
--- a node during a step, and whether memory was wanting in it
+-- a node during a step, and whether memory ran out in it
 pub record Running : Type 0 where
   pub core : CoreState
   pub wanting : Bool
 
--- no memory was asked, and no connection failed
+-- memory did not run out, and no connection failed
 pub record IsCalm (old new : Running) : Type 0 where
   pub wanting : new.wanting ≡ old.wanting
   pub failed : find has_failed old.core.connections ≡ None → find has_failed new.core.connections ≡ None
 
--- this is what was done, unless memory was wanting
+-- this is what was done, unless memory ran out
 abbrev pub Does : Running → Running → CoreState → Type 0
 Does old new core = new.wanting ≡ false → new ≡ record old { core = core }
 
--- the same with messages, which were appended behind what was there
+-- the same with messages, which were appended to what was there
 pub record Turns (old new : Running) (before behind : List (Effect Command Output)) (turn : Turn)
     : Type 0 where
   pub given : List (Effect Command Output)
   pub appended : behind ≡ before ++ given
   pub exact : new.wanting ≡ false → (new ≡ record old { core = turn.core }) × (given ≡ turn.messages)
 
--- a step of the replica alone
+-- a step of the replica only
 abbrev pub Hears : Running → Running →
     Outcome State Command Output → List (Effect Command Output) → Type 0
 Hears old new outcome given = new.wanting ≡ false →
@@ -51,7 +51,8 @@ Hears old new outcome given = new.wanting ≡ false →
     })
     × (given ≡ outcome.effects)
 
--- what was done where memory may have been wanting; the messages that were handed out stand behind what was there
+-- what was done, when memory may have run out; the messages that were sent were appended to what
+-- was there
 pub record Ran (Did : CoreState → Account → Type 0) (old new : CoreState)
     (before behind : List (Effect Command Output)) : Type 0 where
   pub did : Account
@@ -59,21 +60,21 @@ pub record Ran (Did : CoreState → Account → Type 0) (old new : CoreState)
   pub core : new ≡ did.core
   pub appended : behind ≡ before ++ did.messages
 
--- the same of what the replica gave
+-- the same for what the replica output
 pub record Delivered (given : List (Effect Command Output)) (old new : CoreState)
     (before behind : List (Effect Command Output)) : Type 0 where
   pub messages : List (Effect Command Output)
   pub delivers : Delivers given old new messages
   pub appended : behind ≡ before ++ messages
 
--- a step of the replica alone, or one with losses
+-- a step of the replica only, or one with losses
 pub record Acts (outcome : Outcome State Command Output) (old new : CoreState)
     (given : List (Effect Command Output)) : Type 0 where
   pub replica : CountedReplica State Command
   pub core : new ≡ record old { replica = replica }
   pub steps : Steps rules old.replica outcome replica given
 
--- a command that was put to the replica alone, by its answer
+-- a command that was proposed to the replica only, with its answer
 pub record Took (command : Command) (old new : CoreState) (given : List (Effect Command Output)) : Type 0 where
   pub room : has_room old ≡ true
   pub replica : CountedReplica State Command
@@ -84,7 +85,7 @@ abbrev pub Answered : Bool → Command → CoreState → CoreState → List (Eff
 Answered true command old new given = Took command old new given
 Answered false command old new given = Declines old (quietly new) × (given ≡ [])
 
--- so it is with what it gave
+-- the same with its effects
 abbrev pub ProposedBy : Bool → Command → CoreState → Account → Type 0
 ProposedBy true command core did = Takes command core did
 ProposedBy false command core did = Declines core did
@@ -94,7 +95,7 @@ abbrev pub BeginsOrSays : Bool → Port → ConnectionName → Packet → CoreSt
 BeginsOrSays true port name packet core did = Begins port name packet core did
 BeginsOrSays false port name packet core did = Says port name packet core did
 
--- a connection that was closed, of which the broker hears where it heard of its CONNECT
+-- a connection that was closed; it is reported to the broker if its CONNECT was proposed
 abbrev pub TellsLost : Bool → ConnectionName → CoreState → Account → Type 0
 TellsLost true name core did = Proposes (commands.Lost name) core did
 TellsLost false name core did = did ≡ quietly core

@@ -1,4 +1,5 @@
--- Connections on which no packet came whole for longer than their keep alive allows (MQTT 3.1.2.10).
+-- Connections on which no packet became whole for longer than their keep alive allows (MQTT
+-- 3.1.2.10).
 use Rattle.std.specs.Prelude.{ℕ, length, Option, Some, None}
 use Rattle.node_connections.specs.declared.port.Port.{Port}
 use Rattle.node_connections.specs.Silent.{lowest_silent}
@@ -7,7 +8,7 @@ use Rattle.world_base.specs.Reading.{ends}
 use Rattle.world_base.specs.Turns.{quiet, repeated}
 pub use Rattle.node_connections.specs.Silent.{lower, lower_silent, lowest_silent}
 
--- the silent connection of the lowest port is closed as if its stream had ended
+-- the silent connection with the lowest port is closed as if its stream had ended
 abbrev pub ends_if : Option Port → CoreState → Turn
 ends_if None core = quiet core
 ends_if (Some port) core = ends port core
@@ -15,6 +16,7 @@ ends_if (Some port) core = ends port core
 unfoldable pub ends_silent : ℕ → CoreState → Turn
 ends_silent now core = ends_if (lowest_silent now core.connections) core
 
--- so are all silent ones, in rising order of ports: they are no more than there are connections
+-- the same for all silent ones, in rising order of ports: they are at most as many as there are
+-- connections
 abbrev pub ends_all_silent : ℕ → CoreState → Turn
 ends_all_silent now core = repeated (length core.connections) (ends_silent now) core

@@ -1,4 +1,4 @@
--- How the steps of a node are counted in which memory was wanting, and which never are.
+-- How steps of a node in which memory ran out are counted, and which steps never are.
 use Rattle.std.specs.Prelude.{◌≡◌, ◌⊎◌, ◌<◌, ◌^◌, ◌-◌, Bool, false, List, [], ◌++◌, Option, Some, None}
 use Rattle.std.specs.List.{find}
 use Rattle.ballot.specs.lists.Lists.{Each}
@@ -25,17 +25,17 @@ use Rattle.world_base.specs.Turns.{has_room, heard}
 
 -- ---- what does nothing
 
--- by the protocol the replica does nothing with what comes to it, as where it has stopped
+-- by the protocol the replica does nothing with its input, as if it has stopped
 abbrev pub IsIgnored : Input Command → CoreState → Type 0
 IsIgnored input core = heard input core.replica.state ≡ nothing_done Output core.replica.state
 
--- nor does it have to read a snapshot that stands for no machine
+-- nor does it have to read a snapshot that does not thaw
 abbrev pub ReadsNone : Message Command → CoreState → Type 0
 ReadsNone message core =
     core.replica.state.stopped ≡ false → is_unread rules core.replica.state message.body ≡ false
 
--- by the definitions an item does nothing: the replica ignores it, no connection is silent, none is accepted, none is
--- open by that port, no proposal is taken, or there is nothing to cut
+-- by the definitions an item does nothing: the replica ignores it, no connection is silent, none is
+-- accepted, none is open at that port, no proposal is taken, or there is nothing to cut
 abbrev pub DoesNothing : Item → CoreState → Type 0
 DoesNothing (Peer message) core = IsIgnored (Receives message) core × ReadsNone message core
 DoesNothing (Tick now) core = IsIgnored Ticks core × (lowest_silent now core.connections ≡ None)
@@ -46,22 +46,23 @@ DoesNothing (Expel client) core = has_room core ≡ false
 DoesNothing Cut core = can_cut core.replica.state ≡ false
 DoesNothing Crash core = ⊥
 
--- whether the broker heard of a connection, and it is open
+-- whether the CONNECT of a connection was proposed, and it is open
 abbrev pub is_told : Option Connection → Bool
 is_told None = false
 is_told (Some c) = is_proposed c.stage
 
--- By the protocol a message makes the replica send nothing, leave its log as it is and apply
--- nothing. It may learn something: what a member holds, that one lacks the log no longer, or that its
--- ballot was put out. The replica's count of losses is below its greatest number, at which it no
--- longer tells whether a call lost something.
+-- By the protocol a message makes the replica send nothing, keep its log and apply nothing. It may
+-- learn something: what a member holds, that one no longer lacks the log, or that its ballot was
+-- superseded. The replica's count of losses is below its greatest number, at which it no longer
+-- shows whether a call lost something.
 abbrev pub IsHeardQuietly : Message Command → CoreState → Type 0
 IsHeardQuietly message core =
     IsQuiet core.replica.state (heard (Receives message) core.replica.state)
     × (core.replica.losses < 2 ^ 64 - 1)
 
--- An item takes no memory where it does nothing. So does a message that is heard quietly, a crash, and
--- the end of a connection of which the broker did not hear: that is closed, and no more.
+-- An item takes no memory if it does nothing. The same holds for a message that is heard quietly
+-- (`IsHeardQuietly`), a crash, and the end of a connection whose CONNECT was not proposed: that
+-- connection is only closed.
 abbrev pub TakesNoMemory : Item → CoreState → Type 0
 TakesNoMemory (Peer message) core =
     (IsIgnored (Receives message) core ⊎ IsHeardQuietly message core) × ReadsNone message core
@@ -69,7 +70,7 @@ TakesNoMemory (Ended port) core = is_told (open_at port core) ≡ false
 TakesNoMemory Crash core = Unit {0}
 TakesNoMemory item core = DoesNothing item core
 
--- nothing that was put out for a connection waits to be handed over
+-- nothing that was queued for a connection waits to be handed over
 abbrev pub WaitsNothing : CoreState → Type 0
 WaitsNothing core = Each (λ (c : Connection). c.pending ≡ []) core.connections
 
@@ -78,13 +79,14 @@ WaitsNothing core = Each (λ (c : Connection). c.pending ≡ []) core.connection
 abbrev pub IsExactly : CountedCore → Turn → CountedCore → List (Effect Command Output) → Type 0
 IsExactly old turn new given = (new.core ≡ turn.core) × (given ≡ turn.messages) × (new.losses ≡ old.losses)
 
--- exactly the step, or one in which memory was wanting, and which was counted
+-- exactly the step, or one in which memory ran out and which was counted
 abbrev pub Steps : CountedCore → Turn → CountedCore → List (Effect Command Output) → Type 0
 Steps old turn new given = IsExactly old turn new given ⊎ (new.losses ≡ one_more old.losses)
 
--- What a step hands out was appended behind what was there. It is exactly the step, or counted; one on an item that takes no
--- memory is never counted, while there is no connection of whose failing the broker is still to hear. In any case it did no
--- more than the step may where memory is wanting.
+-- The messages of a step were appended to what was there. It is exactly the step, or counted; a
+-- step on an item that takes no memory is never counted, as long as there is no failed connection
+-- that is still to be reported to the broker. In any case it did no more than the step may do if
+-- memory runs out.
 pub record Stepped (old : CountedCore) (item : Item) (new : CountedCore)
     (before behind : List (Effect Command Output)) : Type 0 where
   pub given : List (Effect Command Output)

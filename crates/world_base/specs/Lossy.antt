@@ -1,4 +1,4 @@
--- What comes to the replica where memory may be wanting, and what becomes of what it gives.
+-- What is given to the replica when memory may run out, and what happens to its effects.
 use Rattle.std.specs.Prelude.{◌≡◌, ◌⊎◌, ℕ, zero, suc, true, false, List, [], ◌∷◌, ◌++◌}
 use Rattle.broker.specs.broker_base.State.{State}
 use Rattle.node_connections.specs.broker_model.declared.command.Command.{Command}
@@ -18,17 +18,18 @@ use Rattle.world_base.specs.Turns.{changes_named, has_room, heard, served_by}
 
 -- ---- what was done
 
--- what became of a node, all that its replica gave meanwhile, and the messages of it that were handed out
+-- a node after something was done, all effects of its replica meanwhile, and its messages that were
+-- sent
 pub record Account : Type 0 where
   pub core : CoreState
   pub given : List (Effect Command Output)
   pub messages : List (Effect Command Output)
 
--- the replica gave nothing
+-- the replica had no effects
 abbrev pub quietly : CoreState → Account
 quietly core = record { core = core; given = []; messages = [] }
 
--- one thing, and another behind it
+-- one account, followed by another
 abbrev pub joined : Account → Account → Account
 joined one two = record { core = two.core; given = one.given ++ two.given; messages = one.messages ++ two.messages }
 
@@ -40,21 +41,22 @@ pub record Then (First Next : CoreState → Account → Type 0) (core : CoreStat
   pub next : Next one.core two
   pub is : did ≡ joined one two
 
--- the same so many times, each behind what the last one left
+-- the same this many times, each after the one before
 abbrev pub Repeated : ℕ → (CoreState → Account → Type 0) → CoreState → Account → Type 0
 Repeated zero Next core did = did ≡ quietly core
 Repeated (suc more) Next core did = Then Next (Repeated more Next) core did
 
 -- ---- outputs
 
--- an output is done on its connection; where there is no memory for its bytes that connection is closed as lost
+-- an output is done on its connection; if there is no memory for its bytes that connection is
+-- closed as lost
 abbrev pub Serves : Output → CoreState → CoreState → Type 0
 Serves (outputs.Send name packet) core new =
     (new ≡ served_by (outputs.Send name packet) core) ⊎ (new ≡ changes_named name failing core)
 Serves (outputs.Close name) core new = new ≡ served_by (outputs.Close name) core
 
--- what the replica gives is handled at once, in its order: outputs are done, messages are handed out or,
--- where there is no memory for one, lost
+-- the effects of the replica are handled at once, in order: outputs are done, messages are sent or,
+-- if there is no memory for one, lost
 pub data Delivers : List (Effect Command Output) → CoreState → CoreState → List (Effect Command Output) → Type 0 where
   nothing : {core : CoreState} → Delivers [] core core []
   does : {place : ℕ} {output : Output} {core next new : CoreState} {given messages : List (Effect Command Output)} →
@@ -64,7 +66,7 @@ pub data Delivers : List (Effect Command Output) → CoreState → CoreState →
   loses : {receiver : ℕ} {message : Message Command} {core new : CoreState} {given messages : List (Effect Command Output)} →
       Delivers given core new messages → Delivers (To receiver message ∷ given) core new messages
 
--- ---- what comes to the replica
+-- ---- what is given to the replica
 
 -- the replica does its step, or one with losses, which it counts
 pub record Moves (outcome : Outcome State Command Output) (core : CoreState) (did : Account) : Type 0 where
@@ -76,16 +78,16 @@ pub record Moves (outcome : Outcome State Command Output) (core : CoreState) (di
 abbrev pub Drives : Input Command → CoreState → Account → Type 0
 Drives input core did = Moves (heard input core.replica.state) core did
 
--- a command that the replica takes into its log; of the messages of which it then hands out some may be missing,
--- which it counts
+-- a command that the replica takes into its log; some of the messages that it then sends may be
+-- missing, which it counts
 pub record Takes (command : Command) (core : CoreState) (did : Account) : Type 0 where
   pub room : has_room core ≡ true
   pub replica : CountedReplica State Command
   pub done : Done core.replica (added rules core.replica.state command) replica [] did.given
   pub delivers : Delivers did.given (record core { replica = replica }) did.core did.messages
 
--- one that it does not take, since it does not serve clients or its log is full, or since there is no memory: then it
--- counts a loss, and may stop
+-- a command that it does not take, because it does not serve clients or its log is full, or because
+-- memory ran out: then it counts a loss, and may stop
 pub data Declines (core : CoreState) (did : Account) : Type 0 where
   no_room : has_room core ≡ false → did ≡ quietly core → Declines core did
   forgets : has_room core ≡ true →
@@ -100,11 +102,12 @@ pub data Declines (core : CoreState) (did : Account) : Type 0 where
       }) →
       Declines core did
 
--- a command is put to the replica
+-- a command is proposed to the replica
 abbrev pub Proposes : Command → CoreState → Account → Type 0
 Proposes command core did = Takes command core did ⊎ Declines core did
 
--- in any case that is a step of the replica's own, exact or with losses; where the node does not serve clients, none
+-- in any case that is a step of the replica, exact or with losses; if the node does not serve
+-- clients, no step
 abbrev pub ProposalsAreSteps : Type 0
 ProposalsAreSteps = (command : Command) (core : CoreState) (did : Account) → Proposes command core did →
     (serves core ≡ true → Moves (proposed rules core.replica.state command) core did)

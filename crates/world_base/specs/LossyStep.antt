@@ -1,4 +1,5 @@
--- What one item may make of a node where memory may be wanting: the step word by word, but for what finds none.
+-- What one item may do to a node if memory may run out: the step, except the parts for which memory
+-- ran out.
 use Rattle.std.specs.Prelude.{◌≡◌, ◌⊎◌, ℕ, true, false, List, length, Some, None, Ok, Err}
 use Rattle.std.specs.List.{find}
 use Rattle.packet.specs.Stop.TheVariants as stops
@@ -29,7 +30,8 @@ use Rattle.world_base.specs.Step.{crashed, opens, settled, with_cut}
 
 -- ---- how a connection ends
 
--- the connection of a port is closed as lost, and the broker hears of it where it heard of its Connect
+-- the connection of a port is closed as lost, and reported to the broker if its Connect was
+-- proposed
 pub data Ends (port : Port) (core : CoreState) (did : Account) : Type 0 where
   none_open : open_at port core ≡ None → did ≡ quietly core → Ends port core did
   untold : (c : Connection) → open_at port core ≡ Some c → is_proposed c.stage ≡ false →
@@ -37,13 +39,13 @@ pub data Ends (port : Port) (core : CoreState) (did : Account) : Type 0 where
   told : (c : Connection) → open_at port core ≡ Some c → is_proposed c.stage ≡ true →
       Proposes (commands.Lost c.name) (changes port closed core) did → Ends port core did
 
--- the silent connection of the lowest port ends
+-- the silent connection with the lowest port ends
 pub data EndsSilent (now : ℕ) (core : CoreState) (did : Account) : Type 0 where
   none_silent : lowest_silent now core.connections ≡ None → did ≡ quietly core → EndsSilent now core did
   ends_one : (port : Port) → lowest_silent now core.connections ≡ Some port →
       Ends port core did → EndsSilent now core did
 
--- the broker hears of the first connection that failed
+-- the first connection that failed is reported to the broker
 pub data LosesFailed (core : CoreState) (did : Account) : Type 0 where
   none_failed : find has_failed core.connections ≡ None → did ≡ quietly core → LosesFailed core did
   tells_one : (c : Connection) → find has_failed core.connections ≡ Some c →
@@ -51,18 +53,19 @@ pub data LosesFailed (core : CoreState) (did : Account) : Type 0 where
 
 -- ---- what is read
 
--- a command is taken, or else this is done
+-- a command is taken, or otherwise this is done
 abbrev pub Asks : Command → (CoreState → Account → Type 0) → CoreState → Account → Type 0
 Asks command Otherwise core did = Takes command core did ⊎ Then Declines Otherwise core did
 
--- a connection is closed; or it is closed as lost, of which the broker is still to hear
+-- a connection is closed; or it is closed as lost, and the loss is still to be reported to the
+-- broker
 abbrev pub Closes : Port → CoreState → Account → Type 0
 Closes port core did = did ≡ quietly (changes port closed core)
 
 abbrev pub Shuts : Port → CoreState → Account → Type 0
 Shuts port core did = Closes port core did ⊎ (did ≡ quietly (changes port failing core))
 
--- a connection of which a packet is not taken is closed
+-- a connection is closed if one of its packets is not taken
 abbrev pub Connects : Port → ConnectionName → Connect → CoreState → Account → Type 0
 Connects port name connect core did = Asks (commands.Connect name connect.client connect.clean) (Closes port) core did
 
@@ -75,8 +78,9 @@ Begins port name _ core did = Closes port core did
 abbrev pub Says : Port → ConnectionName → Packet → CoreState → Account → Type 0
 Says port name packet core did = Asks (commands.Packet name packet) (Shuts port) core did
 
--- The packet at the front of a port's bytes is taken off and proposed; or less than a packet stands there; or the
--- connection ends, since no packet stands there, or since there is no memory to read it.
+-- The packet at the front of a port's bytes is removed and proposed; or there is less than a
+-- packet; or the connection ends, because there is no packet, or because there is no memory to read
+-- it.
 pub data ReadsNext (now : ℕ) (port : Port) (core : CoreState) (did : Account) : Type 0 where
   waits : (c : Connection) → open_at port core ≡ Some c →
       verdict c.unread ≡ Err stops.More → did ≡ quietly core → ReadsNext now port core did
@@ -93,15 +97,16 @@ pub data ReadsNext (now : ℕ) (port : Port) (core : CoreState) (did : Account) 
 
 -- ---- an item
 
--- bytes that came are held, or the connection ends, since there is no memory for them
+-- received bytes are held, or the connection ends, because there is no memory for them
 abbrev pub Holds : Port → List ℕ → CoreState → Account → Type 0
 Holds port piece core did = (did ≡ quietly (changes port (holding piece) core)) ⊎ Ends port core did
 
--- a connection is accepted, or, where there is no memory for it, not
+-- a connection is accepted, or, if there is no memory for it, not
 abbrev pub Opens : Port → CoreState → Account → Type 0
 Opens port core did = (did ≡ quietly (opens port core)) ⊎ (did ≡ quietly core)
 
--- the replica cuts its log, and what it froze stands for its machine; or, where there is no memory for that, it counts a loss
+-- the replica cuts its log, and its frozen bytes thaw to its machine; or, if there is no memory for
+-- that, it counts a loss
 pub data Cuts (core : CoreState) (did : Account) : Type 0 where
   nothing_to_cut : can_cut core.replica.state ≡ false → did ≡ quietly core → Cuts core did
   cuts_log : can_cut core.replica.state ≡ true →
@@ -111,7 +116,7 @@ pub data Cuts (core : CoreState) (did : Account) : Type 0 where
       did ≡ quietly (record core { replica = record core.replica { losses = one_more core.replica.losses } }) →
       Cuts core did
 
--- all of them in turn
+-- all of them, one after another
 abbrev pub EndsAllSilent : ℕ → CoreState → Account → Type 0
 EndsAllSilent now core did = Repeated (length core.connections) (EndsSilent now) core did
 
@@ -136,7 +141,7 @@ TakesIn Crash core did = did ≡ quietly (crashed core)
 abbrev pub ActsOn : Item → CoreState → Account → Type 0
 ActsOn item core did = Then (TakesIn item) LosesAllFailed core did
 
--- a step on an item: what was done, and how connections were settled behind it
+-- a step on an item: what was done, and how connections were settled after it
 pub record RunsOn (item : Item) (old new : CoreState) (messages : List (Effect Command Output)) : Type 0 where
   pub did : Account
   pub acts : ActsOn item old did

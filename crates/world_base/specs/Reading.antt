@@ -1,4 +1,4 @@
--- What a node reads of a connection, and how a connection ends (MQTT 3.1.4, 3.2, 4.8).
+-- What a node reads from a connection, and how a connection ends (MQTT 3.1.4, 3.2, 4.8).
 use Rattle.std.specs.Prelude.{ℕ, if◌then◌else◌, List, length, Option, Some, None, Result, Ok, Err}
 use Rattle.std.specs.List.{find}
 use Rattle.packet.specs.Stop.{Stop}
@@ -25,7 +25,7 @@ unfoldable pub changes : Port → (Connection → Connection) → CoreState → 
 changes port change core =
     record core { connections = changed (is_open_at port) change core.connections }
 
--- a connection is closed as lost: the broker hears of it where it heard of its Connect
+-- a connection is closed as lost: it is reported to the broker if its Connect was proposed
 abbrev pub loses : Port → Connection → CoreState → Turn
 loses port c core =
     if is_proposed c.stage
@@ -46,7 +46,7 @@ asks port name connect core =
     then proposes (commands.Connect name connect.client connect.clean) core
     else quiet (changes port closed core)
 
--- so does any later packet, a CONNECT among them
+-- the same for any later packet, including a CONNECT
 abbrev pub says : Port → ConnectionName → Packet → CoreState → Turn
 says port name packet core =
     if has_room core
@@ -58,8 +58,8 @@ abbrev pub begins : Port → ConnectionName → Packet → CoreState → Turn
 begins port name (packets.Connect connect) core = asks port name connect (changes port (asked connect.keep_alive) core)
 begins port name _ core = quiet (changes port closed core)
 
--- what the front of a connection's bytes makes of the node at this time: a later CONNECT that is refused with a code is a
--- malformed packet
+-- what the front of a connection's bytes does to the node at this time: a later CONNECT that is
+-- refused with a code is a malformed packet
 abbrev pub reads : ℕ → Port → Connection → CoreState → Result (Packet × List ℕ) Stop → Turn
 reads now port c core (Err stops.More) = quiet core
 reads now port c core (Err (stops.Malformed kind)) = loses port c core
@@ -82,6 +82,7 @@ abbrev pub unread_of : Option Connection → ℕ
 unread_of None = 0
 unread_of (Some c) = length c.unread
 
--- all whole packets of a port, each with what it gives before the next: they are no more than the bytes
+-- all whole packets of a port, each with its effects before the next: they are at most as many as
+-- the bytes
 abbrev pub reads_all : ℕ → Port → CoreState → Turn
 reads_all now port core = repeated (unread_of (open_at port core)) (reads_next now port) core

@@ -1,4 +1,4 @@
--- What one item makes of a node.
+-- What one item does to a node.
 use Rattle.std.specs.Prelude.{ℕ, ◌+◌, Bool, not, ◌&&◌, ◌==◌, if◌then◌else◌, [], ◌∷◌, ◌++◌, map, filter}
 use Rattle.std.specs.List.{list_any}
 use Rattle.node_connections.specs.broker_model.Connection.{ConnectionName, is_connection_name}
@@ -24,8 +24,8 @@ accepted core = if core.last_name.ballot == core.replica.state.joined then core.
 abbrev pub next_name : CoreState → ConnectionName
 next_name core = record { ballot = core.replica.state.joined; count = accepted core + 1 }
 
--- a connection is accepted while the node serves clients and has a name for it; a port may be used again once nothing of it
--- is listed
+-- a connection is accepted while the node serves clients and has a name for it; a port may be used
+-- again once nothing is listed for it
 abbrev pub accepts : Port → CoreState → Bool
 accepts port core =
     (serves core && not (list_any (is_at port) core.connections))
@@ -41,8 +41,8 @@ opens port core =
     }
     else core
 
--- where the node no longer serves clients all connections are closed; a closed one with nothing to
--- hand over is gone
+-- if the node no longer serves clients all connections are closed; a closed one with nothing to
+-- hand over is removed
 unfoldable pub settled : CoreState → CoreState
 settled core =
     record core {
@@ -50,7 +50,7 @@ settled core =
           (if serves core then core.connections else map closed core.connections);
     }
 
--- the replica cuts its log where there is something to cut
+-- the replica cuts its log if there is something to cut
 abbrev pub with_cut : CoreState → CoreState
 with_cut core =
     record core { replica = record core.replica { state = cut rules core.replica.state } }
@@ -79,7 +79,7 @@ takes_in Crash core = quiet (crashed core)
 abbrev pub acts_on : Item → CoreState → Turn
 acts_on item core = then_also (takes_in item core) loses_all_failed
 
--- the step of a node on an item: behind it connections are settled
+-- the step of a node on an item, after which connections are settled
 abbrev pub node_step : Item → CoreState → Turn
 node_step item core =
     let turn = acts_on item core in

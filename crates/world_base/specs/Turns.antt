@@ -1,4 +1,4 @@
--- What a step of the replica makes of a node: outputs are done on connections, messages are handed out.
+-- What a step of the replica does to a node: outputs are done on connections, messages are sent.
 use Rattle.std.specs.Prelude.{ℕ, zero, suc, Bool, true, false, ◌&&◌, nat_lt, if◌then◌else◌, List, [], ◌++◌, length, filter}
 use Rattle.std.specs.List.{fold}
 use Rattle.broker.specs.broker_base.State.{State}
@@ -18,7 +18,7 @@ use Rattle.node_connections.specs.Connections.{is_open_named, closed, put_out, c
 use Rattle.world_base.specs.Core.{CoreState, Turn, rules, serves}
 use Rattle.packet.specs.Spelling.{spelling}
 
--- no message is handed out
+-- no message is sent
 abbrev pub quiet : CoreState → Turn
 quiet core = record { core = core; messages = [] }
 
@@ -30,7 +30,7 @@ then_also first next =
       messages = first.messages ++ (next first.core).messages;
     }
 
--- the same so many times, each behind what the last one left
+-- the same this many times, each after the one before
 unfoldable pub repeated : ℕ → (CoreState → Turn) → CoreState → Turn
 repeated zero next core = quiet core
 repeated (suc more) next core = then_also (next core) (repeated more next)
@@ -42,7 +42,8 @@ unfoldable pub changes_named : ConnectionName → (Connection → Connection) �
 changes_named name change core =
     record core { connections = changed (is_open_named name) change core.connections }
 
--- an output of the broker is done on its connection; one for a connection that is not open is dropped
+-- an output of the broker is done on its connection; one for a connection that is not open is
+-- dropped
 abbrev pub served_by : Output → CoreState → CoreState
 served_by (outputs.Send name packet) core = changes_named name (put_out (spelling packet)) core
 served_by (outputs.Close name) core = changes_named name closed core
@@ -55,8 +56,8 @@ abbrev pub is_message : Effect Command Output → Bool
 is_message (Out place output) = false
 is_message (To receiver message) = true
 
--- what a step of the replica gives is handled at once, in its order: outputs are done, messages are
--- handed out
+-- the effects of a replica's step are handled at once, in order: outputs are done, messages are
+-- sent
 abbrev pub delivered : List (Effect Command Output) → CoreState → Turn
 delivered effects core =
     record { core = fold served core effects; messages = filter is_message effects }
@@ -66,9 +67,9 @@ moved outcome core =
     delivered outcome.effects
     (record core { replica = record core.replica { state = outcome.state } })
 
--- ---- what comes to the replica
+-- ---- what is given to the replica
 
--- a command of a client is put to it while the node serves clients
+-- a command of a client is proposed to it while the node serves clients
 unfoldable pub proposes : Command → CoreState → Turn
 proposes command core =
     if serves core then moved (proposed rules core.replica.state command) core else quiet core

@@ -1,4 +1,4 @@
-// What comes to the replica, and what it gives at once.
+// What is given to the replica, and its effects, which are done at once.
 
 ghost use Rattle.std.specs.Prelude.{◌≡◌, ◌<◌, ◌-◌, ◌^◌, false, true, [], ◌∷◌};
 ghost use Rattle.ballot.specs.Protocol.Input.{Receives, Ticks};
@@ -16,7 +16,7 @@ use ballot::{Effect, Message};
 use node_connections::broker_model::{Command, Output};
 
 impl Serving {
-    /// Proposes a command and does what it gives at once: whether it was taken.
+    /// Proposes a command and does its effects at once. Returns whether it was taken.
     pub fn propose(&mut self, command: Command, effects: &mut Vec<Effect<Command, Output>>) -> bool
         ensures turns { Turns self.old self.new effects.old.items effects.new.items
             (proposes command self.old.core) }
@@ -33,7 +33,7 @@ impl Serving {
         taken
     }
 
-    // Proposes a command to the replica alone.
+    // Proposes a command to the replica only.
     fn ask(&mut self, command: Command, given: &mut Vec<Effect<Command, Output>>) -> bool
         requires serving { serves self.old.core ≡ true }
         requires empty { given.old.items ≡ [] }
@@ -48,7 +48,7 @@ impl Serving {
         put.is_ok()
     }
 
-    /// Takes a message of another node and does what it gives at once.
+    /// Takes a message of another node and does its effects at once.
     pub fn receive(&mut self, message: Message<Command>, effects: &mut Vec<Effect<Command, Output>>)
         ensures turns { Turns self.old self.new effects.old.items effects.new.items
             (drives (Receives message) self.old.core) }
@@ -62,7 +62,7 @@ impl Serving {
         self.deliver(given, effects);
     }
 
-    // The replica alone takes a message.
+    // Gives a message to the replica only.
     fn hear(&mut self, message: Message<Command>, given: &mut Vec<Effect<Command, Output>>)
         requires { given.old.items ≡ [] }
         ensures hears { Hears self.old self.new
@@ -78,7 +78,7 @@ impl Serving {
         self.note_losses(before);
     }
 
-    /// The replica says again what others may have missed.
+    /// Lets the replica repeat what others may have missed.
     pub fn tick(&mut self, effects: &mut Vec<Effect<Command, Output>>)
         ensures turns { Turns self.old self.new effects.old.items effects.new.items
             (drives Ticks self.old.core) }
@@ -89,7 +89,7 @@ impl Serving {
         self.deliver(given, effects);
     }
 
-    // The replica alone has a tick.
+    // Gives a tick to the replica only.
     fn say_again(&mut self, given: &mut Vec<Effect<Command, Output>>)
         requires { given.old.items ≡ [] }
         ensures hears { Hears self.old self.new
@@ -102,7 +102,7 @@ impl Serving {
         self.note_losses(before);
     }
 
-    /// Cuts the replica's log where there is something to cut.
+    /// Cuts the replica's log if there is something to cut.
     pub fn cut_log(&mut self)
         ensures does { Does self.old self.new (cuts self.old.core) }
         ensures run { Cuts self.old.core (quietly self.new.core) }
@@ -112,7 +112,7 @@ impl Serving {
         self.note_losses(before);
     }
 
-    // Whether memory was wanting in a call of the replica is told by its count of losses, which was
+    // Notes whether memory ran out in a call of the replica, by its count of losses, which was
     // `before` until then.
     fn note_losses(&mut self, before: u64)
         ensures kept { self.new.core ≡ self.old.core }
@@ -128,7 +128,7 @@ impl Serving {
         }
     }
 
-    // Does what the replica gave, in its order.
+    // Does the effects of the replica, in order.
     fn deliver(
         &mut self,
         given: Vec<Effect<Command, Output>>,
@@ -145,7 +145,7 @@ impl Serving {
         }
     }
 
-    // Does one effect: a message is handed out, an output is done on its connection.
+    // Does one effect: a message is sent, an output is done on its connection.
     fn handle(
         &mut self,
         effect: Effect<Command, Output>,

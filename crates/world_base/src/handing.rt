@@ -1,4 +1,4 @@
-// The bytes that a node put out for its connections.
+// The bytes that a node queued for its connections.
 
 ghost use Rattle.std.specs.Prelude.{◌≡◌, ◌++◌, [], IfOk, IsOk, OnErr, OnOk};
 ghost use Rattle.std.specs.List.{position};
@@ -12,8 +12,8 @@ use ballot::Memory;
 use node_connections::{Handed, Port, Standing, keep_listed, push_idle};
 
 impl Serving {
-    /// Appends what was put out for a port and not handed over before. If memory runs out, nothing changes; it does not
-    /// where nothing was put out.
+    /// Appends what was queued for a port and not yet handed over. If memory runs out, nothing
+    /// changes; it does not run out if nothing was queued.
     pub fn outgoing(&mut self, port: Port, out: &mut Vec<u8>) -> Result<Handed, Memory>
         ensures ok { OnOk result
             (self.new ≡ record self.old { core = hands_over port self.old.core }) }
@@ -35,8 +35,8 @@ impl Serving {
         Ok(answer)
     }
 
-    /// Appends the ports of the connections that are open and have nothing to hand over. Where memory is
-    /// wanting some of them may be appended.
+    /// Appends the ports of the connections that are open and have nothing to hand over. If memory
+    /// runs out some of them may have been appended.
     pub fn idle_ports(&self, ports: &mut Vec<Port>) -> Result<(), Memory>
         ensures ok { OnOk result
             (ports.new.items ≡ ports.old.items ++ idle_ports self.now.core) }
@@ -45,7 +45,7 @@ impl Serving {
         push_idle(&self.connections, ports)
     }
 
-    /// Returns how the connection of a port stands.
+    /// Returns the state of a port's connection.
     pub fn standing(&self, port: Port) -> Standing
         ensures { result ≡ standing_of (listed_at port self.now.core) }
     {
@@ -56,7 +56,7 @@ impl Serving {
         connection.standing()
     }
 
-    // Where the listed connection of a port stands.
+    // Returns the index of the listed connection of a port.
     fn place_listed(&self, port: Port) -> Option<usize>
         ensures { result ≡ position (is_at port) self.now.core.connections }
     {

@@ -1,4 +1,4 @@
-// Items that do nothing at a node: for these no memory is asked.
+// Items that do nothing at a node: these take no memory.
 
 ghost use Rattle.std.specs.Prelude.{◌≡◌, ◌↔◌, false, true};
 ghost use Rattle.ballot.specs.Protocol.Input.{Receives, Ticks};
@@ -10,7 +10,7 @@ use ballot::Message;
 use node_connections::broker_model::Command;
 
 impl Serving {
-    /// Whether an item does nothing.
+    /// Says whether an item does nothing.
     pub fn ignores(&self, item: &Item) -> bool
         ensures { (result ≡ true) ↔ DoesNothing item.now self.now.core }
     {
@@ -26,7 +26,8 @@ impl Serving {
         }
     }
 
-    /// Whether the replica does anything with a message of another node, or has to read a snapshot for it.
+    /// Says whether a message of another node has an effect on the replica, or brings a snapshot
+    /// that the replica has to read.
     pub fn heeds(&self, message: &Message<Command>) -> bool
         ensures { (result ≡ false) ↔ (IsIgnored (Receives message.now) self.now.core
             × ReadsNone message.now self.now.core) }
@@ -34,7 +35,7 @@ impl Serving {
         !self.replica.status().stopped && self.replica.heeds(message)
     }
 
-    // Whether the replica does anything at a tick.
+    // Says whether a tick has an effect on the replica.
     fn speaks(&self) -> bool
         ensures { (result ≡ false) ↔ IsIgnored Ticks self.now.core }
     {

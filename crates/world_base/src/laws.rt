@@ -1,19 +1,19 @@
-// Laws of a step in which memory may be wanting. The calls do nothing; their contracts are the laws.
+// Laws of a step in which memory may run out. The calls do nothing; their contracts are the laws.
 
 ghost use Rattle.world_base.specs.Going.{AGapIsClosed};
 ghost use Rattle.world_base.specs.Lossy.{ProposalsAreSteps};
 
-/// In each step of a node, also one in which memory was wanting, a connection keeps its port and its
-/// name, and is open only if it was. For one that is open behind it all was put out that the replica
-/// gave for it, in order, behind what was there. One with a gap is closed: for it a beginning of that
-/// was put out, and perhaps the node's refusal of its CONNECT. No connection comes but the one that
-/// an item opens, under the next name.
+/// In each step of a node, also one in which memory ran out, a connection keeps its port and its
+/// name, and is open only if it was. If it is still open afterwards, everything that the replica
+/// output for it was queued, in order, after what was already there. A connection with a gap is
+/// closed: a prefix of the outputs for it was queued, and perhaps the node's refusal of its
+/// CONNECT. No connection is added except the one that an item opens, with the next name.
 pub fn a_gap_is_closed()
     ensures { AGapIsClosed }
 {}
 
-/// Whatever memory does, a command that a node puts to its replica is a step of that replica's own, exact or with
-/// losses, and what it gives is done at once.
+/// Even if memory runs out, a command that a node proposes to its replica is a step of that
+/// replica, exact or with losses, and its effects are done at once.
 pub fn proposals_are_steps()
     ensures { ProposalsAreSteps }
 {}

@@ -1,5 +1,5 @@
-//! One replica of the broker with its connections: what a node is between two items. Bytes of
-//! clients, messages of other nodes and times come in, bytes and messages go out.
+//! One replica of the broker with its connections: the state of a node between two items. Its input
+//! are bytes of clients, messages of other nodes and times, its output bytes and messages.
 #![tactic(auto)]
 
 mod driving;

@@ -24,8 +24,8 @@ use node_connections::{Handed, Port, Standing};
 use std::alloc::Global;
 use std::marker::Model;
 
-/// A replica of the broker with its connections. It takes items in, one by one, and hands over what
-/// it puts out for each connection.
+/// A replica of the broker with its connections. It takes items, one by one, and hands over the
+/// bytes that it queues for each connection.
 #[derive(Drop)]
 pub struct NodeCore {
     serving: Serving,
@@ -56,15 +56,16 @@ impl NodeCore {
         })
     }
 
-    /// What the replica shows of itself.
+    /// Returns what the replica shows of itself.
     pub fn status(&self) -> Status
         ensures { result ≡ status_of self.now.core.replica.state }
     {
         self.serving.status()
     }
 
-    /// Returns the commands of the replica's log from its base on: those that are agreed, and after them what may
-    /// become so. The base is what [`NodeCore::snapshot`] tells; what is applied lies within the log.
+    /// Returns the commands of the replica's log from its base on: those that are agreed, followed
+    /// by those that may still become so. [`NodeCore::snapshot`] returns the base; what is applied
+    /// lies within the log.
     pub fn rest(&self) -> &[Command]
         ensures rest { result.now ≡ self.now.core.replica.state.log.rest }
         ensures within { self.now.core.replica.state.committed ≤ places self.now.core.replica.state.log }
@@ -72,7 +73,8 @@ impl NodeCore {
         self.serving.rest()
     }
 
-    /// Returns the base of the replica's log, and the frozen machine as it is there: no bytes where the base is 0.
+    /// Returns the base of the replica's log, and the frozen machine at it: no bytes if the base is
+    /// 0.
     pub fn snapshot(&self) -> (u64, &[u8])
         ensures base { result.0 ≡ self.now.core.replica.state.log.base }
         ensures bytes { result.1.now ≡ self.now.core.replica.state.log.snapshot }
@@ -82,58 +84,62 @@ impl NodeCore {
         self.serving.snapshot()
     }
 
-    /// Returns whether a proposal is taken, as that of an [`Item::Expel`]: the replica is the running primary of an
-    /// active ballot, and its log has room.
+    /// Says whether a proposal would be taken, such as that of an [`Item::Expel`]: the replica is
+    /// the running primary of an active ballot, and its log has room.
     pub fn has_room(&self) -> bool
         ensures { result ≡ has_room self.now.core }
     {
         self.serving.has_room()
     }
 
-    /// Returns whether an [`Item::Cut`] has something to cut: the replica runs, and has applied commands since it last
-    /// cut its log.
+    /// Says whether an [`Item::Cut`] has something to cut: the replica runs, and has applied
+    /// commands since it last cut its log.
     pub fn can_cut(&self) -> bool
         ensures { result ≡ can_cut self.now.core.replica.state }
     {
         self.serving.can_cut()
     }
 
-    /// In how many steps memory was wanting. The count stays at 2^64 - 1.
+    /// Returns how many steps ran out of memory (saturates at 2^64 - 1).
     pub fn losses(&self) -> u64
         ensures { result ≡ self.now.losses }
     {
         self.losses
     }
 
-    /// Whether the node has a connection at a port: one that is open, or that is closed and has bytes to hand over.
+    /// Says whether the node has a connection at a port: one that is open, or that is closed and
+    /// has bytes to hand over.
     pub fn has_port(&self, port: Port) -> bool
         ensures { result ≡ is_some (listed_at port self.now.core) }
     {
         self.serving.has_port(port)
     }
 
-    /// Returns how the connection of a port stands.
+    /// Returns the state of a port's connection.
     pub fn standing(&self, port: Port) -> Standing
         ensures { result ≡ standing_of (listed_at port self.now.core) }
     {
         self.serving.standing(port)
     }
 
-    /// Returns whether the numbers of the ballot are spent, so that no further connection is accepted in it.
+    /// Says whether the numbers of the ballot are used up, so that no further connection is
+    /// accepted in it.
     pub fn is_full(&self) -> bool
         ensures { result ≡ not (is_connection_name (next_name self.now.core)) }
     {
         self.serving.is_full()
     }
 
-    /// Returns whether the node does anything with a message of another node: one that it does not heed is passed over.
+    /// Says whether a message of another node has an effect on the node; one without effect is
+    /// ignored.
     pub fn heeds(&self, message: &Message<Command>) -> bool
         ensures { (result ≡ false) ↔ DoesNothing (Item.Peer message.now) self.now.core }
     {
         self.serving.heeds(message)
     }
 
-    /// Passes a message over that the node does not heed: as [`NodeCore::step`] with it, and no copy of it is made.
+    /// Ignores a message that has no effect on the node: like [`NodeCore::step`] with it, but
+    /// without a copy of it.
     pub fn pass_over(
         &mut self,
         message: &Message<Command>,
@@ -149,9 +155,9 @@ impl NodeCore {
         self.serving.settle();
     }
 
-    /// Takes an item in and appends the messages to other nodes that follow from it. Where memory
-    /// is wanting a connection is closed or not accepted, or a message is lost, and the step is
-    /// counted; each connection that stays open has all that was put out for it.
+    /// Takes an item and appends the messages to other nodes that follow from it. If memory runs
+    /// out, a connection is closed or not accepted, or a message is lost, and the step is counted;
+    /// each connection that stays open has everything that was queued for it.
     pub fn step(&mut self, item: Item, effects: &mut Vec<Effect<Command, Output>>)
         ensures { Stepped self.old item self.new effects.old.items effects.new.items }
     {
@@ -161,9 +167,10 @@ impl NodeCore {
         self.serving.settle();
     }
 
-    /// Appends what was put out for a port and not handed over before, and tells whether more may
-    /// come: [`Handed::Closed`] once the node has closed the connection and nothing is left, and
-    /// for a port that was never opened. If memory runs out, nothing changes; it does not where nothing was put out.
+    /// Appends what was queued for a port and not yet handed over, and says whether more may come:
+    /// [`Handed::Closed`] once the node has closed the connection and nothing is left, and for a
+    /// port that was never opened. If memory runs out, nothing changes; it does not run out if
+    /// nothing was queued.
     pub fn outgoing(&mut self, port: Port, out: &mut Vec<u8>) -> Result<Handed, Memory>
         ensures bytes { OnOk result
             (out.new.items ≡ out.old.items ++ bytes_of (listed_at port self.old.core)) }
@@ -173,16 +180,16 @@ impl NodeCore {
             (self.new ≡ record self.old { core = hands_over port self.old.core }) }
         ensures nothing { bytes_of (listed_at port self.old.core) ≡ [] → IsOk result }
 
-        // Want of memory changes nothing.
+        // Running out of memory changes nothing.
         ensures same { OnErr result (self.new ≡ self.old) }
         ensures err { OnErr result (out.new.items ≡ out.old.items) }
     {
         self.serving.outgoing(port, out)
     }
 
-    /// Appends the ports of the connections that are open and have nothing to hand over: for each other port
-    /// [`NodeCore::outgoing`] gives bytes, or answers [`Handed::Closed`]. Where memory is wanting some of them
-    /// may be appended.
+    /// Appends the ports of the connections that are open and have nothing to hand over: for each
+    /// other port [`NodeCore::outgoing`] gives bytes, or answers [`Handed::Closed`]. If memory runs
+    /// out some of them may have been appended.
     pub fn idle_ports(&self, ports: &mut Vec<Port>) -> Result<(), Memory>
         ensures ok { OnOk result
             (ports.new.items ≡ ports.old.items ++ idle_ports self.now.core) }
@@ -192,7 +199,7 @@ impl NodeCore {
     }
 }
 
-// The count of steps in which memory was wanting, behind one more step.
+// Returns the count of steps in which memory ran out, after one more step.
 fn counted(losses: u64, wanting: bool) -> u64
     ensures { result ≡ (if wanting then one_more losses else losses) }
 {

@@ -26,8 +26,7 @@ use packet::{Packet, RefusalCode};
 use std::alloc::Global;
 use std::marker::Model;
 
-/// A replica of the broker with its connections, and whether memory was wanting in the step that
-/// is being done.
+/// A replica of the broker with its connections, and whether memory ran out in the current step.
 #[derive(Drop)]
 pub struct Serving {
     pub(crate) alloc: Global,
@@ -79,28 +78,28 @@ impl Serving {
         })
     }
 
-    /// Begins a step: memory was not wanting yet.
+    /// Begins a step: memory has not run out yet.
     pub fn begin_step(&mut self)
         ensures { self.new ≡ record self.old { wanting = false } }
     {
         self.wanting = false;
     }
 
-    /// Whether memory was wanting in this step.
+    /// Says whether memory ran out in this step.
     pub fn is_wanting(&self) -> bool
         ensures { result ≡ self.now.wanting }
     {
         self.wanting
     }
 
-    /// What the replica shows of itself.
+    /// Returns what the replica shows of itself.
     pub fn status(&self) -> Status
         ensures { result ≡ status_of self.now.core.replica.state }
     {
         self.replica.status()
     }
 
-    /// The commands of the replica's log from its base on.
+    /// Returns the commands of the replica's log from its base on.
     pub fn rest(&self) -> &[Command]
         ensures rest { result.now ≡ self.now.core.replica.state.log.rest }
         ensures within { self.now.core.replica.state.committed ≤ places self.now.core.replica.state.log }
@@ -108,7 +107,7 @@ impl Serving {
         self.replica.rest()
     }
 
-    /// The base of the replica's log, and the frozen machine as it is there.
+    /// Returns the base of the replica's log, and the frozen machine at it.
     pub fn snapshot(&self) -> (u64, &[u8])
         ensures base { result.0 ≡ self.now.core.replica.state.log.base }
         ensures bytes { result.1.now ≡ self.now.core.replica.state.log.snapshot }
@@ -118,21 +117,21 @@ impl Serving {
         self.replica.snapshot()
     }
 
-    /// Whether the replica has something to cut.
+    /// Says whether the replica has something to cut.
     pub fn can_cut(&self) -> bool
         ensures { result ≡ can_cut self.now.core.replica.state }
     {
         self.replica.can_cut()
     }
 
-    /// Whether a connection of this port is listed.
+    /// Says whether a connection of this port is listed.
     pub fn has_port(&self, port: Port) -> bool
         ensures { result ≡ list_any (is_at port) self.now.core.connections }
     {
         has_port(&self.connections, port)
     }
 
-    /// Whether the node serves clients.
+    /// Says whether the node serves clients.
     pub fn serves(&self) -> bool
         ensures { result ≡ serves self.now.core }
     {
@@ -140,42 +139,43 @@ impl Serving {
         status.role.is_active() && !status.stopped
     }
 
-    /// Whether a proposal is taken: by an active primary whose log has room.
+    /// Says whether a proposal would be taken: by an active primary whose log has room.
     pub fn has_room(&self) -> bool
         ensures { result ≡ has_room self.now.core }
     {
         self.serves() && self.replica.status().held < MOST_PLACES
     }
 
-    /// Where the open connection of a port stands in the list.
+    /// Returns the index of the open connection of a port in the list.
     pub fn place_at(&self, port: Port) -> Option<usize>
         ensures { result ≡ position (is_open_at port) self.now.core.connections }
     {
         self.connections.iter().position(|c| c.is_open_at(port))
     }
 
-    /// Where the open connection of a name stands in the list.
+    /// Returns the index of the open connection of a name in the list.
     pub fn place_of(&self, name: ConnectionId) -> Option<usize>
         ensures { result ≡ position (is_open_named name) self.now.core.connections }
     {
         self.connections.iter().position(|c| c.is_open_named(name))
     }
 
-    /// How many connections are listed.
+    /// Returns how many connections are listed.
     pub fn listed(&self) -> usize
         ensures { result ≡ length self.now.core.connections }
     {
         self.connections.len()
     }
 
-    /// The lowest port of the connections that are silent at this time.
+    /// Returns the lowest port of the connections that are silent at this time.
     pub fn lowest_silent(&self, now: u64) -> Option<Port>
         ensures { result ≡ lowest_silent now self.now.core.connections }
     {
         lowest_silent(&self.connections, now)
     }
 
-    /// Where the first connection stands that was closed as lost, of which the broker is still to hear.
+    /// Returns the index of the first connection that was closed as lost and is still to be
+    /// reported to the broker.
     pub fn place_failed(&self) -> Option<usize>
         ensures { result ≡ position has_failed self.now.core.connections }
     {
@@ -191,7 +191,7 @@ impl Serving {
         }
     }
 
-    /// The CONNECT of the open connection of a port, which has this keep alive, becomes a command.
+    /// Turns the CONNECT of the open connection of a port, with this keep alive, into a command.
     pub fn ask_at(&mut self, port: Port, keep_alive: u16)
         ensures { self.new ≡ record self.old { core = changes port (asked keep_alive) self.old.core } }
     {
@@ -200,8 +200,8 @@ impl Serving {
         }
     }
 
-    /// Closes the open connection of a port, whose proposal was refused: where memory was wanting the
-    /// broker is still to hear that it is lost.
+    /// Closes the open connection of a port, whose proposal was refused: if memory ran out, its
+    /// loss is still to be reported to the broker.
     pub fn give_up(&mut self, port: Port)
         ensures does { Does self.old self.new (changes port closed self.old.core) }
         ensures run { (self.new.core ≡ changes port closed self.old.core)
@@ -215,7 +215,7 @@ impl Serving {
         }
     }
 
-    /// How many bytes of the open connection of a port are not read yet.
+    /// Returns how many bytes of the open connection of a port are not yet read.
     pub fn held(&self, port: Port) -> usize
         ensures { result ≡ unread_of (open_at port self.now.core) }
     {
@@ -225,7 +225,8 @@ impl Serving {
         }
     }
 
-    /// Adds bytes that came to those of the open connection of a port: whether there was memory.
+    /// Appends bytes that arrived to those of the open connection of a port. Returns whether there
+    /// was memory.
     pub fn add(&mut self, port: Port, piece: &Piece) -> bool
         ensures ok { result ≡ true →
             self.new ≡ record self.old { core = changes port (holding piece.now) self.old.core } }
@@ -248,8 +249,8 @@ impl Serving {
         }
     }
 
-    /// Puts a packet out on the open connection of a name, which is closed as lost where there is no room or no
-    /// memory for it.
+    /// Queues a packet on the open connection of a name, which is closed as lost if there is no
+    /// room or no memory for it.
     pub fn put(&mut self, name: ConnectionId, packet: &Packet)
         ensures does { Does self.old self.new
             (changes_named name (put_out (spelling packet.now)) self.old.core) }
@@ -264,7 +265,7 @@ impl Serving {
         }
     }
 
-    // How many connections were accepted in the ballot that the replica joined.
+    // Returns how many connections were accepted in the ballot that the replica joined.
     fn accepted(&self) -> u64
         ensures count { result ≡ accepted self.now.core }
         ensures most { result ≤ 2 ^ 40 }
@@ -276,7 +277,7 @@ impl Serving {
         }
     }
 
-    // The name of the next connection, or none where the numbers of this ballot are spent.
+    // Returns the name of the next connection, or none if the numbers of this ballot are used up.
     fn next_name(&self) -> Option<ConnectionId>
         ensures named { IfSome result (λ name. name ≡ next_name self.now.core) }
         ensures some { OnSome result (is_connection_name (next_name self.now.core) ≡ true) }
@@ -285,14 +286,14 @@ impl Serving {
         ConnectionId::new(self.replica.status().ballot, self.accepted() + 1)
     }
 
-    /// Whether the numbers of this ballot are spent, so that no connection gets a name.
+    /// Says whether the numbers of this ballot are used up, so that no connection gets a name.
     pub fn is_full(&self) -> bool
         ensures { result ≡ not (is_connection_name (next_name self.now.core)) }
     {
         self.next_name().is_none()
     }
 
-    /// The name that a new connection of a port gets, or none where it is not accepted.
+    /// Returns the name that a new connection of a port gets, or none if it is not accepted.
     pub fn name_for(&self, port: Port) -> Option<ConnectionId>
         ensures named { IfSome result (λ name. name ≡ next_name self.now.core) }
         ensures some { OnSome result (accepts port self.now.core ≡ true) }
@@ -325,8 +326,8 @@ impl Serving {
         self.last_count = name.count();
     }
 
-    /// Closes all connections where the node no longer serves clients, and takes closed ones with
-    /// nothing to hand over off the list.
+    /// Closes all connections if the node no longer serves clients, and removes closed ones with
+    /// nothing to hand over from the list.
     pub fn settle(&mut self)
         ensures { self.new ≡ record self.old { core = settled self.old.core } }
     {

@@ -24,8 +24,8 @@ use node_connections::{Front, Piece, Port, Stage};
 use packet::{ClientId, Connect, Packet};
 
 impl Serving {
-    /// Takes an item in, and has the broker hear of each connection that fails in it. Whether memory was
-    /// wanting is told by `is_wanting`.
+    /// Takes an item, and reports each connection that fails in it to the broker. `is_wanting` says
+    /// whether memory ran out.
     pub fn act_on(&mut self, item: Item, effects: &mut Vec<Effect<Command, Output>>)
         ensures turns { Turns self.old self.new effects.old.items effects.new.items
             (acts_on item self.old.core) }
@@ -40,7 +40,7 @@ impl Serving {
         self.lose_failed(effects);
     }
 
-    /// Passes a message over that does nothing, and has the broker hear of each connection that failed.
+    /// Ignores a message without effect, and reports each connection that failed to the broker.
     pub fn pass_over(
         &mut self,
         message: &Message<Command>,
@@ -57,7 +57,7 @@ impl Serving {
         self.lose_failed(effects);
     }
 
-    // Takes an item in.
+    // Takes an item.
     fn take_in(&mut self, item: Item, effects: &mut Vec<Effect<Command, Output>>)
         ensures turns { Turns self.old self.new effects.old.items effects.new.items
             (takes_in item self.old.core) }
@@ -87,7 +87,7 @@ impl Serving {
         }
     }
 
-    // Proposes that a client's session ends. Where the proposal is refused, nothing is done.
+    // Proposes to end a client's session. If the proposal is refused, nothing is done.
     fn expel(&mut self, client: ClientId, effects: &mut Vec<Effect<Command, Output>>)
         ensures turns { Turns self.old self.new effects.old.items effects.new.items
             (proposes (commands.Expel client) self.old.core) }
@@ -111,7 +111,7 @@ impl Serving {
         }
     }
 
-    // Holds bytes that came on a port. A connection that finds no memory for them is lost.
+    // Holds bytes that arrived on a port. A connection without memory for them is lost.
     fn hold(&mut self, port: Port, piece: Piece, effects: &mut Vec<Effect<Command, Output>>)
         ensures turns { Turns self.old self.new effects.old.items effects.new.items
             (quiet (changes port (holding piece) self.old.core)) }
@@ -123,7 +123,7 @@ impl Serving {
         }
     }
 
-    // Takes all packets of a port in turn that are whole at this time.
+    // Takes all packets of a port, one after another, that are whole at this time.
     fn read(&mut self, port: Port, now: u64, effects: &mut Vec<Effect<Command, Output>>)
         ensures turns { Turns self.old self.new effects.old.items effects.new.items
             (reads_all now port self.old.core) }
@@ -136,7 +136,7 @@ impl Serving {
         }
     }
 
-    // Takes the next packet of a port: whether another may follow.
+    // Takes the next packet of a port. Returns whether another may follow.
     fn read_next(
         &mut self,
         port: Port,
@@ -236,7 +236,7 @@ impl Serving {
         }
     }
 
-    // The broker hears that a connection is lost, where it heard of its CONNECT.
+    // Reports to the broker that a connection is lost, if its CONNECT was proposed.
     fn lose(&mut self, name: ConnectionId, stage: Stage, effects: &mut Vec<Effect<Command, Output>>)
         ensures turns { Turns self.old self.new effects.old.items effects.new.items
             (if is_proposed stage
@@ -270,8 +270,8 @@ impl Serving {
         }
     }
 
-    // Has the broker hear of each connection that failed. What it then puts out may close others, of which it
-    // hears too.
+    // Reports each connection that failed to the broker. What is then sent may close others, which
+    // are reported too.
     fn lose_failed(&mut self, effects: &mut Vec<Effect<Command, Output>>)
         ensures turns { Turns self.old self.new effects.old.items effects.new.items
             (loses_all_failed self.old.core) }
@@ -285,7 +285,7 @@ impl Serving {
         }
     }
 
-    // Has the broker hear of the first connection that failed: whether there was one.
+    // Reports the first connection that failed to the broker. Returns whether there was one.
     fn lose_one_failed(&mut self, effects: &mut Vec<Effect<Command, Output>>) -> bool
         ensures turns { Turns self.old self.new effects.old.items effects.new.items
             (loses_failed self.old.core) }

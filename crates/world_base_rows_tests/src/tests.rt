@@ -1,4 +1,4 @@
-// A node on worked rows.
+// A node, as worked examples.
 
 mod clients;
 mod full_queue;

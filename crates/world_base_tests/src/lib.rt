@@ -1,5 +1,4 @@
-//! Nodes that take what comes and hand out what follows, to one another and to clients. Tests alone
-//! stand here.
+//! Nodes that take items and send what follows, to one another and to clients. It has only tests.
 #![tactic(auto)]
 
 #[cfg(test)]

@@ -20,7 +20,7 @@ pub record BeginsKept (κ : Connection) : Type 0 where
   pub more : List Written
   pub written : κ.written ≡ opens client ∷ more
 
--- so it does where more is written
+-- so it does if more is written
 begins_still : (κ later : Connection) (new : List Written) → later.written ≡ κ.written ++ new → BeginsKept κ → BeginsKept later
 begins_still κ later new is b = record { client = b.client; more = b.more ++ new; written = is ∙ ap (λ (l : List Written). l ++ new) b.written }
 

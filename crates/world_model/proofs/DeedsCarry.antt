@@ -1,4 +1,5 @@
--- Each deed of a node has moves that carry just its bytes, and in which the replica hears what was sent to it, at first.
+-- Each call of a node has moves that carry just its bytes, and in which the replica receives what
+-- was sent to it, at first.
 use Rattle.std.proofs.Common.{◌≡◌, ℕ, ◌+◌, Bool, true, false, if◌then◌else◌, Some, List, [], ◌++◌, refl, sym, ap, ◌∙◌, subst}
 use Rattle.std.proofs.lemmas.List.{append-nil}
 use Rattle.lists.specs.Lists.{In}
@@ -42,7 +43,7 @@ PartWasSent g n core (heard message) = In (n + 1, message) g.sent
 PartWasSent g n core Part.cut = rules.thawed (rules.frozen (replica_of core).machine) ≡ Some (replica_of core).machine
 PartWasSent g n core _ = Unit {0}
 
--- .. of a deed
+-- .. of a call
 deed_parts : (x : ConnectionName) (deed : Deed) (core : CoreState) → (comes_in x (part_of deed core) core ≡ coming_with x deed core) × (goes_out x (part_of deed core) core ≡ going_with x deed core)
 deed_parts x (takes (Peer message)) core = (refl, refl)
 deed_parts x (takes (Tick now)) core = (refl, refl)
@@ -113,7 +114,7 @@ move_sent g n (hands port) sent = tt
 
 -- ---- runs
 
--- a run of bare moves carries nothing, and hears nothing
+-- a run of bare moves carries nothing, and receives nothing
 bare_carries : (x : ConnectionName) {core : CoreState} {turn : Turn} (run : Runs core turn) → IsBare run → (bytes_on x run ≡ []) × (handed_in_run x run ≡ [])
 bare_carries x rests bare = (refl, refl)
 bare_carries x (goes_on {core = core} m run) bare =

@@ -1,4 +1,5 @@
--- Whoever has a connection of a name led the ballot of the name, so it is one node.
+-- A node that has a connection of a name led the ballot of the name, so there is only one such
+-- node.
 use Rattle.std.proofs.Common.{◌≡◌, ◌⊎◌, inl, inr, ℕ, List, [], ◌∷◌, Option, Some, None, slice_get, refl, sym, ap, ◌∙◌, subst}
 use Rattle.std.specs.List.{find}
 use Rattle.lists.specs.Lists.{In}

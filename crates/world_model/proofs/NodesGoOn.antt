@@ -1,4 +1,5 @@
--- What a step of a group makes of its nodes and of each connection's bytes: the deed of the step says it.
+-- What a step of a group does to its nodes and of each connection's bytes: the call of the step
+-- says it.
 use Rattle.std.proofs.Common.{◌≡◌, ◌⊎◌, inl, inr, ℕ, zero, suc, true, false, List, [], ◌∷◌, Option, Some, None, slice_get, slice_set, refl, sym, ap, ◌∙◌, subst}
 use Rattle.std.proofs.lemmas.Bool.{both_ways}
 use Rattle.connection_model.specs.ballot.Config.{Config}
@@ -39,14 +40,14 @@ use Rattle.world_model.proofs.PortsLosing.{each_new_losing, each_was_losing}
 
 -- ---- one node
 
--- a connection that this deed opens at the node at this place
+-- a connection that this call opens at the node at this place
 pub record IsOpened (deed : Option (ℕ × Deed)) (n : ℕ) (core : CoreState) (d : Connection) : Type 0 where
   pub port : Port
   pub now : ℕ
   pub is : deed ≡ Some (n, takes (Opened port now))
   pub new : IsNew core.connections port (next_name core) d
 
--- the node at this place behind a step with this deed
+-- the node at this place after a step with this call
 pub record IsBehind (deed : Option (ℕ × Deed)) (n : ℕ) (core later : CoreState) : Type 0 where
   pub given : (x : ConnectionName) → IsGiven core.last_name x → IsGiven later.last_name x
   pub was : (d : Connection) → In d later.connections → IsOfOld core.connections d ⊎ IsOpened deed n core d
@@ -111,13 +112,13 @@ loses_behind n core item turn by runs o =
 
 -- ---- a node of a group
 
--- a node that stands behind a step, and what it was
+-- a node that comes after a step, and what it was
 pub record StoodAs (g h : Group) (deed : Option (ℕ × Deed)) (n : ℕ) (later : CoreState) : Type 0 where
   pub core : CoreState
   pub stands : slice_get g.nodes n ≡ Some core
   pub behind : IsBehind deed n core later
 
--- a node before a step, and what it is behind
+-- a node before a step, and what it is after
 pub record StandsAs (g h : Group) (deed : Option (ℕ × Deed)) (n : ℕ) (core : CoreState) : Type 0 where
   pub later : CoreState
   pub stands : slice_get h.nodes n ≡ Some later
@@ -161,7 +162,7 @@ stands_as g h went (master_hears from ballot sent) n core at = master_stands g h
 stands_as g h went (assigns_unheard wanted) n core at = master_stands g h None n core refl at
 stands_as g h went (answers_unheard from ballot sent) n core at = master_stands g h None n core refl at
 
--- each node that stands behind it stood before
+-- each node that is there after it was there before
 set_before : (g : Group) (i : ℕ) (core new : CoreState) (n : ℕ) (later : CoreState) → slice_get g.nodes i ≡ Some core → ((n ≡ i) × (later ≡ new)) ⊎ (slice_get g.nodes n ≡ Some later)
     → (c : CoreState) × (slice_get g.nodes n ≡ Some c)
 set_before g i core new n later at (inl (same, e)) = (core, ap (slice_get g.nodes) same ∙ at)
@@ -189,7 +190,7 @@ stood_as g h went step n later stood_there =
 
 -- ---- bytes
 
--- the node of a deed, and what is carried with it
+-- the node of a call, and what is carried with it
 pub record CarriesWith (g h : Group) (step : MayGo g h) (n : ℕ) (deed : Deed) : Type 0 where
   pub core : CoreState
   pub stands : slice_get g.nodes n ≡ Some core
@@ -225,7 +226,7 @@ carries_with g h (master_hears from ballot sent) n deed faithful e = absurd (non
 carries_with g h (assigns_unheard wanted) n deed faithful e = absurd (none_pair (n, deed) e)
 carries_with g h (answers_unheard from ballot sent) n deed faithful e = absurd (none_pair (n, deed) e)
 
--- with a deed in which connections have no part nothing is carried
+-- with a call in which connections have no part nothing is carried
 quiet_with : (n : ℕ) (deed : Deed) (core : CoreState) (x : ConnectionName) → is_apart (Some (n, deed)) ≡ true → (coming_with x deed core ≡ []) × (going_with x deed core ≡ [])
 quiet_with n (takes (Peer message)) core x e = (refl, refl)
 quiet_with n (takes (Tick now)) core x e = (refl, refl)

@@ -1,4 +1,4 @@
--- The bytes of a connection on their way: packets that are written, and packets that are handled.
+-- The bytes of a connection in transit: packets that are written, and packets that are handled.
 use Rattle.std.proofs.Common.{◌≡◌, ℕ, suc, false, List, [], ◌∷◌, ◌++◌, length, drop, refl, sym, ap, ◌∙◌, subst, append_assoc, length-append, arith}
 use Rattle.std.proofs.lemmas.List.{append-nil}
 use Rattle.connection_model.specs.packet.Spelling.{IsPacket, spelling}
@@ -15,7 +15,7 @@ use Rattle.world_model.specs.World.{newly_written, packets_of}
 
 -- ---- packets as bytes
 
--- more packets are written behind
+-- more packets are written after
 pub joins_more : (ps qs : List Packet) (bytes : List ℕ) → Each IsPacket qs → Joins ps bytes → Joins (ps ++ qs) (bytes ++ spelled qs)
 joins_more [] [] bytes whole j = append-nil bytes ∙ j
 joins_more [] (q ∷ qs) bytes whole j =
@@ -27,9 +27,9 @@ spelled_push : (ps : List Packet) (p : Packet) → spelled (ps ++ p ∷ []) ≡ 
 spelled_push [] p = append-nil (spelling p)
 spelled_push (q ∷ ps) p = ap (λ l. spelling q ++ l) (spelled_push ps p) ∙ sym (append_assoc (spelling q) (spelled ps) (spelling p))
 
--- ---- up: the packets that were written are those whose bytes came up, and the bytes on their way
+-- ---- up: the packets that were written are those whose bytes came up, and the bytes in transit
 
--- more is written: its bytes go behind those on their way
+-- more is written: its bytes go after those in transit
 pub written_up : (written more : List Packet) (came up : List ℕ) → Each IsPacket more → Joins written (came ++ up) → Joins (written ++ more) (came ++ (up ++ spelled more))
 written_up written more came up whole j = subst (Joins (written ++ more)) (append_assoc came up (spelled more)) (joins_more written more (came ++ up) whole j)
 
@@ -37,7 +37,8 @@ written_up written more came up whole j = subst (Joins (written ++ more)) (appen
 pub piece_up : (written : List Packet) (came piece rest up : List ℕ) → up ≡ piece ++ rest → Joins written (came ++ up) → Joins written ((came ++ piece) ++ rest)
 piece_up written came piece rest up e j = subst (Joins written) (ap (λ l. came ++ l) e ∙ sym (append_assoc came piece rest)) j
 
--- ---- down: the packets that were handled, what is not cut yet, and what is on its way, are all that went down
+-- ---- down: the packets that were handled, what is not cut yet, and what is in transit, are all
+-- that went down
 
 pub record IsHandled (count : ℕ) (came : Stream) (down went : List ℕ) : Type 0 where
   pub handled : List Packet

@@ -1,4 +1,5 @@
--- A node hears of a new connection at a port that no pipe leads to: what stays, whether it takes it or not.
+-- A new connection is reported to a node at a port that no pipe leads to: what stays, whether the
+-- node takes it or not.
 use Rattle.std.proofs.Common.{◌≡◌, ℕ, zero, suc, Bool, true, false, ◌&&◌, ◌||◌, ◌==◌, List, [], ◌∷◌, ◌++◌, Option, Some, slice_get, refl, sym, ap, ◌∙◌}
 use Rattle.std.specs.List.{list_any}
 use Rattle.std.proofs.lemmas.Bool.{both_ways}
@@ -41,7 +42,7 @@ leads_used v n port l =
     both : (a b : Bool) → a ≡ true → b ≡ true → (a && b) ≡ true
     both a b e f = rw (e, f) refl
 
--- where a deed opens a connection
+-- if a call opens a connection
 abbrev opened_place : Option (ℕ × Deed) → ℕ
 opened_place (Some (n, takes (Opened port now))) = n
 opened_place _ = 0
@@ -50,7 +51,8 @@ abbrev opened_port : Option (ℕ × Deed) → ℕ
 opened_port (Some (n, takes (Opened port now))) = port.0
 opened_port _ = 0
 
--- what holds where a node hears of one there: each connection that was there has its pipe, and the pipes go on
+-- what holds if one is reported to a node there: each connection that was there has its pipe, and
+-- the pipes continue
 pub record OpensUnused {nodes : ℕ} {config : Config} (v : World) (went : Went nodes config v.group) (n : ℕ) (port : Port) (now : ℕ)
     (d : Does v.group (Some (n, takes (Opened port now)))) : Type 0 where
   pub no_lead : Leads v n port → ⊥
@@ -79,7 +81,7 @@ module _ {nodes : ℕ} {config : Config} (v : World) (went : Went nodes config v
   still_unheard : (x : ConnectionName) → IsUnheard went x → IsUnheard (then_went went d.step) x
   still_unheard x none = (ap (λ l. l ++ comes_up x d.step) none.0 ∙ (quiet x).0, ap (λ l. l ++ goes_down x d.step) none.1 ∙ (quiet x).1)
 
-  -- the pipes that were there go on
+  -- the pipes that were there continue
   old_holds : (i : ℕ) (c : ClientPipes) (j : ℕ) (κ : Connection) (p : Pipe) → HasPipe v i c j κ p → PipeHolds (then_went went d.step) κ p
   old_holds i c j κ p has =
       apart_on went d.step κ p

@@ -1,4 +1,4 @@
--- What holds of each connection with its pipe, and that a step of the group keeps it.
+-- What holds for each connection with its pipe, and that a step of the group keeps it.
 use Rattle.std.proofs.Common.{◌≡◌, ◌⊎◌, inl, inr, ℕ, Bool, true, false, ◌&&◌, ◌==◌, if◌then◌else◌, List, [], ◌∷◌, ◌++◌, Option, Some, None, slice_get, refl, sym, ap, ◌∙◌, subst}
 use Rattle.std.specs.List.{find}
 use Rattle.std.proofs.lemmas.Bool.{both_ways}
@@ -48,8 +48,8 @@ pub record IsPlaced {nodes : ℕ} {config : Config} {g : Group} (went : Went nod
   pub among : In earlier (groups_of went)
   pub had : HasName x earlier n
 
--- The packets that were written are those of the bytes that came up and of later ones: those on their way, where the node
--- has the connection open.
+-- The packets that were written are those of the bytes that came up and of later ones: those in
+-- transit, if the node has the connection open.
 pub record IsUp (g : Group) (written : List Packet) (came : List ℕ) (n : ℕ) (port : Port) (up : List ℕ) : Type 0 where
   pub later : List ℕ
   pub joined : Joins written (came ++ later)
@@ -158,7 +158,7 @@ right_true false b e = absurd cc
 pub is_the_port : (port : Port) (d : NodesEnd) → d.port.0 ≡ port.0 → is_at port d ≡ true
 is_the_port port d e = ap (λ k. d.port.0 == k) (sym e) ∙ eq_same d.port.0
 
--- where a connection is listed at a port, open or not
+-- if a connection is listed at a port, open or not
 pub record IsListed (port : Port) (core : CoreState) (d : NodesEnd) : Type 0 where
   pub among : In d core.connections
   pub at : d.port.0 ≡ port.0
@@ -167,7 +167,7 @@ pub listed_there : (port : Port) (core : CoreState) (d : NodesEnd) → listed_at
 listed_there port core d e =
     record { among = found_in (is_at port) core.connections d e; at = eq_is d.port.0 port.0 (found_passes (is_at port) core.connections d e) }
 
--- where an open connection is found at a port
+-- if an open connection is found at a port
 pub record IsThere (port : Port) (core : CoreState) (d : NodesEnd) : Type 0 where
   pub among : In d core.connections
   pub at : d.port.0 ≡ port.0
@@ -192,7 +192,7 @@ up_piece {g = g} {h = h} went step x n port now {written = written} {came = came
     none : OpensNone step n port
     none = none_opens step n port (ap opens_in is)
 
-    -- the node has it closed, and nothing is open there behind
+    -- the node has it closed, and nothing is open there after
     was_shut : open_at port c.core ≡ None → (old : CoreState) (d : NodesEnd) → slice_get g.nodes n ≡ Some old → d.port.0 ≡ port.0 → live d ≡ true
         → IsOfOld old.connections d ⊎ IsOpened (deed_of step) n old d → ⊥
     was_shut e old d stood same lives (inl o) =
@@ -236,7 +236,7 @@ apart_on went step κ p none up down h =
       down = subst (IsHandled κ.handled p.came p.down) (sym (ap (λ l. went_down κ.name went ++ l) down ∙ append-nil (went_down κ.name went))) h.down;
     }
 
--- what comes is for the connection of the port alone
+-- what comes is only for the connection of the port
 pub others_up : (x : ConnectionName) (port : Port) (piece : List ℕ) (now : ℕ) (core : CoreState) (y : ConnectionName) → ((d : NodesEnd) → In d core.connections → d.port.0 ≡ port.0 → d.name ≡ x)
     → (x ≡ y → ⊥) → coming_with y (takes (Bytes port piece now)) core ≡ []
 others_up x port piece now core y ports apart = by (open_at port core) refl
@@ -249,7 +249,7 @@ others_up x port piece now core y ports apart = by (open_at port core) refl
     by None e = refl
     by (Some d) e = let f = found_there port core d e in other d (ports d f.among f.at) (same_connection d.name y) refl
 
--- so is what is handed over
+-- the same for what is handed over
 pub others_down : (x : ConnectionName) (port : Port) (core : CoreState) (y : ConnectionName) → ((d : NodesEnd) → In d core.connections → d.port.0 ≡ port.0 → d.name ≡ x)
     → (x ≡ y → ⊥) → going_with y (gives port) core ≡ []
 others_down x port core y ports apart = by (listed_at port core) refl

@@ -39,7 +39,7 @@ use Rattle.connection_model.proofs.of_node_model.EachKept.{IsKept, each_proposed
 use Rattle.connection_model.proofs.of_node_model.Kept.{failing_over, left_true, live, put_out_name}
 use Rattle.connection_model.proofs.of_node_model.Views.{each_filtered}
 
--- the same connection later: it has its port and its name, and is not open where it was closed
+-- the same connection later: it has its port and its name, and is not open if it was closed
 pub record IsLater (c d : Connection) : Type 0 where
   pub port : d.port ≡ c.port
   pub name : d.name ≡ c.name
@@ -179,7 +179,7 @@ module _ (P : Connection → Type 0) (follows : IsFollowed P) where
   unfolding reads_next
   each_read now port core all = read_open now port core (open_at port core) all
 
-  -- ---- deeds
+  -- ---- calls
 
   each_time : (next : CoreState → Turn) → ((core : CoreState) → AllOf core → AllOf (next core).core) → (times : ℕ) (core : CoreState) → AllOf core
       → AllOf (repeated times next core).core
@@ -198,7 +198,7 @@ module _ (P : Connection → Type 0) (follows : IsFollowed P) where
       by true true c some = all
       by false b c some = all
 
-  -- what is asked of a connection that a deed opens
+  -- what must hold for a connection that a call opens
   abbrev pub IsNewOf : Deed → CoreState → Type 0
   IsNewOf (takes (Opened port now)) core = list_any (is_at port) core.connections ≡ false → P (fresh port (next_name core))
   IsNewOf _ core = Unit {0}
@@ -248,7 +248,7 @@ pub record IsOfOld (old : List Connection) (d : Connection) : Type 0 where
   pub among : In was old
   pub later : IsLater was d
 
--- one that is opened with this name, at a port where none was
+-- one that is opened with this name, at a port if none was
 pub record IsNew (old : List Connection) (port : Port) (name : ConnectionName) (d : Connection) : Type 0 where
   pub port_is : d.port ≡ port
   pub name_is : d.name ≡ name
@@ -265,7 +265,7 @@ all_old old [] among = tt
 all_old old (c ∷ cs) among =
     (is_still old c (among c here), all_old old cs (λ d i. among d (there i)))
 
--- behind a deed that opens none each connection was there before
+-- after a call that opens none each connection was there before
 pub old_later : (old : List Connection) → IsFollowed (IsOfOld old)
 old_later old c d later o = record { was = o.was; among = o.among; later = later_still o.later later }
 
@@ -273,7 +273,7 @@ pub each_was : (deed : Deed) (core : CoreState) → IsNewOf (IsOfOld core.connec
     → Each (IsOfOld core.connections) (done deed core).core.connections
 each_was deed core new = each_done (IsOfOld core.connections) (old_later core.connections) deed core new (all_old core.connections core.connections (λ c i. i))
 
--- behind an opening it was there, or is new
+-- after an opening it was there, or is new
 abbrev pub Comes : CoreState → Port → Connection → Type 0
 Comes core port d = IsOfOld core.connections d ⊎ IsNew core.connections port (next_name core) d
 

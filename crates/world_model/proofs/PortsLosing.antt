@@ -187,13 +187,13 @@ module _ (P : Connection → Type 0) (follows : IsFollowed P) where
 
 -- ---- where the connections of a node come from
 
--- behind an item that opens none each connection was there before
+-- after an item that opens none each connection was there before
 pub each_was_losing : (item : Item) (core new : CoreState) (messages : List (Effect Command Output)) → OpensSo (IsOfOld core.connections) (old_later core.connections) item core
     → RunsOn item core new messages → Each (IsOfOld core.connections) new.connections
 each_was_losing item core new messages so runs =
     each_lost (IsOfOld core.connections) (old_later core.connections) item core new messages so runs (all_old core.connections core.connections (λ c i. i))
 
--- behind an opening it was there, or is new
+-- after an opening it was there, or is new
 pub each_new_losing : (port : Port) (now : ℕ) (core new : CoreState) (messages : List (Effect Command Output)) → RunsOn (Opened port now) core new messages
     → Each (Comes core port) new.connections
 each_new_losing port now core new messages runs =

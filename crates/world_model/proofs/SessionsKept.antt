@@ -1,4 +1,4 @@
--- Where no Connect is clean no session is.
+-- If no Connect is clean no session is.
 use Rattle.std.proofs.Common.{◌≡◌, Bool, true, false, List, [], ◌∷◌, Option, Some, None, refl, sym, ap, ◌∙◌, subst}
 use Rattle.std.specs.Prelude.{not, ◌&&◌, ◌||◌}
 use Rattle.lists.specs.Lists.{Each, In}

@@ -1,4 +1,5 @@
--- A connection that its node does not take changes nothing for the clients, and what holds of all connections is kept.
+-- A connection that its node does not take changes nothing for the clients, and what holds for all
+-- connections is kept.
 use Rattle.std.proofs.Common.{◌≡◌, ◌⊎◌, inl, inr, ℕ, false, Option, Some, None, slice_get, refl, sym, ap, ◌∙◌, subst}
 use Rattle.std.proofs.lemmas.Bool.{both_ways}
 use Rattle.connection_model.specs.ballot.Config.{Config}

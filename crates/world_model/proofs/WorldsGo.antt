@@ -1,4 +1,4 @@
--- What goes on in a world goes on in its group, and there connections carry in order.
+-- What continues in a world continues in its group, and there connections carry in order.
 use Rattle.connection_model.proofs.CarriedInOrder.{groups_carry_in_order}
 use Rattle.world_model.specs.Carried.{WorldsCarryInOrder, went_of}
 

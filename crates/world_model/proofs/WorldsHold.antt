@@ -1,4 +1,5 @@
--- What holds of all connections of a world with their pipes, and that what its clients do alone keeps it.
+-- What holds for all connections of a world with their pipes, and that what only its clients do
+-- keeps it.
 use Rattle.std.proofs.Common.{◌≡◌, ◌⊎◌, inl, inr, ℕ, zero, suc, List, [], ◌∷◌, ◌++◌, Option, Some, set, slice_get, refl, sym, ap, ◌∙◌, subst}
 use Rattle.connection_model.specs.packet.Spelling.{IsPacket}
 use Rattle.connection_model.specs.packet.declared.packet.Packet.{Packet}
@@ -32,7 +33,7 @@ pub record IsKnown (w : World) (x : ConnectionName) : Type 0 where
   pub has : HasPipe w i c j κ p
   pub name : κ.name ≡ x
 
--- nothing came or went on it
+-- nothing came on it or was sent
 abbrev pub IsUnheard : {nodes : ℕ} {config : Config} {g : Group} → Went nodes config g → ConnectionName → Type 0
 IsUnheard went x = (came_up x went ≡ []) × (went_down x went ≡ [])
 
@@ -45,7 +46,7 @@ pub record Holds {nodes : ℕ} {config : Config} (w : World) (went : Went nodes 
 
 -- ---- a step that opens nothing
 
--- a connection behind a step, where it was before
+-- a connection after a step, and the same one before
 pub record Came {nodes : ℕ} {config : Config} (v : World) {g : Group} (went : Went nodes config g) (k l : ℕ) (later : Connection) (q : Pipe) : Type 0 where
   pub c : ClientPipes
   pub κ : Connection
@@ -54,7 +55,7 @@ pub record Came {nodes : ℕ} {config : Config} (v : World) {g : Group} (went : 
   pub name : later.name ≡ κ.name
   pub holds : PipeHolds went later q
 
--- a connection before a step, where it is behind
+-- a connection before a step, and the same one after
 pub record Stays (w : World) (k l : ℕ) (κ : Connection) (p : Pipe) : Type 0 where
   pub c : ClientPipes
   pub later : Connection
@@ -103,7 +104,7 @@ pub record ChangedAt (c later : ClientPipes) (j : ℕ) (κ μ : Connection) (p q
 some_is : {X : Type 0} (a b : X) → (let o : Option X = Some a in o) ≡ Some b → a ≡ b
 some_is a b e = cc
 
--- behind it each connection is that one, or another that stays as it is
+-- after it each connection is that one, or another that stays as it is
 pub data Place (v : World) (i j : ℕ) (μ : Connection) (q : Pipe) (k l : ℕ) (κ : Connection) (p : Pipe) : Type 0 where
   mine : k ≡ i → l ≡ j → κ ≡ μ → p ≡ q → Place v i j μ q k l κ p
   another : ((k ≡ i) × (l ≡ j) → ⊥) → (d : ClientPipes) → HasPipe v k d l κ p → Place v i j μ q k l κ p

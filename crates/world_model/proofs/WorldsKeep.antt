@@ -1,4 +1,4 @@
--- Each step of a world but an opening keeps what holds of its connections.
+-- Each step of a world but an opening keeps what holds for its connections.
 use Rattle.std.proofs.Common.{◌≡◌, ◌⊎◌, inl, inr, ℕ, Bool, true, false, if◌then◌else◌, List, [], ◌∷◌, ◌++◌, Option, Some, None, Ok, slice_get, refl, sym, ap, ◌∙◌, subst}
 use Rattle.std.proofs.lemmas.Bool.{both_ways}
 use Rattle.std.proofs.lemmas.List.{append-nil}
@@ -49,7 +49,7 @@ writes_none : (connections : List Connection) → connections ≡ writes_first [
 writes_none [] = refl
 writes_none (κ ∷ others) = ap (λ (l : List Written). record κ { written = l } ∷ others) (sym (append-nil κ.written))
 
--- it writes on the newest connection alone
+-- it writes only on the newest connection
 pub call_writes : {limits : Limits} {s t : Story} (h : Happens limits s t) → is_call h ≡ true → (new : List Written) × (t.connections ≡ writes_first new s.connections)
 call_writes (takes_next i κ w stands next) e = absurd (both_ways false refl e)
 call_writes (others_take command other none) e = absurd (both_ways false refl e)
@@ -155,9 +155,9 @@ handles_hold v went i c κ others p pipes packet left at are piped cut whole h =
     (does_holds went κ side.connection p left grown.more grown.name grown.written (subst (Each IsPacket) more whole)
     (subst (λ n. IsHandled n left p.down (went_down κ.name went)) (sym grown.handled) (one_handled κ.handled p.came left p.down (went_down κ.name went) packet cut.2 cut.3 old.down)) old) h
 
--- ---- the group goes on
+-- ---- the group continues
 
--- behind a step that opens nothing each connection of a node has a pipe
+-- after a step that opens nothing each connection of a node has a pipe
 still_used : {nodes : ℕ} {config : Config} (v : World) (g : Group) (went : Went nodes config v.group) (step : MayGo v.group g) → opens_in (deed_of step) ≡ false → Holds v went
     → (n : ℕ) (core : CoreState) (d : NodesEnd) → slice_get g.nodes n ≡ Some core → In d core.connections → Leads v n d.port
 still_used v g went step none h n core d at i = by (stood_as v.group g went step n core at).core (stood_as v.group g went step n core at).stands ((stood_as v.group g went step n core at).behind.was d i)

@@ -1,4 +1,5 @@
--- A connection that a client opens gets a name that none had, and what holds of all connections is kept.
+-- A connection that a client opens gets a name that none had, and what holds for all connections is
+-- kept.
 use Rattle.std.proofs.Common.{◌≡◌, ◌⊎◌, inl, inr, ℕ, zero, suc, false, List, [], ◌++◌, Option, Some, None, set, slice_get, refl, sym, ap, ◌∙◌, subst}
 use Rattle.std.specs.List.{find}
 use Rattle.std.proofs.lemmas.Bool.{both_ways}
@@ -67,7 +68,7 @@ module _ {nodes : ℕ} {config : Config} (v : World) (went : Went nodes config v
   was : StoodAs v.group d.behind (deed_of d.step) n core
   was = stood_as v.group d.behind went d.step n core stands
 
-  -- at the port there is that connection alone, with the next name
+  -- at the port there is only that connection, with the next name
   named_next : (e : NodesEnd) → In e core.connections → e.port.0 ≡ port.0 → e.name ≡ next_name was.core
   named_next e i same = by (was.behind.was e i)
     where

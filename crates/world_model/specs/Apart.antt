@@ -1,4 +1,4 @@
--- That no two nodes of a group give one name.
+-- No two nodes of a group give the same name.
 use Rattle.std.specs.Prelude.{◌≡◌, ℕ, slice_get, Some}
 use Rattle.lists.specs.Lists.{In}
 use Rattle.connection_model.specs.ballot.Config.{Config}
@@ -16,7 +16,7 @@ pub record HasName (x : ConnectionName) (g : Group) (n : ℕ) : Type 0 where
   pub connection : Connection
   pub listed : listed_named x core ≡ Some connection
 
--- at whatever times nodes have connections of one name, they are one node
+-- if nodes have connections of one name, at any times, they are one node
 abbrev pub NamesStayApart : Type 0
 NamesStayApart = (nodes : ℕ) (config : Config) (g : Group) (went : Went nodes config g) (x : ConnectionName) (e h : Group) (m n : ℕ) →
     In e (groups_of went) → In h (groups_of went) → HasName x e m → HasName x h n → m ≡ n

@@ -1,4 +1,5 @@
--- What the nodes of a world keep of connections: each was opened by a client, and its name was given in a ballot that its node had joined.
+-- What the nodes of a world keep of connections: each was opened by a client, and its name was
+-- given in a ballot that its node had joined.
 use Rattle.std.specs.Prelude.{◌≡◌, ℕ, List, slice_get, Some}
 use Rattle.connection_model.specs.ballot.Config.{Config}
 use Rattle.connection_model.specs.broker_base.Place.{Client}
@@ -22,12 +23,14 @@ pub record Leads (w : World) (n : ℕ) (port : Port) : Type 0 where
   pub node : p.node ≡ n
   pub at : p.port.0 ≡ port.0
 
--- whatever happened, a pipe leads to the port of each connection that a node lists, open or with bytes to hand over
+-- whatever happened, a pipe leads to the port of each connection that a node lists, open or with
+-- bytes to hand over
 abbrev pub PortsHavePipes : Type 0
 PortsHavePipes = (nodes : ℕ) (config : Config) (cs : List Client) (w : World) → Reached nodes config cs w → (n : ℕ) (core : CoreState) (d : NodesEnd) →
     slice_get w.group.nodes n ≡ Some core → In d core.connections → Leads w n d.port
 
--- and a node's names are apart and were given, the last one in a ballot that is not above the one that the node joined
+-- and a node's names are distinct and were given, the last one in a ballot that is not above the
+-- one that the node joined
 abbrev pub NodesAreOrderly : Type 0
 NodesAreOrderly = (nodes : ℕ) (config : Config) (cs : List Client) (w : World) → Reached nodes config cs w → (n : ℕ) (core : CoreState) →
     slice_get w.group.nodes n ≡ Some core → IsOrderly core

@@ -1,4 +1,4 @@
--- What of a world goes on in its group.
+-- What a world's steps are in its group.
 use Rattle.std.specs.Prelude.{ℕ, List}
 use Rattle.connection_model.specs.ballot.Config.{Config}
 use Rattle.connection_model.specs.broker_base.Place.{Client}
@@ -10,7 +10,7 @@ use Rattle.world_model.specs.Goes.{Reached, WorldStep}
 use Rattle.world_model.specs.Goes.Reached.{begins, goes_on}
 use Rattle.world_model.specs.Goes.WorldStep.{goes_on as group_goes, calls, connects, is_turned_away, comes_up, goes_down, arrives, handles}
 
--- where a step of a world has a step of its group, the group goes that one
+-- if a step of a world has a step of its group, the group does that step
 abbrev pub went_on : {nodes : ℕ} {config : Config} {v w : World} → Went nodes config v.group → WorldStep v w → Went nodes config w.group
 went_on went (group_goes deed d apart) = then_went went d.step
 went_on went (calls i c t h at call spelled) = went
@@ -21,11 +21,12 @@ went_on went (goes_down i j c κ p d pipe) = then_went went d.step
 went_on went (arrives i j c κ p piece rest pipe is) = went
 went_on went (handles i c κ others p pipes packet left at first piped is_open takes spelled) = went
 
--- what went on in the group of a world on this way to it
+-- the steps of the group of a world on this way to it
 abbrev pub went_of : {nodes : ℕ} {config : Config} {cs : List Client} {w : World} → Reached nodes config cs w → Went nodes config w.group
 went_of (begins can) = opened can
 went_of (goes_on before step) = went_on (went_of before) step
 
--- on whatever way a world is reached, each connection carries its packets in order in what went on in its group
+-- on each way to a world, each connection carries its packets in order in the steps of the world's
+-- group
 abbrev pub WorldsCarryInOrder : Type 0
 WorldsCarryInOrder = (nodes : ℕ) (config : Config) (cs : List Client) (w : World) (trail : Reached nodes config cs w) → Carries (went_of trail)

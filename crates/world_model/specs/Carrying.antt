@@ -1,4 +1,4 @@
--- What a step of a group carries for connections: of a deed of a node just its bytes.
+-- What a step of a group carries for connections: for a call of a node just its bytes.
 use Rattle.std.specs.Prelude.{◌≡◌, ℕ, Bool, true, false, List, [], Option, Some, None}
 use Rattle.connection_model.specs.broker_base.Connection.{ConnectionName}
 use Rattle.connection_model.specs.world_base.declared.item.Item.TheVariants.{Peer, Tick, Opened, Bytes, Ended, Expel, Cut, Crash}
@@ -13,7 +13,8 @@ use Rattle.connection_model.specs.group_model.Goes.{MayGo}
 use Rattle.connection_model.specs.group_model.Goes.MayGo.{node_acts, node_loses, master_assigns, master_hears, assigns_unheard, answers_unheard}
 use Rattle.connection_model.specs.Streams.{bytes_named, handed_in_run}
 
--- the bytes that come on the connection of a name with a deed, and those that are handed over on it
+-- the bytes that arrive on the connection of a name with a call, and those that are handed over on
+-- it
 abbrev pub coming_with : ConnectionName → Deed → CoreState → List ℕ
 coming_with x (takes (Bytes port piece now)) core = piece_on x piece (open_at port core)
 coming_with x _ core = []
@@ -22,11 +23,11 @@ abbrev pub going_with : ConnectionName → Deed → CoreState → List ℕ
 going_with x (gives port) core = bytes_named x (listed_at port core)
 going_with x _ core = []
 
--- the moves of a node carry just the bytes of its deed
+-- the moves of a node carry just the bytes of its call
 abbrev pub CarriesItsBytes : {core : CoreState} {turn : Turn} → Deed → Runs core turn → Type 0
 CarriesItsBytes {core = core} deed run = (x : ConnectionName) → (bytes_on x run ≡ coming_with x deed core) × (handed_in_run x run ≡ going_with x deed core)
 
--- where an item is taken with losses they do in any case
+-- if an item is taken with losses they do in any case
 abbrev pub IsFaithful : {g h : Group} → MayGo g h → Type 0
 IsFaithful (node_acts n core deed turn run at is first sent) = CarriesItsBytes deed run
 IsFaithful (node_loses n core item turn kept by at runs sent thinned) = Unit {0}
@@ -35,7 +36,7 @@ IsFaithful (master_hears from ballot sent) = Unit {0}
 IsFaithful (assigns_unheard config) = Unit {0}
 IsFaithful (answers_unheard from ballot sent) = Unit {0}
 
--- the deed of a step, at a node
+-- the call of a step, at a node
 abbrev pub deed_of : {g h : Group} → MayGo g h → Option (ℕ × Deed)
 deed_of (node_acts n core deed turn run at is first sent) = Some (n, deed)
 deed_of (node_loses n core item turn kept by at runs sent thinned) = Some (n, takes item)
@@ -44,7 +45,7 @@ deed_of (master_hears from ballot sent) = None
 deed_of (assigns_unheard config) = None
 deed_of (answers_unheard from ballot sent) = None
 
--- a deed that a client's connection has no part in, but that it may end
+-- a call that has nothing to do with a client's connection, except that it may end it
 abbrev pub is_apart : Option (ℕ × Deed) → Bool
 is_apart None = true
 is_apart (Some (n, takes (Peer message))) = true
@@ -57,7 +58,7 @@ is_apart (Some (n, takes (Opened port now))) = false
 is_apart (Some (n, takes (Bytes port piece now))) = false
 is_apart (Some (n, gives port)) = false
 
--- a step of the group with this deed, in which just the bytes of the deed are carried
+-- a step of the group with this call, in which just the bytes of the call are carried
 pub record Does (g : Group) (deed : Option (ℕ × Deed)) : Type 0 where
   pub behind : Group
   pub step : MayGo g behind

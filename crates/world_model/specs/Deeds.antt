@@ -1,4 +1,4 @@
--- That a world can go on: each deed of a node has moves that carry just its bytes.
+-- A world can continue: each call of a node has moves that carry just its bytes.
 use Rattle.std.specs.Prelude.{◌≡◌, ℕ, ◌+◌, true, if◌then◌else◌, List, slice_get, Some}
 use Rattle.lists.specs.Lists.{In}
 use Rattle.connection_model.specs.ballot.Effect.{Effect}
@@ -16,19 +16,21 @@ use Rattle.connection_model.specs.group_model.Putting.{recorded_in}
 use Rattle.connection_model.specs.group_model.snapshots.World.{recorded}
 use Rattle.world_model.specs.Goes.{CarriesItsBytes, Does}
 
--- what a node takes in of others was sent to it, and the bytes to which it cuts its log stand for its machine
+-- what a node takes from others was sent to it, and the bytes to which it cuts its log thaw to its
+-- machine
 abbrev pub DeedWasSent : Group → ℕ → CoreState → Deed → Type 0
 DeedWasSent g n core (takes (Peer message)) = In (n + 1, message) g.sent
 DeedWasSent g n core (takes Cut) =
     can_cut (replica_of core) ≡ true → rules.thawed (rules.frozen (replica_of core).machine) ≡ Some (replica_of core).machine
 DeedWasSent g n core _ = Unit {0}
 
--- the record of places after a deed: a cut adds what the log that is cut has applied
+-- the record of places after a call: a cut adds what the log that is cut has applied
 abbrev pub recorded_after : List Command → CoreState → Deed → List Command
 recorded_after archive core (takes Cut) = if can_cut (replica_of core) then recorded archive (replica_of core) else archive
 recorded_after archive core _ = archive
 
--- moves in which a node's replica hears what was sent, at first, just the bytes of the deed are carried, and just a cut is recorded
+-- moves in which a node's replica first receives what was sent, just the bytes of the call are
+-- carried, and just a cut is recorded
 pub record RunsAs (g : Group) (n : ℕ) (deed : Deed) (core : CoreState) (turn : Turn) : Type 0 where
   pub run : Runs core turn
   pub first : HearsAtFirst run
@@ -36,17 +38,17 @@ pub record RunsAs (g : Group) (n : ℕ) (deed : Deed) (core : CoreState) (turn :
   pub bytes : CarriesItsBytes deed run
   pub records : (archive : List Command) → recorded_in archive run ≡ recorded_after archive core deed
 
--- each deed of a node, whatever the node keeps, has such moves
+-- each call of a node, in any state of the node, has such moves
 abbrev pub DeedsCarryTheirBytes : Type 0
 DeedsCarryTheirBytes = (g : Group) (n : ℕ) (deed : Deed) (core : CoreState) → DeedWasSent g n core deed → RunsAs g n deed core (done deed core)
 
--- a step of a group with this deed of a node, behind which the node is as its own turn leaves it, and the record as the deed
--- leaves it; all that there is besides are outputs that it gave
+-- a step of a group with this call of a node, after which the node is as its own turn leaves it,
+-- and the record as the call leaves it; the only other change are the outputs of the node
 pub record DoesDeed (g : Group) (n : ℕ) (deed : Deed) (core : CoreState) : Type 0 where
   pub does : Does g (Some (n, deed))
   pub given : List (Effect Command Output)
   pub is : does.behind ≡ behind_turn (with_record g (recorded_after g.archive core deed)) n (done deed core) given
 
--- in whatever group a node stands, it can do each deed
+-- in any group, a node can do each call
 abbrev pub GroupsDoEachDeed : Type 0
 GroupsDoEachDeed = (g : Group) (n : ℕ) (deed : Deed) (core : CoreState) → slice_get g.nodes n ≡ Some core → DeedWasSent g n core deed → DoesDeed g n deed core

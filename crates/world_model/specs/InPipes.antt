@@ -1,4 +1,5 @@
--- That the pipes of a world carry in order: what comes out at one end of a connection is a beginning of what goes in at the other.
+-- The pipes of a world carry in order: what comes out at one end of a connection is a prefix of
+-- what goes in at the other.
 use Rattle.std.specs.Prelude.{◌≡◌, ℕ, false, List, ◌∷◌, ◌++◌, length}
 use Rattle.connection_model.specs.packet.declared.packet.Packet.{Packet}
 use Rattle.connection_model.specs.packet.Spelling.{IsPacket}
@@ -19,9 +20,9 @@ use Rattle.world_model.specs.Carried.{went_of}
 use Rattle.world_model.specs.World.{ClientPipes, HasPipe, Pipe, World, packets_of}
 use Rattle.world_model.specs.Goes.{Reached}
 
--- A connection's commands in the list are a beginning of the packets that its client wrote, in order. The packets that its
--- client handled, spelled, with the bytes that came to it behind them and those on their way to it, are a beginning of the
--- spelled answers to it, and no fault was met in them.
+-- A connection's commands in the list are a prefix of the packets that its client wrote, in order.
+-- The packets that its client handled, spelled, with the bytes that came to it after them and those
+-- in transit to it, are a prefix of the spelled answers to it, and no fault was found in them.
 pub record IsInOrder (agreed : List Command) (κ : Connection) (p : Pipe) : Type 0 where
   pub up : IsPrefixOf (packets_in_list κ.name agreed) (commands_of κ.name 0 (packets_of κ.written))
   pub handled : List Packet
@@ -30,8 +31,8 @@ pub record IsInOrder (agreed : List Command) (κ : Connection) (p : Pipe) : Type
   pub down : IsPrefixOf (spelled handled ++ (p.came.held ++ p.down)) (answers_to κ.name agreed)
   pub sound : p.came.failed ≡ false
 
--- so it is of each connection of each client, by the list on which the nodes agree at the end of what went on in the group
--- on the way to the world
+-- the same holds for each connection of each client, by the list on which the nodes agree at the
+-- end of the group's steps on the way to the world
 pub record PipesAreInOrder {nodes : ℕ} {config : Config} {cs : List Client} {w : World} (trail : Reached nodes config cs w) : Type 0 where
   pub of : HasPast config w.group (groups_of (went_of trail)) (all_put (went_of trail))
   pub each : (agreed : List Command) → IsAgreed config (moment_of w.group ∷ of.earlier) agreed → (i : ℕ) (c : ClientPipes) (j : ℕ) (κ : Connection) (p : Pipe) →

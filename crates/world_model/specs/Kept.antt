@@ -1,4 +1,5 @@
--- That the sessions of a world's clients are kept: no Connect in the list on which its nodes agree asks for a clean session (MQTT 3.1.2.4).
+-- The sessions of a world's clients are kept: no Connect in the list on which its nodes agree asks
+-- for a clean session (MQTT 3.1.2.4).
 use Rattle.std.specs.Prelude.{◌≡◌, Bool, false, ℕ, List, ◌∷◌, Some}
 use Rattle.connection_model.specs.ballot.Config.{Config}
 use Rattle.lists.specs.Lists.{In, IsPrefixOf}
@@ -20,7 +21,8 @@ use Rattle.world_model.specs.World.{World}
 abbrev pub NoneIsClean : List Command → Type 0
 NoneIsClean list = (x : ConnectionName) (c : Client) (clean : Bool) → In (commands.Connect x c clean) list → clean ≡ false
 
--- so it is of each list that is agreed at the end of what went on in the group on the way to the world
+-- the same holds for each list that is agreed at the end of the group's steps on the way to the
+-- world
 pub record AsksForNoneClean {nodes : ℕ} {config : Config} {cs : List Client} {w : World} (trail : Reached nodes config cs w) : Type 0 where
   pub of : HasPast config w.group (groups_of (went_of trail)) (all_put (went_of trail))
   pub none : (agreed : List Command) → IsAgreed config (moment_of w.group ∷ of.earlier) agreed → NoneIsClean agreed
@@ -28,7 +30,8 @@ pub record AsksForNoneClean {nodes : ℕ} {config : Config} {cs : List Client} {
 abbrev pub NoConnectIsClean : Type 0
 NoConnectIsClean = (nodes : ℕ) (config : Config) (cs : List Client) (w : World) (trail : Reached nodes config cs w) → AsksForNoneClean trail
 
--- where no Connect of a list asks for a clean session, no session that a client has after any beginning of the list is clean
+-- if no Connect of a list asks for a clean session, no session that a client has after any prefix
+-- of the list is clean
 abbrev pub NoSessionIsClean : Type 0
 NoSessionIsClean = (list : List Command) → NoneIsClean list → (front : List Command) → IsPrefixOf front list → (c : Client) (clean : Bool) →
     session_of (past_of usual_limits front) c ≡ Some clean → clean ≡ false

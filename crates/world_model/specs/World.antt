@@ -1,4 +1,4 @@
--- Clients beside a group of nodes, with a pipe of bytes each way on every connection.
+-- Clients and a group of nodes, with a pipe of bytes each way on every connection.
 use Rattle.std.specs.Prelude.{◌≡◌, ℕ, ◌==◌, Bool, ◌&&◌, List, [], ◌∷◌, ◌++◌, map, drop, length, set, slice_get, Some}
 use Rattle.std.specs.List.{list_any}
 use Rattle.connection_model.specs.packet.declared.packet.Packet.{Packet}
@@ -11,16 +11,16 @@ use Rattle.connection_model.specs.world_base.declared.Port.{Port}
 use Rattle.connection_model.specs.node_model.Puts.{spelled}
 use Rattle.connection_model.specs.group_model.Group.{Group, opening_group}
 
--- where a connection leads, and the bytes on their way
+-- where a connection leads, and the bytes in transit
 pub record Pipe : Type 0 where
   pub node : ℕ  -- the place of its node in the group
   pub port : Port  -- by which the node knows it
-  pub up : List ℕ  -- the client wrote them, and they did not come to the node yet
-  pub down : List ℕ  -- the node handed them over, and they did not come to the client yet
+  pub up : List ℕ  -- the client wrote them, and they have not yet reached the node
+  pub down : List ℕ  -- the node handed them over, and they have not yet reached the client
   pub came : Stream  -- they came to the client, and are not cut into packets yet
 
--- a client with its connections, the newest first, and their pipes in the same order; how much of a connection stands in
--- the list of commands is not kept here
+-- a client with its connections, the newest first, and their pipes in the same order; how much of a
+-- connection is in the list of commands is not kept here
 pub record ClientPipes : Type 0 where
   pub keeper : Keeper
   pub connections : List Connection
@@ -64,7 +64,7 @@ with_pipe j p c = record c { pipes = set c.pipes j p }
 abbrev pub packets_of : List Written → List Packet
 packets_of written = map (λ (w : Written). w.packet) written
 
--- the packets that were written on the newest connection while these connections became those
+-- the packets that were written on the newest connection between these connections and those
 abbrev pub newly_written : List Connection → List Connection → List Packet
 newly_written (κ ∷ connections) (later ∷ more) = packets_of (drop (length κ.written) later.written)
 newly_written _ _ = []
@@ -74,7 +74,8 @@ abbrev pub sent_up : List Packet → List Pipe → List Pipe
 sent_up packets (p ∷ pipes) = record p { up = p.up ++ spelled packets } ∷ pipes
 sent_up packets [] = []
 
--- the client with another keeper and these connections, what was written on the newest one on its way
+-- the client with another keeper and these connections, what was written on the newest one in
+-- transit
 abbrev pub after_writing : Keeper → List Connection → ClientPipes → ClientPipes
 after_writing keeper connections c =
     record { keeper = keeper; connections = connections; pipes = sent_up (newly_written c.connections connections) c.pipes }

@@ -1,5 +1,5 @@
-//! Clients beside a group of nodes, with a pipe of bytes each way on every connection: what may happen, as definitions, and what
-//! is known of it so far.
+//! Clients and a group of nodes, with a pipe of bytes each way on every connection: what may
+//! happen, as definitions, and laws about it.
 #![tactic(auto)]
 
 mod kept_laws;

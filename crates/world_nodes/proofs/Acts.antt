@@ -1,4 +1,4 @@
--- What a node does in a step is what a group that stands for the nodes may do.
+-- What a node does in a step is what a group that corresponds to the nodes may do.
 use Rattle.std.proofs.Common.{◌≡◌, inl, inr, ◌<◌, ◌^◌, ℕ, zero, suc, ◌-◌, ◌+◌, Bool, true, false, ◌&&◌, if◌then◌else◌, List, ◌++◌, Some, refl, sym, ap, ◌∙◌, subst, arith}
 use Rattle.std.specs.Prelude.{slice_get, slice_set, get_or, OnOk, Result, Ok, Err}
 use Rattle.std.specs.Result.{is_err}
@@ -31,7 +31,7 @@ use Rattle.world_nodes.specs.Inside.{RunsAt, TookItem, WasSent}
 abbrev pub core_in : CountedCore → CoreState
 core_in c = c.core
 
--- ---- a deed
+-- ---- a call
 
 pub acts : (old : NodesState) (at : ℕ) (node : CountedCore) (deed : Deed) → slice_get old.nodes at ≡ Some node
     → ((g : Group) → StandsFor g old → DeedWasSent g at node.core deed)
@@ -58,7 +58,7 @@ acts old at node deed there sent g s =
 
 -- ---- results
 
--- what holds of a result that is not refused
+-- what holds for a result that is not refused
 pub where_ok : {A E : Type 0} (r : Result A E) (P : Type 0) → is_err r ≡ false → OnOk r P → P
 where_ok (Ok a) P e holds = holds
 where_ok (Err why) P e holds = cc
@@ -85,7 +85,7 @@ deed_sent old (suc n) at core (Expel client) place positive sent g s = tt
 deed_sent old (suc n) at core Cut place positive sent g s = absurd sent
 deed_sent old (suc n) at core Crash place positive sent g s = tt
 
--- the nodes after the turn of one, and where the record has changed
+-- the nodes after the turn of one, with the changed record
 abbrev pub behind_turn_of : ℕ → CountedCore → List (ℕ × Message Command) → ℕ → NodesState → NodesState
 behind_turn_of at new more losses old = record old { nodes = slice_set old.nodes at new; sent = more; losses = losses }
 
@@ -131,7 +131,7 @@ turn_takes old node at x new item more false losses t count =
           );
     }
 
--- what is read at a place is the node that stands there
+-- what is read at a place is the node that is there
 pub same_core : (nodes : List CountedCore) (at : ℕ) (core z : CountedCore) → slice_get nodes at ≡ Some core → z ≡ get_or nodes at z → z ≡ core
 same_core nodes at core z there is = is ∙ get_or_from_slice_get nodes at core z there
 

@@ -1,4 +1,5 @@
--- What a node does in a step with losses, too, is what a group that stands for the nodes may do.
+-- What a node does in a step with losses, too, is what a group that corresponds to the nodes may
+-- do.
 use Rattle.std.proofs.Common.{◌≡◌, ◌-◌, ℕ, Bool, false, List, ◌++◌, Some, refl, sym, ap, ◌∙◌, subst}
 use Rattle.std.specs.Prelude.{slice_get, slice_set}
 use Rattle.ballot.specs.Message.{Message}

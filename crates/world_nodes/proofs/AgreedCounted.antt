@@ -22,13 +22,13 @@ use Rattle.world_nodes.specs.Agreed.{AgreeOn, AgreeOnSoMany}
 use Rattle.world_nodes.specs.Inside.{HaveCounted, held_at, replicas_of}
 use Rattle.world_nodes.proofs.Acts.{core_in}
 
--- what the members told is counted
+-- what the members acknowledged is counted
 pub members_low : (n : NodesState) (told next : ToldIn) → HaveCounted n told next → (m : ℕ) → In m n.master.members → m < 16
 members_low n told next c m i =
     let lawful = group_lawful rules c.counts.config (moment_of c.group) c.counts.past c.counts.came in
     (rising_above 0 c.group.master.members m lawful.active (subst (λ (k : MasterState). In m k.members) (sym c.stands.master) i)).1
 
--- of several members, the second of the least numbers that they told
+-- of several members, the second least of the numbers that they acknowledged
 pub several_agree : (n : NodesState) (told next : ToldIn) → HaveCounted n told next → ((m : ℕ) → get_or told.held m 0 < 2 ^ 64) → (length n.master.members ≡ 1 → ⊥)
     → AgreeOnSoMany n (least_but_one told.held (2 ^ 64 - 1) (2 ^ 64 - 1) n.master.members)
 several_agree n told next c range several config g earlier stands came list agreed =
@@ -40,7 +40,7 @@ several_agree n told next c range several config g earlier stands came list agre
     (λ m. (let low = range m in omega (arith, low)))
     (λ e. several (ap (λ (m : MasterState). length m.members) same ∙ e))
 
--- the replica of a member, by nodes and by a group that stands for them
+-- the replica of a member, by nodes and by a group that corresponds to them
 same_nodes : (n : NodesState) (g : Group) → StandsFor g n → replicas_of n.nodes ≡ map replica_of g.nodes
 same_nodes n g stands = ap (λ (l : List CoreState). map replica_of l) (sym stands.nodes)
 
@@ -50,7 +50,7 @@ sole_agrees n m sole config g earlier stands came list agreed =
     ap (λ (l : List (ReplicaState State Command)). held_by (slice_get l (m - 1))) (same_nodes n g stands)
     ∙ sole_as_seen rules config (moment_of g) earlier list came agreed m (ap (λ (k : MasterState). k.members) stands.master ∙ sole)
 
--- some member's log has so many
+-- some member's log has this many
 pub some_agrees : (n : NodesState) (count : ℕ) (list : List Command) → AgreeOnSoMany n count
     → ((m : ℕ) → In m n.master.members → IsShort (slice_get (replicas_of n.nodes) (m - 1)) count) → AgreeOn n list
 some_agrees n count list many short config g earlier stands came =
@@ -58,7 +58,7 @@ some_agrees n count list many short config g earlier stands came =
     (λ m i. subst (λ (l : List (ReplicaState State Command)). IsShort (slice_get l (m - 1)) count) (same_nodes n g stands)
     (short m (subst (λ (k : MasterState). In m k.members) stands.master i))))
 
--- .. which is the same one in a group that stands for the nodes
+-- .. which is the same one in a group that corresponds to the nodes
 holds_in : (n : NodesState) (g : Group) (count at : ℕ) → StandsFor g n → HoldsAt (replicas_of n.nodes) n.master.members count at
     → HoldsAt (map replica_of g.nodes) g.master.members count at
 holds_in n g count at stands h =
@@ -80,7 +80,7 @@ recorded_agrees n count at base read many h same low seen config g earlier stand
     agreed_read rules config (moment_of g) earlier count at base read came (λ xs is. many config g earlier stands came xs is)
     (holds_in n g count at stands h) same low (seen ∙ sym stands.archive)
 
--- .. or the log of that member goes on where the record ends
+-- .. or the log of that member continues at the end of the record
 pub front_agrees : (n : NodesState) (count at base : ℕ) (read rest : List Command) → AgreeOnSoMany n count
     → (h : HoldsAt (replicas_of n.nodes) n.master.members count at) → base ≡ h.replica.log.base → base < count → read ≡ n.archive
     → rest ≡ h.replica.log.rest → AgreeOn n (take base read ++ take (count - base) rest)
@@ -105,7 +105,7 @@ pub replica_at : (nodes : List CountedCore) (at : ℕ) (core : CountedCore) → 
 replica_at nodes at core below read =
     get_mapped replica_of (cores_of nodes) at core.core (get_mapped core_in nodes at core (get_there nodes at core below read))
 
--- .. and the same as what is known to stand there
+-- .. and the same as what is known to be there
 pub same_replica : (nodes : List CountedCore) (at : ℕ) (core : CountedCore) (r : ReplicaState State Command) → core ≡ get_or nodes at core
     → slice_get (replicas_of nodes) at ≡ Some r → core.core.replica.state ≡ r
 same_replica [] at core r read stands = cc

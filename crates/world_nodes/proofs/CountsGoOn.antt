@@ -1,4 +1,4 @@
--- What nodes count stays what their messages tell, behind what nodes do.
+-- What nodes count stays what their messages tell, after what nodes do.
 use Rattle.std.proofs.Common.{◌≡◌, ℕ, true, List, ◌++◌, length, take, get_or, sym, ap, ◌∙◌, subst}
 use Rattle.ballot.specs.Config.{Config}
 use Rattle.ballot.specs.Message.{Message}
@@ -40,7 +40,7 @@ pub loses_counting : (n : NodesState) (losses : ℕ) (told next : ToldIn) → Ha
 loses_counting n losses told next c =
     record { group = c.group; stands = record { master = c.stands.master; nodes = c.stands.nodes; archive = c.stands.archive; sent = c.stands.sent }; counts = c.counts }
 
--- a node does something, and what it told is heard
+-- a node does something, and what it acknowledged is counted
 pub acts_counting : (old new : NodesState) (at : ℕ) (deed : Deed) (told next told' next' : ToldIn) → HaveCounted old told next → Acts at deed old new
     → new.master ≡ old.master → told'.ballot ≡ told.ballot → next'.ballot ≡ next.ballot
     → (HasCounted old.sent told → HasCounted new.sent told') → (HasCounted old.sent next → HasCounted new.sent next') → HaveCounted new told' next'
@@ -63,7 +63,7 @@ acts_counting old new at deed told next told' next' c acts same one two counts c
       };
     }
 
--- what stands behind the messages before is heard
+-- what comes after the earlier messages is counted
 pub heard_behind : (sent more now kept : Sent) (from : ℕ) (t u : ToldIn) → now ≡ more → more ≡ sent ++ kept → from ≡ length sent
     → (HasCounted (take from now) t → HasCounted now u) → HasCounted sent t → HasCounted more u
 heard_behind sent more now kept from t u same is at hears counted =

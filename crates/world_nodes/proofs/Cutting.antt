@@ -77,7 +77,7 @@ module _ (old : NodesState) (at : ℕ) (core : CountedCore) (there : slice_get o
       by true e = absurd (let up = ltb-true core.core.replica.state.log.base new.core.replica.state.log.base e in omega (arith, low, up))
       by false e = refl
 
-  -- it is cut back where the base of the log did not move
+  -- it is cut back if the base of the log did not move
   pub record_after : (now more : List Command) (new : CountedCore) (before base later : ℕ) → base ≡ core.core.replica.state.log.base → later ≡ new.core.replica.state.log.base
       → more ≡ recorded old.archive core.core.replica.state → take before more ≡ old.archive → now ≡ (if nat_lt base later then more else take before more)
       → now ≡ recorded_if_cut old.archive core new
@@ -150,7 +150,7 @@ module _ (old : NodesState) (at : ℕ) (core : CountedCore) (there : slice_get o
   pub cut_rests : (new : NodesState) → new ≡ forgetful old → CutsIn (at + 1) old new
   cut_rests new is = record { core = core; cuts = is_cutting; way = inr (inr is) }
 
--- what was taken back is as if nothing had happened
+-- what was undone is as if nothing had happened
 pub is_forgetful : (old : NodesState) (archive : List Command) (losses : ℕ) → archive ≡ old.archive → losses ≡ one_more old.losses
     → (let n : NodesState = record old { archive = archive; losses = losses } in n) ≡ forgetful old
 is_forgetful old archive losses is count =
@@ -166,7 +166,7 @@ rests_counting n archive losses told next is c =
       counts = c.counts;
     }
 
--- where nothing is counted it was a cut
+-- if nothing is counted it was a cut
 pub cuts_exactly : (node : ℕ) (old new : NodesState) → CutsIn node old new → LosesNothing old new → CutsExactly node old new
 cuts_exactly node old new t none = by t.way
   where

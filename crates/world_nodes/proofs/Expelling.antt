@@ -15,7 +15,7 @@ expels_exactly : (client : Client) (node : ℕ) (old new : NodesState) → Expel
 expels_exactly client node old new (inl took) none = exactly node (Expel client) old new took none
 expels_exactly client node old new (inr is) none = absurd (counts (forgetful old) old new refl is none)
 
--- ---- of a result, where the item has a copy of the identifier
+-- ---- of a result, if the item has a copy of the identifier
 
 pub expels_on : {X : Type 0} (r : Result X Idle) (client copy : Client) (node : ℕ) (old new : NodesState) → copy ≡ client → OnOk r (TakesIn node (Expel copy) old new)
     → OnOk r (ExpelsIn client node old new)

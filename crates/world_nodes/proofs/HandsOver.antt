@@ -1,4 +1,4 @@
--- What is handed over by a node is its deed, exactly.
+-- What is handed over by a node is its call, exactly.
 use Rattle.std.proofs.Common.{◌≡◌, ◌<◌, ◌≤◌, ◌-◌, ℕ, zero, suc, List, [], ◌∷◌, ◌++◌, length, Option, Some, refl, sym, ap, ◌∙◌, subst, arith}
 use Rattle.std.specs.Prelude.{get_or, slice_get, slice_set}
 use Rattle.std.proofs.lemmas.List.{append-nil}
@@ -42,7 +42,7 @@ hands old node z new port there is =
           ∙ sym (ap (λ (l : List (ℕ × Message Command)). let n : NodesState = record old { nodes = slice_set old.nodes (node - 1) (record z { core = hands_over port z.core }); sent = l } in n) (append-nil old.sent));
     }
 
--- where nothing is handed over, nothing changes
+-- if nothing is handed over, nothing changes
 pub rests : (old : NodesState) (at : ℕ) (z new : CountedCore) → slice_get old.nodes at ≡ Some z → new ≡ z → with_node at new old ≡ old
 rests old at z new found same =
     ap (λ (l : List CountedCore). record old { nodes = l }) (ap (slice_set old.nodes at) same ∙ set_same old.nodes at z found)

@@ -1,4 +1,4 @@
--- Messages that are kept one after the other are all kept, or some are lost.
+-- Messages that are kept one after another are all kept, or some are lost.
 use Rattle.std.proofs.Common.{◌≡◌, ℕ, Bool, true, false, List, [], ◌∷◌, ◌++◌, refl, sym, ap, ◌∙◌, subst, append_assoc}
 use Rattle.std.proofs.lemmas.List.{append-nil}
 use Rattle.std.specs.Bool.{OnFalse}

@@ -1,4 +1,5 @@
--- What the master does is what it may do in a group that stands for the nodes; and messages that come to it.
+-- What the master does is what it may do in a group that corresponds to the nodes; and messages
+-- that come to it.
 use Rattle.std.proofs.Common.{◌≡◌, ◌⊎◌, inl, inr, ◌+◌, ◌-◌, ℕ, zero, suc, Bool, true, false, ◌&&◌, if◌then◌else◌, List, [], ◌∷◌, ◌++◌, Option, Some, None, refl, sym, ap, ◌∙◌, subst, arith}
 use Rattle.std.specs.Prelude.{slice_get, OnOk, Result, Ok, Err}
 use Rattle.std.specs.Bool.{OnTrue, OnFalse}
@@ -29,9 +30,9 @@ use Rattle.world_nodes.proofs.Exactly.{exactly}
 abbrev Sent : Type 0
 Sent = List (ℕ × Message Command)
 
--- ---- steps of the master alone
+-- ---- steps of only the master
 
--- a group behind an Assign that is not refused, and behind an Activate of a node
+-- a group after an Assign that is not refused, and after an Activate of a node
 abbrev pub group_giving : Config → Group → Group
 group_giving config g =
     let o = assigned Command g.master config in with_master (told_by_master g o) o.state
@@ -40,7 +41,8 @@ abbrev pub group_answer : ℕ → ℕ → Group → Group
 group_answer from ballot g =
     let o = activated Command g.master ballot from g.master.waiting in with_master (told_by_master g o) o.state
 
--- each group that stands for the nodes before goes on so, and then stands for the nodes behind
+-- each group that corresponds to the nodes before continues so, and then corresponds to the nodes
+-- after
 abbrev pub MasterActs : (Group → Group) → NodesState → NodesState → Type 0
 MasterActs next old new = (g : Group) → StandsFor g old → (goes : GoesBy None g new) × (goes.does.behind ≡ next g)
 
@@ -107,7 +109,7 @@ answers_exactly old from ballot sent g s = (
     message : MasterState → Message Command
     message m = record { from = 0; body = if is_granted m ballot m.waiting then Activated ballot else Superseded ballot }
 
--- ---- where memory may be wanting
+-- ---- when memory may run out
 
 abbrev pub master_turn : MasterState → Sent → ℕ → NodesState → NodesState
 master_turn m more losses old = record old { master = m; sent = more; losses = losses }
@@ -164,9 +166,9 @@ pub answers_where : (from ballot : ℕ) (old new : NodesState) → HearsIn from 
 answers_where from ballot old new (inl is) none = is
 answers_where from ballot old new (inr is) none = absurd (counts (unheard (behind_answer from ballot old) old) old new refl is none)
 
--- ---- whatever memory does
+-- ---- even if memory runs out
 
--- the ballot is given, and its primary is told or not
+-- the ballot is given, and sent to its primary or not
 gives_unheard : (g : Group) (config : Config) → refusal g.master config ≡ None → ByMaster g (with_master g (assigning g.master config))
 gives_unheard g config e =
     subst (λ (r : Option AssignRefusal). ByMaster g (with_master g (master_behind g.master config r))) e (record { step = assigns_unheard config; is = refl; faithful = tt })
@@ -241,7 +243,7 @@ asks_ballot ballot (Append b place command) e = cc
 asks_ballot ballot (Held b held) e = cc
 asks_ballot ballot (Commit b held) e = cc
 
--- who asks for a ballot was heard
+-- the message that asks for a ballot was sent
 pub asked_in : (sent : Sent) (number ballot : ℕ) (x : ℕ × Message Command) → slice_get sent number ≡ Some x → x.0 ≡ 0 → asks_for x.1.body ≡ Some ballot
     → In (0, record { from = x.1.from; body = Activate ballot }) sent
 asked_in sent number ballot x found zero_is asks =
@@ -299,7 +301,7 @@ came_to_node o (suc at, message) m old new found positive same took =
     subst (λ (q : Option (ℕ × Message Command)). ComesIn q old new) (sym found)
     (subst (λ (z : Message Command). TakesIn (suc at) (Peer z) old new ⊎ (new ≡ forgetful old)) same took)
 
--- where nothing is counted it came
+-- if nothing is counted it came
 pub comes_exactly : (o : Option (ℕ × Message Command)) (old new : NodesState) → ComesIn o old new → LosesNothing old new → Comes o old new
 comes_exactly None old new came none = came
 comes_exactly (Some (zero, message)) old new came none = heard_exactly message.from message.body old new came none

@@ -1,4 +1,4 @@
--- What nodes count stays what their messages tell, behind what their master does.
+-- What nodes count stays what their messages tell, after what their master does.
 use Rattle.std.proofs.Common.{◌≡◌, ◌⊎◌, inl, inr, ℕ, ◌+◌, Bool, true, false, if◌then◌else◌, [], ◌∷◌, ◌++◌, get_or, Option, Some, None, refl, sym, ap, ◌∙◌, subst}
 use Rattle.std.specs.Prelude.{◌↔◌, Result, Err}
 use Rattle.std.specs.Bool.{OnTrue, OnFalse}
@@ -21,7 +21,7 @@ use Rattle.world_nodes.specs.Inside.{HaveCounted}
 use Rattle.world_nodes.proofs.CountsGoOn.{Sent}
 use Rattle.world_nodes.proofs.MasterActs.{answers_exactly, gives_exactly, group_answer, group_giving, master_turn, told_to}
 
--- ---- the master gives a ballot, and its primary is told or not
+-- ---- the master gives a ballot, and sends it to its primary or not
 
 -- what is not refused is no error
 pub no_refusal : (result : Result ℕ AssignError) (why : AssignError) (refused : Option AssignRefusal) → result ≡ Err why → refused ≡ None
@@ -65,9 +65,9 @@ gives_counting old config state body more false losses t next next' c none state
           (ap (λ (m : MasterState). refusal m config) c.stands.master ∙ none) refl (inr refl) (ballot ∙ ap (λ (m : MasterState). m.given + 1) (sym c.stands.master)) untold;
     }
 
--- ---- the master answers, and the node is told or not
+-- ---- the master answers, and its message is sent or not
 
--- which counters stand for the active ballot behind an answer
+-- which counters correspond to the active ballot after an answer
 abbrev pub TurnsOver : ToldIn → ToldIn → ToldIn → ToldIn → MasterState → MasterState → Type 0
 TurnsOver t next t' next' m k =
     ((k.active ≡ m.active) × (t' ≡ t) × (next' ≡ next)) ⊎ ((k.active ≡ m.active → ⊥) × (t' ≡ next) × (next' ≡ t))

@@ -1,4 +1,4 @@
--- What takes no memory is done exactly, and a message that a node does not heed needs no copy.
+-- What takes no memory is done exactly, and a message that a node ignores needs no copy.
 use Rattle.std.proofs.Common.{◌≡◌, ◌⊎◌, inl, inr, ◌<◌, ◌^◌, ◌-◌, ◌+◌, ◌↔◌, ℕ, zero, suc, Bool, true, false, ◌&&◌, if◌then◌else◌, List, [], ◌++◌, length, Option, Some, None, refl, sym, ap, ◌∙◌, subst, arith}
 use Rattle.std.specs.Prelude.{slice_get, get_or, IfSome, OnOk, Result, Ok, Err}
 use Rattle.std.specs.List.{find}
@@ -101,7 +101,7 @@ turn_rests old node at x new item more whole losses t count rests = by whole (t.
               ∙ ap (λ (k : ℕ). behind_deed k x.core (takes item) old) x.place;
         }
 
--- ---- a message that is passed over
+-- ---- a message that is skipped
 
 found_of : (P : ℕ × Message Command → Type 0) (o : Option (ℕ × Message Command)) (x : ℕ × Message Command) → o ≡ Some x → IfSome o P → P x
 found_of P o x is holds = subst (λ (q : Option (ℕ × Message Command)). IfSome q P) is holds
@@ -124,7 +124,7 @@ passed_by old at number p z new more whole is took =
 pub was_sent : (old : NodesState) (at number : ℕ) (p : IsPassedOver at number old) → In (p.node, p.message) old.sent
 was_sent old at number p = in_at old.sent number (p.node, p.message) p.sent
 
--- what is said of the message that a node passes over
+-- what is said about the message that a node passes over
 positive_node : (P : ℕ → Type 0) (node : ℕ) → 0 < node → ((at : ℕ) → P (suc at)) → P node
 positive_node P zero few holds = absurd (omega (arith, few))
 positive_node P (suc at) few holds = holds at
@@ -151,7 +151,7 @@ passes_at_rest at number old p rests =
     positive_node (λ (n : ℕ). ComesUnheeded (Some (n, p.message)) old → RestsAt n (Peer p.message) old) p.node p.runs.positive (λ k r. r)
     (subst (λ (o : Option (ℕ × Message Command)). ComesUnheeded o old) p.sent rests)
 
--- what a node does with a message that has more than numbers, where it does it quietly, is nothing
+-- what a node does with a message that has more than numbers, if it does it quietly, is nothing
 more_ignored : (message : Message Command) (core : CoreState) → has_numbers_alone message.body ≡ false → NamesSome message.body → IsHeardQuietly message core →
     IsIgnored (Receives message) core
 more_ignored message core more names quiet = by core.replica.state.stopped quiet.0
@@ -179,7 +179,7 @@ names_sent n told next c number found there =
     names_some rules c.counts.config (moment_of c.group) c.counts.past c.counts.came found.0 found.1
     (subst (λ (sent : List (ℕ × Message Command)). In {X = ℕ × Message Command} (found.0, found.1) sent) (sym c.stands.sent) (in_at n.sent number found there))
 
--- a message that a node heeds takes memory, or has numbers alone
+-- a message that has an effect on a node takes memory, or has only numbers
 pub heeded_takes : {X : Type 0} (old : NodesState) (number receiver at : ℕ) (found : ℕ × Message Command) (core : CountedCore) (heeds : Bool) → slice_get old.sent number ≡ Some found
     → receiver ≡ found.0 → (receiver ≡ 0 → ⊥) → (x : RunsAt old.nodes receiver at) → core ≡ x.core → heeds ≡ true → (heeds ≡ false) ↔ DoesNothing (Peer found.1) core.core
     → has_numbers_alone found.1.body ≡ false → NamesSome found.1.body → ComesUnheeded (slice_get old.sent number) old → X
@@ -201,7 +201,7 @@ is_passed old number at (node, message) z heeds there x is unheeded decides =
       nothing = subst (λ (c : CountedCore). DoesNothing (Peer message) c.core) (same_core old.nodes at x.core z x.stands is) (decides.0 unheeded);
     }
 
--- what the master heeds is an Activate
+-- what has an effect on the master is an Activate
 heeds_activate : (ballot : ℕ) (body : Body Command) → asks_for body ≡ Some ballot → IsUnheeded body → ⊥
 heeds_activate ballot (NewBallot b members a old) asks none = cc
 heeds_activate ballot (Join b a) asks none = cc
@@ -231,7 +231,7 @@ unasked old number (zero, message) there is asks =
     subst (λ (o : Option (ℕ × Message Command)). Comes o old old) (sym there) (not_asked message.from message.body old asks)
 unasked old number (suc k, message) there is asks = cc
 
--- one that has numbers alone is copied
+-- one that has only numbers is copied
 pub copied_or : {X : Type 0} (numbers : Bool) → (numbers ≡ true → ⊥) → (numbers ≡ false → X) → X
 copied_or true never more = absurd (never refl)
 copied_or false never more = more refl

@@ -1,4 +1,4 @@
--- The machine of a node's whole log, read from its snapshot or begun anew.
+-- The machine of a node's whole log, read from its snapshot or begun afresh.
 use Rattle.std.proofs.Common.{◌≡◌, ◌<◌, ℕ, zero, suc, Bool, false, List, [], ◌∷◌, ◌++◌, Option, Some, get_or, length, take, ◌+◌, ◌-◌, refl, sym, ap, ◌∙◌, subst, arith}
 use Rattle.std.specs.Prelude.{IfOk, Result, Ok, Err, slice_get}
 use Rattle.std.proofs.lemmas.List.{take_more}
@@ -55,7 +55,7 @@ at_base archive r right base bytes machine is read fresh thawed = by base is fre
         let high : 0 < r.log.base = omega (arith, e) in
         same_Some machine (replay rules (take r.log.base archive)) (sym (old (omega arith)) ∙ ap rules.thawed read ∙ right.snapshot high)
 
--- and so it tells whether the client is welcomed back
+-- and so it says whether the client is welcomed back
 pub welcomed : (n : NodesState) (told next : ToldIn) → HaveCounted n told next → (node : ℕ) (core : CountedCore) → node_of n.nodes node ≡ Some core → (client : Client)
     (base : ℕ) (bytes : List ℕ) (first last : State) (rest : List Command) (answer : Bool) → base ≡ core.core.replica.state.log.base → bytes ≡ core.core.replica.state.log.snapshot →
     (base ≡ 0 → first ≡ rules.opening) → (0 < base → rules.thawed bytes ≡ Some first) → rest ≡ core.core.replica.state.log.rest → last ≡ replay_from rules first rest →
@@ -74,7 +74,7 @@ welcomed n told next c node core there client base bytes first last rest answer 
     whole : first ≡ replay rules (take log.base n.archive)
     whole = at_base n.archive core.core.replica.state (cut_right n told next c node core there) base bytes first is read fresh thawed
 
--- of nodes as they are seen, where there was memory for the answer
+-- of nodes as they are seen, if there was memory for the answer
 pub welcomed_in : {E : Type 0} (n seen : NodesState) (told next : ToldIn) → HaveCounted n told next → n ≡ seen → (node : ℕ) (core : CountedCore) → node_of seen.nodes node ≡ Some core → (client : Client)
     (base : ℕ) (bytes : List ℕ) (first last : State) (rest : List Command) (result : Result Bool E) → base ≡ core.core.replica.state.log.base → bytes ≡ core.core.replica.state.log.snapshot →
     (base ≡ 0 → first ≡ rules.opening) → (0 < base → rules.thawed bytes ≡ Some first) → rest ≡ core.core.replica.state.log.rest → last ≡ replay_from rules first rest →

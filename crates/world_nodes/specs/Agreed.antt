@@ -9,13 +9,13 @@ use Rattle.world_model.specs.world_base.Core.{rules}
 use Rattle.world_model.specs.group_model.Group.{Group, moment_of}
 use Rattle.world_nodes.specs.Nodes.{NodesState, StandsFor}
 
--- whatever led up to a group that stands for the nodes, this is the agreed list there
+-- whatever the history of a group that corresponds to the nodes, this is its agreed list
 abbrev pub AgreeOn : NodesState → List Command → Type 0
 AgreeOn n list =
     (config : Config) (g : Group) (earlier : List (Moment State Command Output)) → StandsFor g n →
     Past rules config (moment_of g ∷ earlier) → IsAgreed config (moment_of g ∷ earlier) list
 
--- and the agreed list has so many commands
+-- and the agreed list has this many commands
 abbrev pub AgreeOnSoMany : NodesState → ℕ → Type 0
 AgreeOnSoMany n count =
     (config : Config) (g : Group) (earlier : List (Moment State Command Output)) → StandsFor g n →

@@ -1,4 +1,5 @@
--- What is asked of nodes before they are led out: the whole log of a node, and whether a client is welcomed back after it.
+-- What is asked of nodes before they are led out: the whole log of a node, and whether a client's
+-- session is found after it.
 use Rattle.std.specs.Prelude.{ℕ, Bool, false, List, [], ◌∷◌, ◌++◌, Option, Some, None}
 use Rattle.ballot.specs.Machine.{replay}
 use Rattle.master.specs.snapshots.Whole.{whole_log}
@@ -36,7 +37,8 @@ abbrev pub is_welcome : List Output → Bool
 is_welcome [] = false
 is_welcome (output ∷ more) = is_present output
 
--- whether a client is welcomed back after these commands and the start of a ballot (MQTT 3.1.2.4, 3.2.2.2)
+-- whether a client's CONNECT is answered with session present after these commands and the start of
+-- a ballot (MQTT 3.1.2.4, 3.2.2.2)
 abbrev pub welcomes_back : Client → List Command → Bool
 welcomes_back client list =
     is_welcome (rules.gives (replay rules (list ++ commands.Start 1 ∷ [])) (commands.Connect first_connection client false))

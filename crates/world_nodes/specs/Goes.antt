@@ -1,4 +1,4 @@
--- What nodes and their master do, exactly, and how a group that stands for them goes on then.
+-- What nodes and their master do, exactly, and how a group that corresponds to them then moves.
 use Rattle.std.specs.Prelude.{◌≡◌, ℕ, zero, suc, ◌-◌, [], ◌∷◌, ◌++◌, if◌then◌else◌, List, Option, Some, None, slice_get, slice_set}
 use Rattle.ballot.specs.Body.{Body}
 use Rattle.ballot.specs.Body.TheVariants.{Activate}
@@ -28,12 +28,12 @@ abbrev pub unless_stopped : Option CountedCore → Option CountedCore
 unless_stopped None = None
 unless_stopped (Some c) = if c.core.replica.state.stopped then None else Some c
 
--- the node of a number, if it is there and has not stopped
+-- the node of a number, if it exists and has not stopped
 abbrev pub running : List CountedCore → ℕ → Option CountedCore
 running nodes zero = None
 running nodes (suc at) = unless_stopped (slice_get nodes at)
 
--- .. and if it is there
+-- .. and if it exists
 abbrev pub node_of : List CountedCore → ℕ → Option CountedCore
 node_of nodes zero = None
 node_of nodes (suc at) = slice_get nodes at
@@ -46,9 +46,9 @@ unless_whole (Some c) = if can_cut c.core.replica.state then Some c else None
 abbrev pub cutting : List CountedCore → ℕ → Option CountedCore
 cutting nodes node = unless_whole (running nodes node)
 
--- ---- a deed of a node
+-- ---- a call of a node
 
--- the nodes behind a deed of the one at this place
+-- the nodes after a call of the one at this place
 abbrev pub behind_deed : ℕ → CountedCore → Deed → NodesState → NodesState
 behind_deed at node deed n =
     record n {
@@ -56,8 +56,8 @@ behind_deed at node deed n =
       sent = n.sent ++ messages (done deed node.core).messages;
     }
 
--- The node of this number runs, and took just this item: its step is the definitions' step, and all that it says was sent. No
--- other node has changed, nor has the master.
+-- The node of this number runs, and took just this item: its step is the definitions' step, and all
+-- its messages were sent. No other node has changed, nor has the master.
 pub record TakesExactly (node : ℕ) (item : Item) (old new : NodesState) : Type 0 where
   pub core : CountedCore
   pub runs : running old.nodes node ≡ Some core
@@ -71,7 +71,8 @@ unless_full (Some c) = if has_room c.core then Some c else None
 abbrev pub proposing : List CountedCore → ℕ → Option CountedCore
 proposing nodes node = unless_full (running nodes node)
 
--- The node of this number had something to cut, and took just that item; what it had applied is in the record.
+-- The node of this number had something to cut, and took just that item; what it had applied is in
+-- the record.
 pub record CutsExactly (node : ℕ) (old new : NodesState) : Type 0 where
   pub core : CountedCore
   pub cuts : cutting old.nodes node ≡ Some core
@@ -79,36 +80,37 @@ pub record CutsExactly (node : ℕ) (old new : NodesState) : Type 0 where
     archive = recorded old.archive core.core.replica.state;
   }
 
--- the node of this number is there, running or not, and handed over what it put out for a port
+-- the node of this number exists, running or not, and handed over what it queued for a port
 pub record GivesExactly (node : ℕ) (port : Port) (old new : NodesState) : Type 0 where
   pub core : CountedCore
   pub there : node_of old.nodes node ≡ Some core
   pub is : new ≡ behind_deed (node - 1) core (gives port) old
 
--- a group does a deed of a node, or of the master, exactly or with losses, and then stands for these nodes
+-- a group does a call of a node, or of the master, exactly or with losses, and then corresponds to
+-- these nodes
 pub record GoesBy (deed : Option (ℕ × Deed)) (g : Group) (new : NodesState) : Type 0 where
   pub does : Does g deed
   pub stands : StandsFor does.behind new
 
--- so does each group that stands for the nodes before: the node at this place does this deed
+-- each group that corresponds to the nodes before does so: the node at this place does this call
 abbrev pub Acts : ℕ → Deed → NodesState → NodesState → Type 0
 Acts at deed old new = (g : Group) → StandsFor g old → GoesBy (Some (at, deed)) g new
 
 -- ---- what is handed over
 
--- what the node of this number put out for a port is appended
+-- what the node of this number queued for a port is appended
 abbrev pub HandsOver : ℕ → Port → NodesState → List ℕ → List ℕ → Type 0
 HandsOver node port n before behind =
     (core : CountedCore) → node_of n.nodes node ≡ Some core → behind ≡ before ++ bytes_of (listed_at port core.core)
 
--- .. and whether more may come is told
+-- .. and the answer says whether more may come
 abbrev pub AnswersFor : ℕ → Port → NodesState → Handed → Type 0
 AnswersFor node port n handed =
     (core : CountedCore) → node_of n.nodes node ≡ Some core → handed ≡ answer_of (listed_at port core.core)
 
 -- ---- the master
 
--- the nodes after a step of the master, and what it tells was sent
+-- the nodes after a step of the master, whose message was sent
 abbrev pub behind_master : MasterOutcome Command → NodesState → NodesState
 behind_master o n = record n { master = o.state; sent = n.sent ++ (o.receiver, record { from = master; body = o.body }) ∷ [] }
 
@@ -119,20 +121,20 @@ behind_giving config n = behind_master (assigned Command n.master config) n
 abbrev pub behind_answer : ℕ → ℕ → NodesState → NodesState
 behind_answer from ballot n = behind_master (activated Command n.master ballot from n.master.waiting) n
 
--- ---- a message comes to its receiver
+-- ---- a message reaches its receiver
 
--- the master heeds an Activate, and no other message
+-- the master answers an Activate, and ignores every other message
 abbrev pub HeardByMaster : ℕ → Body Command → NodesState → NodesState → Type 0
 HeardByMaster from (Activate ballot) old new = new ≡ behind_answer from ballot old
 HeardByMaster from _ old new = new ≡ old
 
--- a message that was sent comes to the master, or to a node, which takes just it
+-- a message that was sent reaches the master, or a node, which takes just it
 abbrev pub Comes : Option (ℕ × Message Command) → NodesState → NodesState → Type 0
 Comes None old new = ⊥
 Comes (Some (zero, message)) old new = HeardByMaster message.from message.body old new
 Comes (Some (suc at, message)) old new = TakesExactly (suc at) (Peer message) old new
 
--- it comes to nobody: none was sent, or its receiver is unknown or has stopped
+-- it reaches no node: none was sent, or its receiver is unknown or has stopped
 abbrev pub ComesToNobody : Option (ℕ × Message Command) → NodesState → Type 0
 ComesToNobody None n = Unit {0}
 ComesToNobody (Some (zero, message)) n = ⊥

@@ -22,7 +22,7 @@ use Rattle.world_model.specs.group_model.Group.{Group, moment_of, replica_of}
 use Rattle.world_nodes.specs.Goes.{running}
 use Rattle.world_nodes.specs.Nodes.{NodesState, StandsFor, cores_of}
 
--- messages were kept behind those that were sent, save some that were lost
+-- messages were kept after those that were sent, except some that were lost
 pub record Keeps (given : List (Effect Command Output)) (sent more : List (ℕ × Message Command)) (whole : Bool) : Type 0 where
   pub kept : List (Effect Command Output)
   pub thinned : Thinned kept given
@@ -39,13 +39,14 @@ pub record RunsAt (nodes : List CountedCore) (node at : ℕ) : Type 0 where
   pub stands : slice_get nodes at ≡ Some core
   pub runs : running nodes node ≡ Some core
 
--- what a node takes in of others was sent to it; a cut is not taken so, since the record has it first
+-- what a node takes from others was sent to it; a cut is not taken in this way, since the record
+-- has it first
 abbrev pub WasSent : ℕ → Item → List (ℕ × Message Command) → Type 0
 WasSent node (Peer message) sent = In (node, message) sent
 WasSent node Cut sent = ⊥
 WasSent node _ sent = Unit {0}
 
--- the message of this number was sent to the node that runs at this place, and does not heed it
+-- the message of this number was sent to the node that runs at this place, and ignores it
 pub record IsPassedOver (at number : ℕ) (n : NodesState) : Type 0 where
   pub node : ℕ
   pub message : Message Command
@@ -53,7 +54,8 @@ pub record IsPassedOver (at number : ℕ) (n : NodesState) : Type 0 where
   pub runs : RunsAt n.nodes node at
   pub nothing : DoesNothing (Peer message) runs.core.core
 
--- a node took an item in, perhaps with losses, and without any where it was whole, as where the item takes no memory
+-- a node took an item, perhaps with losses, and without any if the step was whole, for example if
+-- the item takes no memory
 pub record TookItem (old : CountedCore) (item : Item) (new : CountedCore) (sent more : List (ℕ × Message Command)) (whole : Bool) : Type 0 where
   pub wanted : List (Effect Command Output)
   pub kept : List (Effect Command Output)
@@ -63,8 +65,8 @@ pub record TookItem (old : CountedCore) (item : Item) (new : CountedCore) (sent 
   pub exact : whole ≡ true → (new ≡ record old { core = (node_step item old.core).core }) × (kept ≡ (node_step item old.core).messages)
   pub rests : TakesNoMemory item old.core → find has_failed old.core.connections ≡ None → old.losses < 2 ^ 64 - 1 → whole ≡ true
 
--- Nodes came to be as a group of the model does, and count what their messages tell: in the active ballot, and in the one
--- that waits.
+-- Nodes came about as a group of the model does, and count what their messages acknowledge: in the
+-- active ballot, and in the one that waits.
 pub record HaveCounted (n : NodesState) (told next : ToldIn) : Type 0 where
   pub group : Group
   pub stands : StandsFor group n
@@ -74,6 +76,6 @@ pub record HaveCounted (n : NodesState) (told next : ToldIn) : Type 0 where
 abbrev pub replicas_of : List CountedCore → List (ReplicaState State Command)
 replicas_of nodes = map replica_of (cores_of nodes)
 
--- how long the log of the node of a number is; 0 where it is not there
+-- how long the log of the node of a number is; 0 if it does not exist
 abbrev pub held_at : List CountedCore → ℕ → ℕ
 held_at nodes node = held_by (slice_get (replicas_of nodes) (node - 1))

@@ -6,8 +6,9 @@ use Rattle.broker_base.specs.Command.{Command}
 use Rattle.world_model.specs.world_base.Core.{CoreState, CountedCore}
 use Rattle.world_model.specs.group_model.Group.{Group}
 
--- Node n + 1 stands at place n; all messages that were ever sent stay, each with its receiver. The record has the places
--- below the bases of all logs. Losses count the steps in which memory was wanting, up to 2^64 - 1.
+-- Node n + 1 is at place n; all messages that were ever sent stay, each with its receiver. The
+-- record has the places below the bases of all logs. Losses count the steps in which memory ran
+-- out, up to 2^64 - 1.
 pub record NodesState : Type 0 where
   pub master : MasterState
   pub nodes : List CountedCore
@@ -18,8 +19,8 @@ pub record NodesState : Type 0 where
 abbrev pub cores_of : List CountedCore → List CoreState
 cores_of nodes = map (λ (c : CountedCore). c.core) nodes
 
--- A group stands for nodes: it has their master, what each of them keeps, their messages and their record. Which outputs its replicas
--- gave before is history: no field keeps it.
+-- A group corresponds to nodes: it has their master, what each of them keeps, their messages and
+-- their record. Which outputs its replicas gave before is history: no field keeps it.
 pub record StandsFor (g : Group) (n : NodesState) : Type 0 where
   pub master : g.master ≡ n.master
   pub nodes : g.nodes ≡ cores_of n.nodes

@@ -15,8 +15,8 @@ use Rattle.world_model.specs.world_base.Losses.{TakesNoMemory}
 use Rattle.world_nodes.specs.Goes.{node_of, running}
 use Rattle.world_nodes.specs.Nodes.{NodesState}
 
--- The node of this number runs, and the item takes no memory there. None of its connections has failed, of which its broker is
--- still to hear, and its count of losses is below its greatest number.
+-- The node of this number runs, and the item takes no memory there. It has no failed connection
+-- that is still to be reported to its broker, and its count of losses is below its greatest number.
 pub record RestsAt (node : ℕ) (item : Item) (n : NodesState) : Type 0 where
   pub core : CountedCore
   pub runs : running n.nodes node ≡ Some core
@@ -24,12 +24,12 @@ pub record RestsAt (node : ℕ) (item : Item) (n : NodesState) : Type 0 where
   pub none_failed : find has_failed core.core.connections ≡ None
   pub low : core.losses < 2 ^ 64 - 1
 
--- the master heeds an Activate, and no other message
+-- the master answers an Activate, and ignores every other message
 abbrev pub IsUnheeded : Body Command → Type 0
 IsUnheeded (Activate ballot) = ⊥
 IsUnheeded _ = Unit {0}
 
--- a message that was sent comes to the master, which does not heed it, or so to a node
+-- a message that was sent reaches the master, which ignores it, or a node that does
 abbrev pub ComesUnheeded : Option (ℕ × Message Command) → NodesState → Type 0
 ComesUnheeded None n = ⊥
 ComesUnheeded (Some (zero, message)) n = IsUnheeded message.body

@@ -1,4 +1,4 @@
--- Steps of nodes in which memory may have been wanting, and how these are counted.
+-- Steps of nodes in which memory may have run out, and how these are counted.
 use Rattle.std.specs.Prelude.{◌≡◌, ◌⊎◌, ◌<◌, ◌^◌, ◌-◌, ◌++◌, ℕ, zero, suc, nat_lt, if◌then◌else◌, List, Option, Some, None, slice_set}
 use Rattle.master.specs.snapshots.World.{messages, recorded}
 use Rattle.ballot.specs.Effect.{Effect}
@@ -22,7 +22,7 @@ use Rattle.world_model.specs.group_model.Group.{Group}
 use Rattle.world_nodes.specs.Goes.{Acts, AnswersFor, GivesExactly, GoesBy, HandsOver, behind_answer, behind_deed, behind_giving, cutting, running}
 use Rattle.world_nodes.specs.Nodes.{NodesState, StandsFor}
 
--- the count is exact as long as it stands below its greatest number
+-- the count is exact as long as it is below its greatest number
 abbrev pub LosesNothing : NodesState → NodesState → Type 0
 LosesNothing old new = (new.losses ≡ old.losses) × (old.losses < 2 ^ 64 - 1)
 
@@ -30,8 +30,8 @@ LosesNothing old new = (new.losses ≡ old.losses) × (old.losses < 2 ^ 64 - 1)
 abbrev pub forgetful : NodesState → NodesState
 forgetful n = record n { losses = one_more n.losses }
 
--- The node at this place did a step on the item with losses, as a node may, and of its messages some are missing. No other
--- node, nor the master, has changed.
+-- The node at this place did a step on the item with losses, as a node may, and some of its
+-- messages are missing. No other node, nor the master, has changed.
 pub record ActsWithLosses (at : ℕ) (item : Item) (core : CountedCore) (old new : NodesState) : Type 0 where
   pub node : CountedCore
   pub wanted : List (Effect Command Output)
@@ -44,14 +44,15 @@ pub record ActsWithLosses (at : ℕ) (item : Item) (core : CountedCore) (old new
     losses = one_more old.losses;
   }
 
--- the record after a step in which a log may have been cut: one that was not cut leaves it as it was
+-- the record after a step in which a log may have been cut: one that was not cut leaves it as it
+-- was
 abbrev pub recorded_if_cut : List Command → CountedCore → CountedCore → List Command
 recorded_if_cut archive old new =
     if nat_lt old.core.replica.state.log.base new.core.replica.state.log.base
     then recorded archive old.core.replica.state
     else archive
 
--- The same of a node that takes a cut: where its log was cut, what it had applied is in the record.
+-- The same for a node that takes a cut: if its log was cut, what it had applied is in the record.
 pub record CutsWithLosses (at : ℕ) (core : CountedCore) (old new : NodesState) : Type 0 where
   pub node : CountedCore
   pub wanted : List (Effect Command Output)
@@ -65,18 +66,19 @@ pub record CutsWithLosses (at : ℕ) (core : CountedCore) (old new : NodesState)
     losses = one_more old.losses;
   }
 
--- the node of this number, which runs, takes the item in: exactly, or with losses that are counted
+-- the node of this number, which runs, takes the item: exactly, or with losses that are counted
 pub record TakesIn (node : ℕ) (item : Item) (old new : NodesState) : Type 0 where
   pub core : CountedCore
   pub runs : running old.nodes node ≡ Some core
   pub way : (new ≡ behind_deed (node - 1) core (takes item) old) ⊎ ActsWithLosses (node - 1) item core old new
 
--- An Expel of a client is proposed by a node, exactly or with losses; or there is no memory for it, and that is counted.
+-- An Expel of a client is proposed by a node, exactly or with losses; or there is no memory for it,
+-- and that is counted.
 abbrev pub ExpelsIn : List ℕ → ℕ → NodesState → NodesState → Type 0
 ExpelsIn client node old new = TakesIn node (Expel client) old new ⊎ (new ≡ forgetful old)
 
--- The node of this number, which had something to cut, took that item: exactly, or with losses that are counted. Or there was
--- no memory for the record, and that is counted.
+-- The node of this number, which had something to cut, took that item: exactly, or with losses that
+-- are counted. Or there was no memory for the record, and that is counted.
 pub record CutsIn (node : ℕ) (old new : NodesState) : Type 0 where
   pub core : CountedCore
   pub cuts : cutting old.nodes node ≡ Some core
@@ -86,38 +88,41 @@ pub record CutsIn (node : ℕ) (old new : NodesState) : Type 0 where
       ⊎ CutsWithLosses (node - 1) core old new
       ⊎ (new ≡ forgetful old)
 
--- what the master told is lost, and that is counted
+-- the master's message is lost, and that is counted
 abbrev pub unheard : NodesState → NodesState → NodesState
 unheard behind n = record n { master = behind.master; losses = one_more n.losses }
 
--- The master gave a ballot, and told its primary. Or the primary was not told, or nothing happened: both are counted.
+-- The master gave a ballot, and sent it to its primary. Or it was not sent, or nothing happened:
+-- both are counted.
 abbrev pub GivesIn : Config → NodesState → NodesState → Type 0
 GivesIn config old new =
     (new ≡ behind_giving config old) ⊎ (new ≡ unheard (behind_giving config old) old) ⊎ (new ≡ forgetful old)
 
--- The master answered a node that asked it to activate a ballot. Or the node was not told, and that is counted. It heeds no other
--- message.
+-- The master answered a node that asked it to activate a ballot. Or the answer was lost, and that
+-- is counted. It ignores every other message.
 abbrev pub HearsIn : ℕ → Body Command → NodesState → NodesState → Type 0
 HearsIn from (Activate ballot) old new =
     (new ≡ behind_answer from ballot old) ⊎ (new ≡ unheard (behind_answer from ballot old) old)
 HearsIn from _ old new = new ≡ old
 
--- A message that was sent came to the master, or to a node, which took it in. Or there was no memory for it, and that is counted.
+-- A message that was sent came to the master, or to a node, which took it. Or there was no memory
+-- for it, and that is counted.
 abbrev pub ComesIn : Option (ℕ × Message Command) → NodesState → NodesState → Type 0
 ComesIn None old new = ⊥
 ComesIn (Some (zero, message)) old new = HearsIn message.from message.body old new
 ComesIn (Some (suc at, message)) old new = TakesIn (suc at) (Peer message) old new ⊎ (new ≡ forgetful old)
 
--- What stood there was handed over and appended, and it is told whether more may come. Or nothing was, more may come, and that is
--- counted.
+-- What was queued was handed over and appended, and the answer says whether more may come. Or
+-- nothing was, more may come, and that is counted.
 abbrev pub HandsIn : ℕ → Port → NodesState → NodesState → List ℕ → List ℕ → Handed → Type 0
 HandsIn node port old new before behind handed =
     (GivesExactly node port old new × HandsOver node port old before behind × AnswersFor node port old handed)
     ⊎ ((new ≡ forgetful old) × (behind ≡ before) × (handed ≡ answers.Open))
 
--- ---- whatever memory does, each group that stands for the nodes goes on so, and then stands for the nodes behind
+-- ---- even if memory runs out, each group that corresponds to the nodes continues in this way, and
+-- then corresponds to the nodes after
 
--- by a deed of the node at this place; or nothing happened
+-- by a call of the node at this place; or nothing happened
 abbrev pub ActsOrRests : ℕ → Deed → NodesState → NodesState → Type 0
 ActsOrRests at deed old new = Acts at deed old new ⊎ (new ≡ forgetful old)
 
@@ -128,7 +133,7 @@ MasterGoes old new = (g : Group) → StandsFor g old → GoesBy None g new
 abbrev pub MasterGoesOrRests : NodesState → NodesState → Type 0
 MasterGoesOrRests old new = MasterGoes old new ⊎ (new ≡ forgetful old)
 
--- by what a message does that comes to the master, or to a node
+-- by a message that reaches the master, or a node
 abbrev pub MasterHears : Body Command → NodesState → NodesState → Type 0
 MasterHears (Activate ballot) old new = MasterGoes old new
 MasterHears _ old new = new ≡ old

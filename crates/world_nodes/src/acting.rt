@@ -22,7 +22,7 @@ use world_model::world_base::{
 };
 
 impl Nodes {
-    // A node that runs takes an item in.
+    // Lets a node that runs take an item.
     pub(crate) fn act(&mut self, node: u8, item: Item) -> Result<(), Idle>
         requires { WasSent node item self.old.sent }
         ensures step { OnOk result (TakesIn node item self.old self.new) }
@@ -46,8 +46,8 @@ impl Nodes {
         Ok(())
     }
 
-    // The node at this place passes the message of a number over, which was sent to it, and which it does not heed: as in
-    // `act`, and no copy of it is made.
+    // Lets the node at this place ignore the message of a number, which was sent to it, as in
+    // `act`. No copy of the message is made.
     pub(crate) fn pass_over(&mut self, at: usize, number: usize)
         requires { IsPassedOver at number self.old }
         ensures step { ComesIn (slice_get self.old.sent number) self.old self.new }
@@ -65,8 +65,8 @@ impl Nodes {
         self.losses = counted(self.losses, whole, true);
     }
 
-    // A node that has something to cut takes that item, once the record has what it applied. The record is cut back
-    // where the log was not cut.
+    // Lets a node that has something to cut take that item, once the record has what it applied.
+    // The record is cut back if the log was not cut.
     pub(crate) fn cut_at(&mut self, at: usize)
         requires { (core : CountedCore) × (slice_get self.old.nodes at ≡ Some core)
             × (can_cut core.core.replica.state ≡ true) }
@@ -99,7 +99,7 @@ impl Nodes {
         self.losses = counted(self.losses, whole, true);
     }
 
-    // The message of a number, with its receiver.
+    // Returns the message of a number, with its receiver.
     pub(crate) fn message(&self, number: u64) -> Option<&(u8, Message<Command>)>
         ensures some { IfSome result (λ found. slice_get self.now.sent number ≡ Some found.now) }
         ensures none { result ≡ None → slice_get self.now.sent number ≡ None }
@@ -107,7 +107,7 @@ impl Nodes {
         self.sent.get(number as usize)
     }
 
-    // The place of a node that is there and has not stopped.
+    // Returns the place of a node that exists and has not stopped.
     pub(crate) fn running(&self, node: u8) -> Option<usize>
         ensures some { IfSome result (λ at. RunsAt self.now.nodes node at) }
         ensures none { result ≡ None → running self.now.nodes node ≡ None }
@@ -122,7 +122,7 @@ impl Nodes {
         Some(at)
     }
 
-    // The master gives a ballot and tells its primary.
+    // Lets the master give a ballot and tell its primary.
     pub(crate) fn give(&mut self, config: &Config) -> Result<(), Memory>
         requires { refusal self.old.master config.now ≡ None }
         ensures step { OnOk result (GivesIn config.now self.old self.new) }
@@ -144,7 +144,7 @@ impl Nodes {
         Ok(())
     }
 
-    // The master answers a node that asks it to activate a ballot.
+    // Lets the master answer a node that asks it to activate a ballot.
     pub(crate) fn answer(&mut self, from: u8, ballot: u64)
         requires { In (0, record { from = from; body = Activate ballot }) self.old.sent }
         ensures step { HearsIn from (Activate ballot) self.old self.new }
@@ -159,7 +159,7 @@ impl Nodes {
         self.losses = counted(self.losses, told, true);
     }
 
-    // Nothing happens, for want of memory.
+    // Counts that nothing happened, because memory ran out.
     pub(crate) fn lose(&mut self)
         ensures lost { self.new ≡ forgetful self.old }
         ensures rises { self.old.losses ≤ self.new.losses }

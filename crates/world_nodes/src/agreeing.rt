@@ -10,8 +10,8 @@ use crate::nodes::Nodes;
 use world_model::world_base::Command;
 
 impl Nodes {
-    /// Returns the agreed list, the longest that is chosen in a ballot that was active, in two parts: the second goes on
-    /// where the first ends. It takes no longer, however much was sent.
+    /// Returns the agreed list, the longest that is chosen in a ballot that was active, in two
+    /// parts: the second continues where the first ends. It takes no longer, however much was sent.
     pub fn agreed(&self) -> (&[Command], &[Command])
         ensures { AgreeOn self.now (result.0.now ++ result.1.now) }
     {
@@ -30,7 +30,7 @@ impl Nodes {
         )
     }
 
-    /// The length of the agreed list. It takes no longer, however much was sent.
+    /// Returns the length of the agreed list. It takes no longer, however much was sent.
     pub fn agreed_len(&self) -> u64
         ensures { AgreeOnSoMany self.now result }
     {
@@ -41,7 +41,7 @@ impl Nodes {
         self.counters.agreed_by(members)
     }
 
-    // The place of a member of the active ballot whose log has at least as many places.
+    // Returns the place of a member of the active ballot whose log has at least as many places.
     fn holder(&self, held: u64) -> Option<usize>
         ensures some { IfSome result (λ at.
             HoldsAt (replicas_of self.now.nodes) self.now.master.members held at) }
@@ -58,7 +58,7 @@ impl Nodes {
         None
     }
 
-    // How long the log of a node is; 0 where it is not there.
+    // Returns how long the log of a node is; 0 if it does not exist.
     fn held(&self, node: u8) -> u64
         ensures { result ≡ held_at self.now.nodes node }
     {

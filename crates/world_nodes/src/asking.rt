@@ -1,4 +1,4 @@
-// What is asked of nodes before they are led out of where they stand.
+// What is asked of nodes before they are led out of their state.
 
 ghost use Rattle.std.specs.Prelude.{◌≡◌, ◌<◌, ◌++◌, ◌↔◌, [], ◌∷◌, None, Some, true, false, IfOk, OnOk};
 ghost use Rattle.agreement.specs.MasterState.{refusal};
@@ -14,16 +14,18 @@ use std::alloc::Global;
 use world_model::world_base::{BrokerMachine, Command, Config, ConnectionId, Memory, Output};
 
 impl Nodes {
-    /// Returns whether the master gives the next ballot to a configuration when [`Nodes::assign`] asks for it.
+    /// Says whether the master gives the next ballot to a configuration when [`Nodes::assign`] asks
+    /// for it.
     pub fn can_assign(&self, config: &Config) -> bool
         ensures { (result ≡ true) ↔ (refusal self.now.master config.now ≡ None) }
     {
         self.master.can_assign(config)
     }
 
-    /// Returns whether a client would be welcomed back after the whole log of a node, agreed or not, and the start of a
-    /// ballot: whether its CONNECT would be answered with session present. False for an unknown node. A broker is read
-    /// from the log's snapshot, or begun anew where there is none, and takes the rest; [`Memory`] is the only error.
+    /// Says whether a client's CONNECT would be answered with session present after the whole log
+    /// of a node, agreed or not, and the start of a ballot. False for an unknown node. A broker is
+    /// read from the log's snapshot, or begun afresh if there is none, and takes the rest;
+    /// [`Memory`] is the only error.
     pub fn welcomes_back(&self, node: u8, client: &ClientId) -> Result<bool, Memory>
         ensures told { (core : CountedCore) → node_of self.now.nodes node ≡ Some core →
             IfOk result (λ welcomes. welcomes ≡ welcomes_back client.now (log_of self.now node)) }
@@ -39,7 +41,7 @@ impl Nodes {
     }
 }
 
-// The machine at the base of a log.
+// Returns the machine at the base of a log.
 fn machine_of(alloc: Global, base: u64, snapshot: &[u8]) -> Result<BrokerMachine, Memory>
     ensures fresh { base ≡ 0 → IfOk result (λ machine. machine ≡ rules.opening) }
     ensures thawed { 0 < base → IfOk result (λ machine. rules.thawed snapshot.now ≡ Some machine) }
@@ -53,7 +55,7 @@ fn machine_of(alloc: Global, base: u64, snapshot: &[u8]) -> Result<BrokerMachine
     }
 }
 
-// Does commands on a machine; what it gives is dropped.
+// Does commands on a machine; its outputs are dropped.
 fn apply_all(alloc: Global, machine: &mut BrokerMachine, commands: &[Command]) -> Result<(), Memory>
     ensures { OnOk result (machine.new ≡ replay_from rules machine.old commands.now) }
 {
@@ -80,7 +82,8 @@ fn apply(
     }
 }
 
-// Whether a machine, after a ballot's start, would answer a client's CONNECT with session present.
+// Says whether a machine, after a ballot's start, would answer a client's CONNECT with session
+// present.
 fn welcomes(alloc: Global, machine: &mut BrokerMachine, client: &ClientId) -> Result<bool, Memory>
     ensures { IfOk result (λ welcomes. welcomes ≡ is_welcome
         (rules.gives (rules.after machine.old (Command.Start 1))
@@ -97,7 +100,7 @@ fn welcomes(alloc: Global, machine: &mut BrokerMachine, client: &ClientId) -> Re
     Ok(is_welcome(&answers))
 }
 
-// Whether the first of some outputs is a CONNACK 0 with session present.
+// Says whether the first of some outputs is a CONNACK 0 with session present.
 fn is_welcome(outputs: &[Output]) -> bool
     ensures { result ≡ is_welcome outputs.now }
 {
@@ -107,7 +110,7 @@ fn is_welcome(outputs: &[Output]) -> bool
     }
 }
 
-// Whether an output is a CONNACK 0 with session present.
+// Says whether an output is a CONNACK 0 with session present.
 fn is_present(output: &Output) -> bool
     ensures { result ≡ is_present output.now }
 {

@@ -1,4 +1,4 @@
-// How many places nodes told in the ballots that matter.
+// How many places nodes acknowledged in the ballots that matter.
 
 ghost use Rattle.std.specs.Prelude.{ℕ, ◌≡◌, ◌≤◌, ◌<◌, ◌-◌, ◌^◌, IfOk, get_or, length, take};
 ghost use Rattle.lists.specs.Lists.{In};
@@ -8,7 +8,8 @@ use master::{Told, turn_over};
 use std::alloc::Global;
 use world_model::world_base::{Command, Memory, Message};
 
-/// What was told in the active ballot, and in the one that waits. Its calls but `new` take no memory.
+/// What was acknowledged in the active ballot, and in the one that waits. Its calls take no memory,
+/// except `new`.
 #[derive(Drop)]
 pub struct Counters {
     told: Told,
@@ -16,7 +17,8 @@ pub struct Counters {
 }
 
 impl Counters {
-    /// Ballot 1 is active, and nothing was told. The only error is want of memory.
+    /// Returns counters for an active ballot 1 in which nothing was acknowledged. The only error is
+    /// that memory ran out.
     pub fn new(alloc: Global) -> Result<Counters, Memory>
         ensures active { IfOk result (λ counters. counters.told.ballot ≡ 1) }
         ensures untold { IfOk result (λ counters.
@@ -29,7 +31,7 @@ impl Counters {
         Ok(Counters { told, next })
     }
 
-    /// Another ballot waits, in which nothing was told.
+    /// Lets another ballot wait, in which nothing was acknowledged.
     pub fn begin(&mut self, ballot: u64)
         ensures waits { self.new.next.ballot ≡ ballot }
         ensures untold { (m : ℕ) → get_or self.new.next.held m 0 ≡ 0 }
@@ -38,7 +40,7 @@ impl Counters {
         self.next.begin(ballot);
     }
 
-    /// The active ballot was this one, and is that one now.
+    /// Notes that the active ballot was this one, and is that one now.
     pub fn turn_over(&mut self, before: u64, behind: u64)
         ensures stays { before ≡ behind →
             (self.new.told ≡ self.old.told) × (self.new.next ≡ self.old.next) }
@@ -48,7 +50,7 @@ impl Counters {
         turn_over(&mut self.told, &mut self.next, before, behind);
     }
 
-    /// Counts what the messages from a place on tell.
+    /// Counts what the messages from an index on acknowledge.
     pub fn hear_from(&mut self, sent: &[(u8, Message<Command>)], from: usize)
         requires { from ≤ length sent.now }
         ensures told { HasCounted (take from sent.now) self.old.told →
@@ -62,7 +64,8 @@ impl Counters {
         self.next.hear_from(sent, from);
     }
 
-    /// How many places all of several members told in the active ballot, its primary apart, which tells by no message.
+    /// Returns how many places all of several members acknowledged in the active ballot, except its
+    /// primary, which acknowledges by no message.
     pub fn agreed_by(&self, members: &[u8]) -> u64
         requires { (m : ℕ) → In m members.now → m < 16 }
         ensures least { result

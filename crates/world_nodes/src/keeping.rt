@@ -1,4 +1,4 @@
-// Messages are kept behind those that were sent.
+// Messages are kept after those that were sent.
 
 ghost use Rattle.std.specs.Prelude.{◌≡◌, ◌++◌, ◌∷◌, [], ◌&&◌, if◌then◌else◌};
 ghost use Rattle.std.specs.Bool.{OnTrue, OnFalse};
@@ -8,8 +8,8 @@ ghost use Rattle.world_nodes.specs.Inside.{Keeps};
 
 use world_model::world_base::{Command, Effect, Message, Output};
 
-/// Puts the messages among effects behind those that were sent. One that finds no memory is lost;
-/// whether none was is the result.
+/// Puts the messages among effects after those that were sent. A message for which there is no
+/// memory is lost. Returns whether none was lost.
 pub fn keep_all(
     effects: Vec<Effect<Command, Output>>,
     sent: &mut Vec<(u8, Message<Command>)>,
@@ -23,7 +23,7 @@ pub fn keep_all(
     whole
 }
 
-// Puts a message behind those that were sent. Whether there was memory for it is the result.
+// Puts a message after those that were sent. Returns whether there was memory for it.
 fn keep(effect: Effect<Command, Output>, sent: &mut Vec<(u8, Message<Command>)>) -> bool
     ensures kept { OnTrue result (sent.new.items ≡ sent.old.items ++ messages (effect ∷ [])) }
     ensures lost { OnFalse result (sent.new.items ≡ sent.old.items) }
@@ -35,8 +35,8 @@ fn keep(effect: Effect<Command, Output>, sent: &mut Vec<(u8, Message<Command>)>)
     }
 }
 
-/// The count of losses behind a step of two parts, each of which was whole or not. It stays at
-/// 2^64 - 1.
+/// Returns the count of losses after a step of two parts, each of which was whole or not. It
+/// saturates at 2^64 - 1.
 pub fn counted(losses: u64, first: bool, second: bool) -> u64
     ensures { result ≡ (if first && second then losses else one_more losses) }
 {

@@ -92,8 +92,8 @@ impl Nodes {
         })
     }
 
-    /// The master gives the next ballot to a configuration. Idle where it refuses: for members or a
-    /// primary that no ballot may have, and after the last ballot.
+    /// Lets the master give the next ballot to a configuration. Idle if it refuses: for members or
+    /// a primary that no ballot may have, and after the last ballot.
     pub fn assign(&mut self, config: &Config) -> Result<(), Idle>
         ensures step { OnOk result (GivesIn config.now self.old self.new) }
         ensures goes { LosesNothing self.old self.new →
@@ -112,8 +112,8 @@ impl Nodes {
         Ok(())
     }
 
-    /// The message of this number comes to its receiver. Idle where no such message was sent, or its
-    /// receiver is unknown or has stopped. One that its receiver does not heed takes no memory.
+    /// Delivers the message of this number to its receiver. Idle if no such message was sent, or
+    /// its receiver is unknown or has stopped. One that its receiver ignores takes no memory.
     pub fn deliver(&mut self, number: u64) -> Result<(), Idle>
         ensures step { OnOk result (ComesIn (slice_get self.old.sent number) self.old self.new) }
         ensures goes { LosesNothing self.old self.new →
@@ -150,8 +150,8 @@ impl Nodes {
         self.act(receiver, Item::Peer(message))
     }
 
-    /// Time passes at a node: it says again what others may have missed. Idle where it is unknown
-    /// or has stopped.
+    /// Lets time pass at a node: it repeats what others may have missed. Idle if it is unknown or
+    /// has stopped.
     pub fn tick(&mut self, node: u8) -> Result<(), Idle>
         ensures step { OnOk result (TakesIn node (Item.Tick 0) self.old self.new) }
         ensures goes { LosesNothing self.old self.new →
@@ -166,8 +166,8 @@ impl Nodes {
         self.act(node, Item::Tick(0))
     }
 
-    /// A node cuts its log, and the places that it drops are recorded first. Idle where the node is unknown or has
-    /// stopped, or has applied nothing since it last cut its log.
+    /// Lets a node cut its log. The places that it drops are recorded first. Idle if the node is
+    /// unknown or has stopped, or has applied nothing since it last cut its log.
     pub fn cut(&mut self, node: u8) -> Result<(), Idle>
         ensures step { OnOk result (CutsIn node self.old self.new) }
         ensures goes { LosesNothing self.old self.new →
@@ -187,8 +187,8 @@ impl Nodes {
         Ok(())
     }
 
-    /// A node proposes that the session of a client ends. Idle where the node is unknown or has stopped, where it does
-    /// not serve clients, and where its log is full.
+    /// Lets a node propose that the session of a client ends. Idle if the node is unknown or has
+    /// stopped, if it does not serve clients, and if its log is full.
     pub fn expel(&mut self, node: u8, client: &ClientId) -> Result<(), Idle>
         ensures step { OnOk result (ExpelsIn client.now node self.old self.new) }
         ensures goes { LosesNothing self.old self.new →
@@ -213,7 +213,7 @@ impl Nodes {
         }
     }
 
-    /// A node stops for good. Idle where it is unknown or has stopped.
+    /// Stops a node for good. Idle if it is unknown or has stopped.
     pub fn crash(&mut self, node: u8) -> Result<(), Idle>
         ensures step { OnOk result (TakesIn node Item.Crash self.old self.new) }
         ensures goes { LosesNothing self.old self.new →
@@ -228,7 +228,7 @@ impl Nodes {
         self.act(node, Item::Crash)
     }
 
-    /// A stream is opened at a node, at this time. Idle where the node is unknown or has stopped.
+    /// Opens a stream at a node, at this time. Idle if the node is unknown or has stopped.
     pub fn opened(&mut self, node: u8, port: Port, now: u64) -> Result<(), Idle>
         ensures step { OnOk result (TakesIn node (Item.Opened port now) self.old self.new) }
         ensures goes { LosesNothing self.old self.new →
@@ -243,7 +243,7 @@ impl Nodes {
         self.act(node, Item::Opened(port, now))
     }
 
-    /// Bytes come on a stream of a node, at time 0. Idle where the node is unknown or has stopped.
+    /// Gives bytes to a stream of a node, at time 0. Idle if the node is unknown or has stopped.
     pub fn take(&mut self, node: u8, port: Port, piece: Piece) -> Result<(), Idle>
         ensures step { OnOk result (TakesIn node (Item.Bytes port piece 0) self.old self.new) }
         ensures goes { LosesNothing self.old self.new →
@@ -259,7 +259,7 @@ impl Nodes {
         self.act(node, Item::Bytes(port, piece, 0))
     }
 
-    /// A stream of a node ended. Idle where the node is unknown or has stopped.
+    /// Ends a stream of a node. Idle if the node is unknown or has stopped.
     pub fn ended(&mut self, node: u8, port: Port) -> Result<(), Idle>
         ensures step { OnOk result (TakesIn node (Item.Ended port) self.old self.new) }
         ensures goes { LosesNothing self.old self.new →
@@ -274,9 +274,9 @@ impl Nodes {
         self.act(node, Item::Ended(port))
     }
 
-    /// Appends what a node put out for a port and did not hand over before, and tells whether more
-    /// may come. Idle where the node is unknown. If memory runs out, nothing is appended, more may come, and the step is
-    /// counted; it does not where nothing was put out.
+    /// Appends what a node queued for a port and has not yet handed over, and says whether more may
+    /// come. Idle if the node is unknown. If memory runs out, nothing is appended, more may come,
+    /// and the step is counted; it does not run out if nothing was queued.
     pub fn hand_over(&mut self, node: u8, port: Port, out: &mut Vec<u8>) -> Result<Handed, Idle>
         ensures goes { LosesNothing self.old self.new →
             OnOk result (GivesExactly node port self.old self.new) }
@@ -305,22 +305,22 @@ impl Nodes {
         }
     }
 
-    /// How many messages were sent.
+    /// Returns how many messages were sent.
     pub fn messages(&self) -> u64
         ensures { result ≡ length self.now.sent }
     {
         self.sent.len() as u64
     }
 
-    /// The messages that were sent, each with its receiver: the one of number n at place n. Node 0
-    /// is the master.
+    /// Returns the messages that were sent, each with its receiver: the one of number n at place n.
+    /// Node 0 is the master.
     pub fn sent(&self) -> &[(u8, Message<Command>)]
         ensures { result.now ≡ self.now.sent }
     {
         self.sent.as_slice()
     }
 
-    /// The active ballot and its members.
+    /// Returns the active ballot and its members.
     pub fn active(&self) -> (u64, &[u8])
         ensures ballot { result.0 ≡ self.now.master.active }
         ensures members { result.1.now ≡ self.now.master.members }
@@ -328,7 +328,7 @@ impl Nodes {
         self.master.active()
     }
 
-    /// A node, if it is there.
+    /// Returns a node, if it exists.
     pub fn node(&self, node: u8) -> Option<&NodeCore>
         ensures some { IfSome result (λ core. node_of self.now.nodes node ≡ Some core.now) }
         ensures none { result ≡ None → node_of self.now.nodes node ≡ None }
@@ -339,7 +339,7 @@ impl Nodes {
         self.nodes.get(node as usize - 1)
     }
 
-    /// In how many steps memory was wanting. The count stays at 2^64 - 1.
+    /// Returns how many steps ran out of memory (saturates at 2^64 - 1).
     pub fn losses(&self) -> u64
         ensures { result ≡ self.now.losses }
     {

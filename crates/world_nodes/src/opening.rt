@@ -6,14 +6,14 @@ ghost use Rattle.agreement.specs.World.{can_open};
 
 use world_model::world_base::Config;
 
-/// Whether so many nodes may open in a configuration.
+/// Says whether this many nodes may open in a configuration.
 pub fn can_open(nodes: u8, config: &Config) -> bool
     ensures { result ≡ can_open nodes config.now }
 {
     nodes <= 15 && (config.is_lawful() && are_nodes(config.members.as_slice(), nodes))
 }
 
-// Whether members are among the nodes.
+// Says whether members are among the nodes.
 fn are_nodes(members: &[u8], nodes: u8) -> bool
     ensures { result ≡ list_all (λ member. nat_le member nodes) members.now }
 {

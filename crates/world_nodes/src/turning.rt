@@ -8,8 +8,8 @@ use crate::keeping::keep_all;
 use std::alloc::Global;
 use world_model::world_base::{Command, Item, Message, NodeCore};
 
-/// A node takes an item in, and its messages are kept behind those that were sent. Whether memory
-/// sufficed is the result.
+/// Lets a node take an item; its messages are put after those that were sent. Returns whether
+/// memory sufficed.
 pub fn take_in(
     alloc: Global,
     node: &mut NodeCore,
@@ -25,7 +25,7 @@ pub fn take_in(
     keep_all(effects, sent) && whole
 }
 
-/// A node passes the message of a number over, which it does not heed, as in `take_in`: no copy of it is made.
+/// Lets a node ignore the message of a number, as in `take_in`: no copy of it is made.
 pub fn pass_over(
     alloc: Global,
     node: &mut NodeCore,
@@ -45,7 +45,7 @@ pub fn pass_over(
     keep_all(effects, sent) && whole
 }
 
-// Whether a node counted no loss in a step: its count was `before`, and is `after` then.
+// Says whether a node counted no loss in a step: its count was `before`, and is `after` then.
 fn is_whole(before: u64, after: u64) -> bool
     ensures yes { result ≡ true → (after ≡ before) × (before < 2 ^ 64 - 1) }
     ensures whole { after ≡ before → before < 2 ^ 64 - 1 → result ≡ true }
@@ -53,7 +53,7 @@ fn is_whole(before: u64, after: u64) -> bool
     after == before && before < u64::MAX
 }
 
-/// Cuts the record back to the places that it had before, where a log was not cut.
+/// Cuts the record back to the places that it had before, if a log was not cut.
 pub fn cut_back(archive: &mut Vec<Command>, before: usize, was_cut: bool)
     ensures { archive.new.items
         ≡ (if was_cut then archive.old.items else take before archive.old.items) }

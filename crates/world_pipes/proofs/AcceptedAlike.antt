@@ -32,7 +32,7 @@ more_accepted accepted one =
     ap (map publication_accepted) (filter-append is_accepted_once accepted (one ∷ []))
     ∙ map-append publication_accepted (filter is_accepted_once accepted) (filter is_accepted_once (one ∷ []))
 
--- ---- of a packet, behind what was accepted on other connections
+-- ---- of a packet, after what was accepted on other connections
 
 abbrev Alike : List Publication → Side → ClientState → Type 0
 Alike before side state = accepted_once state.accepted ≡ before ++ side.connection.accepted

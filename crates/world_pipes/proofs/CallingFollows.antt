@@ -1,4 +1,5 @@
--- CallingFollows.antt: what each call makes of a client is what a call of its own makes of the model's.
+-- CallingFollows.antt: what each call does to a client is what a call of its own does to the
+-- model's.
 use Rattle.std.proofs.Common.{◌≡◌, ℕ, false, List, [], ◌∷◌, IsTrue, Result, Ok, Err, refl, ap, ap₂, sym, subst, ◌∙◌}
 use Rattle.std.proofs.lemmas.Bool.{both_ways}
 use Rattle.topics.specs.Text.{is_filter, is_topic}
@@ -115,7 +116,7 @@ leaving_follows old (Err cause) new leaves = ap₂ piped (same_left (keeper_step
 
 -- ---- so it goes where the model's may go
 
--- what it publishes, where it is not refused
+-- what it publishes, if it is not refused
 abbrev pub published_where : List Publication → Result Sending ClientError → List Publication
 published_where published (Ok sending) = published
 published_where published (Err cause) = []

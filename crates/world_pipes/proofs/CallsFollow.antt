@@ -1,4 +1,5 @@
--- CallsFollow.antt: a call takes a client where the model's client may go by a call of its own.
+-- CallsFollow.antt: after a call a client is in a state that the model's client may reach by a call
+-- of its own.
 use Rattle.std.proofs.Common.{◌≡◌, suc, true, false, List, [], ◌∷◌, ◌++◌, length, reverse, Ok, refl, ap, ap₂, sym, subst, ◌∙◌, arith}
 use Rattle.std.proofs.lemmas.Bool.{both_ways}
 use Rattle.std.proofs.lemmas.List.{append-nil}
@@ -34,7 +35,7 @@ use Rattle.world_pipes.proofs.Ways.{last_same, losing, losing_silent, newest_way
 
 -- ---- what was written, on the connection that is held
 
--- the model's client behind its call, the connection that is held by itself
+-- the model's client after its call, with the held connection apart
 record HasCalled (turn : Turn) (core : Core) (older : List Way) (way : Way) (m : ClientPipes) (c : IsCalled turn m) : Type 0 where
   pub others : List Connection
   pub pipe : Pipe

@@ -1,4 +1,5 @@
--- CallsOffline.antt: a client that holds no connection writes nothing, and goes where the model's client may go by a call of its own.
+-- CallsOffline.antt: a client that holds no connection writes nothing, and is then in a state that
+-- the model's client may reach by a call of its own.
 use Rattle.std.proofs.Common.{◌≡◌, ℕ, Bool, true, false, not, if◌then◌else◌, List, [], ◌∷◌, length, reverse, Option, Some, None, Ok, refl, ap, sym, subst, ◌∙◌}
 use Rattle.std.proofs.lemmas.Bool.{both_ways}
 use Rattle.packet.specs.Spelling.{IsPacket}

@@ -31,7 +31,7 @@ use Rattle.world_pipes.specs.Standing.{CanGoOut}
 use Rattle.world_pipes.proofs.NotRefused.{asked_so, is_published}
 use Rattle.world_pipes.proofs.Spellable.{AllSpelled, lost_fits}
 
--- ---- one packet alone
+-- ---- a single packet
 
 id_fits : (state : ClientState) → has_free_id state ≡ true → IsId (next_id state)
 id_fits state free =

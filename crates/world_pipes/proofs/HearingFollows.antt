@@ -1,4 +1,4 @@
--- HearingFollows.antt: what comes to a client takes it where the model's may go.
+-- HearingFollows.antt: after what comes to it a client is in a state that the model's may reach.
 use Rattle.std.proofs.Common.{◌≡◌, ℕ, suc, true, false, ◌⊎◌, inl, inr, List, [], ◌∷◌, ◌++◌, length, take, drop, reverse, set, slice_get, Result, Ok, Err, refl, ap, ap₂, sym, subst, ◌∙◌, arith, append_assoc}
 use Rattle.std.proofs.lemmas.Bool.{both_ways}
 use Rattle.std.proofs.lemmas.List.{append-nil, take-append-drop}
@@ -25,7 +25,7 @@ use Rattle.world_pipes.proofs.PacketsHandled.{GoFar, IsInMidst, all_go, one_goes
 use Rattle.world_pipes.proofs.StaysOpen.{handled_stays}
 use Rattle.world_pipes.proofs.Ways.{last_same, losing, losing_silent, lost_fits, newest_way, same_pipes, with_newest}
 
--- ---- behind a piece
+-- ---- after a piece
 
 -- As in the midst of it, but that the connection may be lost.
 pub record IsLeft (before : List ℕ) (core : Core) (m : ClientPipes) (others : List Connection) (p₀ : Pipe) (further : List Pipe) : Type 0 where
@@ -107,7 +107,7 @@ ends before last new m others p₀ further read up far end = by read end
     by (Err errors.Protocol) end = lose before last new m others p₀ further end.1 kept
     by (Err (errors.Malformed kind)) end = lose before last new m others p₀ further end.1 kept
 
--- what a piece makes of an open client
+-- what a piece does to an open client
 record HasRead (piece : List ℕ) (old : Core) (read : Result (Unit {0}) ClientError) (new : Core) : Type 0 where
   pub last : Core
   pub handled : Handles (fed piece old) last
@@ -119,7 +119,7 @@ has_read piece stages.Closed old new read up heard = absurd (both_ways false ref
 has_read piece stages.Opened old new read up heard = record { last = heard.0; handled = heard.1; ends = heard.2 }
 has_read piece stages.Online old new read up heard = record { last = heard.0; handled = heard.1; ends = heard.2 }
 
--- ---- behind the call
+-- ---- after the call
 
 pub way_up : (older : List Way) (way : Way) (before : List ℕ) (core : Core) (m : ClientPipes) (others : List Connection) (p₀ : Pipe) (further : List Pipe) (up rest : List ℕ) →
     (l : IsLeft before core m others p₀ further) → p₀.node ≡ way.node → p₀.port ≡ way.port → p₀.down ≡ way.down → before ++ core.out ≡ up ++ rest →
@@ -169,7 +169,7 @@ then_along step ClientGoes.stays = sym (append-nil (published_with step))
 then_along step (ClientGoes.goes_on goes later) =
     ap (λ a. a ++ published_with later) (then_along step goes) ∙ append_assoc (published_with step) (published_along goes) (published_with later)
 
--- where no step publishes anything
+-- if no step publishes anything
 then_silent : {c d e : ClientPipes} (step : ClientStep c d) (goes : ClientGoes d e) → published_with step ≡ [] → published_along goes ≡ [] → published_along (first_then step goes) ≡ []
 then_silent step goes silent none = then_along step goes ∙ ap₂ (λ a b. a ++ b) silent none
 

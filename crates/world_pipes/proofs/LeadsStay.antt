@@ -1,4 +1,4 @@
--- LeadsStay.antt: whatever is called and comes to a client, its connections lead where they led.
+-- LeadsStay.antt: whatever is called and comes to a client, its connections lead to the same nodes.
 use Rattle.std.proofs.Common.{◌≡◌, ℕ, Bool, true, false, ◌⊎◌, inl, inr, List, [], ◌∷◌, ◌++◌, map, Result, Ok, Err, refl, ap, ap₂, sym, ◌∙◌}
 use Rattle.std.proofs.lemmas.List.{map-append}
 use Rattle.client_base.specs.declared.error.ClientError.{ClientError}
@@ -15,7 +15,7 @@ use Rattle.world_pipes.specs.Piped.{Calls, GoesUp, GoesUpWhere, Hears, Piped, Ta
 abbrev pub leads : List Way → List (ℕ × Port)
 leads ways = map (λ (way : Way). (way.node, way.port)) ways
 
--- where one is exchanged for another that leads there
+-- if one is exchanged for another that leads there
 one_same : (older : List Way) (way later : Way) → later.node ≡ way.node → later.port ≡ way.port → leads (older ++ later ∷ []) ≡ leads (older ++ way ∷ [])
 one_same older way later node port =
     map-append (λ (way : Way). (way.node, way.port)) older (later ∷ [])

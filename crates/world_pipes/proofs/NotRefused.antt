@@ -1,4 +1,4 @@
--- NotRefused.antt: what holds where a call is not refused.
+-- NotRefused.antt: what holds if a call is not refused.
 use Rattle.std.proofs.Common.{◌≡◌, Bool, true, false, not, ◌&&◌, if◌then◌else◌, Option, Some, None, is_some, refl, ap}
 use Rattle.std.proofs.lemmas.Bool.{both_ways}
 use Rattle.session_base.specs.declared.publication.Publication.{Publication}
@@ -15,7 +15,8 @@ pub not_refused : (refusal : Option ClientError) (turn : Turn) (state : ClientSt
 not_refused None turn state taken = refl
 not_refused (Some cause) turn state taken = taken
 
--- a publication has an identifier where it is answered, goes out at once where it is not, and is not too large
+-- a publication has an identifier if it is answered, is sent at once if it is not, and is not too
+-- large
 pub record IsPublished (answered free online large : Bool) : Type 0 where
   pub named : answered ≡ true → free ≡ true
   pub goes_out : answered ≡ false → online ≡ true

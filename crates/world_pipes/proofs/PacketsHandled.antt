@@ -31,7 +31,7 @@ use Rattle.world_pipes.proofs.Spellable.{AllSpelled, received_fits}
 
 -- ---- bytes
 
--- packets that are written one behind the other are their spellings, joined
+-- packets that are written one after another are their spellings, joined
 pub appended : (old new : List ℕ) (packets : List Packet) → Each IsPacket packets → AppendsAll old new packets → new ≡ old ++ spelled packets
 appended old new [] fits same = same ∙ sym (append-nil old)
 appended old new (p ∷ packets) fits (between, (bytes, spells, is), more) =
@@ -41,8 +41,8 @@ appended old new (p ∷ packets) fits (between, (bytes, spells, is), more) =
 
 -- ---- in the midst of a call
 
--- The client stands for the model's, whose newest connection has this pipe: what was under way before, and behind it what
--- the client wrote.
+-- The client corresponds to the model's, whose newest connection has this pipe: what was in transit
+-- before, and after it what the client wrote.
 pub record IsInMidst (before : List ℕ) (core : Core) (m : ClientPipes) (others : List Connection) (p₀ : Pipe) (further : List Pipe) : Type 0 where
   pub keeper : history.StandsFor m.keeper core.state
   pub fits : CanGoOut core.state

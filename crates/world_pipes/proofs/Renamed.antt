@@ -1,4 +1,4 @@
--- Renamed.antt: what a client makes of a packet does not depend on the names of its connections.
+-- Renamed.antt: what a client does to a packet does not depend on the names of its connections.
 use Rattle.std.proofs.Common.{◌≡◌, ℕ, suc, Bool, true, false, if◌then◌else◌, refl}
 use Rattle.packet.specs.declared.connack.Connack.TheVariants as connacks
 use Rattle.packet.specs.declared.delivery.Delivery.{Delivery}

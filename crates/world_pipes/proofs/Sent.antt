@@ -31,7 +31,7 @@ moved_is_sent core left (first ∷ more) after some m =
     let splits : ways ≡ older ++ way ∷ [] = last_splits ways first some in
     (older, way, splits, ap₂ piped m.handed (m.moved older way splits))
 
--- ---- behind a call
+-- ---- after a call
 
 goes_up : (holds : Bool) (core left : Core) (ways after : List Way) (sending : Sending) (holding : Bool) → (holds ≡ true → 0 < length ways) →
     SendsUp holds core ways sending holding left after → GoesUpWhere holds core ways sending (piped left after)
@@ -102,7 +102,7 @@ left_so old core left after sending holds holding held leaves s =
 
 -- ---- hearing
 
--- what came of a piece, and went up
+-- the result of a piece, and went up
 pub heard_so : (count : ℕ) (core mid left : Core) (ways between after : List Way) (n : ℕ) (newest taken : Way) (read : Result (Unit {0}) ClientError)
     → 0 < length ways → n ≡ length ways → newest ≡ slice_index_or ways (n - 1) newest → TakesIn count core newest read mid taken
     → between ≡ slice_set ways (n - 1) taken → MovesUp mid between left after → Hears count (piped core ways) read (piped left after)

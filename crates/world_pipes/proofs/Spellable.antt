@@ -38,7 +38,7 @@ each_map : {X Y : Type 0} (P : Y → Type 0) (f : X → Y) (xs : List X) → Eac
 each_map P f [] all = tt
 each_map P f (x ∷ xs) all = (all.0, each_map P f xs all.1)
 
--- ---- one packet alone
+-- ---- a single packet
 
 pub answers_fit : (id : ℕ) → IsId id → IsPacket (packets.Puback id) × IsPacket (packets.Pubrec id) × IsPacket (packets.Pubrel id) × IsPacket (packets.Pubcomp id)
 answers_fit id fits = ((fits, tt, omega arith), (fits, tt, omega arith), (fits, tt, omega arith), (fits, tt, omega arith))
@@ -54,7 +54,7 @@ dup_fits_at levels.ExactlyOnce id retain topic payload fits = fits
 pub dup_fits : (kept : KeptPublication) → IsPacket (publish_kept false kept) → IsPacket (publish_kept true kept)
 dup_fits kept fits = dup_fits_at kept.publication.qos kept.id kept.publication.retain kept.publication.topic kept.publication.payload fits
 
--- ---- behind a CONNACK
+-- ---- after a CONNACK
 
 resent_fits : (state : ClientState) → CanGoOut state → Each IsPacket (resent state)
 resent_fits state fits =

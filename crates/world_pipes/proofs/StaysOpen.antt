@@ -53,7 +53,7 @@ unsubscribing_stays filter state = unless_same (request_refusal state) (unsubscr
 
 -- ---- packets
 
--- whether the connection goes on where a packet is refused so
+-- whether the connection continues if a packet is refused in this way
 abbrev pub goes_on : Option ClientError → Bool
 goes_on None = true
 goes_on (Some errors.SessionLost) = true
@@ -114,7 +114,7 @@ ends_open last new (Err errors.TooLarge) up ends = ap (λ (core : Core). is_open
 ends_open last new (Err errors.Protocol) up ends = ap (λ (core : Core). is_open core.state.stage) (sym ends.1)
 ends_open last new (Err (errors.Malformed kind)) up ends = ap (λ (core : Core). is_open core.state.stage) (sym ends.1)
 
--- so the answer to a piece tells whether the connection goes on
+-- so the answer to a piece says whether the connection continues
 pub heard_stays : (piece : List ℕ) (stage : Stage) (old new : Core) (read : Result (Unit {0}) ClientError) → old.state.stage ≡ stage → is_open stage ≡ true
     → OnBytes piece stage old read new → stays_open read ≡ is_open new.state.stage
 heard_stays piece stages.Closed old new read is up heard = absurd (both_ways false refl up)

@@ -49,7 +49,7 @@ taking_back_follows node port old new (core, opens, is) =
     subst (λ p. FollowsAll old p)
     (sym (ap taken_back is ∙ ap (λ ways. piped (gone bare) ways) (all_but_last old.ways way))) (opened_and_lost old bare opens.0)
 
--- behind it connections lead where they led
+-- after it connections lead to the same nodes
 pub taken_back_ways : (node : ℕ) (port : Port) (old new : Piped) → Connects node port (keeper_step Call.Opens old.core.state) old (Ok tt) new
     → (taken_back new).ways ≡ old.ways
 taken_back_ways node port old new (core, opens, is) =

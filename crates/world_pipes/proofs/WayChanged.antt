@@ -1,4 +1,5 @@
--- WayChanged.antt: where bytes come or go on one connection of a client, they do so on the model's at its place.
+-- WayChanged.antt: if bytes come or are sent on one connection of a client, the same happens on the
+-- model's at its place.
 use Rattle.std.proofs.Common.{◌≡◌, ℕ, suc, ◌+◌, ◌-◌, List, [], ◌∷◌, ◌++◌, length, take, drop, reverse, set, slice_index_or, Option, Some, None, refl, ap, ap₂, sym, subst, ◌∙◌, append_assoc, arith}
 use Rattle.std.proofs.lemmas.List.{append-nil, append_cancel_left, length-append, length-reverse, length-set, set_at, take-append-drop}
 use Rattle.std.specs.Prelude.{IfSome, slice_get}
@@ -13,7 +14,7 @@ use Rattle.world_pipes.proofs.WaysApart.{get_seam, parted, pipes_joined, pipes_p
 
 -- ---- the connection that is held
 
--- with other bytes on the connection of this place, on it or beside it
+-- with other bytes on the connection of this place, or on another one
 held_with : (old : Piped) (m : ClientPipes) (front back : List Way) (way later : Way) (ahead behind : List Pipe) (p q : Pipe) →
     IsHolding old m → old.ways ≡ front ++ way ∷ back → m.pipes ≡ ahead ++ p ∷ behind → length ahead ≡ length back → q.came ≡ p.came →
     (p.up ≡ way.up → q.up ≡ later.up) → IsHolding (record old { ways = front ++ later ∷ back }) (record m { pipes = ahead ++ q ∷ behind })
@@ -106,7 +107,7 @@ may_change at old way m s found =
 
 -- ---- bytes that come up, and that go down
 
--- behind what came, what is on its way is what is left of it
+-- after what came, what is in transit is what is left of it
 left_up : (count : ℕ) (way : Way) (p : Pipe) (w : IsWay way p) → p.up ≡ way.up → drop count way.up ++ w.up.rest ≡ drop count way.up
 left_up count way p w same =
     ap (λ l. drop count way.up ++ l) (append_cancel_left way.up w.up.rest [] (sym w.up.is ∙ same ∙ sym (append-nil way.up))) ∙ append-nil (drop count way.up)

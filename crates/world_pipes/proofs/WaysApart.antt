@@ -1,4 +1,5 @@
--- WaysApart.antt: one connection of a client and the model's for it, each with those before and behind it.
+-- WaysApart.antt: one connection of a client and the model's for it, each with those before and
+-- after it.
 use Rattle.std.proofs.Common.{◌≡◌, ℕ, zero, suc, ◌<◌, List, [], ◌∷◌, ◌++◌, length, reverse, Some, refl, ap, ◌∙◌, append_assoc, arith}
 use Rattle.std.proofs.lemmas.List.{reverse-append}
 use Rattle.std.specs.Prelude.{slice_get}

@@ -1,4 +1,4 @@
--- A `PipedClient` goes where clients of worlds may go.
+-- What a `PipedClient` does is what clients of the model of worlds may do.
 use Rattle.std.specs.Prelude.{◌≡◌, ◌-◌, ℕ, true, false, List, [], ◌++◌, length, take, slice_get, IfSome, Some, Result, Ok, Err}
 use Rattle.packet.specs.Spelling.{IsPacket}
 use Rattle.packet.specs.declared.packet.Packet.TheVariants as packets
@@ -21,7 +21,8 @@ use Rattle.world_pipes.specs.Goes.{ClientGoes, published_along}
 use Rattle.world_pipes.specs.Piped.{Hears, Piped, is_holding}
 use Rattle.world_pipes.specs.Standing.{IsWay, StandsFor}
 
--- the model's client may go to one that this stands for, and publishes this on the way
+-- the model's client moves by steps in which it publishes this, and the client in code corresponds
+-- to the one after them
 pub record Follows (published : List Publication) (m : ClientPipes) (new : Piped) : Type 0 where
   pub next : ClientPipes
   pub goes : ClientGoes m next
@@ -46,7 +47,7 @@ FollowsLosing old new =
     (m : ClientPipes) → StandsFor old m →
     StandsFor new (after_losing m) × (goes : ClientGoes m (after_losing m)) × (published_along goes ≡ [])
 
--- ---- a new connection: the model's, under whatever name its node gives it
+-- ---- a new connection: the model's, under any name that its node gives it
 
 abbrev pub ConnectingFollows : ℕ → Port → Piped → Result (Unit {0}) ClientError → Piped → Type 0
 ConnectingFollows node port old (Ok done) new =
@@ -57,7 +58,7 @@ ConnectingFollows node port old (Err cause) new = FollowsAll old new
 
 -- ---- a call
 
--- one call of the model's client, which publishes this, leads to one that this stands for
+-- one call of the model's client, which publishes this, leads to one that this corresponds to
 pub record FollowsCalling (published : List Publication) (m : ClientPipes) (new : Piped) : Type 0 where
   pub story : Story
   pub call : Happens usual_limits (story_alone m) story
@@ -66,22 +67,22 @@ pub record FollowsCalling (published : List Publication) (m : ClientPipes) (new 
   pub spelled : CanBeSpelled m.connections story.connections
   pub stands : StandsFor new (after_writing story.keeper story.connections m)
 
--- A refusal changes nothing, and nothing is published. Where what was written found no memory, the model's client lost its connection
--- after its call.
+-- A refusal changes nothing, and nothing is published. If there was no memory for what was written,
+-- the model's client lost its connection after its call.
 abbrev pub CallingFollows : List Publication → Piped → Result Sending ClientError → Piped → Type 0
 CallingFollows published old (Ok sendings.Sent) new = (m : ClientPipes) → StandsFor old m → FollowsCalling published m new
 CallingFollows published old (Ok sendings.Lost) new = FollowsBy published old new
 CallingFollows published old (Err cause) new = new ≡ old
 
--- ---- hearing: a piece arrives, whole packets are handled, and the connection may be lost
+-- ---- receiving: a piece arrives, whole packets are handled, and the connection may be lost
 
 abbrev pub HearingFollows : Type 0
 HearingFollows = (count : ℕ) (old new : Piped) (result : Result (Unit {0}) ClientError) (m : ClientPipes) → StandsFor old m → is_holding old ≡ true →
     Hears count old result new → Follows [] m new
 
--- ---- bytes that come to a node, and that go down from it
+-- ---- bytes that reach a node, and that go down from it
 
--- where the model has the connection of this place: its newest is the first
+-- if the model has the connection of this place: its newest is the first
 abbrev pub place_in_model : ℕ → Piped → ℕ
 place_in_model at client = length client.ways - 1 - at
 
@@ -93,7 +94,7 @@ pub record HasWay (at : ℕ) (old : Piped) (way : Way) (m : ClientPipes) : Type 
   pub piped : slice_get m.pipes (place_in_model at old) ≡ Some pipe
   pub is_way : IsWay way pipe
 
--- so many bytes have come up on it
+-- this many bytes have come up on it
 pub record FollowsUp (count at : ℕ) (old : Piped) (way : Way) (new : Piped) (m : ClientPipes) : Type 0 where
   pub there : HasWay at old way m
   pub rest : List ℕ
@@ -103,7 +104,7 @@ pub record FollowsUp (count at : ℕ) (old : Piped) (way : Way) (new : Piped) (m
 abbrev pub TakingUpFollows : ℕ → ℕ → Piped → Piped → Type 0
 TakingUpFollows at count old new = (m : ClientPipes) → StandsFor old m → IfSome (slice_get old.ways at) (λ way. FollowsUp count at old way new m)
 
--- these bytes are under way down on it
+-- these bytes are in transit down on it
 pub record FollowsDown (bytes : List ℕ) (at : ℕ) (old : Piped) (way : Way) (new : Piped) (m : ClientPipes) : Type 0 where
   pub there : HasWay at old way m
   pub stands : StandsFor new (with_pipe (place_in_model at old) (record there.pipe { down = bytes }) m)

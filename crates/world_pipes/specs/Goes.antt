@@ -1,4 +1,4 @@
--- What one client of a world does, of which the nodes have no part.
+-- What one client of a world does without the nodes.
 use Rattle.std.specs.Prelude.{◌≡◌, ℕ, true, List, [], ◌∷◌, ◌++◌, Some, Ok, slice_get}
 use Rattle.packet.specs.declared.packet.Packet.{Packet}
 use Rattle.client.specs.cutter.Stream.{Stream, Takes}
@@ -24,7 +24,7 @@ pub data ClientStep (c : ClientPipes) : ClientPipes → Type 0 where
       CanBeSpelled c.connections ((handled packet (record { keeper = c.keeper; connection = κ })).connection ∷ others) →
       ClientStep c (after_packet others pipes p left (handled packet (record { keeper = c.keeper; connection = κ })) c)
 
--- one after the other
+-- one after another
 pub data ClientGoes (c : ClientPipes) : ClientPipes → Type 0 where
   stays : ClientGoes c c
   goes_on : {d e : ClientPipes} → ClientGoes c d → ClientStep d e → ClientGoes c e

@@ -1,4 +1,4 @@
--- What holds of every `PipedClient`, by its fields.
+-- What holds for every `PipedClient`, by its fields.
 use Rattle.std.specs.Prelude.{◌≡◌, ◌<◌, Bool, true, List, [], length}
 use Rattle.client_base.specs.State.{is_open}
 use Rattle.client.specs.Core.{Core}

@@ -9,23 +9,23 @@ use Rattle.world_pipes.specs.declared.sending.Sending.{Sending}
 use Rattle.world_pipes.specs.declared.sending.Sending.TheVariants as sendings
 use Rattle.world_pipes.specs.Piped.{come_down}
 
--- what was written is under way on the last of the connections
+-- what was written is in transit on the last of the connections
 pub record MovesUp (core : Core) (ways : List Way) (left : Core) (after : List Way) : Type 0 where
   pub handed : left ≡ record core { out = [] }
   pub moved : (older : List Way) (way : Way) → ways ≡ older ++ way ∷ [] → after ≡ older ++ record way { up = way.up ++ core.out } ∷ []
 
--- the same where a connection is held, and it is lost where there is no memory
+-- the same if a connection is held, and it is lost if there is no memory
 abbrev pub SendsUp : Bool → Core → List Way → Sending → Bool → Core → List Way → Type 0
 SendsUp false core ways sending holds left after = (sending ≡ sendings.Sent) × (holds ≡ false) × (left ≡ core) × (after ≡ ways)
 SendsUp true core ways sendings.Sent holds left after = (holds ≡ true) × MovesUp core ways left after
 SendsUp true core ways sendings.Lost holds left after = (holds ≡ false) × (left ≡ gone core) × (after ≡ ways)
 
--- bytes come to a client
+-- bytes reach a client
 abbrev pub TakesIn : ℕ → Core → Way → Result (Unit {0}) ClientError → Core → Way → Type 0
 TakesIn count core way result left after =
     OnBytes (take count way.down) core.state.stage core result left × (after ≡ come_down count way)
 
--- a lost session lets the connection go on
+-- after a lost session the connection continues
 abbrev pub stays_open : Result (Unit {0}) ClientError → Bool
 stays_open (Ok done) = true
 stays_open (Err errors.SessionLost) = true

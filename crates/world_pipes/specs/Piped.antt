@@ -1,4 +1,5 @@
--- What a `PipedClient` shows: the client, and its connections with the bytes under way, the oldest first.
+-- What a `PipedClient` shows: the client, and its connections with the bytes in transit, the oldest
+-- first.
 use Rattle.std.specs.Prelude.{◌≡◌, ℕ, ◌-◌, Bool, true, false, ◌⊎◌, List, [], ◌∷◌, ◌++◌, length, take, drop, Result, Ok, Err}
 use Rattle.world_model.specs.world_base.declared.Port.{Port}
 use Rattle.client_base.specs.declared.error.ClientError.{ClientError}
@@ -22,7 +23,7 @@ piped core ways = record { core = core; ways = ways }
 abbrev pub is_holding : Piped → Bool
 is_holding client = is_open client.core.state.stage
 
--- nothing is under way yet
+-- nothing is in transit yet
 abbrev pub new_way : ℕ → Port → Way
 new_way node port = record { node = node; port = port; up = []; down = [] }
 
@@ -32,11 +33,11 @@ new_piped client = piped (new_core client 0) []
 
 -- ---- what is written goes up
 
--- what the client wrote is behind what is under way on its newest connection
+-- what the client wrote is after what is in transit on its newest connection
 abbrev pub sent_up : Core → List Way → Way → Piped
 sent_up core older way = piped (record core { out = [] }) (older ++ record way { up = way.up ++ core.out } ∷ [])
 
--- it found no memory: the connection is lost
+-- there was no memory for it: the connection is lost
 abbrev pub broken : Core → List Way → Piped
 broken core ways = piped (gone core) ways
 
@@ -45,7 +46,7 @@ abbrev pub GoesUp : Core → List Way → Sending → Piped → Type 0
 GoesUp core ways sendings.Sent new = (older : List Way) × (way : Way) × (ways ≡ older ++ way ∷ []) × (new ≡ sent_up core older way)
 GoesUp core ways sendings.Lost new = new ≡ broken core ways
 
--- and only while it holds one is there anything to go up
+-- and only while it holds one there is anything to send up
 abbrev pub GoesUpWhere : Bool → Core → List Way → Sending → Piped → Type 0
 GoesUpWhere true core ways sending new = GoesUp core ways sending new
 GoesUpWhere false core ways sending new = (sending ≡ sendings.Sent) × (new ≡ piped core ways)
@@ -57,30 +58,31 @@ abbrev pub Calls : Turn → Piped → Result Sending ClientError → Piped → T
 Calls turn old (Ok sending) new = (core : Core) × Does turn old.core (Ok tt) core × GoesUpWhere (is_holding old) core old.ways sending new
 Calls turn old (Err cause) new = Does turn old.core (Err cause) new.core × (new.ways ≡ old.ways)
 
--- taking leave is a call as the others
+-- disconnecting is a call like the others
 abbrev pub TakesLeave : Turn → Piped → Result Sending ClientError → Piped → Type 0
 TakesLeave turn old (Ok sending) new = (core : Core) × Leaves turn old.core (Ok tt) core × GoesUp core old.ways sending new
 TakesLeave turn old (Err cause) new = Leaves turn old.core (Err cause) new.core × (new.ways ≡ old.ways)
 
--- its CONNECT is all that is under way on a new connection; only memory may be wanting, and then there is no connection
+-- its CONNECT is all that is in transit on a new connection; only memory may run out, and then
+-- there is no connection
 abbrev pub Connects : ℕ → Port → Turn → Piped → Result (Unit {0}) ClientError → Piped → Type 0
 Connects node port turn old (Ok done) new =
     (core : Core) × Opens turn old.core (Ok tt) core × (new ≡ sent_up core old.ways (new_way node port))
 Connects node port turn old (Err cause) new = (cause ≡ errors.Memory) × (new.ways ≡ old.ways)
     × ((new.core ≡ old.core) ⊎ ((core : Core) × Opens turn old.core (Ok tt) core × (new.core ≡ gone core)))
 
--- a connection that its node does not take is taken back: nothing is left of it
+-- a connection that its node does not take is removed: nothing is left of it
 abbrev pub taken_back : Piped → Piped
 taken_back client = piped (gone client.core) (take (length client.ways - 1) client.ways)
 
--- ---- hearing
+-- ---- receiving
 
--- the first bytes under way to the client have come
+-- the first bytes in transit to the client have come
 abbrev pub come_down : ℕ → Way → Way
 come_down count way = record way { down = drop count way.down }
 
--- The first bytes on the newest connection come to the client, and what it writes goes up. Where that finds no memory
--- the answer is Memory, and the connection is lost.
+-- The first bytes on the newest connection reach the client, and what it writes goes up. If there
+-- is no memory for that the answer is Memory, and the connection is lost.
 pub record Hears (count : ℕ) (old : Piped) (result : Result (Unit {0}) ClientError) (new : Piped) : Type 0 where
   pub older : List Way
   pub way : Way

@@ -1,4 +1,4 @@
--- Which client of the model of worlds a `PipedClient` stands for. History stands in the model alone.
+-- Which client of the model of worlds a `PipedClient` corresponds to. History is only in the model.
 use Rattle.std.specs.Prelude.{◌≡◌, true, false, IsTrue, List, [], ◌∷◌, ◌++◌, length, reverse}
 use Rattle.packet.specs.packet_base.Spelling.{IsId}
 use Rattle.packet.specs.ClientId.{is_client}
@@ -14,8 +14,8 @@ use Rattle.world_model.specs.World.{ClientPipes, Pipe}
 use Rattle.world_pipes.specs.declared.way.Way.{Way}
 use Rattle.world_pipes.specs.Piped.{Piped, is_holding}
 
--- A connection leads where the model's does. Of what is under way up, the end may be missing where it found no memory: then
--- the connection is lost.
+-- A connection leads where the model's does. Of what is in transit up, the end may be missing if
+-- memory ran out: then the connection is lost.
 pub record IsWay (way : Way) (p : Pipe) : Type 0 where
   pub node : p.node ≡ way.node
   pub port : p.port ≡ way.port
@@ -27,7 +27,8 @@ AreWays (way ∷ ways) (p ∷ pipes) = IsWay way p × AreWays ways pipes
 AreWays [] [] = Unit {0}
 AreWays _ _ = ⊥
 
--- the connection that is held, from end to end: what came and is not handled is what the client did not read
+-- the connection that is held, from end to end: what came and is not handled is what the client did
+-- not read
 pub record IsHolding (client : Piped) (m : ClientPipes) : Type 0 where
   pub connection : Connection
   pub others : List Connection
@@ -42,7 +43,7 @@ pub record IsHolding (client : Piped) (m : ClientPipes) : Type 0 where
   pub came : pipe.came ≡ client.core.unread
   pub sent : client.core.out ≡ []
 
--- its keep alive is 0, and what it keeps can be spelled when it goes out again
+-- its keep alive is 0, and what it keeps can be spelled when it is sent again
 pub record CanGoOut (state : ClientState) : Type 0 where
   pub keep_alive : state.keep_alive ≡ 0
   pub client : IsTrue (is_client state.client)

@@ -1,4 +1,4 @@
-// Bytes under way in one direction.
+// Bytes in transit in one direction.
 
 ghost use Rattle.std.specs.Prelude.{◌≡◌, ◌++◌, ◌≤◌, [], drop, length, OnOk, OnErr, IsErrOf};
 
@@ -7,7 +7,7 @@ use std::alloc::Global;
 use std::marker::Model;
 use std::mem;
 
-/// Bytes under way in one direction, in their order.
+/// Bytes in transit in one direction, in order.
 #[derive(Drop)]
 pub struct BytesUnderWay {
     bytes: Vec<u8>,
@@ -26,7 +26,7 @@ impl Model for BytesUnderWay {
 }
 
 impl BytesUnderWay {
-    /// No bytes.
+    /// Returns an empty buffer.
     pub fn new(alloc: Global) -> BytesUnderWay
         ensures { result ≡ [] }
     {
@@ -36,20 +36,20 @@ impl BytesUnderWay {
         }
     }
 
-    /// The bytes.
+    /// Returns the bytes.
     pub fn as_slice(&self) -> &[u8]
         ensures { result.now ≡ self.now }
     {
         &self.bytes[self.come..]
     }
 
-    /// The first so many come.
+    /// Takes the first `count` bytes.
     pub fn take(&mut self, count: usize)
         requires { count ≤ length self.old }
         ensures { self.new ≡ drop count self.old }
     {
         self.come += count;
-        // Room is given back once half of it is free, so that a byte is moved twice at most.
+        // Memory is reclaimed once half of it is free, so that a byte is moved at most twice.
         if self.come >= self.bytes.len() - self.come {
             self.close_up();
         }
@@ -65,7 +65,7 @@ impl BytesUnderWay {
         mem::swap(&mut self.bytes, bytes);
     }
 
-    /// What the client wrote follows. Where memory is wanting nothing changes.
+    /// Appends what the client wrote. If memory runs out nothing changes.
     pub fn follow(&mut self, core: &mut ClientCore) -> Result<(), ClientError>
         ensures bytes { OnOk result (self.new ≡ self.old ++ core.old.out) }
         ensures ok { OnOk result (core.new ≡ record core.old { out = [] }) }
@@ -76,7 +76,7 @@ impl BytesUnderWay {
         core.outgoing(&mut self.bytes)
     }
 
-    // Gives back the room of what has come.
+    // Reclaims the memory of what has been taken.
     fn close_up(&mut self)
         ensures { self.new ≡ self.old }
     {

@@ -1,4 +1,4 @@
-// What a client is called for, and what it writes.
+// Calls of a client, and what it writes.
 
 ghost use Rattle.std.specs.Prelude.{◌≡◌, [], ◌∷◌};
 ghost use Rattle.client.specs.Core.{publication_with};
@@ -31,7 +31,7 @@ impl PipedClient {
         Ok(send_up(&mut self.core, &mut self.ways, &mut self.holds))
     }
 
-    /// Asks for the publications of a filter, as `ClientCore::subscribe`; a refusal leaves everything as it was.
+    /// Subscribes to a filter, as `ClientCore::subscribe`; a refusal leaves everything as it was.
     pub fn subscribe(&mut self, filter: Filter, qos: QoS) -> Result<Sending, ClientError>
         ensures calls { Calls (keeper_step (Call.Subscribes filter qos) self.old.core.state)
             self.old result self.new }
@@ -42,7 +42,7 @@ impl PipedClient {
         Ok(send_up(&mut self.core, &mut self.ways, &mut self.holds))
     }
 
-    /// Gives up a filter. It is refused as `subscribe` is.
+    /// Unsubscribes from a filter. It is refused as `subscribe` is.
     pub fn unsubscribe(&mut self, filter: Filter) -> Result<Sending, ClientError>
         ensures calls { Calls (keeper_step (Call.Unsubscribes filter) self.old.core.state)
             self.old result self.new }

@@ -12,8 +12,9 @@ use client::ClientError;
 use world_model::world_base::Port;
 
 impl PipedClient {
-    /// Opens a connection to the node at this place, which is to know it by this port: CONNECT is under way on it. It
-    /// is not open before. `Memory` is the only error, and then there is no new connection.
+    /// Opens a connection to the node at this place, which is to know it by this port: CONNECT is
+    /// then in transit on it. It must not hold a connection before. `Memory` is the only error, and
+    /// then there is no new connection.
     pub fn open(&mut self, node: usize, port: Port) -> Result<(), ClientError>
         requires { is_holding self.old ≡ false }
         ensures opens { Connects node port (keeper_step Call.Opens self.old.core.state) self.old result self.new }
@@ -22,7 +23,7 @@ impl PipedClient {
         self.connect(node, port)
     }
 
-    // Opens a connection that is not open before.
+    // Opens a connection; the client holds none before.
     fn connect(&mut self, node: usize, port: Port) -> Result<(), ClientError>
         requires { is_holding self.old ≡ false }
         ensures { Connects node port (keeper_step Call.Opens self.old.core.state) self.old result self.new }
@@ -39,8 +40,8 @@ impl PipedClient {
         Ok(())
     }
 
-    /// The connection that was opened last is taken back, since its node does not take it: nothing is left of it, and
-    /// the client holds none.
+    /// Removes the connection that was opened last, since its node does not take it: nothing is
+    /// left of it, and the client holds none.
     pub fn take_back(&mut self)
         ensures { self.new ≡ taken_back self.old }
     {
@@ -49,8 +50,8 @@ impl PipedClient {
         self.holds = false;
     }
 
-    /// Ends the connection, with a DISCONNECT where the server has accepted it. `NotActive` comes exactly where there is
-    /// none; a refusal, and `Memory`, leave everything as it was.
+    /// Ends the connection, with a DISCONNECT if the server has accepted it. `NotActive` comes
+    /// exactly if there is none; a refusal, and `Memory`, leave everything as it was.
     pub fn disconnect(&mut self) -> Result<Sending, ClientError>
         ensures leaves { TakesLeave (keeper_step Call.Disconnects self.old.core.state) self.old result self.new }
         ensures goes { CallingFollows [] self.old result self.new }

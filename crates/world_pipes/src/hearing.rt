@@ -1,4 +1,4 @@
-// What comes to a client.
+// Bytes that reach a client.
 
 ghost use Rattle.std.specs.Prelude.{◌≡◌, ◌≤◌, ◌<◌, ◌-◌, true, length, slice_get, IfSome};
 ghost use Rattle.world_pipes.specs.Piped.{Hears, is_holding, piped};
@@ -11,9 +11,11 @@ use crate::way::Way;
 use client::{ClientCore, ClientError};
 
 impl PipedClient {
-    /// The first so many bytes that are under way on the newest connection, which it holds, come to the client, and what
-    /// it answers goes up. It answers as `ClientCore::on_bytes`, and `Memory` also where its own answers find no
-    /// memory. It holds the connection on behind `Ok` and `SessionLost`, and else it is lost.
+    /// Carries the first `count` bytes that are in transit on the newest connection, which the
+    /// client holds, to the client, and sends up what it answers. Returns what
+    /// `ClientCore::on_bytes` returns, and `Memory` also if memory runs out for the client's own
+    /// answers. After `Ok` and `SessionLost` the client still holds the connection; otherwise it is
+    /// lost.
     pub fn hear(&mut self, count: usize) -> Result<(), ClientError>
         requires open { is_holding self.old ≡ true }
         requires count { IfSome (slice_get self.old.ways (length self.old.ways - 1))
@@ -27,7 +29,8 @@ impl PipedClient {
     }
 }
 
-// The first so many bytes under way on the newest connection come to a client, and what it answers goes up.
+// Carries the first `count` bytes in transit on the newest connection to a client, and sends up
+// what it answers.
 fn hear_on(core: &mut ClientCore, ways: &mut Vec<Way>, count: usize) -> Result<(), ClientError>
     requires some { 0 < length ways.old.items }
     requires count { IfSome (slice_get ways.old.items (length ways.old.items - 1))
@@ -43,7 +46,7 @@ fn hear_on(core: &mut ClientCore, ways: &mut Vec<Way>, count: usize) -> Result<(
     read
 }
 
-// The first so many bytes under way on a connection come to a client.
+// Carries the first `count` bytes in transit on a connection to a client.
 fn take_in(core: &mut ClientCore, way: &mut Way, count: usize) -> Result<(), ClientError>
     requires { count ≤ length way.old.down }
     ensures { TakesIn count core.old way.old result core.new way.new }
@@ -53,7 +56,7 @@ fn take_in(core: &mut ClientCore, way: &mut Way, count: usize) -> Result<(), Cli
     read
 }
 
-// Whether a client holds its connection on behind this answer to bytes that came on it.
+// Says whether a client still holds its connection after this answer to bytes that came on it.
 fn stays_open(read: Result<(), ClientError>) -> bool
     ensures { result ≡ stays_open read }
 {

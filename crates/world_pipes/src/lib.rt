@@ -1,5 +1,5 @@
-//! One client of a world with all its connections and a pipe of bytes each way on every one of them, of which it holds at
-//! most the newest.
+//! One client of a world with all its connections and a pipe of bytes each way on every one of
+//! them; it holds at most the newest.
 #![tactic(auto)]
 
 mod bytes_under_way;

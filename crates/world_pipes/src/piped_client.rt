@@ -14,8 +14,9 @@ use std::alloc::Global;
 use std::marker::Model;
 use world_model::world_base::Port;
 
-/// A client with all its connections, the oldest first, and the bytes under way on each. It holds at most the newest one;
-/// what is under way on the others still goes up, and is not heard any more.
+/// A client with all its connections, the oldest first, and the bytes in transit on each. It holds
+/// at most the newest one; what is in transit to nodes on the others still comes up, and the client
+/// receives nothing more on them.
 #[derive(Drop)]
 pub struct PipedClient {
     pub(crate) alloc: Global,
@@ -37,7 +38,7 @@ impl Model for PipedClient {
 }
 
 impl PipedClient {
-    /// A client of this identifier that was never connected. Its keep alive is 0.
+    /// Returns a client of this identifier that was never connected. Its keep alive is 0.
     pub fn new(alloc: Global, client: ClientId) -> PipedClient
         ensures new { result ≡ new_piped client }
         ensures stands { StandsFor result (new_client client) }
@@ -51,28 +52,29 @@ impl PipedClient {
         }
     }
 
-    /// The client.
+    /// Returns the client.
     pub fn core(&self) -> &ClientCore
         ensures { result.now ≡ self.now.core }
     {
         &self.core
     }
 
-    /// Whether it holds its newest connection.
+    /// Says whether it holds its newest connection.
     pub fn is_open(&self) -> bool
         ensures { result ≡ is_holding self.now }
     {
         self.holds
     }
 
-    /// How many connections it opened.
+    /// Returns how many connections it opened.
     pub fn len(&self) -> usize
         ensures { result ≡ length self.now.ways }
     {
         self.ways.len()
     }
 
-    /// Where a connection leads: the place of its node, and the port by which that knows it.
+    /// Returns where a connection leads: the place of its node, and the port by which the node
+    /// knows it.
     pub fn place(&self, at: usize) -> (usize, Port)
         requires { at < length self.now.ways }
         ensures { IfSome (slice_get self.now.ways at) (λ way. result ≡ (way.node, way.port)) }
@@ -81,7 +83,7 @@ impl PipedClient {
         (way.node, way.port)
     }
 
-    /// What is under way on a connection to its node.
+    /// Returns what is in transit on a connection to its node.
     pub fn up(&self, at: usize) -> &[u8]
         requires { at < length self.now.ways }
         ensures { IfSome (slice_get self.now.ways at) (λ way. result.now ≡ way.up) }
@@ -89,7 +91,7 @@ impl PipedClient {
         self.ways[at].up.as_slice()
     }
 
-    /// What is under way on a connection to the client.
+    /// Returns what is in transit on a connection to the client.
     pub fn down(&self, at: usize) -> &[u8]
         requires { at < length self.now.ways }
         ensures { IfSome (slice_get self.now.ways at) (λ way. result.now ≡ way.down) }
@@ -97,7 +99,7 @@ impl PipedClient {
         self.ways[at].down.as_slice()
     }
 
-    /// The first so many bytes that are under way to a node have come to it.
+    /// Removes the first `count` bytes from those in transit to a node: they have reached it.
     pub fn take_up(&mut self, at: usize, count: usize)
         requires at { at < length self.old.ways }
         requires count { IfSome (slice_get self.old.ways at) (λ way. count ≤ length way.up) }
@@ -108,7 +110,7 @@ impl PipedClient {
         self.come_up(at, count);
     }
 
-    // The first so many bytes that are under way to a node are taken from the front.
+    // Takes the first `count` bytes that are in transit to a node from the front.
     fn come_up(&mut self, at: usize, count: usize)
         requires at { at < length self.old.ways }
         requires count { IfSome (slice_get self.old.ways at) (λ way. count ≤ length way.up) }
@@ -119,7 +121,8 @@ impl PipedClient {
         way.up.take(count);
     }
 
-    /// Exchanges what is under way on a connection to the client, so that a node may hand over more behind it.
+    /// Exchanges what is in transit on a connection to the client, so that a node may hand over
+    /// more after it.
     pub fn swap_down(&mut self, at: usize, bytes: &mut Vec<u8>)
         requires { at < length self.old.ways }
         ensures left { IfSome (slice_get self.old.ways at) (λ way. self.new
@@ -130,7 +133,7 @@ impl PipedClient {
         self.exchange(at, bytes);
     }
 
-    // Exchanges what is under way on a connection to the client.
+    // Exchanges what is in transit on a connection to the client.
     fn exchange(&mut self, at: usize, bytes: &mut Vec<u8>)
         requires { at < length self.old.ways }
         ensures left { IfSome (slice_get self.old.ways at) (λ way. self.new
@@ -141,7 +144,7 @@ impl PipedClient {
         way.down.swap(bytes);
     }
 
-    /// The connection is lost, if it holds one. What is under way on it stays.
+    /// Loses the connection, if it holds one. What is in transit on it stays.
     pub fn abandon(&mut self)
         ensures lost { self.new ≡ record self.old { core = gone self.old.core } }
         ensures goes { FollowsLosing self.old self.new }

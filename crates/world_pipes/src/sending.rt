@@ -1,4 +1,4 @@
-// What becomes of what a client writes.
+// What happens to what a client writes.
 
 ghost use Rattle.std.specs.Prelude.{◌≡◌, ◌<◌, true, length, OnOk, OnErr, IsErrOf};
 ghost use Rattle.world_pipes.specs.Inside.{MovesUp, SendsUp};
@@ -6,17 +6,17 @@ ghost use Rattle.world_pipes.specs.Inside.{MovesUp, SendsUp};
 use crate::way::Way;
 use client::{ClientCore, ClientError};
 
-/// What became of what a call wrote.
+/// What happened to what a call wrote.
 #[derive(Clone, Copy, Debug, PartialEq, Eq)]
 pub enum Sending {
-    /// It is under way on the newest connection.
+    /// It is in transit on the newest connection.
     Sent,
-    /// It found no memory, and the connection is lost.
+    /// There was no memory for it, and the connection is lost.
     Lost,
 }
 
-/// What a client wrote goes up on its newest connection, while it holds that; where memory is wanting the connection is
-/// lost.
+/// Sends what a client wrote up on its newest connection, if the client holds it. If memory runs
+/// out, the connection is lost.
 pub(crate) fn send_up(core: &mut ClientCore, ways: &mut Vec<Way>, holds: &mut bool) -> Sending
     requires { holds.old ≡ true → 0 < length ways.old.items }
     ensures { SendsUp holds.old core.old ways.old.items result holds.new core.new ways.new.items }
@@ -32,7 +32,7 @@ pub(crate) fn send_up(core: &mut ClientCore, ways: &mut Vec<Way>, holds: &mut bo
     Sending::Lost
 }
 
-/// What a client wrote goes up on its newest connection. Where memory is wanting nothing changes.
+/// Sends what a client wrote up on its newest connection. If memory runs out nothing changes.
 pub(crate) fn move_up(core: &mut ClientCore, ways: &mut Vec<Way>) -> Result<(), ClientError>
     requires { 0 < length ways.old.items }
     ensures ok { OnOk result (MovesUp core.old ways.old.items core.new ways.new.items) }

@@ -7,7 +7,7 @@ use crate::bytes_under_way::BytesUnderWay;
 use std::alloc::Global;
 use world_model::world_base::Port;
 
-/// Where a connection leads, and the bytes under way on it.
+/// Where a connection leads, and the bytes in transit on it.
 #[derive(Drop)]
 pub struct Way {
     /// The place of its node among the nodes, from 0.
@@ -21,7 +21,7 @@ pub struct Way {
 }
 
 impl Way {
-    /// A connection on which nothing is under way.
+    /// Returns a connection on which nothing is in transit.
     pub fn new(alloc: Global, node: usize, port: Port) -> Way
         ensures { result ≡ new_way node port }
     {

@@ -1,5 +1,5 @@
-//! Worlds as tables of rows: what happens, and what is seen of it then, byte by byte. Tests alone
-//! stand here.
+//! Worlds tested by tables of rows: what happens, and what is seen then, byte by byte. It has only
+//! tests.
 #![tactic(auto)]
 
 #[cfg(test)]

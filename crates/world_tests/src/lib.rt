@@ -1,4 +1,4 @@
-//! Long runs of worlds, and one client with its pipes. Tests alone stand here.
+//! Long runs of worlds, and one client with its pipes. It has only tests.
 #![tactic(auto)]
 
 #[cfg(test)]

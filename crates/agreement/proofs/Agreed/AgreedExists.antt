@@ -1,4 +1,5 @@
--- AgreedExists.antt: a sound world has an agreed list: the front of the newest ballot's list that all its members told.
+-- AgreedExists.antt: a sound world has an agreed list: the front of the newest ballot's list that
+-- all its members acknowledged.
 use Rattle.std.proofs.Common.{◌≡◌, ℕ, ◌<◌, ◌≤◌, ◌⊎◌, inl, inr, List, [], ◌∷◌, length, take, Some, refl, ap, sym, ◌∙◌, subst, arith}
 use Rattle.std.proofs.lemmas.Bool.{cases_lt}
 use Rattle.std.proofs.lemmas.List.{length-take-le}
@@ -45,7 +46,7 @@ front_of {X = X} j k xs less within =
     subst (λ (us : List X). IsPrefixOf us (take k xs)) (sym (take_prefix j (prefix_take k xs) (omega (arith, e, less))))
     (prefix_take j (take k xs))
 
--- in an activated ballot the members' least told length is chosen
+-- in an activated ballot the members' least acknowledged length is chosen
 pub chosen_least : {S C O : Type 0} (rules : Rules S C O) (w : World S C O) (h : History C) (b : ℕ) (g : Given) (l : Line C) →
     IsSound rules w h → In b h.activated → h.given b ≡ Some g → h.line b ≡ Some l → IsChosenIn w h b (chosen_length w.sent b g l)
 chosen_least {S = S} {C = C} rules w h b g l s active given lined = (

@@ -1,4 +1,4 @@
--- KnownSteps.antt: what is known goes on behind each step.
+-- KnownSteps.antt: what is known continues after each step.
 use Rattle.std.proofs.Common.{◌≡◌, ℕ, ◌+◌, ◌≤◌, ◌⊎◌, inl, inr, List, ◌∷◌, length, Some, sym, subst}
 use Rattle.machine.specs.Machine.{Rules}
 use Rattle.lists.specs.Lists.{In}
@@ -19,7 +19,7 @@ use Rattle.agreement.proofs.Runs.SendersStay.{senders_stay, led_then}
 use Rattle.agreement.proofs.Runs.Serves.{serving_step}
 use Rattle.agreement.proofs.Agreed.PastIsKnown.{IsKnown, told_now}
 
--- a group that serves goes on serving
+-- a group that serves continues serving
 pub serves_then : {S C O : Type 0} (rules : Rules S C O) (m k : MasterState) (w v : World S C O) (h : History C) (adds : List (ℕ × C)) →
     Serves rules m w h → (x : StepGoesOn rules w h k v adds) → MayHappen rules m w k v → Serves rules k v x.run.group.goes_on.history
 serves_then rules m k w v h adds s x step =

@@ -1,4 +1,5 @@
--- MostTold.antt: the front of a ballot's list that all members told, by the messages, is chosen, and nothing longer is.
+-- MostTold.antt: the front of a ballot's list that all members acknowledged, by the messages, is
+-- chosen, and nothing longer is.
 use Rattle.std.proofs.Common.{◌≡◌, ℕ, ◌<◌, ◌≤◌, ◌⊎◌, inl, inr, cond, max, List, [], ◌∷◌, length, Some, Option, refl, ap, sym, ◌∙◌, subst, arith}
 use Rattle.std.specs.Prelude.{◌==◌}
 use Rattle.std.proofs.lemmas.Bool.{cases_eq, cases_lt, eq-eqb, ne_eqb}
@@ -18,7 +19,7 @@ use Rattle.agreement.proofs.Frame.Framing.{within_of}
 pub one_given : (o : Option Given) (g k : Given) → o ≡ Some g → o ≡ Some k → g ≡ k
 one_given o g k e f = cc
 
--- what a message tells was told
+-- what a message acknowledges was acknowledged
 told_of_body : {S C O : Type 0} (w : World S C O) (h : History C) (m b receiver : ℕ) (body : Body C) → Told w h m b 0 →
     In (receiver, record { from = m; body = body }) w.sent → Told w h m b (told_by b body)
 told_of_body w h m b receiver (NewBallot x members a old) t i = t
@@ -57,7 +58,7 @@ told_of_message {S = S} {C = C} w h m b receiver message t i = by_sender (cases_
         (subst (λ y. In {X = ℕ × Message C} (receiver, record { from = y; body = message.body }) w.sent) e i))
     by_sender (inr ne) = subst (λ k. Told w h m b (cond k (told_by b message.body) 0)) (sym (ne_eqb message.from m ne)) t
 
--- a property of two numbers holds of the greater
+-- a property of two numbers holds for the greater
 of_max : (P : ℕ → Type 0) (x y : ℕ) → P x → P y → P (max x y)
 of_max P x y p q = by_order (cases_lt x y)
   where
@@ -65,7 +66,7 @@ of_max P x y p q = by_order (cases_lt x y)
     by_order (inl less) = let f : max x y ≡ y = omega (arith, less) in subst P (sym f) q
     by_order (inr more) = let f : max x y ≡ x = omega (arith, more) in subst P (sym f) p
 
--- the most that a member told was told
+-- the most that a member acknowledged was acknowledged
 told_most : {S C O : Type 0} (w : World S C O) (h : History C) (m b : ℕ) (sent : List (ℕ × Message C)) → Told w h m b 0 →
     ((x : ℕ × Message C) → In x sent → In x w.sent) → Told w h m b (most_told m b sent)
 told_most w h m b [] t all = t
@@ -73,7 +74,7 @@ told_most w h m b (x ∷ sent) t all =
     of_max (Told w h m b) (told_in m b x.1) (most_told m b sent)
     (told_of_message w h m b x.0 x.1 t (all x here)) (told_most w h m b sent t (λ y i. all y (there i)))
 
--- and no message tells more
+-- and no message acknowledges more
 most_of : {C : Type 0} (m b : ℕ) (sent : List (ℕ × Message C)) (x : ℕ × Message C) → In x sent → told_in m b x.1 ≤ most_told m b sent
 most_of m b [] x i = elim i [ ]
 most_of m b (y ∷ sent) x here = omega arith
@@ -83,11 +84,11 @@ most_of m b (y ∷ sent) x (there i) = let z = most_of m b sent x i in omega (ar
 held_is : (C : Type 0) (m b held : ℕ) → told_in {C = C} m b (record { from = m; body = Held b held }) ≡ held
 held_is C m b held = ap (λ k. cond k (cond (b == b) held 0) 0) (eq-eqb m m refl) ∙ ap (λ k. cond k held 0) (eq-eqb b b refl)
 
--- the same of Installed
+-- the same for Installed
 installed_is : (C : Type 0) (m b held : ℕ) → told_in {C = C} m b (record { from = m; body = Installed b held }) ≡ held
 installed_is C m b held = ap (λ k. cond k (cond (b == b) held 0) 0) (eq-eqb m m refl) ∙ ap (λ k. cond k held 0) (eq-eqb b b refl)
 
--- a member told its length, if it told anything
+-- a member acknowledged its length, if it acknowledged anything
 pub told_whole : {S C O : Type 0} (w : World S C O) (h : History C) (m b : ℕ) (g : Given) (l : Line C) → h.given b ≡ Some g →
     h.line b ≡ Some l → Told w h m b 0 → Told w h m b (told_length w.sent b g l m)
 told_whole w h m b g l given lined t = by_primary (cases_eq m g.primary)
@@ -100,7 +101,7 @@ told_whole w h m b g l given lined t = by_primary (cases_eq m g.primary)
         subst (λ k. Told w h m b (cond k (length l.list) (most_told m b w.sent))) (sym (ne_eqb m g.primary ne))
         (told_most w h m b w.sent t (λ x i. i))
 
--- and nobody told more
+-- and no node acknowledged more
 pub told_at_most : {S C O : Type 0} (rules : Rules S C O) (w : World S C O) (h : History C) (m b j : ℕ) (g : Given) (l : Line C) →
     IsSound rules w h → h.given b ≡ Some g → h.line b ≡ Some l → Told w h m b j → j ≤ told_length w.sent b g l m
 told_at_most {S = S} {C = C} rules w h m b j g l s given lined t = by_primary (cases_eq m g.primary)

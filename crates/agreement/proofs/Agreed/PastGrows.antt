@@ -1,4 +1,5 @@
--- PastGrows.antt: what was told, chosen and active stays so behind a further moment, so the agreed list only grows.
+-- PastGrows.antt: what was acknowledged, chosen and active stays so after a further moment, so the
+-- agreed list only grows.
 use Rattle.std.proofs.Common.{◌≡◌, ℕ, ◌⊎◌, inl, inr, List, [], ◌∷◌, refl, sym, subst}
 use Rattle.lists.specs.Lists.{IsPrefixOf}
 use Rattle.lists.specs.Lists.In.{there}
@@ -28,7 +29,7 @@ chosen_stays : {S C O : Type 0} (config : Config) (past : List (Moment S C O)) (
 chosen_stays config past v b xs (c, has, all) =
     (c, config_stays config past v b c has, λ n i. let z = all n i in (z.0, told_stays config past v b n z.0 z.1, z.2))
 
--- what is agreed begins what is agreed behind the next moment
+-- what is agreed begins what is agreed after the next moment
 pub agreed_only_grows : {S C O : Type 0} (config : Config) (past : List (Moment S C O)) (v : Moment S C O) (xs ys : List C) →
     IsAgreed config past xs → IsAgreed config (v ∷ past) ys → IsPrefixOf xs ys
 agreed_only_grows {S = S} {C = C} {O = O} config past v xs ys before behind = by_chosen before.chosen
@@ -37,6 +38,6 @@ agreed_only_grows {S = S} {C = C} {O = O} config past v xs ys before behind = by
     by_chosen (inl none) = subst (λ (us : List C). IsPrefixOf us ys) (sym none) (record { rest = ys; is = refl })
     by_chosen (inr (b, active, chosen)) = behind.longest b xs (active_stays past v b active) (chosen_stays config past v b xs chosen)
 
--- in the words of the laws
+-- in the terms of the laws
 pub agreed_grows : {S C O : Type 0} (rules : Rules S C O) → AgreedGrows rules
 agreed_grows rules config a past xs ys before behind = agreed_only_grows config past a xs ys before behind

@@ -1,4 +1,4 @@
--- PastIsKnown.antt: what is known behind a past, and what is told at its last moment.
+-- PastIsKnown.antt: what is known after a past, and what is acknowledged at its last moment.
 use Rattle.std.proofs.Common.{◌≡◌, ℕ, ◌+◌, ◌≤◌, ◌⊎◌, inl, inr, List, ◌∷◌, length, take, Some, refl, sym, ◌∙◌, subst, arith}
 use Rattle.std.specs.Prelude.{slice_get}
 use Rattle.std.proofs.lemmas.List.{length-take-le}
@@ -15,23 +15,24 @@ use Rattle.agreement.specs.Inside.OpeningHistory.{first_ballot}
 use Rattle.agreement.specs.Past.{Moment, HasConfig, WasActive, HasTold, ToldLength}
 use Rattle.agreement.specs.Past.HasTold.{told_as_log, told_by_message}
 
--- what is known behind a past
+-- what is known after a past
 pub record IsKnown {S C O : Type 0} (rules : Rules S C O) (config : Config) (a : Moment S C O) (past : List (Moment S C O)) : Type 0 where
   pub history : History C
   pub serves : Serves rules a.master a.world history
   pub first : history.given 1 ≡ Some (first_ballot config)
   pub numbers : (x : ℕ) → In x config.members → (n : ℕ) × (x ≡ n + 1)
-  -- the history of each moment, from which this one goes on
+  -- the history of each moment, from which this one continues
   pub moments : (c : Moment S C O) → In c (a ∷ past) → (g : History C) × Serves rules c.master c.world g
       × Extends c.world g a.world history × ((b : ℕ) → In b g.activated → In b history.activated)
-  -- given ballots have configurations, activated ones were active, and what is told was told
+  -- given ballots have configurations, activated ones were active, and what is acknowledged was
+  -- acknowledged
   pub configs : (b : ℕ) (g : Given) → history.given b ≡ Some g →
       (c : Config) × HasConfig config (a ∷ past) b c × (g.members ≡ c.members) × (g.primary ≡ c.primary)
   pub active : (b : ℕ) → In b history.activated → WasActive (a ∷ past) b
   pub tells : (n b k : ℕ) → Told a.world history (n + 1) b k →
       (k ≡ 0) ⊎ ((xs : List C) × HasTold config (a ∷ past) b n xs × (k ≤ length xs))
 
--- a length that a node told of the ballot in which it holds its log
+-- a length that a node acknowledged of the ballot in which it holds its log
 told_length : {S C O : Type 0} (rules : Rules S C O) (config : Config) (a : Moment S C O) (past : List (Moment S C O)) (h : History C)
     (n b k held : ℕ) (r : ReplicaState S C) → Serves rules a.master a.world h → slice_get a.world.nodes n ≡ Some r → b ≡ r.held_in →
     ToldLength a.world (n + 1) b held → Told a.world h (n + 1) b held → k ≤ held →
@@ -44,7 +45,7 @@ told_length {S = S} {C = C} rules config a past h n b k held r s stands own sent
       omega (arith, long, below),
     )
 
--- what is told now
+-- what is acknowledged now
 pub told_now : {S C O : Type 0} (rules : Rules S C O) (config : Config) (a : Moment S C O) (past : List (Moment S C O)) (h : History C)
     (n b k : ℕ) → Serves rules a.master a.world h →
     ((b : ℕ) (g : Given) → h.given b ≡ Some g →

@@ -1,4 +1,4 @@
--- PastTells.antt: what was told in the past was told by the history.
+-- PastTells.antt: what was acknowledged in the past was acknowledged by the history.
 use Rattle.std.proofs.Common.{◌≡◌, ℕ, ◌+◌, ◌<◌, ◌⊎◌, inl, inr, List, ◌∷◌, length, Some, ap, sym, ◌∙◌, subst, arith}
 use Rattle.std.specs.Prelude.{slice_get}
 use Rattle.machine.specs.Machine.{Rules}
@@ -56,7 +56,7 @@ log_known rules config a past q c n b r i stands held low =
     let lines = z.2.lines b y.2.0 (ap z.0.line (sym held) ∙ y.2.1) in
     (lines.0, lines.1, prefix_then y.2.3 lines.3)
 
--- what a node has told by the past it has told by the history
+-- what a node has acknowledged by the past it has acknowledged by the history
 pub told_known : {S C O : Type 0} (rules : Rules S C O) (config : Config) (a : Moment S C O) (past : List (Moment S C O)) →
     (q : IsKnown rules config a past) → (b n : ℕ) (xs : List C) → 0 < b → HasTold config (a ∷ past) b n xs →
     (l : Line C) × (q.history.line b ≡ Some l) × IsPrefixOf xs l.list × Told a.world q.history (n + 1) b (length xs)

@@ -47,7 +47,7 @@ none_of : {X : Type 0} (xs : List X) → length xs ≤ 0 → xs ≡ []
 none_of [] short = refl
 none_of (x ∷ xs) short = absurd (omega (arith, short))
 
--- the new primary leads, where all members hold its log
+-- the new primary leads, if all members hold its log
 activated_leads : {S C O : Type 0} (rules : Rules S C O) (w : World S C O) (h : History C) (n : ℕ) (r : ReplicaState S C) →
     IsSound rules w h → slice_get w.nodes n ≡ Some r → IsInstalling w h n r → r.lacking ≡ [] → In r.joined h.activated →
     Leading w h n (record (applied_to rules r (length r.log)) { role = Active; progress = progress_at (length r.log) (others r.id r.members) })

@@ -34,7 +34,7 @@ pub record Sends {S C O : Type 0} (w : World S C O) (h : History C) (n : ℕ) (o
   pub moves : Moves w h h.line n old new given
   pub silent : outputs given ≡ []
 
--- what an Install says, of the node that hears it
+-- what an Install says, of the node that receives it
 pub record InstallHeard {S C O : Type 0} (w : World S C O) (h : History C) (n from b : ℕ) (log : List C) : Type 0 where
   pub ballot : Given
   pub is_of : IsOf h b ballot

@@ -20,7 +20,7 @@ use Rattle.agreement.proofs.Frame.Quiet.{before_quiet, quiet_keeps}
 use Rattle.agreement.proofs.Frame.Roles.{role_installing}
 use Rattle.agreement.proofs.Changing.OtherMembers.{in_others, others_in}
 
--- where nobody lacks the log, every member told the base
+-- if nobody lacks the log, every member acknowledged the base
 pub all_installed : {S C O : Type 0} (w : World S C O) (h : History C) (n : ℕ) (r : ReplicaState S C) (i : IsInstalling w h n r) →
     r.lacking ≡ [] → (g : Given) × (h.given r.joined ≡ Some g) × ((m : ℕ) → In m g.members → Told w h m r.joined (length i.line.base))
 all_installed w h n r i none =

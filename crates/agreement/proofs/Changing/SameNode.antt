@@ -1,4 +1,4 @@
--- SameNode.antt: a node that stays as it is, in a world that went on.
+-- SameNode.antt: a node that stays as it is, in a world that continued.
 use Rattle.std.proofs.Common.{ℕ, ◌⊎◌, inl, inr, List, length, refl, arith}
 use Rattle.whole.specs.Messages.{Effect}
 use Rattle.whole.specs.Replica.{ReplicaState}
@@ -11,7 +11,7 @@ use Rattle.agreement.proofs.Frame.Later.{told_kept, applied_kept}
 use Rattle.agreement.proofs.Frame.SaysLater.{of_kept}
 use Rattle.agreement.proofs.Frame.Telling.{told_placed, told_in_log}
 
--- a node that tells more and stays as it was
+-- a node that acknowledges more and stays as it was
 pub same_node : {S C O : Type 0} (w : World S C O) (h : History C) (n : ℕ) (r : ReplicaState S C) (given : List (Effect C O)) →
     Moves w h h.line n r r given → IsWithin w h → IsSoundNode w h n r → IsSoundNode (moved w n r given) (with_lines h h.line) n r
 same_node {S = S} {C = C} {O = O} w h n r given q within s =

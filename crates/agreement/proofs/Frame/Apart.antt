@@ -1,4 +1,5 @@
--- Apart.antt: the places that a commit gives come behind those of lower ballots and before those of higher ones.
+-- Apart.antt: the places that a commit gives come after those of lower ballots and before those of
+-- higher ones.
 use Rattle.std.proofs.Common.{◌≡◌, ℕ, ◌<◌, ◌≤◌, ◌⊎◌, inl, inr, length, Some, arith}
 use Rattle.std.proofs.lemmas.Bool.{cases_lt}
 use Rattle.std.proofs.lemmas.List.{length-take-le}

@@ -10,7 +10,7 @@ use Rattle.lists.proofs.Beginnings.{prefix_then, take_prefix}
 pub one_line : {C : Type 0} (o : Option (Line C)) (l m : Line C) → o ≡ Some l → o ≡ Some m → l ≡ m
 one_line o l m e f = cc
 
--- what is chosen was told by each member
+-- what is chosen was acknowledged by each member
 pub chosen_told : {S C O : Type 0} (w : World S C O) (h : History C) (b k : ℕ) (g : Given) (m : ℕ) → IsChosenIn w h b k →
     h.given b ≡ Some g → In m g.members → Told w h m b k
 chosen_told w h b k g m chosen given member =

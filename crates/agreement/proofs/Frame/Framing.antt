@@ -13,7 +13,7 @@ use Rattle.lists.proofs.Beginnings.{prefix_length}
 use Rattle.lists.proofs.Places.{get_set, get_set_other}
 use Rattle.lists.proofs.Members.{in_left}
 
--- what is told of a ballot with a list lies within it
+-- what is acknowledged of a ballot with a list lies within it
 pub within_of : {S C O : Type 0} (rules : Rules S C O) (w : World S C O) (h : History C) → IsSound rules w h → IsWithin w h
 within_of {S = S} {C = C} rules w h s m b k l e t = by_line (s.within m b k t)
   where
@@ -21,7 +21,7 @@ within_of {S = S} {C = C} rules w h s m b k l e t = by_line (s.within m b k t)
     by_line (inl zero) = omega (arith, zero)
     by_line (inr (y, f, below)) = let same : y ≡ l = cc in subst (λ (z : Line C). k ≤ length z.list) same below
 
--- the node at a place behind a move
+-- the node at a place after a move
 pub get_moved : {X : Type 0} (xs : List X) (n m : ℕ) (old new r : X) → slice_get xs n ≡ Some old → slice_get xs m ≡ Some r →
     ((m ≡ n) × (r ≡ old) × (slice_get (set xs n new) m ≡ Some new))
     ⊎ ((m ≡ n → ⊥) × (slice_get (set xs n new) m ≡ Some r))
@@ -63,7 +63,7 @@ move_extends {S = S} {C = C} {O = O} w h line n old new given q =
         let f : Some r ≡ Some old = sym e ∙ ap (slice_get w.nodes) same ∙ q.stands in let g : r ≡ old = cc in
         let j = ap (λ (x : ReplicaState S C). x.joined) g in let low = l.low in inr (omega (arith, j, low))
 
--- what is told stays within the lists
+-- what is acknowledged stays within the lists
 pub move_within : {S C O : Type 0} (w : World S C O) (h : History C) (line : ℕ → Option (Line C)) (n : ℕ)
     (old new : ReplicaState S C) (given : List (Effect C O)) → Moves w h line n old new given →
     ((m b k : ℕ) → Told w h m b k → (k ≡ 0) ⊎ ((l : Line C) × (h.line b ≡ Some l) × (k ≤ length l.list))) →

@@ -1,4 +1,5 @@
--- Giving.antt: what left, behind a move of an active primary that gives the outputs of newly chosen places.
+-- Giving.antt: what left, after a move of an active primary that gives the outputs of newly chosen
+-- places.
 use Rattle.std.proofs.Common.{◌≡◌, ℕ, zero, suc, ◌+◌, ◌<◌, ◌≤◌, ◌⊎◌, inl, inr, List, [], ◌∷◌, ◌++◌, length, set, take, drop, Some, Option, refl, ap, sym, ◌∙◌, subst, arith}
 use Rattle.std.specs.Prelude.{slice_get}
 use Rattle.std.specs.List.{flat_map}

@@ -1,4 +1,4 @@
--- Going.antt: going on is nothing, or one step behind another.
+-- Going.antt: going on is nothing, or one step after another.
 use Rattle.std.proofs.Common.{◌≡◌, ℕ, ◌+◌, ◌≤◌, ◌⊎◌, inl, inr, Some, refl, ◌∙◌, arith}
 use Rattle.std.specs.Prelude.{slice_get}
 use Rattle.machine.specs.Machine.{Rules}

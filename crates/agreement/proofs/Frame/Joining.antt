@@ -1,4 +1,5 @@
--- Joining.antt: a move of one node that tells nothing: what is told, the nodes, and that the world extends.
+-- Joining.antt: a move of one node that says nothing: what is acknowledged, the nodes, and that the
+-- world extends.
 use Rattle.std.proofs.Common.{◌≡◌, ℕ, ◌+◌, ◌≤◌, ◌⊎◌, inl, inr, List, [], length, set, Some, refl, ap, sym, ◌∙◌, arith}
 use Rattle.std.specs.Prelude.{slice_get}
 use Rattle.std.proofs.lemmas.Bool.{cases_eq}
@@ -15,17 +16,17 @@ use Rattle.lists.proofs.Places.{get_set, get_set_other}
 use Rattle.lists.proofs.Members.{in_left, in_append}
 use Rattle.agreement.proofs.Frame.Later.{told_kept, applied_kept}
 
--- a body that tells nothing
+-- a body that says nothing
 abbrev pub IsSilent : {C : Type 0} → Body C → Type 0
 IsSilent (Held b k) = ⊥
 IsSilent (Installed b k) = ⊥
 IsSilent _ = Unit {0}
 
--- messages that tell nothing
+-- messages that say nothing
 abbrev pub AreSilent : {C : Type 0} → List (ℕ × Message C) → Type 0
 AreSilent {C} sent = (to : ℕ) (m : Message C) → In (to, m) sent → IsSilent m.body
 
--- a move by which a node went back to no lower ballot, and told nothing
+-- a move by which a node went back to no lower ballot, and acknowledged nothing
 pub record MovesQuietly {S C O : Type 0} (w : World S C O) (n : ℕ) (old new : ReplicaState S C) (given : List (Effect C O)) : Type 0 where
   pub stands : slice_get w.nodes n ≡ Some old
   pub rises : old.joined ≤ new.joined
@@ -33,7 +34,7 @@ pub record MovesQuietly {S C O : Type 0} (w : World S C O) (n : ℕ) (old new : 
   pub dumb : outputs given ≡ []
   pub committed : old.committed ≤ new.committed
 
--- what is told behind such a move was told before
+-- what is acknowledged after such a move was acknowledged before
 pub told_back : {S C O : Type 0} (w : World S C O) (h : History C) (n : ℕ) (old new : ReplicaState S C) (given : List (Effect C O)) →
     MovesQuietly w n old new given → (m b k : ℕ) → Told (moved w n new given) h m b k → Told w h m b k
 told_back w h n old new given q m b k (told_at_opening g one none is member) = told_at_opening g one none is member
@@ -53,7 +54,7 @@ told_back {S = S} {C = C} w h n old new given q m b k (told_by_installed receive
     by_sent (inr i) = absurd (q.silent receiver _ i)
 told_back w h n old new given q m b k (told_as_primary g l is primary lined below) = told_as_primary g l is primary lined below
 
--- the nodes behind a move
+-- the nodes after a move
 pub node_at : {S C O : Type 0} (w : World S C O) (n : ℕ) (old new : ReplicaState S C) (given : List (Effect C O)) → slice_get w.nodes n ≡ Some old →
     (m : ℕ) (r : ReplicaState S C) → slice_get w.nodes m ≡ Some r →
     (s : ReplicaState S C) × (slice_get (set w.nodes n new) m ≡ Some s) × ((r ≡ s) ⊎ ((r ≡ old) × (s ≡ new)))

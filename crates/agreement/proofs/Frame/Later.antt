@@ -1,4 +1,4 @@
--- Later.antt: what is told, sealed and chosen stays so in a later world.
+-- Later.antt: what is acknowledged, sealed and chosen stays so in a later world.
 use Rattle.std.proofs.Common.{◌≡◌, ℕ, zero, suc, ◌++◌, ◌+◌, ◌≤◌, ◌⊎◌, inl, inr, List, [], ◌∷◌, take, refl, ap, sym, ◌∙◌, subst, arith}
 use Rattle.whole.specs.Replica.{ReplicaState}
 use Rattle.agreement.specs.World.{World}
@@ -8,7 +8,7 @@ use Rattle.agreement.specs.Inside.Ballots.Applied.{nothing, in_ballot}
 use Rattle.agreement.specs.Inside.Ballots.Told.{told_at_opening, told_by_held, told_by_installed, told_as_primary}
 use Rattle.lists.proofs.Beginnings.{prefix_then, prefix_length, take_prefix}
 
--- beginnings of a list and of one that it begins
+-- prefixes of a list and of one that it begins
 pub takes : {X : Type 0} (k : ℕ) {xs ys : List X} → IsPrefixOf xs ys → IsPrefixOf (take k xs) (take k ys)
 takes {X = X} zero p = record { rest = []; is = refl }
 takes {X = X} (suc k) {xs = []} {ys = ys} p = record { rest = take (suc k) ys; is = refl }
@@ -18,7 +18,7 @@ takes {X = X} (suc k) {xs = x ∷ xs} {ys = y ∷ ys} p =
     let q = takes k {xs = xs} {ys = ys} (record { rest = p.rest; is = b }) in
     record { rest = q.rest; is = ap (λ z. z ∷ take k ys) a ∙ ap (λ us. x ∷ us) q.is }
 
--- what was told stays so
+-- what was acknowledged stays so
 pub told_kept : {S C O : Type 0} (w v : World S C O) (h i : History C) (m b k : ℕ) → Extends w h v i →
     Told w h m b k → Told v i m b k
 told_kept w v h i m b k x (told_at_opening g one none given member) = told_at_opening g one none (x.given 1 g given) member

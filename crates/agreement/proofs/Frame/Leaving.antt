@@ -1,4 +1,4 @@
--- Leaving.antt: what left is kept by a move that gives no output.
+-- Leaving.antt: what left is kept by a move that has no output.
 use Rattle.std.proofs.Common.{◌≡◌, ℕ, ◌<◌, ◌≤◌, ◌⊎◌, inl, inr, List, [], ◌++◌, length, set, take, Some, Option, ap, sym, ◌∙◌, arith}
 use Rattle.std.specs.Prelude.{slice_get}
 use Rattle.std.proofs.lemmas.Bool.{cases_eq}
@@ -17,7 +17,7 @@ use Rattle.lists.proofs.Places.{get_set, get_set_other}
 use Rattle.agreement.proofs.Frame.Later.{chosen_kept, takes}
 use Rattle.agreement.proofs.Frame.Framing.{move_extends}
 
--- what was chosen before is within any list that has all that is chosen behind the move
+-- what was chosen before is within any list that has all that is chosen after the move
 pub bounds_back : {S C O : Type 0} (w : World S C O) (h : History C) (v : World S C O) (i : History C) (agreed : List C) →
     Extends w h v i → ((b : ℕ) → In b h.activated → In b i.activated) →
     ((b k : ℕ) (l : Line C) → In b i.activated → i.line b ≡ Some l → IsChosenIn v i b k → IsPrefixOf (take k l.list) agreed) →

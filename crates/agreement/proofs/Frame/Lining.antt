@@ -31,7 +31,7 @@ lined_cases {C = C} b k line x l e = by_ballot (cases_eq x b)
         let g : k ≡ l = cc in inl (same, g)
     by_ballot (inr ne) = inr (ne, sym (lined_other b k line x ne) ∙ e)
 
--- a silent body tells nothing
+-- a silent body says nothing
 pub silent_within : {S C : Type 0} (line : ℕ → Option (Line C)) (old new : ReplicaState S C) (body : Body C) → IsSilent body →
     TellsWithin line old new body
 silent_within line old new (NewBallot b m a am) s = tt

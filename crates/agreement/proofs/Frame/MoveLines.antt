@@ -1,4 +1,5 @@
--- MoveLines.antt: a move keeps the rows on lists, and what is newly told is told by the node that moved.
+-- MoveLines.antt: a move keeps the rows on lists, and what is newly acknowledged is acknowledged by
+-- the node that moved.
 use Rattle.std.proofs.Common.{◌≡◌, ℕ, ◌+◌, ◌<◌, ◌⊎◌, inl, inr, List, length, Some, Option, sym, subst}
 use Rattle.whole.specs.Messages.{Effect}
 use Rattle.whole.specs.Replica.{ReplicaState}
@@ -73,7 +74,7 @@ move_lines {S = S} {C = C} {O = O} w h line n old new given q within s =
     still b k (grows l e same more active) = inl active
     still b k (begins g none same given t p) = inr same
 
--- what is newly told behind a move is told by the node that moved
+-- what is newly acknowledged after a move is acknowledged by the node that moved
 pub tells_here : {S C O : Type 0} (w : World S C O) (h : History C) (line : ℕ → Option (Line C)) (n : ℕ)
     (old new : ReplicaState S C) (given : List (Effect C O)) → Moves w h line n old new given → (m b k : ℕ) →
     Told (moved w n new given) (with_lines h line) m b k → Told w h m b k ⊎ TellsHere (moved w n new given) m b k

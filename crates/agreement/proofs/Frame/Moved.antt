@@ -1,4 +1,5 @@
--- Moved.antt: a move of one node keeps a world sound, where the node, its messages and its outputs are so.
+-- Moved.antt: a move of one node keeps a world sound, if the node, its messages and its outputs are
+-- so.
 use Rattle.std.proofs.Common.{◌≡◌, ℕ, ◌⊎◌, inl, inr, List, [], ◌∷◌, set, Some, Option, ap, sym, ◌∙◌, subst}
 use Rattle.std.specs.Prelude.{slice_get}
 use Rattle.std.proofs.lemmas.Bool.{cases_eq}

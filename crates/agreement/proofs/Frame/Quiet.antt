@@ -1,4 +1,5 @@
--- Quiet.antt: steps that tell nothing and give no output, steps that do nothing, and a node that stops.
+-- Quiet.antt: steps that say nothing and give no output, steps that do nothing, and a node that
+-- stops.
 use Rattle.std.proofs.Common.{inl, ◌≡◌, ℕ, ◌≤◌, List, [], Some, refl, sym, ◌∙◌, subst, arith}
 use Rattle.std.specs.Prelude.{slice_get}
 use Rattle.machine.specs.Machine.{Rules}
@@ -18,13 +19,13 @@ use Rattle.agreement.proofs.Frame.Framing.{within_of}
 use Rattle.agreement.proofs.Frame.Joining.{told_back, AreSilent, MovesQuietly, quiet_extends, quiet_node}
 use Rattle.agreement.proofs.Frame.QuietWorlds.{quiet_sound}
 
--- the node of a quiet step before it, seen in the world behind it
+-- the node of a quiet step before it, seen in the world after it
 pub before_quiet : {S C O : Type 0} (rules : Rules S C O) (w : World S C O) (h : History C) (n : ℕ) (old new : ReplicaState S C)
     (given : List (Effect C O)) → IsSound rules w h → MovesQuietly w n old new given → IsSoundNode (moved w n new given) h n old
 before_quiet rules w h n old new given s q =
     quiet_node w h n old new given q (within_of rules w h s) n old (s.nodes n old q.stands)
 
--- a step that tells nothing and gives no output
+-- a step that says nothing and has no output
 pub quiet_keeps : {S C O : Type 0} (rules : Rules S C O) (w : World S C O) (h : History C) (n : ℕ) (old : ReplicaState S C) (o : Outcome S C O) →
     IsSound rules w h → slice_get w.nodes n ≡ Some old → old.joined ≤ o.state.joined → old.committed ≤ o.state.committed →
     AreSilent (messages o.effects) → outputs o.effects ≡ [] →

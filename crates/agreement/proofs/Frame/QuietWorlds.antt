@@ -1,4 +1,4 @@
--- QuietWorlds.antt: a move of one node that tells nothing keeps a world sound.
+-- QuietWorlds.antt: a move of one node that says nothing keeps a world sound.
 use Rattle.std.proofs.Common.{◌≡◌, ℕ, ◌+◌, ◌≤◌, ◌⊎◌, inl, inr, List, ◌++◌, length, set, Some, ap, sym, ◌∙◌, subst, arith}
 use Rattle.std.specs.Prelude.{slice_get}
 use Rattle.std.proofs.lemmas.Bool.{cases_eq}
@@ -17,7 +17,7 @@ use Rattle.agreement.proofs.Frame.Later.{chosen_kept, sealed_kept}
 use Rattle.agreement.proofs.Frame.SaysLater.{says_kept}
 use Rattle.agreement.proofs.Frame.Joining.{MovesQuietly, told_back, quiet_extends, quiet_node}
 
--- the rows on lists behind such a move
+-- the rows on lists after such a move
 pub quiet_lines : {S C O : Type 0} (w : World S C O) (h : History C) (n : ℕ) (old new : ReplicaState S C) (given : List (Effect C O)) →
     MovesQuietly w n old new given → IsWithin w h → AreLines w h → AreLines (moved w n new given) h
 quiet_lines w h n old new given q within s =
@@ -32,7 +32,8 @@ quiet_lines w h n old new given q within s =
           (t.0, t.1, chosen_kept w (moved w n new given) h h b (length t.0.base) x t.2);
     }
 
--- a move that tells nothing keeps a world sound, where the node is as it should be and its messages are so
+-- a move that says nothing keeps a world sound, if the node is as it should be and its messages are
+-- so
 pub quiet_sound : {S C O : Type 0} (rules : Rules S C O) (w : World S C O) (h : History C) (n : ℕ) (old new : ReplicaState S C)
     (given : List (Effect C O)) → IsSound rules w h → IsWithin w h → MovesQuietly w n old new given →
     IsSoundNode (moved w n new given) h n new →

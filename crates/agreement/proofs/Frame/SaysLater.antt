@@ -79,7 +79,7 @@ says_kept w v h i to from (Held b held) x active within (g, given, s, p, (l, lin
 says_kept w v h i to from (Commit b held) x active within (g, given, s, p, j, chosen) =
     (g, x.given b g given, s, p, active b j, chosen_kept w v h i b held x chosen)
 
--- who has told more has told less
+-- a node that has acknowledged more has acknowledged less
 pub told_less : {S C O : Type 0} (w : World S C O) (h : History C) (m b k j : ℕ) → j ≤ k → Told w h m b k → Told w h m b j
 told_less w h m b k j less (told_at_opening g one none given member) = told_at_opening g one (omega (arith, none, less)) given member
 told_less w h m b k j less (told_by_held receiver held i below) = told_by_held receiver held i (omega (arith, less, below))

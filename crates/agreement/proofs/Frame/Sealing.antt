@@ -1,4 +1,4 @@
--- Sealing.antt: who joins a ballot seals what it told before.
+-- Sealing.antt: a node that joins a ballot seals what it acknowledged before.
 use Rattle.std.proofs.Common.{◌≡◌, ℕ, ◌+◌, ◌<◌, ◌≤◌, ◌⊎◌, inl, inr, List, length, Some, ap, sym, ◌∙◌, subst, arith}
 use Rattle.std.specs.Prelude.{slice_get}
 use Rattle.std.proofs.lemmas.Bool.{cases_lt}
@@ -81,7 +81,7 @@ joined_seals {S = S} {C = C} {O = O} w h ballots lines n r stands placed b g a g
             sealed_wider w h g.previous l.base r.log
             (lines.sealed b g l given later (ap h.line (sym same) ∙ lined)) base
 
--- and its log is one that the new primary may be told
+-- and its log is one that may be sent to the new primary
 pub joined_offers : {S C O : Type 0} (w : World S C O) (h : History C) → AreBallots h → AreLines w h →
     (n : ℕ) (r : ReplicaState S C) → IsPlaced w h n r →
     (b : ℕ) (g a : Given) → h.given b ≡ Some g → 0 < g.previous → h.given g.previous ≡ Some a →

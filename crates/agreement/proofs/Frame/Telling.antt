@@ -1,4 +1,5 @@
--- Telling.antt: what is told behind a move was told before, or the node that moved told it in a ballot that it had not left.
+-- Telling.antt: what is acknowledged after a move was acknowledged before, or the node that moved
+-- acknowledged it in a ballot that it had not left.
 use Rattle.std.proofs.Common.{◌≡◌, ℕ, ◌+◌, ◌<◌, ◌≤◌, ◌⊎◌, inl, inr, List, length, Some, Option, refl, sym, ◌∙◌, subst, arith}
 use Rattle.std.specs.Prelude.{slice_get}
 use Rattle.std.proofs.lemmas.Bool.{cases_eq}
@@ -14,7 +15,7 @@ use Rattle.agreement.specs.Inside.Moves.LineGoesOn.{stays}
 use Rattle.lists.proofs.Members.{in_append}
 use Rattle.lists.proofs.Beginnings.{prefix_same}
 
--- a body tells what the node may tell now
+-- a body says what the node may tell now
 abbrev pub TellsWithin : {S C : Type 0} → (ℕ → Option (Line C)) → ReplicaState S C → ReplicaState S C → Body C → Type 0
 TellsWithin line old new (Held b held) = TellsNow line old new b held
 TellsWithin line old new (Installed b held) = TellsNow line old new b held
@@ -34,7 +35,7 @@ tells_less line old new b k j less t =
       within = omega (arith, within, less);
     }
 
--- what is told behind a move
+-- what is acknowledged after a move
 pub tells_of : {S C O : Type 0} (w : World S C O) (h : History C) (line : ℕ → Option (Line C)) (n : ℕ) (old new : ReplicaState S C)
     (given : List (Effect C O)) →
     ((b : ℕ) (g : Given) → h.given b ≡ Some g → (g.primary ≡ n + 1 → ⊥) → line b ≡ h.line b) →
@@ -89,7 +90,8 @@ same_moves w h n old new given stands rises committed now =
       tells = tells_of w h h.line n old new given (λ b g e ne. refl) (λ b l e. inl e) now;
     }
 
--- where a node that moved stands: what it told is of no higher ballot, and no longer than its log
+-- the place of a node that moved: what it acknowledged is in no higher ballot, and no longer than
+-- its log
 pub told_placed : {S C O : Type 0} (w : World S C O) (h : History C) (line : ℕ → Option (Line C)) (n : ℕ) (old new : ReplicaState S C)
     (given : List (Effect C O)) → Moves w h line n old new given → IsPlaced w h n old → old.held_in ≤ new.held_in →
     (b k : ℕ) → Told (moved w n new given) (with_lines h line) (n + 1) b k → b ≤ new.held_in

@@ -14,7 +14,7 @@ use Rattle.agreement.specs.World.{outputs}
 use Rattle.agreement.proofs.Effects.{outputs-append, outputs_of_messages}
 use Rattle.agreement.proofs.Given.Places.{none_between}
 
--- what a commit behind other messages leaves and gives
+-- what a commit after other messages leaves and gives
 pub record CommitGives {S C O : Type 0} (rules : Rules S C O) (r : ReplicaState S C) (o : Outcome S C O) : Type 0 where
   pub role : o.state.role ≡ r.role
   pub log : o.state.log ≡ r.log

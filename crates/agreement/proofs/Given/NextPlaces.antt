@@ -123,7 +123,7 @@ group_step_gives {S = S} {C = C} {O = O} rules m w k v step n old new stood stan
     by_step (assignment_lost config) there = still there [] refl
     by_step (answer_lost from b sent) there = still there [] refl
 
--- in the words of the law
+-- in the terms of the law
 pub answers_at_the_next_places : {S C O : Type 0} (rules : Rules S C O) → AnswersAtTheNextPlaces rules
 answers_at_the_next_places rules config a b past xs came agreed step n old new stood stands =
     let q = past_known rules config a past came in

@@ -16,7 +16,7 @@ pub none_between : {S C O : Type 0} (rules : Rules S C O) (xs : List C) (place :
 none_between {S = S} {C = C} {O = O} rules xs place =
     ap (λ us. outputs {C = C} {O = O} (outputs_from rules (replay rules (take place xs)) place us)) (part_none xs place)
 
--- those up to a place and those behind it
+-- those up to a place and those after it
 pub between_joins : {S C O : Type 0} (rules : Rules S C O) (xs : List C) (from mid to : ℕ) → from ≤ mid → mid ≤ to → mid ≤ length xs →
     outputs (outputs_between rules xs from mid) ++ outputs (outputs_between rules xs mid to) ≡ outputs (outputs_between rules xs from to)
 between_joins {S = S} {C = C} {O = O} rules xs from mid to low high within =

@@ -1,4 +1,4 @@
--- RowsGive.antt: each row between ballots, and each tick, gives no output and applies nothing.
+-- RowsGive.antt: each row between ballots, and each tick, has no output and applies nothing.
 use Rattle.std.proofs.Common.{◌≡◌, ℕ, ◌⊎◌, inl, inr, true, false, List, [], ◌∷◌, ◌++◌, length, refl, ap, ◌∙◌}
 use Rattle.std.specs.Prelude.{nat_lt, nat_le, ◌&&◌, ◌||◌, ◌==◌}
 use Rattle.std.specs.List.{list_any}

@@ -114,7 +114,7 @@ gave_between {S = S} {C = C} {O = O} rules config a past came n ballot old stood
           ∙ ap (λ k. given_of n came ++ outputs (outputs_between rules xs old.committed k)) (sym e),
     )
 
--- in the words of the law
+-- in the terms of the law
 pub answers_while_it_leads : {S C O : Type 0} (rules : Rules S C O) → AnswersWhileItLeads rules
 answers_while_it_leads rules config a b past later xs came more agreed n ballot leads old new stood stands =
     let g = gave_between rules config a past came n ballot old stood b later xs more agreed leads new stands in

@@ -1,4 +1,4 @@
--- Applies.antt: whatever a step does, its machine goes on by the places that it newly applies.
+-- Applies.antt: whatever a step does, its machine continues by the places that it newly applies.
 use Rattle.std.proofs.Common.{◌≡◌, ℕ, ◌+◌, ◌<◌, ◌≤◌, ◌⊎◌, inl, inr, List, [], ◌∷◌, ◌++◌, length, take, drop, refl, ap, sym, ◌∙◌, subst, arith}
 use Rattle.std.proofs.lemmas.Bool.{cases_lt}
 use Rattle.std.proofs.lemmas.List.{take-take, take-append-drop, take-append-le, drop-append-le, length-take-le}
@@ -10,7 +10,7 @@ use Rattle.whole.specs.Serving.{added, least, commit_at}
 use Rattle.whole.proofs.AppliesInOrder.{part_none, replay_from-append}
 use Rattle.whole.proofs.StepRows.{commit_at-stays, commit_at-goes, added-is}
 
--- a replica behind a step has applied no less, and its machine has done the places that are new
+-- a replica after a step has applied no less, and its machine has done the places that are new
 pub record Applies {S C O : Type 0} (rules : Rules S C O) (old new : ReplicaState S C) : Type 0 where
   pub up : old.committed ≤ new.committed
   pub machine : new.machine ≡ replay_from rules old.machine (drop old.committed (take new.committed new.log))
@@ -54,7 +54,7 @@ added_applies {S = S} {C = C} {O = O} rules r c =
     subst (λ (o : Outcome S C O). Applies rules r o.state) (sym (added-is rules r c))
     (commit_applies rules r (record r { log = r.log ++ c ∷ [] }) (least (length (r.log ++ c ∷ [])) r.progress) refl refl)
 
--- the places from one length to a third are those up to a second, and those behind it
+-- the places from one length to a third are those up to a second, and those after it
 pub parts_join : {C : Type 0} (log : List C) (from mid to : ℕ) → from ≤ mid → mid ≤ to → mid ≤ length log →
     drop from (take to log) ≡ drop from (take mid log) ++ drop mid (take to log)
 parts_join log from mid to low high within =

@@ -37,7 +37,7 @@ chosen_either {S = S} {C = C} rules w h b d k j l m s x y e f c g = by_order (ca
         prefix_either (take k l.list) (take j m.list) m.list
         (subst (λ (u : Line C). IsPrefixOf (take k l.list) u.list) one (prefix_take k l.list)) (prefix_take j m.list)
 
--- two beginnings of one list, the shorter first
+-- two prefixes of one list, the shorter first
 pub front_of_longer : {X : Type 0} (xs ys zs : List X) → IsPrefixOf xs zs → IsPrefixOf ys zs → length xs ≤ length ys → IsPrefixOf xs ys
 front_of_longer {X = X} xs ys zs p q short =
     subst (λ (us : List X). IsPrefixOf us ys) (sym (take_prefix (length xs) q short) ∙ sym (whole (length xs) xs zs p refl))
@@ -72,7 +72,8 @@ applied_same {S = S} {C = C} rules w h r q s (in_ballot c k l i up e chosen fron
     by_longer (inr p) =
         front_of_longer (take r.committed r.log) (take q.committed q.log) (take k l.list) front (prefix_then begins p) short
 
--- what a node applied stays in its log behind each of its moves, so its machine stays the replay of its applied places
+-- what a node applied stays in its log after each of its moves, so its machine stays the replay of
+-- its applied places
 pub applied_stays : {S C O : Type 0} (rules : Rules S C O) (w v : World S C O) (h : History C) (n : ℕ) (old new : ReplicaState S C)
     (adds : ℕ → C → Type 0) → IsSound rules w h → (g : NodeGoesOn rules w h adds v) → slice_get w.nodes n ≡ Some old →
     slice_get v.nodes n ≡ Some new → old.committed ≤ new.committed → take old.committed new.log ≡ take old.committed old.log

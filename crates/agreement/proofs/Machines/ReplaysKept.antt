@@ -18,7 +18,8 @@ use Rattle.agreement.proofs.Machines.Applies.{Applies}
 use Rattle.agreement.proofs.Machines.Comparing.{applied_stays}
 use Rattle.agreement.proofs.Machines.StepApplies.{step_applies}
 
--- a node that goes on by the places that are new is a replay still: what it applied before stays in its log
+-- a node that continues by the places that are new is a replay still: what it applied before stays
+-- in its log
 replay_kept : {S C O : Type 0} (rules : Rules S C O) (w : World S C O) (h : History C) (n : ℕ) (old new : ReplicaState S C)
     (given : List (Effect C O)) (adds : ℕ → C → Type 0) → IsSound rules w h → NodeGoesOn rules w h adds (moved w n new given) →
     slice_get w.nodes n ≡ Some old → Applies rules old new → IsReplay rules old → IsReplay rules new

@@ -1,4 +1,4 @@
--- Assigned.antt: what is to be shown of the master behind an Assign or an Activate.
+-- Assigned.antt: what is to be shown of the master after an Assign or an Activate.
 use Rattle.std.proofs.Common.{◌≡◌, ℕ, ◌≤◌, ◌⊎◌, inl, inr, List, ◌∷◌, Some, Option, refl, ap, sym, ◌∙◌, arith}
 use Rattle.std.proofs.lemmas.Bool.{cases_eq, eq-eqb, ne_eqb}
 use Rattle.machine.specs.Machine.{Rules}
@@ -47,17 +47,17 @@ GivenNow h k i =
 abbrev pub ActivatedNow : {C : Type 0} → History C → MasterState → History C → Type 0
 ActivatedNow h k i = (b : ℕ) → In b i.activated → In b h.activated ⊎ (k.active ≡ b)
 
--- the master has given a ballot, and tells its primary
+-- the master has given a ballot, and sends it to its primary
 pub record Assigned {S C O : Type 0} (rules : Rules S C O) (m : MasterState) (w : World S C O) (h : History C) (o : MasterOutcome C) : Type 0 where
   pub goes_on : GoesOn rules w h (tells_from_master w o)
   pub master : IsMaster o.state goes_on.history
   -- no list of a ballot changes
   pub lists : goes_on.history.line ≡ h.line
-  -- and the same where its message is lost
+  -- and the same if its message is lost
   pub lost : GoesOn rules w h w
   pub lost_master : IsMaster o.state lost.history
   pub lost_lists : lost.history.line ≡ h.line
-  -- nothing more is told, and what is given or activated anew stands in the master's fields
+  -- nothing more is acknowledged, and what is given or activated again is in the master's fields
   pub told : ToldBack w h (tells_from_master w o) goes_on.history
   pub gives : GivenNow h o.state goes_on.history
   pub activates : ActivatedNow h o.state goes_on.history

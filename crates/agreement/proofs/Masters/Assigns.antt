@@ -13,7 +13,7 @@ use Rattle.agreement.specs.Inside.Masters.{AreNodes, IsServing}
 use Rattle.agreement.specs.MasterState.AssignRefusal.{bad_members, ballots_spent}
 use Rattle.agreement.proofs.LawfulConfigs.{lawful_config, any_in}
 
--- what holds of all holds of each
+-- what holds for all holds for each
 all_in : (nodes : ℕ) (members : List ℕ) (m : ℕ) → list_all (λ member. nat_le member nodes) members ≡ true → In m members → m ≤ nodes
 all_in nodes [] m all i = elim i [ ]
 all_in nodes (x ∷ members) m all here = leb-true m nodes (and_parts (nat_le m nodes) (list_all (λ member. nat_le member nodes) members) all).0

@@ -1,4 +1,4 @@
--- MasterMoves.antt: a world behind a message of the master, or one that was lost.
+-- MasterMoves.antt: a world after a message of the master, or one that was lost.
 use Rattle.std.proofs.Common.{◌≡◌, ℕ, ◌<◌, List, [], ◌∷◌, length, Some, Option, subst}
 use Rattle.std.proofs.lemmas.List.{append-nil}
 use Rattle.machine.specs.Machine.{Rules}
@@ -36,7 +36,7 @@ master_goes_on {S = S} {C = C} rules w h o given activated s silent more positiv
     by_says to m here = says
     by_says to m (there i) = elim i [ ]
 
--- and the same where it is lost
+-- and the same if it is lost
 pub master_lost : {S C O : Type 0} (rules : Rules S C O) (w : World S C O) (h : History C)
     (given : ℕ → Option Given) (activated : List ℕ) → IsSound rules w h →
     ((c : ℕ) (g : Given) → h.given c ≡ Some g → given c ≡ Some g) →

@@ -36,7 +36,7 @@ chain_has_one h [] c = absurd c
 chain_has_one h (b ∷ []) c = subst (λ x. In 1 (x ∷ [])) (sym c) here
 chain_has_one h (b ∷ (p ∷ older)) c = there (chain_has_one h (p ∷ older) c.1)
 
--- nothing more is told
+-- nothing more is acknowledged
 abbrev pub ToldBack : {S C O : Type 0} → World S C O → History C → World S C O → History C → Type 0
 ToldBack w h v i = (m b k : ℕ) → Told v i m b k → Told w h m b k
 

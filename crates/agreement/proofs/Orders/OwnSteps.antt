@@ -1,4 +1,5 @@
--- OwnSteps.antt: each step of a node keeps the order of proposals, of which it adds at most its own; and so it stands in each log.
+-- OwnSteps.antt: each step of a node keeps the order of proposals, of which it adds at most its
+-- own; and so it is in each log.
 use Rattle.std.proofs.Common.{◌≡◌, ℕ, ◌<◌, ◌≤◌, ◌⊎◌, inl, inr, Bool, List, [], ◌∷◌, ◌++◌, Some, None, Option, refl, ap, sym, ◌∙◌, subst, arith}
 use Rattle.std.specs.Prelude.{slice_get, filter}
 use Rattle.std.proofs.lemmas.Bool.{cases_lt}
@@ -21,7 +22,7 @@ use Rattle.lists.proofs.Beginnings.{prefix_then}
 use Rattle.agreement.proofs.Orders.Owning.{own_starts, own_proposed}
 use Rattle.agreement.proofs.Frame.Bases.{one_line}
 
--- the proposals behind a step of a node: those before, or one more
+-- the proposals after a step of a node: those before, or one more
 pub record OwnGoesOn {C : Type 0} (start_of : ℕ → C) (h : History C) (rows adds : List (ℕ × C)) : Type 0 where
   pub later : List (ℕ × C)
   pub way : (later ≡ rows) ⊎ (later ≡ rows ++ adds)
@@ -90,7 +91,8 @@ own_goes_on rules w v h r Ticks rows g s =
     same_rows rules.start_of g.history rows []
     (own_starts rules.start_of (λ b x. ⊥) h g.history rows (λ b x z. absurd z) (still_lined rules w v h _ g) g.added s)
 
--- what clients need of it: in each log the commands of one ballot are a beginning of those proposed in it
+-- what clients need of it: in each log the commands of one ballot are a prefix of those proposed in
+-- it
 pub own_in_logs : {S C O : Type 0} (rules : Rules S C O) (w : World S C O) (h : History C) (rows : List (ℕ × C)) → IsSound rules w h →
     OwnLines rules.start_of h rows → (n : ℕ) (r : ReplicaState S C) → slice_get w.nodes n ≡ Some r → (names : C → Bool) (ballot : ℕ) →
     IsOfBallot rules.start_of names ballot rows → IsPrefixOf (filter names r.log) (filter names (commands_of rows))

@@ -1,4 +1,4 @@
--- OwnedAnyway.antt: where a list took a proposal, the order holds of the rows with it.
+-- OwnedAnyway.antt: where a list took a proposal, the order holds for the rows with it.
 use Rattle.std.proofs.Common.{◌≡◌, ℕ, ◌⊎◌, inl, inr, Bool, true, false, List, [], ◌∷◌, ◌++◌, length, Some, ap, sym, ◌∙◌, subst, arith}
 use Rattle.std.specs.Prelude.{filter}
 use Rattle.std.proofs.lemmas.Bool.{cases_Bool}
@@ -11,8 +11,8 @@ use Rattle.agreement.specs.Inside.Own.{OwnLines}
 use Rattle.lists.proofs.Members.{in_left, in_right, in_append}
 use Rattle.agreement.proofs.Orders.NamesInLists.{filter_none, filter_one, commands_more}
 
--- where the list of its ballot took a proposal, that is the last of the rows: if the order held of those before alone, then no test
--- could name it
+-- if the list of its ballot took a proposal, that is the last of the rows: if the order held of
+-- those before alone, then no test could name it
 pub own_anyway : {C : Type 0} (start_of : ℕ → C) (h i : History C) (rows : List (ℕ × C)) (p : ℕ) (c : C) (l k : Line C) →
     h.line p ≡ Some l → i.line p ≡ Some k → k.list ≡ l.list ++ c ∷ [] → OwnLines start_of h rows → OwnLines start_of i rows →
     OwnLines start_of i (rows ++ (p, c) ∷ [])

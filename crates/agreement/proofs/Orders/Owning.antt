@@ -16,7 +16,7 @@ use Rattle.agreement.proofs.Frame.EqualLists.{prefix_of_same}
 use Rattle.agreement.proofs.Frame.Bases.{one_line}
 use Rattle.agreement.proofs.Orders.NamesInLists.{filter_prefix, filter_none, filter_one, commands_more, none_named, prefix_none}
 
--- a list that begins behind the earlier ballot's
+-- a list that begins after the earlier ballot's
 begins_own : {C : Type 0} (names : C → Bool) (rows : List (ℕ × C)) (b ballot : ℕ) (k p : Line C) → IsPrefixOf k.list p.list →
     IsPrefixOf (filter names p.list) (filter names (commands_of rows)) →
     (b ≡ ballot → (row : ℕ × C) → In row rows → names row.1 ≡ true → ⊥) →

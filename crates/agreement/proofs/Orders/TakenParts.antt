@@ -1,4 +1,4 @@
--- TakenParts.antt: what was taken are some of the proposals, in their order.
+-- TakenParts.antt: what was taken are some of the proposals, in order.
 use Rattle.std.proofs.Common.{ℕ, ◌⊎◌, inl, inr, Bool, true, false, cond, List, [], ◌∷◌, ◌++◌, length}
 use Rattle.std.specs.Prelude.{nat_lt, ◌==◌}
 use Rattle.machine.specs.Machine.{Rules}
@@ -14,7 +14,7 @@ use Rattle.agreement.specs.Steps.{MayHappen}
 use Rattle.agreement.specs.Steps.MayHappen.{node_takes, node_stops, master_assigns, master_hears, assignment_lost, answer_lost}
 use Rattle.agreement.specs.World.{World}
 
--- a list is a part of itself with more behind it, and parts join
+-- a list is a part of itself with more after it, and parts join
 part_none : {X : Type 0} (ys : List X) → IsPartOf [] ys
 part_none [] = nothing_left
 part_none (y ∷ ys) = without_one (part_none ys)

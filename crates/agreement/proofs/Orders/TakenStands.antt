@@ -1,4 +1,4 @@
--- TakenStands.antt: what is taken stands at once at the end of a log, and what is not changes none.
+-- TakenStands.antt: what is taken is at once at the end of a log, and what is not changes none.
 use Rattle.std.proofs.Common.{◌≡◌, ℕ, ◌⊎◌, inl, inr, false, cond, List, [], ◌∷◌, ◌++◌, length, set, Some, refl, ap, sym, ◌∙◌, subst}
 use Rattle.std.specs.Prelude.{slice_get, nat_lt, ◌==◌}
 use Rattle.std.proofs.lemmas.Bool.{cases_eq, eq-eqb, ne_eqb}
@@ -32,7 +32,7 @@ same_logs {S = S} {C = C} w n m r new stands same = by_place (cases_eq m n)
         ∙ sym (ap log_of stands) ∙ ap (λ k. log_of (slice_get w.nodes k)) (sym e)
     by_place (inr other) = ap log_of (get_set_other w.nodes n m new other)
 
--- what is taken stands at once
+-- what is taken is at once
 stands_at_once : {S C O : Type 0} (rules : Rules S C O) (w : World S C O) (n : ℕ) (r : ReplicaState S C) (c : C) (new : ReplicaState S C)
     (given : List (Effect C O)) → slice_get w.nodes n ≡ Some r → r.stopped ≡ false → Went rules r c new given →
     (row : ℕ × C) → In row (taken_by r new (Proposes c)) → IsTaken w (moved w n new given) n row
@@ -122,7 +122,7 @@ stays_then rules m w k v (master_hears from b sent) nothing row i x = elim i [ ]
 stays_then rules m w k v (assignment_lost config) nothing row i x = elim i [ ]
 stays_then rules m w k v (answer_lost from b sent) nothing row i x = elim i [ ]
 
--- in the words of the law
+-- in the terms of the law
 pub taken_stand_at_once : {S C O : Type 0} (rules : Rules S C O) → TakenStandAtOnce rules
 taken_stand_at_once rules m w k v step =
     record {

@@ -1,4 +1,5 @@
--- Learning.antt: a node that learns places which were applied at an earlier moment keeps all that holds of a group.
+-- Learning.antt: a node that learns places which were applied at an earlier moment keeps all that
+-- holds for a group.
 use Rattle.std.proofs.Common.{inl, ◌≡◌, ℕ, ◌≤◌, false, List, [], length, take, Some, refl, ap, sym, ◌∙◌, subst, arith}
 use Rattle.std.specs.Prelude.{slice_get}
 use Rattle.std.proofs.lemmas.List.{length-set, take-take}
@@ -92,7 +93,7 @@ keeps_learned {S = S} {C = C} {O = O} rules w h n r t k s stands passive up with
         by_way (in_ballot c j l i low e chosen front) =
             in_ballot c j l i low e (chosen_kept w (moved w n new given) h h c j (quiet_extends w h n r new given q) chosen) front
 
--- so the group goes on
+-- so the group continues
 pub learned_goes_on : {S C O : Type 0} (rules : Rules S C O) (m : MasterState) (w : World S C O) (h : History C) (n : ℕ) (r t : ReplicaState S C) (k : ℕ) →
     Serves rules m w h → slice_get w.nodes n ≡ Some r → r.stopped ≡ false → is_active r.role ≡ false → r.committed ≤ k → k ≤ length r.log →
     Teaches w h r t k → StepGoesOn rules w h m (moved w n (applied_to rules r k) []) []

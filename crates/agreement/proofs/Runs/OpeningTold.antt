@@ -1,4 +1,4 @@
--- OpeningTold.antt: at the opening ballot 1 alone is given, and nothing is told.
+-- OpeningTold.antt: at the opening ballot 1 alone is given, and nothing is acknowledged.
 use Rattle.std.proofs.Common.{◌≡◌, ℕ, Bool, true, false, cond, List, [], ◌∷◌, length, Some, None, refl, ap, sym, ◌∙◌, subst, arith}
 use Rattle.std.specs.Prelude.{◌==◌, ◌||◌}
 use Rattle.std.specs.List.{list_any}
@@ -39,7 +39,7 @@ first_lined C config b l e = by_ballot (b == 1) refl e
     by_ballot true f e = (eqb-true b 1 f, (let same : first_line C ≡ l = cc in same))
     by_ballot false f e = cc
 
--- the members have told nothing of ballot 1, and no more is told
+-- the members have acknowledged nothing of ballot 1, and no more is acknowledged
 pub told_opens : {S C O : Type 0} (rules : Rules S C O) (nodes : ℕ) (config : Config) → In config.primary config.members → (m b k : ℕ) →
     Told (opening_world rules nodes config) (opening_history C config) m b k → (b ≡ 1) × (k ≡ 0) × In m config.members
 told_opens {C = C} rules nodes config led m b k (told_at_opening g one none is member) =

@@ -1,4 +1,5 @@
--- RunsGoOn.antt: every run of a sound group keeps it sound: its history goes on, its machines are replays, its ballots begin with their starts.
+-- RunsGoOn.antt: every run of a sound group keeps it sound: its history continues, its machines are
+-- replays, its ballots begin with their starts.
 use Rattle.std.proofs.Common.{List, ◌≡◌, ◌⊎◌, ℕ, inl, subst, [], Option, refl, ap, sym, ◌∙◌}
 use Rattle.machine.specs.Machine.{Rules}
 use Rattle.whole.specs.Config.{Config}
@@ -31,7 +32,8 @@ use Rattle.agreement.proofs.Frame.Quiet.{keeps_halted}
 use Rattle.agreement.proofs.Machines.ReplaysKept.{replays_moved, step_replays}
 use Rattle.agreement.proofs.Runs.Steps.{GroupGoesOn, by_history, by_master, by_lost}
 
--- a group goes on soundly, its machines are replays, and its ballots still begin with their starts
+-- a group continues soundly, its machines are replays, and its ballots still begin with their
+-- starts
 pub record RunGoesOn {S C O : Type 0} (rules : Rules S C O) (w : World S C O) (h : History C) (m : MasterState) (v : World S C O)
     (adds : List (ℕ × C)) : Type 0 where
   pub group : GroupGoesOn rules w h m v adds
@@ -39,7 +41,7 @@ pub record RunGoesOn {S C O : Type 0} (rules : Rules S C O) (w : World S C O) (h
   pub replays : AreReplays rules v
   pub begun : AreBegun rules.start_of h → AreBegun rules.start_of group.goes_on.history
 
--- one step, with what is newly told, given and activated in it
+-- one step, with what is newly acknowledged, given and activated in it
 pub record StepGoesOn {S C O : Type 0} (rules : Rules S C O) (w : World S C O) (h : History C) (m : MasterState) (v : World S C O)
     (adds : List (ℕ × C)) : Type 0 where
   pub run : RunGoesOn rules w h m v adds
@@ -54,7 +56,7 @@ may_add adds more h b k (as_it_was e) = as_it_was e
 may_add adds more h b k (begins_behind g p e unlined before front) = begins_behind g p e unlined before front
 may_add adds more h b k (adds_one l c e same a) = adds_one l c e same a.0
 
--- behind a move of a node that adds so
+-- after a move of a node that adds so
 abbrev node_may : {S C O : Type 0} (rules : Rules S C O) (w v : World S C O) (h : History C) (adds more : ℕ → C → Type 0) →
     NodeGoesOn rules w h (λ x c. adds x c × more x c) v → NodeGoesOn rules w h adds v
 node_may rules w v h adds more g =

@@ -23,13 +23,13 @@ use Rattle.agreement.proofs.Effects.{thinned_messages}
 use Rattle.agreement.proofs.Masters.Assigns.{active_or_waiting}
 use Rattle.agreement.proofs.Runs.Senders.{from_in, step_is_from}
 
--- what is found stands within the list
+-- what is found is within the list
 found_low : {X : Type 0} (xs : List X) (n : ℕ) (x : X) → slice_get xs n ≡ Some x → n < length xs
 found_low [] n x e = cc
 found_low (y ∷ xs) zero x e = omega arith
 found_low (y ∷ xs) (suc n) x e = let z = found_low xs n x e in omega (arith, z)
 
--- behind a step with losses each message is still from the node
+-- after a step with losses each message is still from the node
 loses_from : {S C O : Type 0} (rules : Rules S C O) (r : ReplicaState S C) (input : Input C) (new : ReplicaState S C) (given : List (Effect C O)) →
     Loses rules r (replica_step rules r input) new given → (to : ℕ) (m : Message C) → In (to, m) (messages given) → m.from ≡ r.id
 loses_from rules r input new given (inl (e, thinned)) to m i =

@@ -1,4 +1,5 @@
--- Steps.antt: a node's step as what it may add, and what a group is behind a move of a node or of its master.
+-- Steps.antt: a node's step as what it may add, and what a group is after a move of a node or of
+-- its master.
 use Rattle.std.proofs.Common.{[], inl, ◌≡◌, ℕ, ◌+◌, List, Some, Option, refl, ap, sym, ◌∙◌, subst}
 use Rattle.std.specs.Prelude.{slice_get}
 use Rattle.machine.specs.Machine.{Rules}
@@ -63,7 +64,7 @@ keeps_step rules w h n r (Proposes c) s e ran i = keeps_proposed rules w h n r c
 keeps_step rules w h n r Ticks s e ran i =
     keeps_tick rules w h n r s e (λ a. keeps_tick_active rules w h n r s e a) r.role refl
 
--- a group goes on soundly
+-- a group continues soundly
 pub record GroupGoesOn {S C O : Type 0} (rules : Rules S C O) (w : World S C O) (h : History C) (m : MasterState) (v : World S C O)
     (adds : List (ℕ × C)) : Type 0 where
   pub goes_on : GoesOn rules w h v
@@ -76,7 +77,7 @@ pub master_same : {C : Type 0} (m : MasterState) (h : History C) (line : ℕ →
 master_same m h line k =
     record { older = k.older; newest = k.newest; active_members = k.active_members; numbered = k.numbered; waits = k.waits }
 
--- behind a move of a node
+-- after a move of a node
 abbrev pub by_history : {S C O : Type 0} (rules : Rules S C O) (w v : World S C O) (h : History C) (m : MasterState) (adds : ℕ → C → Type 0) (news : List (ℕ × C)) →
     IsMaster m h → (g : NodeGoesOn rules w h adds v) →
     ((rows : List (ℕ × C)) → OwnLines rules.start_of h rows → OwnGoesOn rules.start_of g.history rows news) → GroupGoesOn rules w h m v news
@@ -87,7 +88,7 @@ by_history {S = S} {C = C} rules w v h m adds news k g own =
       own = own;
     }
 
--- behind a message of the master
+-- after a message of the master
 abbrev pub by_master : {S C O : Type 0} (rules : Rules S C O) (w : World S C O) (h : History C) (m : MasterState) (o : MasterOutcome C) →
     Assigned rules m w h o → GroupGoesOn rules w h o.state (tells_from_master w o) []
 by_master {S = S} {C = C} rules w h m o a =
@@ -103,7 +104,7 @@ by_master {S = S} {C = C} rules w h m o a =
       };
     }
 
--- and where it is lost
+-- and if it is lost
 abbrev pub by_lost : {S C O : Type 0} (rules : Rules S C O) (w : World S C O) (h : History C) (m : MasterState) (o : MasterOutcome C) →
     Assigned rules m w h o → GroupGoesOn rules w h o.state w []
 by_lost {S = S} {C = C} rules w h m o a =

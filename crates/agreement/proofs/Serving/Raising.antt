@@ -1,4 +1,4 @@
--- Raising.antt: progress that is raised is told.
+-- Raising.antt: progress that is raised is acknowledged.
 use Rattle.std.proofs.Common.{◌≡◌, ℕ, ◌<◌, ◌≤◌, ◌⊎◌, inl, inr, cond, max, List, [], ◌∷◌, refl, ap, sym, subst, arith}
 use Rattle.std.proofs.lemmas.Bool.{cases_eq, cases_lt, eq-eqb, ne_eqb}
 use Rattle.whole.specs.Progress.{Progress}
@@ -22,7 +22,7 @@ raised_in member held [] reached i = elim i [ ]
 raised_in member held (m ∷ progress) reached here = here
 raised_in member held (m ∷ progress) reached (there i) = there (raised_in member held progress reached i)
 
--- a raised progress is no lower, and told
+-- a raised progress is no lower, and acknowledged
 pub raised_told : {S C O : Type 0} (w : World S C O) (h : History C) (from b held : ℕ) (before : Progress) → Told w h from b held →
     Told w h before.member b before.held →
     (before.held ≤ (raised_progress from held before).held) × Told w h before.member b (raised_progress from held before).held

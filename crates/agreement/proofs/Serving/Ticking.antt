@@ -24,7 +24,7 @@ use Rattle.agreement.proofs.Changing.InstalledCounts.{all_installed}
 use Rattle.agreement.proofs.Changing.NewBallots.{said_to_each, outputs_to_each}
 use Rattle.agreement.proofs.Frame.Quiet.{before_quiet, quiet_keeps, keeps_nothing}
 
--- a step that changes no node, whose messages are so already and tell nothing
+-- a step that changes no node, whose messages are so already and say nothing
 pub speaking_keeps : {S C O : Type 0} (rules : Rules S C O) (w : World S C O) (h : History C) (n : ℕ) (r : ReplicaState S C)
     (effects : List (Effect C O)) → IsSound rules w h → slice_get w.nodes n ≡ Some r → AreSilent (messages effects) →
     outputs effects ≡ [] → ((to : ℕ) (m : Message C) → In (to, m) (messages effects) → Says w h to m.from m.body) →

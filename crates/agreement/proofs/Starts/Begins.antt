@@ -25,7 +25,7 @@ use Rattle.agreement.proofs.Frame.Roles.{role_active}
 use Rattle.agreement.proofs.Frame.Bases.{one_line}
 use Rattle.agreement.proofs.Runs.Steps.{keeps_step}
 
--- the lists behind a step
+-- the lists after a step
 pub begun_lines : {S C O : Type 0} (rules : Rules S C O) (w v : World S C O) (h : History C) (adds : ℕ → C → Type 0) →
     ((b : ℕ) (c : C) → adds b c → BeginsOrFollows rules.start_of h b c) → IsSound rules w h → (g : NodeGoesOn rules w h adds v) →
     AreBegun rules.start_of h → AreBegun rules.start_of g.history

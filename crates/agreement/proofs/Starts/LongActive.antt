@@ -19,7 +19,7 @@ use Rattle.agreement.proofs.Frame.Bases.{one_line}
 use Rattle.agreement.proofs.Starts.StaysActive.{StaysActive}
 use Rattle.agreement.proofs.Starts.StepActive.{Begins, step_begins}
 
--- a node behind a step with losses
+-- a node after a step with losses
 pub loses_begins : {S C O : Type 0} (rules : Rules S C O) (r : ReplicaState S C) (input : Input C) (new : ReplicaState S C) (given : List (Effect C O)) →
     Loses rules r (replica_step rules r input) new given →
     StaysActive {O = O} r (record { state = new; effects = [] }) ⊎ Begins {O = O} r (record { state = new; effects = [] })
@@ -38,7 +38,7 @@ loses_begins {S = S} {C = C} rules r input new given (inr (inr (e, f))) =
 pub long_same : {S C O : Type 0} (w : World S C O) (h i : History C) → i.line ≡ h.line → AreLong w h → AreLong w i
 long_same {S = S} {C = C} w h i e long = subst (λ (line : ℕ → Option (Line C)). AreLong w (record h { line = line })) (sym e) long
 
--- behind a move of a node
+-- after a move of a node
 pub long_moved : {S C O : Type 0} (rules : Rules S C O) (w v : World S C O) (h : History C) (adds : ℕ → C → Type 0) (n : ℕ) (old new : ReplicaState S C)
     (given : List (Effect C O)) → IsSound rules w h → slice_get w.nodes n ≡ Some old → (g : NodeGoesOn rules w h adds v) → AreLong w h →
     v ≡ moved w n new given →

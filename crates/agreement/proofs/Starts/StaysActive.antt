@@ -1,4 +1,5 @@
--- StaysActive.antt: only an Activated makes a node active: behind any other step an active node was so before, in the same ballot.
+-- StaysActive.antt: only an Activated makes a node active: after any other step an active node was
+-- active before, in the same ballot.
 use Rattle.std.proofs.Common.{◌≡◌, ℕ, ◌⊎◌, inl, inr, true, false, List, [], ◌∷◌, ◌++◌, length, refl, ap, sym, ◌∙◌}
 use Rattle.std.specs.Prelude.{nat_lt, nat_le, ◌&&◌, ◌||◌, ◌==◌}
 use Rattle.std.specs.List.{list_any}
@@ -11,7 +12,7 @@ use Rattle.whole.specs.Changing.{on_new_ballot, on_join, on_install, on_supersed
 use Rattle.whole.specs.Serving.{on_append, on_held, on_commit, commit, commit_at, added, least, raised, follows, leads}
 use Rattle.whole.proofs.StepRows.{added-is}
 
--- a node that is active behind a step was so before, in the same ballot
+-- a node that is active after a step was active before, in the same ballot
 abbrev pub StaysActive : {S C O : Type 0} → ReplicaState S C → Outcome S C O → Type 0
 StaysActive r o = o.state.role ≡ Active → (r.role ≡ Active) × (o.state.joined ≡ r.joined)
 

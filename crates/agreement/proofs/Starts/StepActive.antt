@@ -1,4 +1,5 @@
--- StepActive.antt: behind a step a node that is active was so before, or has just put the start of its ballot behind the log that it installed.
+-- StepActive.antt: after a step a node that is active was active before, or has just put the start
+-- of its ballot after the log that it installed.
 use Rattle.std.proofs.Common.{◌≡◌, ℕ, ◌<◌, ◌≤◌, ◌⊎◌, inl, inr, true, false, [], ◌∷◌, ◌++◌, length, refl, ap, sym, ◌∙◌, subst}
 use Rattle.std.specs.Prelude.{nat_lt, nat_le, ◌&&◌, ◌==◌}
 use Rattle.std.proofs.lemmas.Bool.{cases_Bool, cases_lt, and_parts}

@@ -1,4 +1,4 @@
--- Ballots.antt: what is said of several ballots.
+-- Ballots.antt: what is said about several ballots.
 use Rattle.std.specs.Prelude.{ℕ, ◌+◌, ◌<◌, ◌≤◌, ◌≡◌, ◌⊎◌, List, [], ◌∷◌, length, take, slice_get, Option, Some}
 use Rattle.whole.specs.Messages.{Message}
 use Rattle.whole.specs.Messages.Body.{Held, Installed}
@@ -23,7 +23,7 @@ pub record History (C : Type 0) : Type 0 where
   pub activated : List ℕ
   pub line : ℕ → Option (Line C)
 
--- node m has told the first k places of the ballot's list
+-- node m has acknowledged the first k places of the ballot's list
 pub data Told {S C O : Type 0} (w : World S C O) (h : History C) (m b k : ℕ) : Type 0 where
   told_at_opening : (g : Given) → b ≡ 1 → k ≡ 0 → h.given 1 ≡ Some g → In m g.members →
       Told w h m b k
@@ -34,7 +34,7 @@ pub data Told {S C O : Type 0} (w : World S C O) (h : History C) (m b k : ℕ) :
   told_as_primary : (g : Given) (l : Line C) → h.given b ≡ Some g → g.primary ≡ m →
       h.line b ≡ Some l → k ≤ length l.list → Told w h m b k
 
--- a node tells of the ballot in which it holds its log, and no more than its log has
+-- a node acknowledges in the ballot in which it holds its log, and no more than its log has
 pub record TellsHere {S C O : Type 0} (v : World S C O) (m b k : ℕ) : Type 0 where
   pub node : ℕ
   pub replica : ReplicaState S C
@@ -43,12 +43,13 @@ pub record TellsHere {S C O : Type 0} (v : World S C O) (m b k : ℕ) : Type 0 w
   pub held : b ≡ replica.held_in
   pub short : k ≤ length replica.log
 
--- every member of the ballot has told k places
+-- every member of the ballot has acknowledged k places
 abbrev pub IsChosenIn : {S C O : Type 0} → World S C O → History C → ℕ → ℕ → Type 0
 IsChosenIn w h b k = (g : Given) × (h.given b ≡ Some g) × ((m : ℕ) → In m g.members →
     Told w h m b k)
 
--- some member has left the ballot for good, and all that it told there begins the list
+-- some member has left the ballot for good, and all that it acknowledged there is a prefix of the
+-- list
 pub record Sealed {S C O : Type 0} (w : World S C O) (h : History C) (b : ℕ)
     (xs : List C) : Type 0 where
   pub node : ℕ
@@ -113,9 +114,8 @@ pub data Applied {S C O : Type 0} (w : World S C O) (h : History C)
   in_ballot : (b k : ℕ) (l : Line C) → In b h.activated → b ≤ r.joined → h.line b ≡ Some l →
       IsChosenIn w h b k → IsPrefixOf (take r.committed r.log) (take k l.list) → Applied w h r
 
--- a later world: what was given and told stays, nobody goes back to a lower ballot, and nobody
--- tells in a
--- ballot that it has left
+-- a later world: what was output and acknowledged stays, no node goes back to a lower ballot, and
+-- none acknowledges in a ballot that it has left
 pub record Extends {S C O : Type 0} (w : World S C O) (h : History C) (v : World S C O)
     (i : History C) : Type 0 where
   pub sent : (x : ℕ × Message C) → In x w.sent → In x v.sent
@@ -124,12 +124,12 @@ pub record Extends {S C O : Type 0} (w : World S C O) (h : History C) (v : World
   pub given : (b : ℕ) (g : Given) → h.given b ≡ Some g → i.given b ≡ Some g
   pub lines : (b : ℕ) (l : Line C) → h.line b ≡ Some l →
       (k : Line C) × (i.line b ≡ Some k) × (k.base ≡ l.base) × IsPrefixOf l.list k.list
-  -- who tells more in a ballot has not left it
+  -- a node that acknowledges more in a ballot has not left it
   pub told : (n b k : ℕ) (r : ReplicaState S C) → slice_get w.nodes n ≡ Some r →
       Told v i (n + 1) b k →
       Told w h (n + 1) b k ⊎ (r.joined ≤ b)
 
--- what is told lies within the ballot's list
+-- what is acknowledged lies within the ballot's list
 abbrev pub IsWithin : {S C O : Type 0} → World S C O → History C → Type 0
 IsWithin {S = S} {C = C} w h = (m b k : ℕ) (l : Line C) → h.line b ≡ Some l → Told w h m b k →
     k ≤ length l.list

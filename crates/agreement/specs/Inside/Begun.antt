@@ -5,14 +5,14 @@ use Rattle.whole.specs.Replica.{ReplicaState}
 use Rattle.agreement.specs.World.{World}
 use Rattle.agreement.specs.Inside.Ballots.{Line, History}
 
--- a ballot's list is its base, or has the ballot's start behind it; the first ballot has none
+-- a ballot's list is its base, or has the ballot's start after it; the first ballot has none
 abbrev pub AreBegun : {C : Type 0} → (ℕ → C) → History C → Type 0
 AreBegun {C = C} start_of h =
     (b : ℕ) (l : Line C) → h.line b ≡ Some l →
     (b ≡ 1) ⊎ ((l.list ≡ l.base) ⊎ (slice_get l.list (length l.base) ≡ Some (start_of b)))
 
--- what may be added to a ballot's list: its start, or anything where the list is longer than its
--- base or the ballot is the first
+-- what may be added to a ballot's list: its start, or anything if the list is longer than its base
+-- or the ballot is the first
 abbrev pub BeginsOrFollows : {C : Type 0} → (ℕ → C) → History C → ℕ → C → Type 0
 BeginsOrFollows {C = C} start_of h b c =
     (c ≡ start_of b) ⊎ ((l : Line C) → h.line b ≡ Some l → l.list ≡ l.base → b ≡ 1)

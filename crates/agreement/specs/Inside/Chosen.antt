@@ -15,7 +15,7 @@ pub record ChosenList {S C O : Type 0} (w : World S C O) (h : History C)
   pub chosen : IsChosenIn w h ballot places
   pub is : xs ≡ take places line.list
 
--- the longest list that is chosen in an activated ballot, or none where there is none
+-- the longest list that is chosen in an activated ballot, or none if there is none
 pub record IsAgreedIn {S C O : Type 0} (w : World S C O) (h : History C)
     (xs : List C) : Type 0 where
   pub chosen : (xs ≡ []) ⊎ ChosenList w h xs

@@ -1,4 +1,4 @@
--- GroupSteps.antt: what may happen in a group, where an Assign is not refused.
+-- GroupSteps.antt: what may happen in a group, if an Assign is not refused.
 use Rattle.std.specs.Prelude.{ℕ, ◌≡◌, false, List, [], slice_get, Some}
 use Rattle.machine.specs.Machine.{Rules}
 use Rattle.whole.specs.Config.{Config}
@@ -14,15 +14,15 @@ use Rattle.lists.specs.Lists.{In}
 use Rattle.agreement.specs.MasterState.{MasterState, assigned, activated}
 use Rattle.agreement.specs.Steps.{tells_from_master, MayTake}
 
--- what a step may add to the list of a ballot: a proposal to that of its primary, and else the
+-- what a step may add to the list of a ballot: a proposal to that of its primary, and otherwise the
 -- start of the ballot
 abbrev pub AddsBy : {S C O : Type 0} → Rules S C O → ReplicaState S C → Input C → ℕ → C → Type 0
 AddsBy rules r (Receives message) b c = c ≡ rules.start_of b
 AddsBy rules r (Proposes command) b c = (b ≡ r.joined) × (c ≡ command)
 AddsBy rules r Ticks b c = ⊥
 
--- what may happen in a group: a node takes its step, perhaps with losses, or stops; the master
--- assigns or hears an Activate
+-- what may happen in a group: a node takes its step, perhaps with losses, or stops; the master does
+-- an Assign or receives an Activate
 pub data GroupStep {S C O : Type 0} (rules : Rules S C O) : MasterState → World S C O →
     MasterState → World S C O → Type 0 where
   takes : {m : MasterState} {w : World S C O} (n : ℕ) (r : ReplicaState S C)
@@ -41,7 +41,7 @@ pub data GroupStep {S C O : Type 0} (rules : Rules S C O) : MasterState → Worl
       In (0, record { from = from; body = Activate b }) w.sent →
       GroupStep rules m w (activated C m b from m.waiting).state (tells_from_master w
       (activated C m b from m.waiting))
-  -- the same where the master's message is lost
+  -- the same if the master's message is lost
   assigns_unheard : {m : MasterState} {w : World S C O} (config : Config) →
       In config.primary config.members →
       GroupStep rules m w (assigned C m config).state w
@@ -49,7 +49,7 @@ pub data GroupStep {S C O : Type 0} (rules : Rules S C O) : MasterState → Worl
       In (0, record { from = from; body = Activate b }) w.sent →
       GroupStep rules m w (activated C m b from m.waiting).state w
 
--- the proposal that a step takes in
+-- the proposal of a step
 abbrev pub adds_of : {S C O : Type 0} {rules : Rules S C O} {m : MasterState}
     {w : World S C O} {k : MasterState} {v : World S C O} → GroupStep rules m w k v → List (ℕ × C)
 adds_of (takes n r input stands runs may loses) = proposal_by r input

@@ -1,4 +1,4 @@
--- Keeps.antt: a world goes on soundly, and so it does behind an outcome of a node, with messages
+-- Keeps.antt: a world continues soundly, and so it does after an outcome of a node, with messages
 -- missing or not.
 use Rattle.agreement.specs.Inside.Moves.{with_lines}
 use Rattle.std.specs.Prelude.{◌⊎◌, ℕ, ◌≡◌, List, [], ◌∷◌, ◌++◌, Some, None}
@@ -11,7 +11,7 @@ use Rattle.lists.specs.Lists.{In, IsPrefixOf}
 use Rattle.agreement.specs.Inside.Ballots.{Told, TellsHere, Given, Line, History, Extends}
 use Rattle.agreement.specs.Inside.Sound.{IsSound}
 
--- a later world is sound, with a history that goes on from the one before
+-- a later world is sound, with a history that continues from the one before
 pub record GoesOn {S C O : Type 0} (rules : Rules S C O) (w : World S C O) (h : History C)
     (v : World S C O) : Type 0 where
   pub history : History C
@@ -30,8 +30,8 @@ pub data LineAdds {C : Type 0} (adds : ℕ → C →
   adds_one : (l : Line C) (c : C) → h.line b ≡ Some l → k.list ≡ l.list ++ c ∷ [] → adds b c →
       LineAdds adds h b k
 
--- the same behind a move of a node: no ballot is given or activated, and lists take only what may
--- be added
+-- the same after a move of a node: no ballot is given or activated, and lists take only what may be
+-- added
 pub record NodeGoesOn {S C O : Type 0} (rules : Rules S C O) (w : World S C O) (h : History C)
     (adds : ℕ → C → Type 0)
     (v : World S C O) : Type 0 where
@@ -41,7 +41,7 @@ pub record NodeGoesOn {S C O : Type 0} (rules : Rules S C O) (w : World S C O) (
   pub sound : IsSound rules v history
   pub ballots : history ≡ with_lines h history.line
   pub added : (b : ℕ) (k : Line C) → history.line b ≡ Some k → LineAdds adds h b k
-  -- what is told was told before, or is told now by a node that holds it
+  -- what is acknowledged was acknowledged before, or is acknowledged now by a node that holds it
   pub tells : (m b k : ℕ) → Told v history m b k → Told w h m b k ⊎ TellsHere v m b k
 
 -- whichever of its messages are lost, the outcome of a node's step is sound, and adds no more than
@@ -52,7 +52,7 @@ KeepsAdding {S = S} {C = C} {O = O} rules w h n adds o =
     (given : List (Effect C O)) → Thinned given o.effects →
     NodeGoesOn rules w h adds (moved w n o.state given)
 
--- and where it adds nothing to any list
+-- and if it adds nothing to any list
 abbrev pub Keeps : {S C O : Type 0} → Rules S C O → World S C O → History C → ℕ → Outcome S C O →
     Type 0
 Keeps rules w h n o = KeepsAdding rules w h n (λ b c. ⊥) o

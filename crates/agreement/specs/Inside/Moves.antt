@@ -1,5 +1,5 @@
--- Moves.antt: what is to be known of a move of one node, so that all that does not name the node is
--- kept.
+-- Moves.antt: what is to be known about a move of one node, so that all that does not name the node
+-- is kept.
 use Rattle.std.specs.Prelude.{ℕ, ◌+◌, ◌≤◌, ◌≡◌, ◌⊎◌, ◌==◌, List, length, slice_get, Option, Some, None, if◌then◌else◌}
 use Rattle.whole.specs.Messages.{Effect}
 use Rattle.whole.specs.Replica.{ReplicaState}
@@ -22,7 +22,7 @@ pub data LineGoesOn {S C O : Type 0} (w : World S C O) (h : History C) (b : ℕ)
       Sealed w h g.previous k.base →
       ((p : Line C) × (h.line g.previous ≡ Some p) × IsPrefixOf k.base p.list) → LineGoesOn w h b k
 
--- a node tells k places of a ballot that it had not left and in which it holds its log
+-- a node acknowledges k places of a ballot that it had not left and in which it holds its log
 pub record TellsNow {S C : Type 0} (line : ℕ →
     Option (Line C)) (old new : ReplicaState S C) (b k : ℕ) : Type 0 where
   pub low : old.joined ≤ b
@@ -32,8 +32,8 @@ pub record TellsNow {S C : Type 0} (line : ℕ →
   pub lined : line b ≡ Some told
   pub within : k ≤ length told.list
 
--- a move of the node at place n: it went back to no lower ballot, and only it told more, in no
--- ballot that it left
+-- a move of the node at place n: it went back to no lower ballot, and only it acknowledged more, in
+-- no ballot that it left
 pub record Moves {S C O : Type 0} (w : World S C O) (h : History C) (line : ℕ →
     Option (Line C)) (n : ℕ)
     (old new : ReplicaState S C) (given : List (Effect C O)) : Type 0 where

@@ -10,7 +10,7 @@ first_ballot config = record { members = config.members; primary = config.primar
 abbrev pub first_line : (C : Type 0) → Line C
 first_line C = record { base = []; list = [] }
 
--- ballot 1 alone is given and activated, and its list is empty
+-- only ballot 1 is given and activated, and its list is empty
 abbrev pub opening_history : (C : Type 0) → Config → History C
 opening_history C config =
     record {

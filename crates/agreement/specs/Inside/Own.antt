@@ -1,12 +1,12 @@
--- Own.antt: the commands that were proposed in one ballot stand in each log in the order of their
+-- Own.antt: the commands that were proposed in one ballot are in each log in the order of their
 -- proposals.
 use Rattle.std.specs.Prelude.{ℕ, Bool, ◌≡◌, List, filter, Some}
 use Rattle.lists.specs.Lists.{In, IsPrefixOf}
 use Rattle.agreement.specs.Proposals.{commands_of, IsOfBallot}
 use Rattle.agreement.specs.Inside.Ballots.{Line, History}
 
--- each ballot's list has of them a beginning of their order of proposing, and that of their own
--- ballot has all
+-- each ballot's list has of them a prefix of their order of proposing, and that of their own ballot
+-- has all
 pub record OwnLines {C : Type 0} (start_of : ℕ → C) (h : History C) (proposals : List (ℕ
     × C)) : Type 0 where
   pub lined : (row : ℕ × C) → In row proposals → (l : Line C) × (h.line row.0 ≡ Some l)

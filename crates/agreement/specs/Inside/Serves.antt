@@ -1,4 +1,4 @@
--- Serves.antt: all that holds of a group at each of its moments, with the history of its ballots.
+-- Serves.antt: all that holds for a group at each of its moments, with the history of its ballots.
 use Rattle.std.specs.Prelude.{ℕ, ◌+◌, ◌<◌, ◌≡◌, ◌⊎◌, length, Some}
 use Rattle.machine.specs.Machine.{Rules}
 use Rattle.agreement.specs.Inside.Masters.{IsServing, IsMaster}
@@ -15,7 +15,7 @@ use Rattle.lists.specs.Lists.{In}
 abbrev pub IsNode : ℕ → ℕ → Type 0
 IsNode nodes x = (n : ℕ) × (x ≡ n + 1) × (n < nodes)
 
--- whoever sends is the master or a node
+-- every sender is the master or a node
 abbrev pub AreSenders : {S C O : Type 0} → World S C O → Type 0
 AreSenders {C = C} w = (to : ℕ) (m : Message C) → In (to, m) w.sent →
     (m.from ≡ 0) ⊎ IsNode (length w.nodes) m.from
@@ -25,7 +25,7 @@ abbrev pub IsLed : {C : Type 0} → ℕ → History C → ℕ → Type 0
 IsLed nodes h b = (g : Given) × (h.given b ≡ Some g) × IsNode nodes g.primary
 
 -- its ballots, messages and nodes are as they should be, the primary of its active ballot is a
--- node, and each ballot's list has its start behind its base
+-- node, and each ballot's list has its start after its base
 pub record Serves {S C O : Type 0} (rules : Rules S C O) (m : MasterState) (w : World S C O)
     (h : History C) : Type 0 where
   pub sound : IsSound rules w h

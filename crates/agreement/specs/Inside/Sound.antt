@@ -24,7 +24,7 @@ pub record IsOf {C : Type 0} (h : History C) (b : ℕ) (g : Given) : Type 0 wher
   pub given : h.given b ≡ Some g
   pub later : 0 < g.previous
 
--- a list that the primary of a ballot may be told to take, or has taken
+-- a list that may be sent to the primary of a ballot to take, or that it has taken
 abbrev pub IsOffered : {C : Type 0} → History C → ℕ → Given → List C → Type 0
 IsOffered {C} h b g xs =
     ((p : Line C) × (h.line g.previous ≡ Some p) × IsPrefixOf xs p.list)
@@ -34,8 +34,8 @@ IsOffered {C} h b g xs =
 abbrev pub IsOther : Given → ℕ → Type 0
 IsOther g m = In m g.members × (m ≡ g.primary → ⊥)
 
--- what a message to a receiver says is so; a rejected ballot is below the active one, or was put
--- out
+-- what a message to a receiver says is true; a rejected ballot is below the active one, or was
+-- superseded
 abbrev pub Says : {S C O : Type 0} → World S C O → History C → ℕ → ℕ → Body C → Type 0
 Says w h to from (NewBallot b members a old_members) =
     (g : Given) × IsOf h b g × (from ≡ 0) × (to ≡ g.primary) × (members ≡ g.members)
@@ -129,7 +129,7 @@ pub record IsSoundNode {S C O : Type 0} (w : World S C O) (h : History C) (n : �
   pub installing : r.role ≡ Installing → IsInstalling w h n r
   pub active : r.role ≡ Active → IsActive w h n r
 
--- what left is the outputs of segments in order, each of what is chosen in its ballot
+-- the outputs that left are those of segments in order, each a part of what is chosen in its ballot
 pub record LeftIs {S C O : Type 0} (rules : Rules S C O) (w : World S C O)
     (h : History C) : Type 0 where
   pub segments : List Segment
@@ -144,7 +144,7 @@ pub record LeftIs {S C O : Type 0} (rules : Rules S C O) (w : World S C O)
       s.past ≤ r.committed
   pub in_order : AreInOrder segments
 
--- what holds of a world
+-- what holds for a world
 pub record IsSound {S C O : Type 0} (rules : Rules S C O) (w : World S C O)
     (h : History C) : Type 0 where
   pub ballots : AreBallots h

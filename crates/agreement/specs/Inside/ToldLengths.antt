@@ -1,12 +1,12 @@
--- ToldLengths.antt: how much of a ballot's list each member told, and the front that all of them
--- told, by the messages that were sent.
+-- ToldLengths.antt: how much of a ballot's list each member acknowledged, and the prefix that all
+-- of them acknowledged, by the messages that were sent.
 use Rattle.std.specs.Prelude.{ℕ, ◌==◌, List, [], ◌∷◌, length, if◌then◌else◌}
 use Rattle.std.proofs.Common.{min, max}
 use Rattle.whole.specs.Messages.{Message, Body}
 use Rattle.whole.specs.Messages.Body.{NewBallot, Join, State, Install, Installed, Activate, Activated, Superseded, Append, Held, Commit}
 use Rattle.agreement.specs.Inside.Ballots.{Given, Line}
 
--- the length that a body tells of a ballot's list
+-- the length that a body acknowledges of a ballot's list
 abbrev pub told_by : {C : Type 0} → ℕ → Body C → ℕ
 told_by b (NewBallot x members a old) = 0
 told_by b (Join x a) = 0
@@ -20,16 +20,16 @@ told_by b (Append x place command) = 0
 told_by b (Held x held) = if x == b then held else 0
 told_by b (Commit x held) = 0
 
--- the length that a message of a member tells
+-- the length that a message of a member acknowledges
 abbrev pub told_in : {C : Type 0} → ℕ → ℕ → Message C → ℕ
 told_in m b message = if message.from == m then told_by b message.body else 0
 
--- the most that a member told among the messages
+-- the greatest length that a member acknowledged in these messages
 abbrev pub most_told : {C : Type 0} → ℕ → ℕ → List (ℕ × Message C) → ℕ
 most_told m b [] = 0
 most_told m b (x ∷ sent) = max (told_in m b x.1) (most_told m b sent)
 
--- the primary told all of its list, another member what it sent
+-- the primary acknowledges all of its list, another member what it sent
 abbrev pub told_length : {C : Type 0} → List (ℕ × Message C) → ℕ → Given → Line C → ℕ → ℕ
 told_length sent b g l m = if m == g.primary then length l.list else most_told m b sent
 
@@ -38,6 +38,6 @@ abbrev pub least_of : ℕ → (ℕ → ℕ) → List ℕ → ℕ
 least_of top f [] = top
 least_of top f (m ∷ members) = min (f m) (least_of top f members)
 
--- the places of a ballot's list that all members told
+-- how many places of a ballot's list all members acknowledged
 abbrev pub chosen_length : {C : Type 0} → List (ℕ × Message C) → ℕ → Given → Line C → ℕ
 chosen_length sent b g l = least_of (length l.list) (told_length sent b g l) g.members

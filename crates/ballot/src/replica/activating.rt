@@ -21,9 +21,9 @@ use machine::{Halted, Machine, Memory};
 use std::mem;
 
 impl<M: Machine> Replica<M> {
-    // The ballot is active: the places of the log are applied, their outputs dropped, and the start
-    // of the ballot is added behind them. Where memory is wanting for the start the message is lost;
-    // where a place cannot be applied the replica stops, and takes back what it did.
+    // Handles Activated: applies the places of the log, drops their outputs, and appends the start
+    // of the ballot. If memory runs out for the start the message is lost; if a place cannot be
+    // applied the replica stops, and undoes what it did.
     pub(super) fn on_activated(
         &mut self,
         ballot: u64,
@@ -53,7 +53,7 @@ impl<M: Machine> Replica<M> {
         }
     }
 
-    // Takes the last place back, for want of memory.
+    // Removes the last place again, because memory ran out.
     fn take_back_start(&mut self)
         requires behind { self.old.state.committed < places self.old.state.log }
         ensures { self.new ≡ record {
@@ -65,8 +65,8 @@ impl<M: Machine> Replica<M> {
         self.losses = counted(self.losses, false);
     }
 
-    // Adds the start of a ballot behind the log, and gives the progress of the other members, which
-    // hold what was there before. On an error nothing has changed.
+    // Appends the start of a ballot to the log, and returns the progress of the other members,
+    // which hold what was there before. On an error nothing has changed.
     fn add_start(&mut self, ballot: u64) -> Result<Vec<Progress>, Memory>
         ensures progress { IfOk result (λ progress. progress.items ≡
             progress_at (places self.old.state.log)
@@ -83,8 +83,8 @@ impl<M: Machine> Replica<M> {
         Ok(progress)
     }
 
-    // Applies all places but the last, and becomes active with this progress of the other members.
-    // The earlier progress is the result. On an error the replica has stopped.
+    // Applies all places except the last, and becomes active with this progress of the other
+    // members. Returns the earlier progress. On an error the replica has stopped.
     fn become_active(&mut self, progress: Vec<Progress>) -> Result<Vec<Progress>, Halted>
         requires running { self.old.state.stopped ≡ false }
         requires behind { self.old.state.committed < places self.old.state.log }
@@ -114,8 +114,8 @@ impl<M: Machine> Replica<M> {
         }
     }
 
-    // A primary that has become active tells the others of the last place, and commits what all
-    // hold. Where it stops, it is again as it was while it handed its log over, with this many places
+    // Sends the last place to the others, as a primary that has become active, and commits what all
+    // hold. If it stops, it is again as it was while it handed its log over, with this many places
     // applied and this progress.
     fn begin(
         &mut self,
@@ -159,9 +159,9 @@ impl<M: Machine> Replica<M> {
         }
     }
 
-    // Sends the last place to the other members, and commits what all hold. Whether all messages
-    // found memory is the result. On an error the replica has stopped, and some outputs may stand
-    // behind `out`.
+    // Sends the last place to the other members, and commits what all hold. Returns whether there
+    // was memory for all messages. On an error the replica has stopped, and some outputs may have
+    // been appended to `out`.
     fn tell_start(&mut self, out: &mut Vec<Effect<M::Command, M::Output>>) -> Result<bool, Halted>
         requires running { self.old.state.stopped ≡ false }
         requires some { 0 < length self.old.state.log.rest }
@@ -197,7 +197,8 @@ impl<M: Machine> Replica<M> {
         Ok(sent & told)
     }
 
-    // Whether an activated ballot begins here: all members hold its log, and there is a place left.
+    // Says whether an activated ballot begins here: all members hold its log, and there is a place
+    // left.
     pub(super) fn may_begin(&self, ballot: u64) -> bool
         ensures { result ≡ ((self.now.state.joined == ballot
             && is_installing self.now.state.role)

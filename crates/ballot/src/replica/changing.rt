@@ -1,4 +1,4 @@
-// What a replica does with the messages by which a log goes over to a new ballot.
+// What a replica does with the messages by which a log is transferred to a new ballot.
 
 ghost use Rattle.std.specs.Prelude.{◌≡◌, ◌≤◌, ◌<◌, ◌&&◌, ◌==◌, Some, true, false, nat_lt, nat_le, if◌then◌else◌};
 ghost use Rattle.std.specs.Bool.{OnTrue, OnFalse};
@@ -14,7 +14,7 @@ use ballot_base::{Body, Effect, Log, Members, Role, counted, others_of, send_joi
 use machine::Machine;
 
 impl<M: Machine> Replica<M> {
-    // A new primary asks the earlier ballot's members for their logs.
+    // Handles NewBallot: a new primary asks the earlier ballot's members for their logs.
     pub(super) fn on_new_ballot(
         &mut self,
         ballot: u64,
@@ -43,7 +43,7 @@ impl<M: Machine> Replica<M> {
         self.losses = counted(self.losses, sent);
     }
 
-    // Whoever joins leaves all lower ballots, and sends its log.
+    // Handles Join: the replica leaves all lower ballots, and sends its log.
     pub(super) fn on_join(
         &mut self,
         from: u8,
@@ -63,7 +63,7 @@ impl<M: Machine> Replica<M> {
         self.losses = counted(self.losses, sent);
     }
 
-    // All ballots below this one are left.
+    // Leaves all ballots below this one.
     fn leave_for(&mut self, ballot: u64)
         ensures { self.new ≡ record self.old {
           state = if nat_lt self.old.state.joined ballot
@@ -77,7 +77,8 @@ impl<M: Machine> Replica<M> {
         }
     }
 
-    // A new primary takes the first log that comes, and hands it to the other members.
+    // Handles State: a new primary takes the first log that comes, and sends it to the other
+    // members.
     pub(super) fn on_state(
         &mut self,
         ballot: u64,
@@ -110,8 +111,8 @@ impl<M: Machine> Replica<M> {
         self.losses = counted(self.losses, sent);
     }
 
-    // A member takes the log of a new ballot once. Later it only answers, since more may have been
-    // added behind it.
+    // Handles Install: a member takes the log of a new ballot once. Later it only answers, since
+    // more may have been appended to it.
     pub(super) fn on_install(
         &mut self,
         from: u8,
@@ -142,9 +143,9 @@ impl<M: Machine> Replica<M> {
         }
     }
 
-    // Takes a log that lacks no applied place. One whose base is over the replica's own replaces the
-    // log once its snapshot is read, before anything is changed; of another the places are taken from
-    // the replica's base on. False where the snapshot stands for no machine, or there was no memory.
+    // Takes a log that lacks no applied place. A log whose base is above the replica's own replaces
+    // the log once its snapshot is read, before anything is changed; of any other log the places
+    // are taken from the replica's base on. False if the snapshot does not thaw, or memory ran out.
     fn take(&mut self, log: Log<M::Command>) -> bool
         requires running { self.old.state.stopped ≡ false }
         requires within { self.old.state.committed ≤ places log }
@@ -167,8 +168,8 @@ impl<M: Machine> Replica<M> {
         }
     }
 
-    // Takes a log with the machine for which its snapshot stands. Where its base is over what is
-    // applied, the replica goes on from that machine.
+    // Takes a log with the machine of its snapshot. If its base is above what is applied, the
+    // replica continues from that machine.
     fn replace_log(&mut self, log: Log<M::Command>, machine: M)
         requires running { self.old.state.stopped ≡ false }
         requires over { self.old.state.log.base < log.base }
@@ -185,7 +186,7 @@ impl<M: Machine> Replica<M> {
         }
     }
 
-    // Whether the log is sent to the primary of a ballot.
+    // Says whether the log is sent to the primary of a ballot.
     pub(super) fn may_join(&self, ballot: u64, previous: u64) -> bool
         ensures { result ≡ (nat_le self.now.state.joined ballot
             && nat_le previous self.now.state.held_in) }
@@ -193,21 +194,21 @@ impl<M: Machine> Replica<M> {
         self.joined <= ballot && previous <= self.held_in
     }
 
-    // Whether a new primary takes a log of this length, which lacks no applied place.
+    // Says whether a new primary takes a log of this length, which lacks no applied place.
     pub(super) fn waits_for(&self, ballot: u64, held: u64) -> bool
         ensures { result ≡ waits_for self.now.state ballot held }
     {
         self.joined == ballot && (self.role.is_fetching() && self.committed <= held)
     }
 
-    // Whether the log is of a ballot that is joined.
+    // Says whether the log belongs to a ballot that is joined.
     pub(super) fn holds(&self, ballot: u64) -> bool
         ensures { result ≡ (self.now.state.joined == ballot && self.now.state.held_in == ballot) }
     {
         self.joined == ballot && self.held_in == ballot
     }
 
-    // Whether a member takes a log of this length, which lacks no applied place.
+    // Says whether a member takes a log of this length, which lacks no applied place.
     pub(super) fn lacks(&self, ballot: u64, held: u64) -> bool
         ensures { result ≡ lacks self.now.state ballot held }
     {

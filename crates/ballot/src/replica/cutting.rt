@@ -1,4 +1,4 @@
-// What a replica does so that its log does not grow for ever.
+// How a replica cuts its log.
 
 ghost use Rattle.std.specs.Prelude.{◌≡◌, ◌≤◌, [], Some, true, false};
 ghost use Rattle.ballot_base.specs.Cutting.{can_cut, cut};
@@ -9,26 +9,26 @@ use ballot_base::counted;
 use machine::Machine;
 
 impl<M: Machine> Replica<M> {
-    /// Returns whether there is something to cut: the replica runs, and has applied places since it last
-    /// cut its log.
+    /// Says whether there is something to cut: the replica runs, and has applied places since it
+    /// last cut its log.
     pub fn can_cut(&self) -> bool
         ensures { result ≡ can_cut self.now.state }
     {
         !self.stopped && self.log.base() < self.committed
     }
 
-    /// Drops the places that are applied, once the machine is frozen in their stead. Its bytes go into a
-    /// vector with room for as many as the last snapshot has, so that it seldom grows. Nothing is sent.
-    /// False where there is nothing to drop, or no memory was found: then nothing is changed, but the
-    /// latter is counted.
+    /// Drops the applied places, once the machine is frozen in their place. Its bytes go into a
+    /// vector with the capacity of the last snapshot, so that it seldom grows. Nothing is sent.
+    /// False if there is nothing to drop, or memory ran out: then nothing is changed, except that
+    /// the latter is counted.
     pub fn cut(&mut self) -> bool
         ensures done { result ≡ true → (can_cut self.old.state ≡ true)
             × (self.new ≡ record self.old { state = cut M.rules self.old.state }) }
-        // What was frozen stands for the machine that is there.
+        // The frozen bytes thaw to the machine.
         ensures thaws { result ≡ true →
             M.rules.thawed (M.rules.frozen self.old.state.machine) ≡ Some self.old.state.machine }
 
-        // Where nothing was dropped.
+        // If nothing was dropped.
         ensures same { result ≡ false → self.new.state ≡ self.old.state }
         ensures tells { result ≡ false → can_cut self.old.state ≡ true →
             self.new.losses ≡ one_more self.old.losses }
@@ -51,7 +51,7 @@ impl<M: Machine> Replica<M> {
         }
     }
 
-    /// The base of the log, and the frozen machine as it is there: no bytes where the base is 0. The
+    /// Returns the base of the log, and the frozen machine at it: no bytes if the base is 0. The
     /// places below it are applied.
     pub fn snapshot(&self) -> (u64, &[u8])
         ensures base { result.0 ≡ self.now.state.log.base }

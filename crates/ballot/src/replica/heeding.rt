@@ -1,4 +1,4 @@
-// Which messages and ticks do something.
+// Which messages and ticks have an effect.
 
 ghost use Rattle.std.specs.Prelude.{◌≡◌, ◌↔◌, ◌||◌, ◌&&◌, false, nat_le, nat_lt};
 ghost use Rattle.ballot_base.specs.Logs.{places};
@@ -14,8 +14,8 @@ use ballot_base::{Body, Message, Progress, Role, least_raised};
 use machine::Machine;
 
 impl<M: Machine> Replica<M> {
-    /// Whether a message would do anything: change the replica, send, or bring a snapshot that has
-    /// to be read.
+    /// Says whether a message would have an effect: change the replica, send something, or bring a
+    /// snapshot that has to be read.
     pub fn heeds(&self, message: &Message<M::Command>) -> bool
         ensures { (result ≡ false) ↔
             ((replica_step M.rules self.now.state (Receives message.now)
@@ -25,7 +25,7 @@ impl<M: Machine> Replica<M> {
         self.is_moved_by(message.from, &message.body)
     }
 
-    // What each kind of message asks to do something.
+    // Says whether a message would have an effect, by its kind.
     fn is_moved_by(&self, from: u8, body: &Body<M::Command>) -> bool
         ensures { result ≡ is_heeded self.now.state from body.now }
     {
@@ -48,7 +48,7 @@ impl<M: Machine> Replica<M> {
         }
     }
 
-    // Whether a primary learns something new of a member, or has something to commit then.
+    // Says whether a primary learns something new of a member, or has something to commit then.
     fn learns(&self, from: u8, held: u64) -> bool
         ensures { result ≡ (rises from held self.now.state.progress
             || nat_lt self.now.state.committed
@@ -58,7 +58,7 @@ impl<M: Machine> Replica<M> {
             || self.committed < least_raised(self.log.places(), from, held, &self.progress)
     }
 
-    // Whether the log has so many places, of which some are not applied.
+    // Says whether the log has this many places, some of which are not applied.
     fn may_apply(&self, held: u64) -> bool
         ensures { result ≡ (nat_le held (places self.now.state.log)
             && nat_lt self.now.state.committed held) }
@@ -66,7 +66,7 @@ impl<M: Machine> Replica<M> {
         held <= self.log.places() && self.committed < held
     }
 
-    /// Whether a tick would say anything.
+    /// Says whether a tick would send anything.
     pub fn speaks(&self) -> bool
         ensures { (result ≡ false) ↔
             (replica_step M.rules self.now.state Ticks ≡ nothing_done M.Output self.now.state) }
@@ -74,7 +74,7 @@ impl<M: Machine> Replica<M> {
         self.would_say()
     }
 
-    // What each role says again.
+    // Says whether a tick would send anything, by the role.
     fn would_say(&self) -> bool
         ensures { result ≡ says_again self.now.state self.now.state.role }
     {
@@ -87,7 +87,7 @@ impl<M: Machine> Replica<M> {
     }
 }
 
-// Whether a member is known to hold less than this.
+// Says whether a member is known to hold less than this.
 fn would_rise(member: u8, held: u64, progress: &[Progress]) -> bool
     ensures { result ≡ rises member held progress.now }
 {

@@ -1,4 +1,4 @@
-// What a new primary does once it has handed its log over, or its ballot was put out.
+// What a new primary does once it has handed its log over, or its ballot was superseded.
 
 ghost use Rattle.std.specs.Prelude.{◌≡◌, ◌&&◌, ◌==◌, []};
 ghost use Rattle.std.specs.List.{list_any};
@@ -11,7 +11,8 @@ use ballot_base::{Body, Effect, MASTER, Role, forget};
 use machine::Machine;
 
 impl<M: Machine> Replica<M> {
-    // A member lacks the log no more. With the last the master may activate the ballot.
+    // Handles Installed: a member no longer lacks the log. With the last one the master may
+    // activate the ballot.
     pub(super) fn on_installed(
         &mut self,
         from: u8,
@@ -32,7 +33,7 @@ impl<M: Machine> Replica<M> {
         self.say(MASTER, Body::Activate(self.joined), out);
     }
 
-    // The ballot was put out.
+    // Handles Superseded: the ballot was superseded.
     pub(super) fn on_superseded(&mut self, ballot: u64)
         ensures went { Went M.rules self.old
             (on_superseded M.Output self.old.state ballot) self.new [] [] }
@@ -43,7 +44,7 @@ impl<M: Machine> Replica<M> {
         }
     }
 
-    // Whether this new primary has not heard yet that a member took the log.
+    // Says whether this new primary has not yet received a member's answer that it took the log.
     pub(super) fn waits_for_answer(&self, from: u8, ballot: u64) -> bool
         ensures { result ≡ ((self.now.state.joined == ballot
             && is_installing self.now.state.role)
@@ -52,7 +53,7 @@ impl<M: Machine> Replica<M> {
         self.installs(ballot) && self.lacking.contains(&from)
     }
 
-    // Whether this is the new primary of a ballot, which hands its log over.
+    // Says whether this is the new primary of a ballot, which hands its log over.
     pub(super) fn installs(&self, ballot: u64) -> bool
         ensures { result ≡ (self.now.state.joined == ballot
             && is_installing self.now.state.role) }

@@ -16,17 +16,19 @@ use ballot_base::{
 use machine::{Halted, Machine};
 
 impl<M: Machine> Replica<M> {
-    /// Takes a message of another node. A message whose effect on the log finds no memory is lost.
+    /// Takes a message of another node. A message for whose effect on the log there is no memory is
+    /// lost.
     pub fn on(
         &mut self,
         message: Message<M::Command>,
         out: &mut Vec<Effect<M::Command, M::Output>>,
     ) -> Result<(), Halted>
-        // The protocol's step, or one in which memory was wanting and that was counted.
+        // The protocol's step, or one in which memory ran out and that was counted.
         ensures step { self.old.state.stopped ≡ false →
             Stepped M.rules self.old (replica_step M.rules self.old.state (Receives message))
             self.new out.old.items out.new.items }
-        // What sends, adds and applies nothing never wants memory, unless a snapshot has to be read.
+        // A message that sends, adds and applies nothing never runs out of memory, unless a
+        // snapshot has to be read.
         ensures quiet { self.old.state.stopped ≡ false →
             IsQuiet self.old.state
             (replica_step M.rules self.old.state (Receives message)) →
@@ -34,7 +36,7 @@ impl<M: Machine> Replica<M> {
             self.new ≡ record self.old {
               state = (replica_step M.rules self.old.state (Receives message)).state;
             } }
-        // One whose snapshot has to be read and stands for no machine counts as lost.
+        // A message whose snapshot has to be read and does not thaw counts as lost.
         ensures unread { self.old.state.stopped ≡ false →
             is_unread M.rules self.old.state message.body ≡ true →
             self.new ≡ record self.old { losses = one_more self.old.losses } }
@@ -49,7 +51,7 @@ impl<M: Machine> Replica<M> {
         self.hear(message.from, message.body, out)
     }
 
-    // What a message does, by its kind.
+    // Does what a message asks, by its kind.
     fn hear(
         &mut self,
         from: u8,
@@ -85,7 +87,7 @@ impl<M: Machine> Replica<M> {
         Ok(())
     }
 
-    // A backup takes the next place, and says how many places it holds.
+    // Handles Append: a backup takes the next place, and answers how many places it holds.
     fn on_append(
         &mut self,
         from: u8,
@@ -121,7 +123,7 @@ impl<M: Machine> Replica<M> {
         self.losses = counted(self.losses, sent);
     }
 
-    // Sends one message, and counts it where it was lost.
+    // Sends one message, and counts it if it was lost.
     pub(super) fn say(
         &mut self,
         receiver: u8,
@@ -136,7 +138,7 @@ impl<M: Machine> Replica<M> {
         self.losses = counted(self.losses, sent);
     }
 
-    // The primary learns what a member holds, and commits what all hold.
+    // Handles Held: the primary learns what a member holds, and commits what all hold.
     fn on_held(
         &mut self,
         from: u8,
@@ -170,7 +172,8 @@ impl<M: Machine> Replica<M> {
         }
     }
 
-    // A backup applies what every member holds. The outputs are the primary's to give.
+    // Handles Commit: a backup applies what every member holds. Only the primary returns the
+    // outputs.
     fn on_commit(&mut self, ballot: u64, held: u64) -> Result<(), Halted>
         requires { self.old.state.stopped ≡ false }
         ensures went { Went M.rules self.old (on_commit M.rules self.old.state ballot held)
@@ -201,14 +204,14 @@ impl<M: Machine> Replica<M> {
         }
     }
 
-    // Whether this is a backup that holds the log of a ballot.
+    // Says whether this is a backup that holds the log of a ballot.
     pub(super) fn follows(&self, ballot: u64) -> bool
         ensures { result ≡ follows self.now.state ballot }
     {
         (self.joined == ballot && self.held_in == ballot) && self.role.is_backup()
     }
 
-    // Whether this is the active primary of a ballot.
+    // Says whether this is the active primary of a ballot.
     pub(super) fn leads(&self, ballot: u64) -> bool
         ensures { result ≡ leads self.now.state ballot }
     {

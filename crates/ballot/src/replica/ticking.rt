@@ -17,8 +17,8 @@ use ballot_base::{
 use machine::Machine;
 
 impl<M: Machine> Replica<M> {
-    /// Says again what others may have missed: a new primary what it waits for, an active one what
-    /// the others may lack. It takes no step of its own, and never halts.
+    /// Repeats what others may have missed: a new primary what it waits for, an active one what the
+    /// others may lack. It takes no step of its own, and never halts.
     pub fn tick(&mut self, out: &mut Vec<Effect<M::Command, M::Output>>)
         ensures step { self.old.state.stopped ≡ false →
             Stepped M.rules self.old (replica_step M.rules self.old.state Ticks)
@@ -38,7 +38,7 @@ impl<M: Machine> Replica<M> {
         self.losses = counted(self.losses, whole);
     }
 
-    // What a tick says, by the role.
+    // Sends what a tick repeats, by the role.
     fn say_again(&self, out: &mut Vec<Effect<M::Command, M::Output>>) -> bool
         ensures { Sends out.old.items out.new.items
             (ticked M.Output self.now.state self.now.state.role).effects result }
@@ -54,7 +54,7 @@ impl<M: Machine> Replica<M> {
         }
     }
 
-    // What the other members of an active primary may lack, and what is committed.
+    // Sends what the other members of an active primary may lack, and what is committed.
     fn tell(&self, out: &mut Vec<Effect<M::Command, M::Output>>) -> bool
         ensures { Sends out.old.items out.new.items
             (appends_behind M.Output self.now.state.id self.now.state.joined self.now.state.log
@@ -74,7 +74,8 @@ impl<M: Machine> Replica<M> {
         behind & told
     }
 
-    // Sends the log to the members that lack it; with none, the master may activate the ballot.
+    // Sends the log to the members that lack it; if there is none, the master may activate the
+    // ballot.
     pub(super) fn hand_over(&self, out: &mut Vec<Effect<M::Command, M::Output>>) -> bool
         ensures { Sends out.old.items out.new.items
             (installs M.Output self.now.state self.now.state.lacking) result }

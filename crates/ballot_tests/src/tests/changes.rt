@@ -1,4 +1,4 @@
-// A configuration changes, on worked rows of two nodes.
+// Changes of configuration, as worked examples with two nodes.
 
 use super::pairs::*;
 use super::replicas::{shows, takes};
@@ -7,7 +7,7 @@ use ballot::{Body, Role};
 use machine::TallyCommand;
 use std::alloc::Global;
 
-/// Whether node 2, given ballot 2, fetches and installs the log.
+/// Says whether node 2, given ballot 2, fetches and installs the log.
 pub fn goes_over(pair: &mut Pair, alloc: Global) -> bool {
     is_assigned(pair, alloc, &[1])
         && shows(&pair.two, 2, Role::Fetching, 0, 0)
@@ -22,7 +22,7 @@ fn the_log_goes_over(rt: HostRuntime) {
     assert!(rt; go(rt.alloc(), &[1], Change::GoesOver));
 }
 
-// Whether ballot 2 is given. Five messages are handed on.
+// Says whether ballot 2 is given. Five messages are handed on.
 fn went_over(pair: &mut Pair, alloc: Global) -> bool {
     let is_assigned = is_assigned(pair, alloc, &[1]);
     for _step in 0..5 {
@@ -31,7 +31,7 @@ fn went_over(pair: &mut Pair, alloc: Global) -> bool {
     is_assigned
 }
 
-/// Whether the start of ballot 2 is added and committed.
+/// Says whether the start of ballot 2 is added and committed.
 pub fn begins(pair: &mut Pair, alloc: Global) -> bool {
     went_over(pair, alloc)
         && master_says(pair, Body::Activated(2))
@@ -48,7 +48,7 @@ fn configuration_changes(rt: HostRuntime) {
     assert!(rt; go(rt.alloc(), &[1], Change::Begins));
 }
 
-/// Whether node 2 is a backup behind Superseded, and stays one.
+/// Says whether node 2 is a backup after Superseded, and stays one.
 pub fn is_put_out(pair: &mut Pair, alloc: Global) -> bool {
     went_over(pair, alloc)
         && master_says(pair, Body::Superseded(2))
@@ -57,14 +57,14 @@ pub fn is_put_out(pair: &mut Pair, alloc: Global) -> bool {
         && shows(&pair.two, 2, Role::Backup, 0, 0)
 }
 
-// A ballot that was put out leaves its primary a backup, and does not begin any more.
+// A ballot that was superseded leaves its primary a backup, and does not begin any more.
 #[test]
 fn ballot_is_put_out(rt: HostRuntime) {
     assert!(rt; go(rt.alloc(), &[1], Change::IsPutOut));
 }
 
-/// Whether the log of node 1, which was told to add what never came to node 2, is replaced by that of
-/// ballot 2.
+/// Says whether the log of node 1, which appended a command that never came to node 2, is replaced
+/// by that of ballot 2.
 pub fn is_replaced(pair: &mut Pair, alloc: Global) -> bool {
     takes(&mut pair.one, TallyCommand::Add(2), &mut pair.out)
         && shows(&pair.one, 1, Role::Active, 1, 0)
@@ -73,20 +73,20 @@ pub fn is_replaced(pair: &mut Pair, alloc: Global) -> bool {
         && shows(&pair.one, 2, Role::Backup, 0, 0)
 }
 
-// The log of a primary that was left behind is longer; that of the new ballot takes its place.
+// The log of the old primary is longer; the log of the new ballot replaces it.
 #[test]
 fn stale_primary(rt: HostRuntime) {
     assert!(rt; go(rt.alloc(), &[1, 2], Change::IsReplaced));
 }
 
-// Whether a tick of node 2 says again what it waits for, which is handed on as these kinds.
+// Says whether a tick of node 2 says again what it waits for, which is handed on as these kinds.
 fn asks_again(pair: &mut Pair, kinds: &[&str]) -> bool {
     pair.out.clear();
     pair.two.tick(&mut pair.out);
     hands_on(pair, kinds)
 }
 
-/// Whether it does so while it fetches the log, and while it installs it.
+/// Says whether it does so while it fetches the log, and while it installs it.
 pub fn asks_twice(pair: &mut Pair, alloc: Global) -> bool {
     is_assigned(pair, alloc, &[1])
         && asks_again(pair, &["Join", "State"])

@@ -1,11 +1,11 @@
-// Commands inside ballot 1, on worked rows of one, two and three members.
+// Commands inside ballot 1, as worked examples with one, two and three members.
 
 use super::replicas::*;
 use super::stories::{Story, goes};
 use ballot::{Body, Effect, ProposeError, Replica, Role};
 use machine::{Tally, TallyCommand};
 
-// Whether a replica takes these commands.
+// Says whether a replica takes these commands.
 fn take(
     replica: &mut Replica<Tally>,
     commands: &[TallyCommand],
@@ -25,7 +25,7 @@ const THREE: &[TallyCommand] = &[
     TallyCommand::Add(3),
 ];
 
-/// Whether a sole member answers these commands at once.
+/// Says whether a sole member answers these commands at once.
 pub fn answers_at_once(
     replica: &mut Replica<Tally>,
     out: &mut Vec<Effect<TallyCommand, u64>>,
@@ -45,7 +45,7 @@ fn a_sole_member_answers_at_once(rt: HostRuntime) {
     assert!(rt; goes(rt.alloc(), 1, &[1], 1, Story::AnswersAtOnce));
 }
 
-// Whether the output leaves once node 2 holds the place, and node 2 is told.
+// Says whether the output leaves once node 2 holds the place, and whether node 2 is sent a Commit.
 fn leaves(primary: &mut Replica<Tally>, out: &mut Vec<Effect<TallyCommand, u64>>) -> bool {
     out.clear();
     hears(primary, 2, Body::Held(1, 1), out)
@@ -54,7 +54,8 @@ fn leaves(primary: &mut Replica<Tally>, out: &mut Vec<Effect<TallyCommand, u64>>
         && commits(out, 1, (1, 2), 1)
 }
 
-/// Whether node 1 of two members, told to add 2, appends it, and the output leaves once it is held.
+/// Says whether node 1 of two members appends a command that adds 2, and the output leaves once
+/// both hold it.
 pub fn leaves_once_held(
     primary: &mut Replica<Tally>,
     out: &mut Vec<Effect<TallyCommand, u64>>,
@@ -71,7 +72,7 @@ fn append_held_commit(rt: HostRuntime) {
     assert!(rt; goes(rt.alloc(), 1, &[1, 2], 1, Story::LeavesOnceHeld));
 }
 
-// Whether a Held that comes again does nothing, and a tick tells what is committed.
+// Says whether a Held that comes again does nothing, and a tick says what is committed.
 fn hears_nothing_new(
     primary: &mut Replica<Tally>,
     out: &mut Vec<Effect<TallyCommand, u64>>,
@@ -82,7 +83,7 @@ fn hears_nothing_new(
     is_silent && out.len() == 1 && commits(out, 0, (1, 2), 1) && primary.losses() == 0
 }
 
-/// Whether node 1 of two members, told to add 2, hears Held twice.
+/// Says whether node 1 of two members, which appended a command that adds 2, receives Held twice.
 pub fn hears_it_again(
     primary: &mut Replica<Tally>,
     out: &mut Vec<Effect<TallyCommand, u64>>,
@@ -92,13 +93,13 @@ pub fn hears_it_again(
         && hears_nothing_new(primary, out)
 }
 
-// What is heard twice changes nothing more; a tick says again what is committed.
+// A message that comes twice changes nothing more; a tick says again what is committed.
 #[test]
 fn held_comes_twice(rt: HostRuntime) {
     assert!(rt; goes(rt.alloc(), 1, &[1, 2], 1, Story::HearsItAgain));
 }
 
-// Whether node 1 appends a number at a place, and the backup goes on.
+// Says whether node 1 appends a number at a place, and the backup continues.
 fn is_appended(
     backup: &mut Replica<Tally>,
     place: u64,
@@ -109,7 +110,7 @@ fn is_appended(
     hears(backup, 1, body, out)
 }
 
-/// Whether place 1 waits for place 0.
+/// Says whether place 1 waits for place 0.
 pub fn waits_for_the_first(
     backup: &mut Replica<Tally>,
     out: &mut Vec<Effect<TallyCommand, u64>>,
@@ -128,7 +129,7 @@ fn a_backup_takes_places_in_order(rt: HostRuntime) {
     assert!(rt; goes(rt.alloc(), 2, &[1, 2], 1, Story::WaitsForTheFirst));
 }
 
-// Whether a replica takes no command, because it is no active primary.
+// Says whether a replica takes no command, because it is no active primary.
 fn is_not_active(replica: &mut Replica<Tally>, out: &mut Vec<Effect<TallyCommand, u64>>) -> bool {
     match replica.propose(TallyCommand::Add(1), out) {
         Err(ProposeError::NotActive) => true,
@@ -136,7 +137,7 @@ fn is_not_active(replica: &mut Replica<Tally>, out: &mut Vec<Effect<TallyCommand
     }
 }
 
-// Whether a backup that holds a place says nothing to its Commit, nor at a tick.
+// Says whether a backup that holds a place says nothing to its Commit, nor at a tick.
 fn says_nothing(backup: &mut Replica<Tally>, out: &mut Vec<Effect<TallyCommand, u64>>) -> bool {
     out.clear();
     let goes_on = hears(backup, 1, Body::Commit(1, 1), out);
@@ -144,7 +145,7 @@ fn says_nothing(backup: &mut Replica<Tally>, out: &mut Vec<Effect<TallyCommand, 
     goes_on && out.is_empty() && shows(backup, 1, Role::Backup, 1, 1)
 }
 
-/// Whether a backup that is sent a place is silent, and takes no proposal.
+/// Says whether a backup that is sent a place is silent, and takes no proposal.
 pub fn is_silent(backup: &mut Replica<Tally>, out: &mut Vec<Effect<TallyCommand, u64>>) -> bool {
     is_appended(backup, 0, 2, out)
         && says_nothing(backup, out)
@@ -152,7 +153,7 @@ pub fn is_silent(backup: &mut Replica<Tally>, out: &mut Vec<Effect<TallyCommand,
         && backup.losses() == 0
 }
 
-// A backup that is told what is committed says nothing, also at a tick, and takes no proposal.
+// A backup that gets a Commit sends nothing, also at a tick, and takes no proposal.
 #[test]
 fn a_backup_is_silent(rt: HostRuntime) {
     assert!(rt; goes(rt.alloc(), 2, &[1, 2], 1, Story::IsSilent));
@@ -160,7 +161,7 @@ fn a_backup_is_silent(rt: HostRuntime) {
 
 const TWO_NUMBERS: &[TallyCommand] = &[TallyCommand::Add(2), TallyCommand::Add(3)];
 
-// Whether a tick says these four things.
+// Says whether a tick says these four things.
 fn says_four_things(
     primary: &mut Replica<Tally>,
     out: &mut Vec<Effect<TallyCommand, u64>>,
@@ -174,8 +175,8 @@ fn says_four_things(
         && commits(out, 3, (2, 3), 0)
 }
 
-/// Whether node 2 of three members, told to add 2 and 3, of which node 1 holds the first, says at a
-/// tick what is lacking.
+/// Says whether node 2 of three members, which appended commands that add 2 and 3, sends at a tick
+/// what node 1 lacks, which holds the first one.
 pub fn says_what_is_lacking(
     primary: &mut Replica<Tally>,
     out: &mut Vec<Effect<TallyCommand, u64>>,
@@ -186,7 +187,8 @@ pub fn says_what_is_lacking(
         && says_four_things(primary, out)
 }
 
-// A tick sends the place at a progress, to each member that lacks one, and what is committed to each.
+// A tick sends the place at a progress, to each member that lacks one, and what is committed to
+// each.
 #[test]
 fn a_tick_sends_what_is_lacking(rt: HostRuntime) {
     assert!(rt; goes(rt.alloc(), 2, &[1, 2, 3], 2, Story::SaysWhatIsLacking));

@@ -1,4 +1,4 @@
-// The machine that counts, on worked rows: no clause says that its calls succeed while there is
+// The machine that counts, as worked examples: no clause says that its calls succeed while there is
 // memory.
 
 use machine::{Machine, Tally, TallyCommand};
@@ -11,7 +11,7 @@ const ROWS: &[(TallyCommand, &[u64])] = &[
     (TallyCommand::Add(3), &[5]),
 ];
 
-// Whether a copy of a command gives these numbers.
+// Says whether a copy of a command gives these numbers.
 fn gives(alloc: Global, tally: &mut Tally, command: &TallyCommand, wanted: &[u64]) -> bool {
     let mut out = Vec::new(alloc);
     match Tally::copy(alloc, command) {
@@ -20,7 +20,7 @@ fn gives(alloc: Global, tally: &mut Tally, command: &TallyCommand, wanted: &[u64
     }
 }
 
-// The first row whose command gives something else, if there is one.
+// Returns the first row whose command has another output, if there is one.
 fn other_row(alloc: Global, tally: &mut Tally) -> Option<usize> {
     for (row, (command, wanted)) in ROWS.iter().enumerate() {
         if !gives(alloc, tally, command, wanted) {
@@ -42,7 +42,7 @@ fn tally_counts(rt: HostRuntime) {
     assert!(rt; counts(rt.alloc()));
 }
 
-// Whether these bytes stand for the machine.
+// Says whether these bytes thaw to the machine.
 fn is_thawed(alloc: Global, tally: &Tally, bytes: &[u8]) -> bool {
     match Tally::thaw(alloc, bytes) {
         Ok(thawed) => thawed == *tally,
@@ -54,7 +54,8 @@ fn is_refused(alloc: Global, bytes: &[u8]) -> bool {
     Tally::thaw(alloc, bytes).is_err()
 }
 
-// Whether the machine is frozen to 258, which stands for it, and not without its first byte.
+// Says whether the machine is frozen to the bytes of 258, thaws from them, and does not thaw
+// without the first byte.
 fn is_frozen(alloc: Global, tally: &Tally) -> bool {
     let mut bytes = Vec::new(alloc);
     tally.freeze(&mut bytes).is_ok()
@@ -72,7 +73,7 @@ fn freezes(alloc: Global) -> bool {
     }
 }
 
-// Frozen is the total, most significant byte first; nothing else thaws.
+// The frozen machine is its total, most significant byte first; nothing else thaws.
 #[test]
 fn tally_freezes(rt: HostRuntime) {
     assert!(rt; freezes(rt.alloc()));

@@ -10,13 +10,13 @@ use std::alloc::Global;
 // The total 5, frozen.
 const FIVE: &[u8] = &[0, 0, 0, 0, 0, 0, 0, 5];
 
-/// Whether this is the base of the log, and these are the bytes there.
+/// Says whether this is the base of the log, and these are the bytes there.
 fn is_cut_at(replica: &Replica<Tally>, base: u64, bytes: &[u8]) -> bool {
     let (at, snapshot) = replica.snapshot();
     at == base && snapshot == bytes
 }
 
-/// Whether a sole member that has added 2 and 3 cuts its log once, and then goes on.
+/// Says whether a sole member that has added 2 and 3 cuts its log once, and then continues.
 pub fn is_cut_once(replica: &mut Replica<Tally>, out: &mut Vec<Effect<TallyCommand, u64>>) -> bool {
     !replica.cut()
         && is_cut_at(replica, 0, &[])
@@ -29,7 +29,7 @@ pub fn is_cut_once(replica: &mut Replica<Tally>, out: &mut Vec<Effect<TallyComma
         && goes_on(replica, out)
 }
 
-// Whether a member that was cut at place 2 counts its places from 0 as before.
+// Says whether a member that was cut at place 2 counts its places from 0 as before.
 fn goes_on(replica: &mut Replica<Tally>, out: &mut Vec<Effect<TallyCommand, u64>>) -> bool {
     out.clear();
     takes(replica, TallyCommand::Add(4), out)
@@ -44,8 +44,8 @@ fn a_log_is_cut(rt: HostRuntime) {
     assert!(rt; goes(rt.alloc(), 1, &[1], 1, Story::IsCut));
 }
 
-/// Whether a node that is no member counts a log as lost whose snapshot is no total, and changes
-/// nothing, but takes the log that it can read.
+/// Says whether a node that is no member counts a log as lost if its snapshot is no total, and
+/// changes nothing, but takes a log that it can read.
 pub fn reads_snapshots(
     replica: &mut Replica<Tally>,
     out: &mut Vec<Effect<TallyCommand, u64>>,
@@ -61,7 +61,8 @@ pub fn reads_snapshots(
         && out.len() == 1
 }
 
-// Whether a replica hears that ballot 2 installs the log with these bytes at place 2 and one command.
+// Gives a replica the Install of ballot 2 with a log that has this snapshot, base 2 and one
+// command. Says whether the replica continues.
 fn installs(
     replica: &mut Replica<Tally>,
     out: &mut Vec<Effect<TallyCommand, u64>>,
@@ -84,8 +85,8 @@ fn a_snapshot_is_read_or_lost(rt: HostRuntime) {
     assert!(rt; goes(rt.alloc(), 2, &[1], 1, Story::ReadsSnapshots));
 }
 
-/// Whether the snapshot of node 1, which has added 2 and 3 and cut its log, goes over to node 2, which
-/// adds 4.
+/// Says whether the snapshot of node 1, which has added 2 and 3 and cut its log, goes over to node
+/// 2, which adds 4.
 pub fn snapshot_goes_over(pair: &mut Pair, alloc: Global) -> bool {
     takes(&mut pair.one, TallyCommand::Add(2), &mut pair.out)
         && takes(&mut pair.one, TallyCommand::Add(3), &mut pair.out)

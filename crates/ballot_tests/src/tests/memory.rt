@@ -1,6 +1,7 @@
-// Memory that is refused. Run with each allocation failing in turn: a command that is refused
-// leaves the replica as it was, and is taken at the second try; where applying it finds none, the
-// replica has stopped for good; a message that finds none is lost and counted.
+// Memory that is refused. Each test runs with each of its allocations failing in turn: a command
+// that is refused leaves the replica as it was, and is taken at the second try; if applying it runs
+// out of memory, the replica has stopped for good; a message for which memory runs out is lost and
+// counted.
 
 use super::replicas::{appends, gives, logs, made, shows};
 use ballot::{Effect, ProposeError, Replica, Role};
@@ -10,8 +11,8 @@ use std::test::*;
 
 type Out = Vec<Effect<TallyCommand, u64>>;
 
-// Whether a replica that takes the command gives what it is to give, or its one message is lost and
-// counted.
+// Says whether a replica that takes the command gives what it is to give, or its one message is
+// lost and counted.
 fn is_taken(replica: &Replica<Tally>, out: &Out, is_alone: bool) -> bool {
     let given = if is_alone {
         gives(out, 0, 0, 2)
@@ -22,7 +23,7 @@ fn is_taken(replica: &Replica<Tally>, out: &Out, is_alone: bool) -> bool {
     logs(replica, &[TallyCommand::Add(2)]) && (given || is_lost)
 }
 
-// Whether a replica has stopped and gives nothing any more.
+// Says whether a replica has stopped and gives nothing any more.
 fn is_stopped(replica: &mut Replica<Tally>, out: &mut Out) -> bool {
     replica.tick(out);
     out.is_empty()
@@ -31,7 +32,7 @@ fn is_stopped(replica: &mut Replica<Tally>, out: &mut Out) -> bool {
         && replica.propose(TallyCommand::Add(2), out) == Err(ProposeError::Halted)
 }
 
-// Proposes to add 2, again where it was refused.
+// Proposes to add 2, again if it was refused.
 fn proposes(replica: &mut Replica<Tally>, out: &mut Out, is_alone: bool) -> bool {
     match replica.propose(TallyCommand::Add(2), out) {
         Ok(()) => is_taken(replica, out, is_alone),
@@ -47,7 +48,8 @@ fn proposes(replica: &mut Replica<Tally>, out: &mut Out, is_alone: bool) -> bool
     }
 }
 
-// Whether the primary of these members comes through. Without memory for it nothing is asked of it.
+// Says whether the primary of these members comes through. If memory runs out for it nothing is
+// asked of it.
 fn comes_through(alloc: Global, members: &[u8]) -> bool {
     let mut out = Vec::new(alloc);
     match made(alloc, 1, members, 1) {
@@ -62,12 +64,12 @@ fn a_command_is_taken_or_refused_whole(rt: HostRuntime) {
     assert!(rt; comes_through(rt.alloc(), &[1, 2]));
 }
 
-// Whether bytes that stand for no machine are refused for that alone.
+// Says whether bytes of no machine are refused only for that.
 fn is_no_machine(alloc: Global) -> bool {
     Tally::thaw(alloc, &[0; 7]).err() == Some(ThawFault::Shape)
 }
 
-// Whether a machine that finds no memory leaves what it was to append to as it was.
+// Says whether a machine that finds no memory leaves what it was to append to as it was.
 fn is_whole_or_free(alloc: Global, tally: &mut Tally) -> bool {
     let mut out = Vec::new(alloc);
     let mut bytes = Vec::new(alloc);

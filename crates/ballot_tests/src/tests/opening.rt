@@ -4,7 +4,7 @@ use ballot::{OpeningError, Replica, Role};
 use machine::Tally;
 use std::alloc::Global;
 
-// Whether node 1 does not open, for its members.
+// Says whether node 1 does not open, for its members.
 fn is_refused(alloc: Global, members: &[u8], primary: u8) -> bool {
     matches!(
         &made(alloc, 1, members, primary),
@@ -12,7 +12,7 @@ fn is_refused(alloc: Global, members: &[u8], primary: u8) -> bool {
     )
 }
 
-// The first row that is not refused.
+// Returns the first row that is not refused.
 fn first_opened(alloc: Global, rows: &[(&[u8], u8)]) -> Option<usize> {
     for (row, (members, primary)) in rows.iter().enumerate() {
         if !is_refused(alloc, members, *primary) {
@@ -38,12 +38,12 @@ fn bad_members_are_refused(rt: HostRuntime) {
     assert_eq!(rt; first_opened(rt.alloc(), BAD), None);
 }
 
-/// Whether a replica is the backup that one of no ballot is.
+/// Says whether a replica is the backup that one of no ballot is.
 pub fn is_no_member(replica: &Replica<Tally>) -> bool {
     shows(replica, 0, Role::Backup, 0, 0)
 }
 
-// Node 7 is none of seven members.
+// Node 7 is not one of the seven members.
 #[test]
 fn no_member_is_a_backup(rt: HostRuntime) {
     let members = [1, 2, 3, 4, 5, 6, 15];

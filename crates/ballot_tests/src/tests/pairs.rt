@@ -13,7 +13,7 @@ pub struct Pair {
     pub out: Vec<Effect<TallyCommand, u64>>,
 }
 
-/// Two nodes open in ballot 1 with these members, of which node 1 is the primary.
+/// Opens two nodes in ballot 1 with these members, of which node 1 is the primary.
 pub fn open(alloc: Global, members: &[u8]) -> Result<Pair, OpeningError> {
     Ok(Pair {
         one: made(alloc, 1, members, 1)?,
@@ -22,20 +22,22 @@ pub fn open(alloc: Global, members: &[u8]) -> Result<Pair, OpeningError> {
     })
 }
 
-// What the master says as it gives ballot 2 to nodes 1 and 2, behind the members of ballot 1.
+// Returns what the master says as it gives ballot 2 to nodes 1 and 2, after the members of ballot
+// 1.
 fn ballot_two(alloc: Global, previous: &[u8]) -> Result<Body<TallyCommand>, Memory> {
     let members = Members::from_slice(alloc, &[1, 2])?;
     let previous = Members::from_slice(alloc, previous)?;
     Ok(Body::NewBallot(2, members, 1, previous))
 }
 
-/// Node 2 hears the master, and nothing else is under way.
+/// Gives node 2 a message of the master, with nothing else in transit.
 pub fn master_says(pair: &mut Pair, body: Body<TallyCommand>) -> bool {
     pair.out.clear();
     hears(&mut pair.two, 0, body, &mut pair.out)
 }
 
-/// Whether node 2 is given ballot 2 with both nodes for its members, behind these members of ballot 1.
+/// Says whether node 2 is given ballot 2 with both nodes for its members, after these members of
+/// ballot 1.
 pub fn is_assigned(pair: &mut Pair, alloc: Global, previous: &[u8]) -> bool {
     match ballot_two(alloc, previous) {
         Ok(body) => master_says(pair, body),
@@ -43,7 +45,7 @@ pub fn is_assigned(pair: &mut Pair, alloc: Global, previous: &[u8]) -> bool {
     }
 }
 
-/// What kind a message is.
+/// Returns what kind a message is.
 fn kind_of(body: &Body<TallyCommand>) -> &'static str {
     match body {
         Body::NewBallot(_, _, _, _) => "NewBallot",
@@ -60,7 +62,7 @@ fn kind_of(body: &Body<TallyCommand>) -> &'static str {
     }
 }
 
-/// Whether a node, if it is one of the two, goes on with a message.
+/// Says whether a node, if it is one of the two, continues with a message.
 fn is_heard(pair: &mut Pair, receiver: u8, message: Message<TallyCommand>) -> bool {
     match receiver {
         1 => hears(&mut pair.one, message.from, message.body, &mut pair.out),
@@ -82,7 +84,7 @@ pub fn hand_on(pair: &mut Pair) -> &'static str {
     }
 }
 
-/// Whether the messages that are handed on in turn are of these kinds.
+/// Says whether the messages that are delivered in turn are of these kinds.
 pub fn hands_on(pair: &mut Pair, kinds: &[&str]) -> bool {
     for kind in kinds {
         if hand_on(pair) != *kind {

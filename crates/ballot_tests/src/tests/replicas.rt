@@ -4,7 +4,7 @@ use ballot::{Body, Config, Effect, Members, Message, OpeningError, Replica, Role
 use machine::{Memory, Tally, TallyCommand};
 use std::alloc::Global;
 
-/// A configuration with these members and this primary.
+/// Returns a configuration with these members and this primary.
 pub fn config(alloc: Global, members: &[u8], primary: u8) -> Result<Config, Memory> {
     Ok(Config {
         members: Members::from_slice(alloc, members)?,
@@ -12,7 +12,7 @@ pub fn config(alloc: Global, members: &[u8], primary: u8) -> Result<Config, Memo
     })
 }
 
-/// A node, one of 1 to 15, open in ballot 1 with these members and this primary.
+/// Returns a node, one of 1 to 15, open in ballot 1 with these members and this primary.
 pub fn made(
     alloc: Global,
     node: u8,
@@ -26,7 +26,7 @@ pub fn made(
     Replica::new(alloc, node, &config)
 }
 
-/// Whether a replica takes a command.
+/// Says whether a replica takes a command.
 pub fn takes(
     replica: &mut Replica<Tally>,
     command: TallyCommand,
@@ -35,7 +35,7 @@ pub fn takes(
     replica.propose(command, out).is_ok()
 }
 
-/// Whether a replica goes on once it hears a node.
+/// Says whether a replica continues after a message of a node.
 pub fn hears(
     replica: &mut Replica<Tally>,
     from: u8,
@@ -52,12 +52,12 @@ pub fn shows(replica: &Replica<Tally>, ballot: u64, role: Role, held: u64, commi
     status.ballot == ballot && status.role == role && place && !status.stopped
 }
 
-/// Whether these commands are what the log keeps.
+/// Says whether these commands are what the log keeps.
 pub fn logs(replica: &Replica<Tally>, commands: &[TallyCommand]) -> bool {
     replica.rest() == commands
 }
 
-/// Whether the effect at a place is this output.
+/// Says whether the effect at a place is this output.
 pub fn gives(out: &[Effect<TallyCommand, u64>], at: usize, place: u64, total: u64) -> bool {
     match out.get(at) {
         Some(Effect::Out(left, output)) => *left == place && *output == total,
@@ -68,7 +68,7 @@ pub fn gives(out: &[Effect<TallyCommand, u64>], at: usize, place: u64, total: u6
 /// The way of a message: its sender and its receiver.
 pub type Way = (u8, u8);
 
-/// What is said on a way by the effect at a place.
+/// Returns what is said on a way by the effect at a place.
 fn said(out: &[Effect<TallyCommand, u64>], at: usize, way: Way) -> Option<&Body<TallyCommand>> {
     match out.get(at) {
         Some(Effect::To(receiver, message)) if (message.from, *receiver) == way => {
@@ -78,7 +78,7 @@ fn said(out: &[Effect<TallyCommand, u64>], at: usize, way: Way) -> Option<&Body<
     }
 }
 
-/// Whether the effect appends a number at a place of ballot 1.
+/// Says whether the effect appends a number at a place of ballot 1.
 pub fn appends(
     out: &[Effect<TallyCommand, u64>],
     at: usize,
@@ -94,7 +94,7 @@ pub fn appends(
     }
 }
 
-/// Whether the effect says that one place of ballot 1 is held.
+/// Says whether the effect says that one place of ballot 1 is held.
 pub fn holds(out: &[Effect<TallyCommand, u64>], at: usize, way: Way) -> bool {
     match said(out, at, way) {
         Some(Body::Held(1, 1)) => true,
@@ -102,7 +102,7 @@ pub fn holds(out: &[Effect<TallyCommand, u64>], at: usize, way: Way) -> bool {
     }
 }
 
-/// Whether the effect says how many places of ballot 1 are committed.
+/// Says whether the effect says how many places of ballot 1 are committed.
 pub fn commits(out: &[Effect<TallyCommand, u64>], at: usize, way: Way, count: u64) -> bool {
     match said(out, at, way) {
         Some(Body::Commit(1, told)) => *told == count,

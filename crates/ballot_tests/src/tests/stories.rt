@@ -21,7 +21,7 @@ pub enum Story {
     ReadsSnapshots,
 }
 
-// Whether a replica goes through a story as it is told.
+// Says whether a replica does what a story says.
 fn is_told(
     replica: &mut Replica<Tally>,
     out: &mut Vec<Effect<TallyCommand, u64>>,
@@ -41,7 +41,7 @@ fn is_told(
     }
 }
 
-/// Whether a node that opens with these members and this primary goes through a story.
+/// Says whether a node that opens with these members and this primary goes through a story.
 pub fn goes(alloc: Global, node: u8, members: &[u8], primary: u8, story: Story) -> bool {
     let mut out = Vec::new(alloc);
     match made(alloc, node, members, primary) {
@@ -61,7 +61,7 @@ pub enum Change {
     SnapshotGoesOver,
 }
 
-// Whether two nodes go through a change as it is told.
+// Says whether two nodes do what a change says.
 fn is_changed(alloc: Global, pair: &mut Pair, change: Change) -> bool {
     match change {
         Change::GoesOver => changes::goes_over(pair, alloc),
@@ -73,7 +73,7 @@ fn is_changed(alloc: Global, pair: &mut Pair, change: Change) -> bool {
     }
 }
 
-/// Whether two nodes that open with these members and node 1 as primary go through a change.
+/// Says whether two nodes that open with these members and node 1 as primary go through a change.
 pub fn go(alloc: Global, members: &[u8], change: Change) -> bool {
     match open(alloc, members) {
         Ok(mut pair) => is_changed(alloc, &mut pair, change),

@@ -1,5 +1,5 @@
--- Another form of the step of one session: its queue is filled behind every command. On the states of pasts it is
--- the same, since there a connected client's queue is quiet.
+-- Another form of the step of one session: its queue is filled after every command. On the states
+-- of pasts it is the same, since there a connected client's queue is quiet.
 use Rattle.std.proofs.Common.{ℕ, Bool, not, ◌&&◌, ◌||◌, if◌then◌else◌, List, ◌++◌, Option, Some, None}
 use Rattle.session_base.specs.packet.declared.packet.Packet.TheVariants as packets
 use Rattle.broker_model.specs.retained.Retained.{RetainedTopics}
@@ -25,7 +25,7 @@ answered_flights (commands.Packet x (packets.Pubcomp id)) (Mark.Handled d) c fli
     if same_client d c then on_pubcomp id flights else flights
 answered_flights _ _ c flights = flights
 
--- a session goes on: the answer is done, the copies are queued, the window is filled
+-- a session continues: the answer is done, the copies are queued, the window is filled
 abbrev pub filled_kept : ℕ → Place → RetainedTopics → Client → Bool → Option ConnectionName → ClientSession → ClientSession
 filled_kept window place content c clean connection old =
     record {

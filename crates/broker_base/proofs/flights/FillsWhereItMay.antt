@@ -1,5 +1,5 @@
--- Where a connected client's queue is quiet, a fill behind every command is a fill where entries may start: at a
--- Connect, behind PUBACK and PUBCOMP, and behind each copy that is enqueued.
+-- If a connected client's queue is quiet, a fill after every command is a fill where entries may
+-- start: at a Connect, after PUBACK and PUBCOMP, and after each copy that is enqueued.
 use Rattle.std.proofs.Common.{◌≡◌, ℕ, ◌≤◌, Bool, true, false, not, ◌&&◌, ◌||◌, inl, inr, if◌then◌else◌, Option, Some, None, List, [], ◌++◌, length, refl, ap, ◌∙◌, sym, subst}
 use Rattle.session_base.specs.packet.declared.packet.Packet.TheVariants as packets
 use Rattle.broker_model.specs.retained.Retained.{RetainedTopics}
@@ -21,7 +21,7 @@ use Rattle.broker_model.specs.declared.command.Command.TheVariants as commands
 use Rattle.broker_base.proofs.flights.IdentifiersInFlight.{append_none}
 use Rattle.broker_base.proofs.flights.FillingAlways.{answered_flights, filled_kept, filled_by, filled_later, filled_after}
 
--- a queue that a fill leaves as it is, and leaves so behind a PUBREC
+-- a queue that a fill does not change, and does not change after a PUBREC
 abbrev pub IsAtRest : ℕ → List Flight → List Publication → Type 0
 IsAtRest w fs ms = IsQuietQueue w fs ms × ((id : ℕ) → length (on_pubrec id fs) ≡ length fs)
 
@@ -37,7 +37,7 @@ copies_same : (w : ℕ) (connection : Option ConnectionName) (copies : List Publ
 copies_same w None copies fs ms h = refl
 copies_same w (Some x) copies fs ms h = sym (copies_are_one_fill w fs ms copies (h x refl).0)
 
--- an answer that changes what is in flight, and behind which what may start starts
+-- an answer that changes what is in flight, and after which what may start starts
 finishes : (w : ℕ) (b : Bool) (connection : Option ConnectionName) (fs gs : List Flight) (ms : List Publication) →
     ((x : ConnectionName) → connection ≡ Some x → IsAtRest w fs ms) →
     filled_on connection w (if b then gs else fs) (ms ++ [])

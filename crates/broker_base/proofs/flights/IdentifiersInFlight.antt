@@ -1,4 +1,4 @@
--- The identifiers in flight are those of the entries under way, each as often.
+-- The identifiers in flight are those of the entries in flight, each as often.
 use Rattle.std.proofs.Common.{◌≡◌, ℕ, ◌+◌, ◌<◌, zero, suc, Bool, true, false, ◌&&◌, ◌==◌, nat_lt, if◌then◌else◌, List, [], ◌∷◌, ◌++◌, map, refl, ap, ap₂, ◌∙◌, sym, arith}
 use Rattle.std.proofs.lemmas.List.{map-append}
 use Rattle.session_base.specs.declared.publication.Publication.{Publication}

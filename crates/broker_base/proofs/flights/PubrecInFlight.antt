@@ -1,5 +1,5 @@
--- What PUBREC does to the entries is what it does to the queue: the entry comes behind those released before
--- (MQTT 4.3.3).
+-- What PUBREC does to the entries is what it does to the queue: the entry comes after those
+-- released before (MQTT 4.3.3).
 use Rattle.std.proofs.Common.{◌≡◌, ℕ, ◌≤◌, suc, Bool, true, false, not, ◌&&◌, ◌||◌, ◌==◌, if◌then◌else◌, List, [], ◌∷◌, ◌++◌, map, filter, refl, ap, ap₂, ◌∙◌, sym, arith}
 use Rattle.std.specs.List.{list_any}
 use Rattle.std.proofs.lemmas.List.{map-append, append_assoc}

@@ -1,4 +1,4 @@
--- What is sent behind a PUBREC, as what is kept of the session says (MQTT 4.3.3).
+-- What is sent after a PUBREC, as what is kept of the session says (MQTT 4.3.3).
 use Rattle.std.proofs.Common.{◌≡◌, ℕ, zero, suc, Bool, true, false, ◌&&◌, ◌||◌, ◌==◌, if◌then◌else◌, Option, Some, None, List, [], ◌∷◌, ◌++◌, length, map, refl, ap, ap₂, ◌∙◌, sym}
 use Rattle.std.specs.List.{list_any}
 use Rattle.std.proofs.lemmas.List.Folds.{list_any-append}
@@ -60,7 +60,7 @@ pub none_released_ever : (t : ℕ) → released_below t [] ≡ []
 none_released_ever zero = refl
 none_released_ever (suc t) = append_none (released_below t []) ∙ none_released_ever t
 
--- the identifiers of released entries behind a PUBREC, if there is a session
+-- the identifiers of released entries after a PUBREC, if there is a session
 abbrev pub pubrels_behind : ℕ → Option ClientSession → List Packet
 pubrels_behind i (Some kept) = pubrec_sends i (on_pubrec i kept.state.queue.in_flight)
 pubrels_behind i None = []

@@ -1,4 +1,4 @@
--- What a PUBREC makes of the sent and of the released entries (MQTT 4.3.3).
+-- What a PUBREC does to the sent and the released entries (MQTT 4.3.3).
 use Rattle.std.proofs.Common.{◌≡◌, ℕ, ◌<◌, ◌≤◌, zero, suc, Bool, true, false, not, ◌&&◌, ◌==◌, if◌then◌else◌, List, [], ◌∷◌, ◌++◌, map, filter, refl, ap, ap₂, ◌∙◌, sym, arith}
 use Rattle.session_base.specs.Publication.{is_acknowledged}
 use Rattle.session_base.specs.Queue.{awaited, awaits_pubrec, ids_of}
@@ -39,7 +39,7 @@ sent_pubrec n i (Entry.Finished made p id start release finish ∷ es) = sent_pu
 
 -- ---- the released ones
 
--- nothing is released at n, where all places are below
+-- nothing is released at n, if all places are below
 pub none_released : (n : ℕ) (es : List Entry) → IsBelow n es → released_at n es ≡ []
 none_released n [] h = refl
 none_released n (Entry.Waits made p ∷ es) h = none_released n es h.1

@@ -62,7 +62,7 @@ queued_yes p ps e = rw e refl
 queued_no : (p : Publication) (ps : List Publication) → is_answered p.qos ≡ false → queued (p ∷ ps) ≡ queued ps
 queued_no p ps e = rw e refl
 
--- where the window is open: the copy starts
+-- if the window is open, the copy starts
 sent_now : (x : ConnectionName) (w n : ℕ) (fs : List Flight) (p : Publication) → length fs < w →
     fill_sends w fs ([] ++ p ∷ []) ≡ packets.Publish (publish_of false (least_free (ids_of fs)) p) ∷ []
 sent_now x w n fs p h = ap (λ b. if b then packets.Publish (publish_of false (least_free (ids_of fs)) p) ∷ [] else []) (is_open (length fs) w h)

@@ -1,4 +1,4 @@
-// What comes to a broker, and what is asked of its bytes.
+// What comes to a broker, and what its bytes must be.
 
 use broker::BrokerMachine;
 use broker_model::{Command, ConnectionId, Output, SizedPacket};
@@ -34,7 +34,7 @@ pub(crate) enum Event<'a> {
     Start(u64),
 }
 
-/// Appends the answers to an event, and tells whether memory was found.
+/// Appends the answers to an event, and says whether memory was found.
 pub(crate) fn is_given(
     alloc: Global,
     broker: &mut BrokerMachine,
@@ -47,7 +47,7 @@ pub(crate) fn is_given(
     }
 }
 
-// The command of an event.
+// Returns the command of an event.
 fn command_of(alloc: Global, event: Event<'_>) -> Option<Command> {
     match event {
         Event::Connect(count, client, clean) => {
@@ -80,12 +80,12 @@ fn sized(packet: Packet) -> Option<SizedPacket> {
     SizedPacket::new(packet).ok()
 }
 
-/// Appends the bytes of a broker, and tells whether memory was found.
+/// Appends the bytes of a broker, and says whether memory was found.
 pub(crate) fn is_frozen(broker: &BrokerMachine, bytes: &mut Vec<u8>) -> bool {
     broker.freeze(bytes).is_ok()
 }
 
-/// Whether a broker is frozen to these bytes.
+/// Says whether a broker is frozen to these bytes.
 pub(crate) fn has_bytes(alloc: Global, broker: &BrokerMachine, wanted: &[u8]) -> bool {
     let mut bytes = Vec::new(alloc);
     is_frozen(broker, &mut bytes) && bytes.as_slice() == wanted

@@ -1,5 +1,6 @@
-// Memory that is refused. Run with each allocation failing in turn: a call reports that it
-// is out of memory or answers as it does with memory, and what it was to append to is as it was.
+// Memory that is refused. Each test runs with each of its allocations failing in turn: a call
+// reports that it is out of memory or answers as it does with memory, and what it was to append to
+// is as it was.
 
 use super::giving::{Event, ONE_ENTRY, ONE_SESSION, is_frozen, is_given};
 use broker::BrokerMachine;
@@ -13,7 +14,7 @@ const SUBSCRIBE: &[u8] = &[0x82, 8, 0, 1, 0, 3, 0x74, 0x2F, 0x23, 2];
 /// PUBLISH of `x` on `t/1` at QoS 2 with RETAIN 1 and identifier 1.
 const RETAINED: &[u8] = &[0x35, 8, 0, 3, 0x74, 0x2F, 0x31, 0, 1, 0x78];
 
-/// What became of a call.
+/// What happened to a call.
 #[derive(Clone, Copy, PartialEq, Eq)]
 enum Outcome {
     Done,
@@ -21,7 +22,7 @@ enum Outcome {
     Wrong,
 }
 
-/// The client's packet, done after one output; with memory as many stand there as wanted.
+/// The client's packet, done after one output; with memory as many are there as expected.
 fn outcome_of(alloc: Global, broker: &mut BrokerMachine, packet: &[u8], wanted: usize) -> Outcome {
     let mut out = Vec::new(alloc);
     if !is_given(alloc, broker, Event::Bytes(1, &[0xC0, 0]), &mut out) {

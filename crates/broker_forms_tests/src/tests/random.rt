@@ -49,7 +49,7 @@ fn packet_of(numbers: &mut Numbers) -> [u8; 10] {
     }
 }
 
-/// Whether two brokers answer an event alike, and with memory.
+/// Says whether two brokers answer an event alike, and with memory.
 fn answer_alike(
     alloc: Global,
     one: &mut BrokerMachine,
@@ -63,8 +63,8 @@ fn answer_alike(
         && here.as_slice() == there.as_slice()
 }
 
-/// Puts the broker that the bytes stand for in the place of one, and tells whether there is such a
-/// broker, which is frozen to the same bytes again.
+/// Replaces a broker by the one that is thawed from the bytes. Says whether there is one, and it is
+/// frozen to the same bytes again.
 fn is_thawed_from(alloc: Global, broker: &mut BrokerMachine, bytes: &[u8]) -> bool {
     match BrokerMachine::thaw(alloc, bytes) {
         Ok(thawed) => {
@@ -75,13 +75,14 @@ fn is_thawed_from(alloc: Global, broker: &mut BrokerMachine, bytes: &[u8]) -> bo
     }
 }
 
-/// Puts the broker that the frozen one stands for in its place, and tells whether there is one.
+/// Replaces a broker by the one that its frozen bytes give, and says whether there is one.
 fn is_thawed_again(alloc: Global, broker: &mut BrokerMachine) -> bool {
     let mut bytes = Vec::new(alloc);
     broker.freeze(&mut bytes).is_ok() && is_thawed_from(alloc, broker, bytes.as_slice())
 }
 
-/// What comes as number `count`: mostly a packet of a client on the connection that it opened last.
+/// Returns what comes as number `count`: mostly a packet of a client on the connection that it
+/// opened last.
 fn event_of<'a>(
     numbers: &mut Numbers,
     count: u64,
@@ -100,8 +101,8 @@ fn event_of<'a>(
     }
 }
 
-/// Whether two brokers answer the next command alike, and the second is the one that its form stands
-/// for, if it is frozen then.
+/// Says whether two brokers answer the next command alike, the second being thawed from its own
+/// bytes if it is frozen then.
 fn is_next_alike(
     alloc: Global,
     whole: &mut BrokerMachine,
@@ -131,7 +132,7 @@ fn other_answer(
     None
 }
 
-/// The first command that a broker and one that is frozen and thawed answer otherwise.
+/// Returns the first command that a broker and one that is frozen and thawed answer otherwise.
 fn first_difference(alloc: Global) -> Option<usize> {
     match (BrokerMachine::fresh(alloc), BrokerMachine::fresh(alloc)) {
         (Ok(mut whole), Ok(mut thawed)) => other_answer(alloc, &mut whole, &mut thawed),

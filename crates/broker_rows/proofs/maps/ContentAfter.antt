@@ -1,4 +1,4 @@
--- What an index has to do where one client's session changes.
+-- How an index has to change if one client's session changes.
 use Rattle.std.proofs.Common.{◌≡◌, ℕ, Bool, true, false, ◌&&◌, if◌then◌else◌, List, [], ◌∷◌, Option, Some, None, refl, ap, ◌∙◌, sym}
 use Rattle.std.specs.Prelude.{bytes_eq}
 use Rattle.std.specs.Cmp.Lexicographic.{bytes_decides, texts_ties}
@@ -15,7 +15,7 @@ use Rattle.broker_rows.proofs.maps.FiltersHeld.{qos_granted, qos_given_up}
 abbrev pub HasNow : Client → Option ClientSession → Sessions → Sessions → Type 0
 HasNow d o rows after = (c : Client) → session_in c after ≡ (if same_client d c then o else session_in c rows)
 
--- what stands at each filter
+-- what is at each filter
 content_now : (d : Client) (o : Option ClientSession) (rows after : Sessions) → HasNow d o rows after → (c : Client) (f : List ℕ) →
     content_in after c f ≡ (if bytes_eq d c then subscribed_in f o else content_in rows c f)
 content_now d o rows after now c f = ap (subscribed_in f) (now c) ∙ by (same_client d c) ∙ ap (λ b. if b then subscribed_in f o else content_in rows c f) (sym (texts_ties d c))
@@ -28,7 +28,7 @@ content_now d o rows after now c f = ap (subscribed_in f) (now c) ∙ by (same_c
 abbrev with_held : Client → List HeldFilter → Content → Content
 with_held d held content c f = if bytes_eq d c then qos_at f held else content c f
 
--- where the client has them already
+-- if the client has them already
 held_already : (d : Client) (old : ClientSession) (rows : Sessions) → session_in d rows ≡ Some old → content_in rows ≡ with_held d old.state.subscriptions (content_in rows)
 held_already d old rows found = λ i c f. at c f i
   where
@@ -78,7 +78,7 @@ held_now d new rows after now = λ i c f. content_now d (Some new) rows after no
 
 -- ---- what an index has to do
 
--- nothing, where the subscriptions stay
+-- nothing changes if the subscriptions stay
 pub content_stays : (d : Client) (old new : ClientSession) (rows after : Sessions) → HasNow d (Some new) rows after → session_in d rows ≡ Some old →
     new.state.subscriptions ≡ old.state.subscriptions → content_in after ≡ content_in rows
 content_stays d old new rows after now found same =
@@ -98,7 +98,7 @@ content_cleared d old new filters rows after now found is =
     held_now d new rows after now ∙ ap (λ held. with_held d held (content_in rows)) is
     ∙ sym (clear_all d filters old.state.subscriptions (content_in rows)) ∙ ap (all_cleared d filters) (sym (held_already d old rows found))
 
--- drop the client, where its session goes, or begins anew
+-- the client is dropped, if its session ends, or begins afresh
 pub content_dropped : (d : Client) (o : Option ClientSession) (rows after : Sessions) → HasNow d o rows after → ((f : List ℕ) → subscribed_in f o ≡ None) →
     content_in after ≡ without_client (content_in rows) d
 content_dropped d o rows after now none =

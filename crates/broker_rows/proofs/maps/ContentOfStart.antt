@@ -20,7 +20,7 @@ use Rattle.broker_rows.proofs.ConnectSteps.{no_session}
 
 -- ---- what is dropped
 
--- where a client is among the dropped, nothing is left
+-- if a client is among the dropped, nothing is left
 dropped_at : (clients : List (List ℕ)) (content : Content) (c f : List ℕ) →
     all_dropped clients content c f ≡ (if list_any (λ d. bytes_eq d c) clients then None else content c f)
 dropped_at [] content c f = refl
@@ -52,7 +52,7 @@ same_bytes c d = by (bytes_eq d c) refl (same_client c d) refl
         let k : bytes_eq d c ≡ true = (bytes_decides d c).1 (sym (same_is c d h)) in
         absurd (cc)
 
--- a client is among those of the clean sessions where its own is clean
+-- a client is among those of the clean sessions if its own is clean
 clean_at : (rows : Sessions) (c : Client) → AreByClient rows → list_any (λ d. bytes_eq d c) (clean_clients rows) ≡ is_clean (session_in c rows)
 unfolding IsStrictlySortedBy
 clean_at [] c by_client = refl
@@ -72,7 +72,7 @@ clean_at (row ∷ rows) c by_client =
         more ∙ ap is_clean (no_session c rows (subst (λ (z : Client). ComesBefore z rows) (sym (same_is c row.0 h)) by_client.0)) ∙ sym e
     by false e false h more = more
 
--- ---- behind a Start
+-- ---- after a Start
 
 -- what a session that is left off subscribes
 left_subscribed : (f : List ℕ) (kept : ClientSession) → subscribed_in f (left_off kept) ≡ (if kept.clean then None else subscribed_in f (Some kept))
@@ -80,7 +80,7 @@ left_subscribed f kept =
     elim kept.clean as (λ (b : Bool). subscribed_in f (if b then None else Some (record { clean = kept.clean; connection = None; state = kept.state }))
     ≡ (if b then None else subscribed_in f (Some kept))) [ true ↦ refl | false ↦ refl ]
 
--- what stands at each filter
+-- what is at each filter
 left_at : (rows : Sessions) (c : Client) (f : List ℕ) → AreByClient rows →
     content_in (all_left_off rows) c f ≡ (if is_clean (session_in c rows) then None else content_in rows c f)
 unfolding IsStrictlySortedBy

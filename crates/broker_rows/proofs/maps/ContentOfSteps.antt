@@ -1,4 +1,4 @@
--- What an index is told where one client's session is written, goes, or begins.
+-- How an index changes if one client's session is written, ends, or begins.
 use Rattle.std.proofs.Common.{◌≡◌, Bool, true, false, if◌then◌else◌, Some, None, refl}
 use Rattle.broker_base.specs.SessionStep.{kept_anew}
 use Rattle.broker_base.specs.State.{put_session}

@@ -1,4 +1,4 @@
--- What a session holds of each filter, where one is granted or given up.
+-- What a session holds for each filter, if one is granted or removed.
 use Rattle.std.proofs.Common.{◌≡◌, ℕ, Bool, true, false, not, if◌then◌else◌, List, [], ◌∷◌, Option, Some, None, refl, ap, ◌∙◌, sym}
 use Rattle.std.specs.Prelude.{bytes_eq}
 use Rattle.std.specs.Cmp.Lexicographic.{bytes_decides}
@@ -16,18 +16,18 @@ bytes_back f g = by (bytes_eq f g) refl (bytes_eq g f) refl
     by true e false h = let k : bytes_eq g f ≡ true = (bytes_decides g f).1 (sym ((bytes_decides f g).0 e)) in absurd (cc)
     by false e true h = let k : bytes_eq f g ≡ true = (bytes_decides f g).1 (sym ((bytes_decides g f).0 h)) in absurd (cc)
 
--- one more, or another QoS in the place of an identical filter
+-- one more, or another QoS in place of an identical filter
 pub qos_granted : (new : HeldFilter) (held : List HeldFilter) (f : List ℕ) →
     qos_at f (with_subscription new held) ≡ (if bytes_eq new.0 f then Some new.1 else qos_at f held)
 qos_granted new [] f = ap (λ b. if b then Some new.1 else None) (bytes_back f new.0)
 qos_granted new (old ∷ others) f = by (bytes_eq new.0 old.0) refl (qos_granted new others f)
   where
-    -- where the first is replaced
+    -- if the first is replaced
     same : (b : Bool) → (if b then Some new.1 else qos_at f others) ≡ (if b then Some new.1 else if b then Some old.1 else qos_at f others)
     same true = refl
     same false = refl
 
-    -- where it stays
+    -- if it stays
     other : (b : Bool) → bytes_eq f old.0 ≡ b → bytes_eq new.0 old.0 ≡ false → (mine : Bool) → bytes_eq new.0 f ≡ mine →
         (if b then Some old.1 else if mine then Some new.1 else qos_at f others) ≡ (if mine then Some new.1 else if b then Some old.1 else qos_at f others)
     other true e apart true h =

@@ -1,4 +1,4 @@
--- An index and a map of owners that are made anew from the sessions are in step with them.
+-- An index and a map of owners that are made again from the sessions are in step with them.
 use Rattle.std.proofs.Common.{◌≡◌, ℕ, Bool, true, false, ◌&&◌, if◌then◌else◌, List, [], ◌∷◌, Option, Some, None, refl, ap, ap₂, ◌∙◌, sym, subst}
 use Rattle.std.specs.Prelude.{bytes_eq}
 use Rattle.std.specs.List.Sorted.{IsStrictlySortedBy}
@@ -38,7 +38,7 @@ first_alone None = refl
 
 -- ---- the index
 
--- what stands where one client's filters, each held once, are set
+-- the content if one client's filters, each held once, are set
 set_at : (d : Client) (held : List HeldFilter) (content : Content) (c f : List ℕ) → AreFiltersApart held →
     all_set d held content c f ≡ (if bytes_eq d c then first_of (qos_at f held) (content c f) else content c f)
 set_at d [] content c f apart = by (bytes_eq d c)
@@ -62,7 +62,7 @@ set_at d (new ∷ more) content c f apart =
     by true false e back = ap (λ b. first_of (qos_at f more) (if b then Some new.1 else content c f)) (back ∙ e)
     by false same e back = refl
 
--- what stands where all sessions' filters are
+-- the content if all sessions' filters are set
 told_at : (rows : Sessions) (content : Content) (c f : List ℕ) → AreByClient rows → AllSound rows →
     all_told rows content c f ≡ first_of (subscribed_in f (session_in c rows)) (content c f)
 unfolding IsStrictlySortedBy

@@ -1,4 +1,5 @@
--- Where a client's session is put on a connection of nobody, it owns that one, and the one that it had is nobody's.
+-- If a client's session is put on a connection without a client, the client owns that one, and the
+-- one that it had has no client any more.
 use Rattle.std.proofs.Common.{◌≡◌, Bool, true, false, if◌then◌else◌, [], ◌∷◌, Option, Some, None, refl, ap, ap₂, ◌∙◌, sym}
 use Rattle.std.specs.declared.cmp.Ordering.{Ordering}
 use Rattle.std.specs.declared.cmp.Ordering.TheVariants.{Less, Equal, Greater}
@@ -27,7 +28,7 @@ removed_is : (had : Option ConnectionName) (owners : Owners) (y : ConnectionName
 removed_is None owners y = refl
 removed_is (Some x) owners y = ap (λ b. if b then None else owners y) (same_turned x y)
 
--- nobody's connection is not that of a client's session
+-- a connection without a client is not that of a client's session
 not_of_session : (y : ConnectionName) (c : Client) (rows : Sessions) → IsNobodys y rows → any_connection (same_connection y) (connection_of (session_in c rows)) ≡ false
 not_of_session y c [] nobodys = refl
 not_of_session y c (row ∷ rows) nobodys = by (same_client c row.0) (not_of_session y c rows nobodys.1)
@@ -80,7 +81,7 @@ put_behind x y c row rows rest had off other more =
         sym (ap₂ (λ a b. if a then Some c else if b then None else Some row.0) (apart on (same_connection x y) refl) (other on))
     by false e = refl
 
--- the owners where the session is put
+-- the owners if the session is put
 put_owns : (x : ConnectionName) (c : Client) (kept : ClientSession) (rows : Sessions) (y : ConnectionName) → kept.connection ≡ Some x → IsNobodys x rows →
     AreByClient rows → AreApart rows →
     owners_in (put_session c kept rows) y
@@ -109,13 +110,13 @@ put_owns x c kept (row ∷ rows) y on nobodys by_client apart =
         put_behind x y c row rows (put_session c kept rows) (connection_of (session_in c rows)) nobodys.0
         (λ here. not_of_session y c rows (apart.0 y (on_is y row.1.connection here))) more
 
--- behind an accepted Connect
+-- after an accepted Connect
 pub connecting_sets_the_owner : ConnectingSetsTheOwner
 connecting_sets_the_owner state x c new sound none on y =
     put_owns x c new state.sessions y on (nobody_owns x state.sessions none) sound.by_client sound.apart
     ∙ ap (λ o. if same_connection x y then Some c else o) (sym (removed_is (connection_of (session_in c state.sessions)) (owners_in state.sessions) y))
 
--- where the session goes on
+-- if the session continues
 pub resuming_sets_the_owner : ResumingSetsTheOwner
 resuming_sets_the_owner state x c old new sound none found on y =
     ap (λ rows. owners_in rows y) (sym (insertion_writes c old new state.sessions sound.by_client found))

@@ -1,4 +1,5 @@
--- Where the owner of a connection goes, or its session is left without one, the connection is nobody's.
+-- If the owner of a connection is removed, or its session is left without one, the connection has
+-- no client.
 use Rattle.std.proofs.Common.{◌≡◌, Bool, true, false, if◌then◌else◌, [], ◌∷◌, Option, Some, None, refl, ap, ◌∙◌, sym, subst}
 use Rattle.std.specs.List.Sorted.{IsStrictlySortedBy}
 use Rattle.std.specs.Ordering.{is_eq}
@@ -32,7 +33,7 @@ left_off_away kept =
       | false ↦ refl
     ]
 
--- nobody's connection has no owner
+-- a connection without a client has no owner
 pub no_owner : (y : ConnectionName) (rows : Sessions) → IsNobodys y rows → owners_in rows y ≡ None
 no_owner y [] nobodys = refl
 no_owner y (row ∷ rows) nobodys = owners_row y row rows ∙ ap (λ b. if b then Some row.0 else owners_in rows y) nobodys.0 ∙ no_owner y rows nobodys.1
@@ -98,7 +99,7 @@ pub leaving_removes_the_owner : LeavingRemovesTheOwner
 leaving_removes_the_owner state x c kept served y =
     owner_leaves x (c, kept) (left_off kept) state.sessions y served.sound.by_client served.sound.apart served.owner (left_off_away kept)
 
--- behind a Start no connection has an owner
+-- after a Start no connection has an owner
 pub start_removes_the_owners : StartRemovesTheOwners
 start_removes_the_owners [] y = refl
 start_removes_the_owners (row ∷ rows) y = away_owns_none row.0 (left_off row.1) (all_left_off rows) y (left_off_away row.1) ∙ start_removes_the_owners rows y

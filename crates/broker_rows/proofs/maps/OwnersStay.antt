@@ -12,7 +12,7 @@ use Rattle.broker_rows.specs.Owners.{owners_in}
 use Rattle.broker_rows.specs.OwnerLaws.{WritingKeepsOwners}
 use Rattle.broker_rows.proofs.publications.OneChanged.{changed_next}
 
--- the client is that of the row, or of one behind it
+-- the client is that of the row, or of one after it
 pub owners_row : (y : ConnectionName) (row : Client × ClientSession) (rows : Sessions) →
     owners_in (row ∷ rows) y ≡ (if any_connection (same_connection y) row.1.connection then Some row.0 else owners_in rows y)
 owners_row y row rows = by (any_connection (same_connection y) row.1.connection)
@@ -21,7 +21,7 @@ owners_row y row rows = by (any_connection (same_connection y) row.1.connection)
     by true = refl
     by false = refl
 
--- a row is changed, but for its connection
+-- a row is changed, except its connection
 pub owners_changed : (d : Client) (change : ClientSession → ClientSession) (rows : Sessions) (y : ConnectionName) → ((kept : ClientSession) → (change kept).connection ≡ kept.connection) →
     owners_in (changed d change rows) y ≡ owners_in rows y
 owners_changed d change [] y same = refl

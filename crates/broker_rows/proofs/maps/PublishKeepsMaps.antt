@@ -14,7 +14,7 @@ use Rattle.broker_rows.specs.IndexLaws.{PublishingKeepsContent}
 use Rattle.broker_rows.proofs.publications.OneChanged.{changed_as}
 use Rattle.broker_rows.proofs.maps.OwnersStay.{owners_changed}
 
--- a row is changed, but for its subscriptions
+-- a row is changed, except its subscriptions
 content_changed : (d : Client) (change : ClientSession → ClientSession) (rows : Sessions) (c : Client) (f : List ℕ) →
     ((kept : ClientSession) → (change kept).state.subscriptions ≡ kept.state.subscriptions) →
     content_in (changed d change rows) c f ≡ content_in rows c f
@@ -32,12 +32,12 @@ content_delivered w p [] rows c f = refl
 content_delivered w p (row ∷ granted) rows c f =
     content_delivered w p granted (changed row.0 (delivered_on w p row.1) rows) c f ∙ content_changed row.0 (delivered_on w p row.1) rows c f (λ kept. refl)
 
--- the owners behind it
+-- the owners after it
 pub publishing_keeps_owners : PublishingKeepsOwners
 publishing_keeps_owners w p granted d delivery rows y =
     owners_delivered w p granted (changed d (received_on delivery) rows) y ∙ owners_changed d (received_on delivery) rows y (λ kept. refl)
 
--- the subscriptions behind it
+-- the subscriptions after it
 pub publishing_keeps_content : PublishingKeepsContent
 publishing_keeps_content w p granted d delivery rows =
     λ i c f. (content_delivered w p granted (changed d (received_on delivery) rows) c f ∙ content_changed d (received_on delivery) rows c f (λ kept. refl)) i

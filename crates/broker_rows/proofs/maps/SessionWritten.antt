@@ -1,4 +1,4 @@
--- The session of each client, where one row is written, goes, or is put.
+-- The session of each client, if one row is written, removed, or inserted.
 use Rattle.std.proofs.Common.{◌≡◌, Bool, true, false, if◌then◌else◌, [], ◌∷◌, Option, Some, None, refl, ap, ◌∙◌, sym, subst}
 use Rattle.std.specs.declared.cmp.Ordering.{Ordering}
 use Rattle.std.specs.declared.cmp.Ordering.TheVariants.{Less, Equal, Greater}
@@ -40,7 +40,7 @@ at_own d o row rows c before own =
     by (Some kept) false e =
         ap (λ b. if b then Some kept else session_in c rows) e ∙ sym (ap (λ b. if b then Some kept else if b then Some row.1 else session_in c rows) e)
 
--- behind another's row
+-- after another's row
 behind_own : (d : Client) (o : Option ClientSession) (row : Client × ClientSession) (rows rest : Sessions) (c : Client) → same_client d row.0 ≡ false →
     session_in c rest ≡ (if same_client d c then o else session_in c rows) →
     session_in c (row ∷ rest) ≡ (if same_client d c then o else session_in c (row ∷ rows))
@@ -55,7 +55,7 @@ behind_own d o row rows rest c other more =
     by true e false f = refl
     by false e mine f = refl
 
--- where a row is written, or goes
+-- if a row is written, or removed
 pub session_written : (d : Client) (old : ClientSession) (o : Option ClientSession) (rows : Sessions) (c : Client) → AreByClient rows → session_in d rows ≡ Some old →
     session_in c (written d o rows) ≡ (if same_client d c then o else session_in c rows)
 unfolding IsStrictlySortedBy
@@ -68,7 +68,7 @@ session_written d old o (row ∷ rows) c by_client found = by (same_client d row
     by true same e more = ap (session_in c) (sym (written_here d o row rows same)) ∙ at_own d o row rows c by_client.0 (same_is d row.0 same)
     by false other e more = ap (session_in c) (sym (written_behind d o row rows other)) ∙ behind_own d o row rows (written d o rows) c other (more e)
 
--- where a row is put
+-- if a row is inserted
 pub session_put : (d : Client) (kept : ClientSession) (rows : Sessions) (c : Client) → AreByClient rows →
     session_in c (put_session d kept rows) ≡ (if same_client d c then Some kept else session_in c rows)
 unfolding IsStrictlySortedBy

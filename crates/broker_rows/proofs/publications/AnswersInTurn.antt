@@ -1,4 +1,5 @@
--- The answers to a taken PUBLISH, where each granted row's is made as its session gets its copy.
+-- The answers to a taken PUBLISH, if those of each granted row are made when its session gets its
+-- copy.
 use Rattle.std.proofs.Common.{◌≡◌, ℕ, List, [], ◌∷◌, ◌++◌, Option, Some, None, refl, ap, ap₂, ◌∙◌, sym}
 use Rattle.std.specs.Prelude.{flat_map}
 use Rattle.std.specs.Ordering.{is_eq}
@@ -31,7 +32,7 @@ granted_rise topic (row ∷ rows) by_client = by (granted_qos topic row.1.state.
     by None more = more
     by (Some qos) more = (behind_rows row.0 topic rows by_client.0, more)
 
--- the answers of rows behind one that is changed stay
+-- the answers of rows after one that is changed stay
 answers_behind : (w : ℕ) (p : Publication) (d : Client) (change : ClientSession → ClientSession) (granted : List Row) (rows : Sessions) → GrantedBehind d granted →
     flat_map (λ row. copy_answered w p row.1 (session_in row.0 (changed d change rows))) granted
     ≡ flat_map (λ row. copy_answered w p row.1 (session_in row.0 rows)) granted

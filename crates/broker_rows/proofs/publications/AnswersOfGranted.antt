@@ -1,4 +1,4 @@
--- What a taken publication is answered by is sent to the clients of the granted rows alone, in their order.
+-- The answers to a taken publication are sent only to the clients of the granted rows, in order.
 use Rattle.std.proofs.Common.{◌≡◌, ℕ, List, [], ◌∷◌, ◌++◌, Option, Some, None, refl, ap₂, sym}
 use Rattle.std.specs.Prelude.{flat_map, option_map}
 use Rattle.subs.specs.packet.declared.qos.QoS.{QoS}

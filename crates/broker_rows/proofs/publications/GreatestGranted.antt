@@ -65,7 +65,7 @@ reaches topic (s ∷ others) f q found is =
           ]
     ] refl found
 
--- the subscription of a filter behind the first, where filters are apart
+-- the subscription of a filter after the first, if filters are apart
 at_behind : (s : HeldFilter) (others : List HeldFilter) (f : List ℕ) (p : QoS) → qos_at s.0 others ≡ None → qos_at f others ≡ Some p → qos_at f (s ∷ others) ≡ Some p
 at_behind s others f p apart found =
     elim (bytes_eq f s.0) as (λ v. bytes_eq f s.0 ≡ v → cond v (Some s.1) (qos_at f others) ≡ Some p) [

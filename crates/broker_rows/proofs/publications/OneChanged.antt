@@ -13,7 +13,7 @@ use Rattle.broker_rows.specs.PublishLaws.{ChangeIsOfOneRow}
 use Rattle.broker_rows.proofs.OneRow.{written_here, written_behind}
 use Rattle.broker_rows.proofs.ServedStep.{written_same}
 
--- where none is found, none is removed
+-- if none is found, none is removed
 none_removed : (d : Client) (rows : Sessions) → session_in d rows ≡ None → written d None rows ≡ rows
 none_removed d [] none = refl
 none_removed d (row ∷ rows) none = by (same_client d row.0) none (none_removed d rows)
@@ -23,7 +23,7 @@ none_removed d (row ∷ rows) none = by (same_client d row.0) none (none_removed
     by true e more = absurd (cc)
     by false e more = ap (λ rest. row ∷ rest) (more e)
 
--- of the first row, or of one behind it
+-- of the first row, or of one after it
 pub changed_next : (d : Client) (change : ClientSession → ClientSession) (row : Client × ClientSession) (rows : Sessions) →
     changed d change (row ∷ rows) ≡ (if same_client d row.0 then (row.0, change row.1) ∷ rows else row ∷ changed d change rows)
 changed_next d change row rows = by (same_client d row.0) refl
@@ -42,7 +42,7 @@ changed_none d change (row ∷ rows) before =
     ∙ ap (λ o. if is_eq o then (row.0, change row.1) ∷ rows else row ∷ changed d change rows) before.0
     ∙ ap (λ rest. row ∷ rest) (changed_none d change rows before.1)
 
--- another client's session stays where one is changed
+-- another client's session stays if one is changed
 pub other_stays : (d c : Client) (change : ClientSession → ClientSession) (rows : Sessions) → same_client d c ≡ false → session_in c (changed d change rows) ≡ session_in c rows
 other_stays d c change [] other = refl
 other_stays d c change (row ∷ rows) other =
@@ -57,7 +57,7 @@ other_stays d c change (row ∷ rows) other =
     by true e false f more = ap (λ b. if b then Some (change row.1) else session_in c rows) f ∙ sym (ap (λ b. if b then Some row.1 else session_in c rows) f)
     by false e asked f more = ap (λ found. if same_client c row.0 then Some row.1 else found) more
 
--- what the change leaves of a session stands in each of them
+-- what the change leaves of a session is in each of them
 pub changed_as : {A : Type 0} (look : Option ClientSession → A) (d : Client) (change : ClientSession → ClientSession) (c : Client) (rows : Sessions) →
     ((kept : ClientSession) → look (Some (change kept)) ≡ look (Some kept)) → look (session_in c (changed d change rows)) ≡ look (session_in c rows)
 changed_as look d change c [] same = refl
@@ -79,7 +79,7 @@ changed_as look d change c (row ∷ rows) same =
     by true more = here (same_client c row.0)
     by false more = behind (same_client c row.0) more
 
--- where it is found, and where it is not
+-- if it is found, and if it is not
 pub change_is_of_one_row : ChangeIsOfOneRow
 change_is_of_one_row d change rows = (
   λ kept found. ap (λ o. written d (option_map change o) rows) found,

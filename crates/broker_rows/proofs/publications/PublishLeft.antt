@@ -23,7 +23,7 @@ use Rattle.broker_rows.specs.Published.{granted_rows, changed, received_on, deli
 use Rattle.broker_rows.proofs.publications.OneChanged.{changed_next, changed_none}
 use Rattle.broker_rows.proofs.publications.RowOfPublish.{received_if, delivered_if, published_is}
 
--- the publisher's identifier is noted in the first row, and in those behind it
+-- the publisher's identifier is noted in the first row, and in those after it
 changed_first : (d : Client) (p : Publish) (row : Client × ClientSession) (rows : Sessions) → ComesBefore row.0 rows →
     changed d (received_on p.delivery) (row ∷ rows) ≡ (row.0, received_if (same_client d row.0) p.delivery row.1) ∷ changed d (received_on p.delivery) rows
 changed_first d p row rows before = changed_next d (received_on p.delivery) row rows ∙ by (same_client d row.0) refl

@@ -20,7 +20,7 @@ use Rattle.broker_rows.proofs.publications.PublishLeft.{publish_left}
 use Rattle.broker_rows.proofs.publications.AnswersInTurn.{answered_from_noted}
 use Rattle.broker_rows.proofs.LeavingSteps.{leaving_step}
 
--- what becomes of it
+-- what happens to it
 publish_mark : (limits : Limits) (state : State) (c : Client) (kept : ClientSession) (p : Publish) (refused : Bool) → AreByClient state.sessions →
     is_again kept p.delivery ≡ false → is_refused_in limits state (publication_of p) ≡ refused →
     owned_mark limits state (c, kept) (packets.Publish p) ≡ (if refused then Mark.Refused c else Mark.Taken c)

@@ -15,7 +15,7 @@ use Rattle.broker_rows.proofs.publications.OneChanged.{changed_as, other_stays}
 use Rattle.broker_rows.proofs.publications.PublishLeft.{GrantedBehind}
 use Rattle.broker_rows.proofs.publications.AnswersInTurn.{AreRising, granted_rise}
 
--- the rows behind one that is changed
+-- the rows after one that is changed
 full_behind : (limits : Limits) (p : Publication) (d : Client) (change : ClientSession → ClientSession) (granted : List Row) (rows : Sessions) → GrantedBehind d granted →
     list_any (λ row. is_full_at limits p row.1 (session_in row.0 (changed d change rows))) granted
     ≡ list_any (λ row. is_full_at limits p row.1 (session_in row.0 rows)) granted
@@ -43,7 +43,7 @@ noted_full limits p d delivery (row ∷ granted) rows =
     ap₂ (λ here more. here || more) (changed_as (is_full_at limits p row.1) d (received_on delivery) row.0 rows (λ kept. refl))
     (noted_full limits p d delivery granted rows)
 
--- so it is for all
+-- the same holds for all
 pub room_lasts : RoomLastsToItsTurn
 room_lasts limits w p c delivery rows by_client none =
     in_turn limits w p (granted_rows p.topic rows) (changed c (received_on delivery) rows) (granted_rise p.topic rows by_client)

@@ -1,4 +1,4 @@
--- Whether a session is full for a publication is asked of the granted rows alone.
+-- Whether a session is full for a publication depends only on the granted rows.
 use Rattle.std.proofs.Common.{◌≡◌, ◌&&◌, ◌||◌, ◌==◌, [], ◌∷◌, ◌++◌, Option, Some, None, refl, ap₂, sym}
 use Rattle.std.specs.Prelude.{option_map}
 use Rattle.std.specs.List.{list_any}

@@ -36,7 +36,7 @@ uncopied : (w : ℕ) (connection : Option ConnectionName) (queue : Queue) → co
 uncopied w None queue = ap (λ waiting. record { in_flight = queue.in_flight; waiting = waiting }) (append_none queue.waiting)
 uncopied w (Some x) queue = refl
 
--- what the step makes of a session that it touches
+-- what the step does to a session that it touches
 abbrev published : ℕ → Publish → Bool → Option QoS → ClientSession → ClientSession
 published w p mine granted kept = record {
   clean = kept.clean;

@@ -23,11 +23,11 @@ module _ (limits : Limits) (w : ℕ) (content : RetainedTopics) where
   only : (new : Subscription) → copies_for_all content (new ∷ []) ≡ copies_for content new
   only new = append-nil (copies_for content new)
 
-  -- the queue behind it
+  -- the queue after it
   queue_by : (new : Subscription) (held : SessionState) → (subscribed_to w content (new ∷ []) held).queue ≡ copies_left w (copies_for content new) held.queue
   queue_by new held = ap (λ copies. copies_left w copies held.queue) (only new)
 
-  -- the room behind it
+  -- the room after it
   room_by : (new : Subscription) (held : SessionState) →
       room limits.entries (subscribed_to w content (new ∷ []) held).queue ≡ room limits.entries held.queue - entries_for content new
   room_by new held = ap (room limits.entries) (queue_by new held) ∙ copies_take_room w limits.entries (copies_for content new) held.queue

@@ -10,7 +10,7 @@ const CONNECT: &[u8] = &[
     0x10, 13, 0, 4, 0x4D, 0x51, 0x54, 0x54, 4, 0, 0, 0x3C, 0, 1, 0x62,
 ];
 
-// A session begins on the first connection, and goes on on the second, which closes the first
+// A session begins on the first connection, and continues on the second, which closes the first
 // (MQTT 3.1.4, 3.2.2.2).
 const A_SECOND_CONNECTION_TAKES_OVER: &[Row<'static>] = &[
     (Event::Connect(1, "a", false), &[(1, &[0x20, 2, 0, 0])]),
@@ -61,8 +61,8 @@ fn ping_unsubscribe_and_violations(rt: HostRuntime) {
     );
 }
 
-// A clean session ends with its connection, and each with a Start (MQTT 3.1.2.4): the session that is
-// not clean is found again.
+// A clean session ends with its connection, and each with a Start (MQTT 3.1.2.4): the session that
+// is not clean is found again.
 const SESSIONS_END_AND_GO_ON: &[Row<'static>] = &[
     (Event::Connect(1, "a", true), &[(1, &[0x20, 2, 0, 0])]),
     (Event::Lost(1), NOTHING),

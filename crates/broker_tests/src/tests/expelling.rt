@@ -1,12 +1,12 @@
-// A client is expelled: its session is gone, and its connection is closed (MQTT 3.1.2.4, 4.1).
+// A client is expelled: its session ends, and its connection is closed (MQTT 3.1.2.4, 4.1).
 
 use crate::row::{CLOSED, Event, NOTHING, Row, command_of};
 use crate::story::{Start, Story, first_fault};
 use crate::tests::handshakes::{AGAIN, BEGINS, PUBLISH, SUBSCRIBE};
 use std::test::*;
 
-// The connection is closed once; what is published then is for nobody; and the client comes back to a session that
-// begins, in which its answer to what it was sent before names nothing.
+// The connection is closed once; what is published then is sent to no client; and when the client
+// comes back, a new session begins, in which its answer to what it was sent before names nothing.
 const EXPELLED_WHILE_CONNECTED: &[Row<'static>] = &[
     (Event::Connect(1, "a", false), &[(1, BEGINS)]),
     (Event::Connect(2, "b", false), &[(2, BEGINS)]),
@@ -40,8 +40,8 @@ fn expelled_while_connected(rt: HostRuntime) {
 // A publication with another payload, `y`, by the packet identifier 2.
 const SECOND: &[u8] = &[0x34, 8, 0, 3, 0x74, 0x2F, 0x31, 0, 2, 0x79];
 
-// Of two publications, the second after the Expel, the client gets the first alone; it comes back to CONNACK 0 without a
-// session, and nothing is sent to it.
+// Of two publications, the second after the Expel, the client gets only the first; when it comes
+// back, its CONNACK has code 0 and no session present, and nothing is sent to it.
 const WHAT_COMES_MEANWHILE_IS_FOR_NOBODY: &[Row<'static>] = &[
     (Event::Connect(1, "b", false), &[(1, BEGINS)]),
     (Event::Bytes(1, SUBSCRIBE), &[(1, &[0x90, 3, 0, 1, 2])]),
@@ -69,8 +69,8 @@ fn what_comes_meanwhile_is_for_nobody(rt: HostRuntime) {
     );
 }
 
-// What waits for a client that is away is gone with its session, and the queue of a client whose identifier begins with
-// that of the first stays.
+// What waits for a client that is away is lost with its session, and the queue of a client whose
+// identifier begins with that of the first stays.
 const EXPELLED_WHILE_AWAY: &[Row<'static>] = &[
     (Event::Connect(1, "a", false), &[(1, BEGINS)]),
     (Event::Connect(2, "b", false), &[(2, BEGINS)]),
@@ -96,7 +96,7 @@ fn expelled_while_away(rt: HostRuntime) {
     );
 }
 
-// The identifiers that were received are gone, so the same publication is taken once more.
+// The identifiers that were received are forgotten, so the same publication is taken once more.
 const WHAT_WAS_RECEIVED_IS_FORGOTTEN: &[Row<'static>] = &[
     (Event::Connect(1, "a", false), &[(1, BEGINS)]),
     (Event::Connect(2, "b", false), &[(2, BEGINS)]),
@@ -128,8 +128,8 @@ fn what_was_received_is_forgotten(rt: HostRuntime) {
     );
 }
 
-// An Expel of a client that never came, or whose identifier only begins as another's does, changes nothing and is
-// answered by nothing: b is sent what is published, and its handshake goes on.
+// An Expel of a client that never came, or whose identifier only begins as another's does, changes
+// nothing and has no output: b is sent what is published, and its handshake continues.
 const EXPELLED_NOBODY: &[Row<'static>] = &[
     (Event::Expel("b"), NOTHING),
     (Event::Connect(1, "a", false), &[(1, BEGINS)]),
@@ -174,7 +174,8 @@ fn expelled_clean(rt: HostRuntime) {
     );
 }
 
-// A text that is no Client Identifier makes no command: none at all, one with U+0000, one of 65 bytes.
+// A text that is no Client Identifier makes no command: none at all, one with U+0000, one of 65
+// bytes.
 #[test]
 fn no_identifier_makes_no_expel(rt: HostRuntime) {
     let long = "aaaaaaaaaaaaaaaaaaaaaaaaaaaaaaaaaaaaaaaaaaaaaaaaaaaaaaaaaaaaaaaaa";

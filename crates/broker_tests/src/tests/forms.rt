@@ -45,10 +45,10 @@ const ONE_ENTRY: &[u8] = &[
     0, 1, 2, 0, 3, 0x74, 0x2F, 0x31, 0, 0, 0, 1, 0x78,
 ];
 
-/// A broker with something in every part. Client `a` on connection 258 of ballot 2 has `t/#` at QoS 0 and
-/// `t/1` at QoS 2, received identifiers 1 and 258, an entry that waits for PUBCOMP, one for PUBACK and one
-/// for PUBREC, and two that are not sent: a retained copy, and one without payload. Retained are `t/1` at
-/// QoS 0 and `t/2` at QoS 2.
+/// A broker with something in every part: Client `a` on connection 258 of ballot 2 has `t/#` at QoS
+/// 0 and `t/1` at QoS 2, received identifiers 1 and 258, an entry that waits for PUBCOMP, one for
+/// PUBACK and one for PUBREC, and two that are not sent: a retained copy, and one without payload.
+/// Retained are `t/1` at QoS 0 and `t/2` at QoS 2.
 const FULL: &[u8] = &[
     2, 0x40, 0, 1, 0, 1, 0x61, 0, 1, 0, 0, 0, 0, 0, 0, 0, 2, 0, 0, 0, 0, 0, 0, 1, 2, 2, 0, 3, 0x74,
     0x2F, 0x23, 0, 0, 3, 0x74, 0x2F, 0x31, 2, 0, 2, 0, 1, 1, 2, 0, 3, 0, 3, 2, 0, 1, 0, 0, 1, 0, 3,
@@ -79,7 +79,7 @@ const FULL_NARROW: &[u8] = &[
 /// PUBLISH of `x` on `t/1` at QoS 2 with RETAIN 1 and identifier 1.
 const RETAINED: &[u8] = &[0x35, 8, 0, 3, 0x74, 0x2F, 0x31, 0, 1, 0x78];
 
-// Appends the bytes of a broker, and tells whether memory was found.
+// Appends the bytes of a broker, and says whether memory was found.
 fn is_frozen(broker: &BrokerMachine, bytes: &mut Vec<u8>) -> bool {
     broker.freeze(bytes).is_ok()
 }
@@ -89,8 +89,8 @@ pub(crate) fn has_bytes(alloc: Global, broker: &BrokerMachine, wanted: &[u8]) ->
     is_frozen(broker, &mut bytes) && bytes.as_slice() == wanted
 }
 
-/// What comes to a broker, what goes out for it, and the bytes that the broker has then, if they are
-/// asked.
+/// What comes to a broker, what it sends then, and the bytes that the broker has then, if they are
+/// asked for.
 pub(crate) type Step<'a> = (Event<'a>, &'a [Answer<'a>], Option<&'a [u8]>);
 
 const STEPS: &[Step<'static>] = &[
@@ -118,7 +118,7 @@ fn is_form(alloc: Global, broker: &BrokerMachine, wanted: Option<&[u8]>) -> bool
     }
 }
 
-/// Which step leaves a broker with other answers or bytes, if there is one.
+/// Returns which step leaves a broker with other answers or bytes, if there is one.
 fn other_bytes(alloc: Global, broker: &mut BrokerMachine, steps: &[Step<'_>]) -> Option<usize> {
     for (place, (event, wanted, bytes)) in steps.iter().enumerate() {
         if !is_answered(alloc, broker, *event, wanted) || !is_form(alloc, broker, *bytes) {
@@ -141,7 +141,8 @@ pub(crate) fn other_form(
     other_bytes(alloc, broker, steps)
 }
 
-/// Finds what is wrong with the broker that these bytes stand for, if it is not frozen to them again.
+/// Finds what is wrong with the broker that is thawed from these bytes, if it is not frozen to them
+/// again.
 fn other_again(alloc: Global, bytes: &[u8]) -> Option<usize> {
     first_fault(alloc, Start::Thawed(bytes), Story::HasBytes(bytes))
 }
@@ -152,7 +153,7 @@ const BEFORE: [(&[u8], &[u8], &[u8]); 2] = [
     (ONE_SESSION_BEFORE, ONE_SESSION_NARROW, AWAY),
 ];
 
-/// Finds what is wrong with the broker that bytes of form 1 stand for.
+/// Finds what is wrong with the broker that is thawed from bytes of form 1.
 fn other_before(alloc: Global, before: &[u8], narrow: &[u8], wide: &[u8]) -> Option<usize> {
     let steps = [(Event::Start(2), NOTHING, Some(wide))];
     first_fault(
@@ -206,7 +207,7 @@ const GOES_ON: &[Row<'static>] = &[
     ),
 ];
 
-// A thawed broker goes on where the frozen one was.
+// A thawed broker continues where the frozen one was.
 #[test]
 fn a_thawed_broker_goes_on(rt: HostRuntime) {
     assert_eq!(rt;

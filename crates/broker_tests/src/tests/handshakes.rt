@@ -1,4 +1,4 @@
-// A publication at QoS 2 on its way from one client to another (MQTT 4.3.3).
+// A publication at QoS 2 from one client to another (MQTT 4.3.3).
 
 use crate::row::{Event, Row};
 use crate::story::{Start, Story, first_fault};
@@ -16,8 +16,8 @@ pub(crate) const SUBSCRIBE: &[u8] = &[0x82, 8, 0, 1, 0, 3, 0x74, 0x2F, 0x23, 2];
 /// CONNACK of a session that begins.
 pub(crate) const BEGINS: &[u8] = &[0x20, 2, 0, 0];
 
-// SUBACK says the QoS that is granted; the publication is received once, another try is answered and
-// not delivered, and PUBREL is answered each time.
+// SUBACK says the QoS that is granted; the publication is received once, another try is answered
+// and not delivered, and PUBREL is answered each time.
 const PUBLISH_REACHES_THE_SUBSCRIBER_ONCE: &[Row<'static>] = &[
     (Event::Connect(1, "a", false), &[(1, BEGINS)]),
     (Event::Connect(2, "b", false), &[(2, BEGINS)]),

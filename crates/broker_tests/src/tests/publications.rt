@@ -11,8 +11,8 @@ const BOTH: &[u8] = &[
     0x82, 14, 0, 1, 0, 3, 0x74, 0x2F, 0x23, 0, 0, 3, 0x74, 0x2F, 0x31, 2,
 ];
 
-// A retained publication reaches a subscriber without RETAIN, and with it once the client subscribes
-// again; its first copy is released and done with before.
+// A retained publication reaches a subscriber without RETAIN, and with it once the client
+// subscribes again; its first copy is released and done with before.
 const RETAINED_AT_SUBSCRIBE: &[Row<'static>] = &[
     (Event::Connect(1, "a", false), &[(1, BEGINS)]),
     (Event::Connect(2, "b", false), &[(2, BEGINS)]),

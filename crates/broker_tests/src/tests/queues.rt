@@ -7,7 +7,7 @@ use broker::BrokerMachine;
 use std::alloc::Global;
 use std::test::*;
 
-/// CONNACK of a session that goes on.
+/// CONNACK of a session that continues.
 pub(crate) const GOES_ON: &[u8] = &[0x20, 2, 1, 0];
 
 /// Rows, and how many times they come.
@@ -146,8 +146,8 @@ const LAST: &[Row<'static>] = &[
     (Event::Bytes(3, &[0x40, 2, 0, 4]), NOTHING),
 ];
 
-/// All places but one are taken by 4,095 entries of QoS 1. Of these 4,093 are left once there is room for
-/// `y` and `z`, sixty-four of them sent, so 4,029 are to follow.
+/// All places except one are taken by 4,095 entries of QoS 1. Of these 4,093 are left once there is
+/// room for `y` and `z`, sixty-four of them sent, so 4,029 are to follow.
 const FULL: &[Part<'static>] = &[
     (1, BEFORE),
     (4095, WAITS),
@@ -159,7 +159,7 @@ const FULL: &[Part<'static>] = &[
     (1, LAST),
 ];
 
-// Whether a broker answers rows as wanted, as many times as they come.
+// Says whether a broker answers rows as expected, as many times as they come.
 fn is_part_answered(alloc: Global, broker: &mut BrokerMachine, part: Part<'_>) -> bool {
     let (times, rows) = part;
     for _ in 0..times {
@@ -170,7 +170,7 @@ fn is_part_answered(alloc: Global, broker: &mut BrokerMachine, part: Part<'_>) -
     true
 }
 
-/// Finds the first part that a broker does not answer as wanted.
+/// Finds the first part that a broker does not answer as expected.
 pub(crate) fn other_part(
     alloc: Global,
     broker: &mut BrokerMachine,

@@ -1,5 +1,5 @@
-// How many entries of a session are in flight at once: 64, and 16 in a broker that was read from form 1
-// (MQTT 4.4, 4.6).
+// How many entries of a session are in flight at once: 64, and 16 in a broker that was read from
+// form 1 (MQTT 4.4, 4.6).
 
 use super::forms::FRESH_BEFORE;
 use super::handshakes::BEGINS;
@@ -10,8 +10,8 @@ use broker::BrokerMachine;
 use std::alloc::Global;
 use std::test::*;
 
-/// 70 publications of QoS 1 wait for a subscriber that is away. It comes back and is sent 64 of them; it
-/// answers the first, and is sent the next one with the identifier 1.
+/// 70 publications of QoS 1 wait for a subscriber that is away. It comes back and is sent 64 of
+/// them; it answers the first, and is sent the next one with the identifier 1.
 const SEVENTY: &[Part<'static>] = &[
     (1, queues::BEFORE),
     (70, WAITS),
@@ -29,7 +29,8 @@ const BEFORE: &[Row<'static>] = &[
     ),
 ];
 
-/// `b` answers one of seventeen entries, is sent nothing for it, and is sent the others when it comes back.
+/// `b` answers one of seventeen entries, is sent nothing for it, and is sent the others when it
+/// comes back.
 const OF_SEVENTEEN: &[Row<'static>] = &[
     (Event::Bytes(2, &[0x40, 2, 0, 5]), NOTHING),
     (
@@ -57,8 +58,8 @@ const OF_SEVENTEEN: &[Row<'static>] = &[
     ),
 ];
 
-/// `b` answers one of sixteen entries and is sent the seventeenth with its identifier, which comes last
-/// when `b` comes back.
+/// `b` answers one of sixteen entries and is then sent the seventeenth with its identifier, which
+/// comes last when `b` comes back.
 const OF_SIXTEEN: &[Row<'static>] = &[
     (
         Event::Bytes(2, &[0x40, 2, 0, 5]),
@@ -101,7 +102,7 @@ fn is_routed(alloc: Global, broker: &mut BrokerMachine, id: u8, sent: bool) -> b
     }
 }
 
-// Of seventeen publications the first so many are sent at once.
+// Says whether the first `sent` of seventeen publications are sent at once, and no others.
 fn are_routed(alloc: Global, broker: &mut BrokerMachine, sent: u8) -> bool {
     for id in 1..=17 {
         if !is_routed(alloc, broker, id, id <= sent) {
@@ -141,8 +142,8 @@ fn seventeen_are_in_flight(rt: HostRuntime) {
 }
 
 // Sixteen entries are in flight at once in a broker that was read from form 1. A PUBACK frees its
-// identifier for the entry that waits, and the client that comes back is sent them in the order in which
-// they were sent first, with DUP 1.
+// identifier for the entry that waits, and the client that comes back is sent them in the order in
+// which they were sent first, with DUP 1.
 #[test]
 fn puback_frees_its_identifier(rt: HostRuntime) {
     assert_eq!(rt;

@@ -6,12 +6,13 @@ use Rattle.client_base.specs.State.{ClientState, kept_count}
 use Rattle.client_base.specs.Calls.{next_id, has_free_id, window}
 use Rattle.client_base.specs.Steps.{request_refusal}
 
--- the next one, or why the request is refused
+-- the next identifier, or why the request is refused
 abbrev pub RequestId : ClientState → Result ℕ ClientError → Type 0
 RequestId state (Ok id) = (id ≡ next_id state) × (request_refusal state ≡ None)
 RequestId state (Err cause) = request_refusal state ≡ Some cause
 
--- the next one where fewer than sixty-four publications are kept and one is free, and else WindowFull
+-- the next identifier, if fewer than sixty-four publications are kept and one is free, otherwise
+-- WindowFull
 abbrev pub PublicationId : ClientState → Result ℕ ClientError → Type 0
 PublicationId state (Ok id) =
     (id ≡ next_id state) × ((nat_lt (kept_count state) window && has_free_id state) ≡ true)

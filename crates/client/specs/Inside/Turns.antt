@@ -1,4 +1,4 @@
--- What the handling of one packet makes of a client, before its connection is given up.
+-- What the handling of one packet does to a client, before its connection is dropped.
 use Rattle.std.specs.Prelude.{◌≡◌, ℕ, Bool, true, false, if◌then◌else◌, List, [], ◌∷◌, ◌++◌, Option, Some, None, Result, Ok, Err}
 use Rattle.packet.specs.declared.packet.Packet.{Packet}
 use Rattle.packet.specs.declared.error.DecodeFault.{DecodeFault}
@@ -14,7 +14,7 @@ use Rattle.client_base.specs.Calls.{is_over_limit, refused}
 use Rattle.client.specs.Core.{Core, IsDone}
 use Rattle.client.specs.Reading.{Reads, turn_of, StopsFor, Handles, cause_of, fed}
 
--- the turn is done, whole; one that ends the connection changes nothing here
+-- the whole turn is done; one that ends the connection changes nothing here
 abbrev pub Tries : Turn → Core → Result (Unit {0}) ClientError → Core → Type 0
 Tries turn old (Ok done) new = (turn.refusal ≡ None) × IsDone turn old new
 Tries turn old (Err errors.Memory) new = new ≡ old
@@ -22,7 +22,7 @@ Tries turn old (Err errors.SessionLost) new =
     (turn.refusal ≡ Some errors.SessionLost) × IsDone turn old new
 Tries turn old (Err cause) new = (turn.refusal ≡ Some cause) × (new ≡ old)
 
--- one packet is read and handled, where there is one
+-- one packet is read and handled, if there is one
 abbrev pub ReadsOne : Core → Result Bool ClientError → Core → Type 0
 ReadsOne old (Ok false) new = Takes old.unread (Ok None) old.unread × (new ≡ old)
 ReadsOne old (Ok true) new =
@@ -52,13 +52,13 @@ all_sent bytes core =
       out = bytes;
     }
 
--- why the reading stops; a stream that failed is given up at once, and is met no more
+-- why the reading stops; a stream that failed is dropped at once, so that it is never read again
 abbrev pub cut_cause : CutError → ClientError
 cut_cause (cuts.Decode fault) = cause_of fault
 cut_cause cuts.Memory = errors.Memory
 cut_cause cuts.Failed = errors.Memory
 
--- how the reading of a piece ends, before the connection is given up
+-- how the reading of a piece ends, before the connection is dropped
 abbrev pub StopsAt : Core → Result (Unit {0}) ClientError → Core → Type 0
 StopsAt core (Ok done) new = Takes core.unread (Ok None) core.unread × (new ≡ core)
 StopsAt core (Err errors.Memory) new = (new.state ≡ core.state) × (new.out ≡ core.out)
@@ -72,22 +72,22 @@ StopsAt core (Err cause) new = StopsFor cause core × (new.state ≡ core.state)
 abbrev pub ReadsAll : Core → Result (Unit {0}) ClientError → Core → Type 0
 ReadsAll old result new = (last : Core) × Handles old last × StopsAt last result new
 
--- a piece is put behind what is not read yet
+-- a piece is appended to what is not yet read
 abbrev pub Feeds : List ℕ → Core → Result (Unit {0}) ClientError → Core → Type 0
 Feeds piece old (Ok done) new = new ≡ fed piece old
 Feeds piece old (Err cause) new = (cause ≡ errors.Memory) × (new ≡ old)
 
--- a piece is taken in
+-- a piece is appended and handled
 abbrev pub TakesIn : List ℕ → Core → Result (Unit {0}) ClientError → Core → Type 0
 TakesIn piece old result new = ReadsAll (fed piece old) result new
 
--- whether the connection is gone after this answer to a piece
+-- whether the connection is lost after this answer to a piece
 abbrev pub is_fatal : Result (Unit {0}) ClientError → Bool
 is_fatal (Ok done) = false
 is_fatal (Err errors.SessionLost) = false
 is_fatal (Err cause) = true
 
--- the next whole packet, where there is one
+-- the next whole packet, if there is one
 abbrev pub TakesNext : Core → Result (Option Packet) ClientError → Core → Type 0
 TakesNext old (Ok (Some packet)) new = Reads old packet new
 TakesNext old (Ok None) new = Takes old.unread (Ok None) old.unread × (new ≡ old)
@@ -102,7 +102,7 @@ abbrev pub sending : KeptPublication → ClientState → Turn
 sending kept state =
     going_on (record state { sent = state.sent ++ kept ∷ [] }) (publish_kept false kept ∷ [])
 
--- one that is not too large is kept, and sent at once where the client is online
+-- a publication that is not too large is kept, and sent at once if the client is online
 abbrev pub keeping : KeptPublication → ClientState → Turn
 keeping kept state =
     if is_over_limit (publish_kept false kept) then refused errors.TooLarge state else

@@ -6,14 +6,15 @@ use std::alloc::{AllocError, Global};
 use std::test::*;
 use topics::MalformedKind;
 
-/// A PUBLISH, and behind it these bytes.
+/// Returns a PUBLISH, and after it these bytes.
 fn behind_publish(alloc: Global, bytes: &[u8]) -> Result<Vec<u8>, AllocError> {
     let mut piece = Vec::from_slice(alloc, PUBLISH)?;
     piece.extend_from_slice(bytes)?;
     Ok(piece)
 }
 
-/// Whether this piece of a PUBLISH and more ends the connection, and the PUBLISH stands.
+/// Says whether this piece, a PUBLISH and more, ends the connection, and the PUBLISH stays
+/// accepted.
 fn is_the_end(alloc: Global, piece: &[u8], cause: ClientError) -> bool {
     let rows: [Row<'_>; 4] = [
         (Act::Open, None, CONNECT, 0, 0),
@@ -33,7 +34,7 @@ fn is_the_end(alloc: Global, piece: &[u8], cause: ClientError) -> bool {
     }
 }
 
-/// Whether these bytes behind a PUBLISH end the connection, and the PUBLISH stands.
+/// Says whether these bytes after a PUBLISH end the connection, and the PUBLISH stays accepted.
 fn ends(alloc: Global, bytes: &[u8], cause: ClientError) -> bool {
     match behind_publish(alloc, bytes) {
         Ok(piece) => is_the_end(alloc, &piece, cause),
@@ -104,7 +105,7 @@ const DISCONNECTS: &[Row<'static>] = &[
     ),
 ];
 
-// DISCONNECT goes out where the connection was accepted, and nothing before.
+// DISCONNECT is written if the connection was accepted, and nothing before.
 #[test]
 fn disconnect_is_written_online(rt: HostRuntime) {
     assert_eq!(rt; first_fault(rt.alloc(), DISCONNECTS), None);

@@ -73,7 +73,7 @@ const REPEATS: &[Row<'static>] = &[
     (Act::Bytes(PUBLISH), None, PUBREC, 0, 2),
 ];
 
-/// How many are taken out, and how many are left then.
+/// Returns how many are taken out, and how many are left then.
 pub fn taken(client: &mut ClientCore) -> (usize, usize) {
     let taken = client.take_accepted();
     (taken.len(), client.accepted().len())
@@ -110,8 +110,8 @@ fn lower_qos_is_accepted_each_time(rt: HostRuntime) {
     assert_eq!(rt; first_fault(rt.alloc(), LOWER), None);
 }
 
-// PUBLISH of `x` on `t/1` at QoS 2 with RETAIN, of `y` on `t/2` at QoS 1, and of nothing on `t/1` at
-// QoS 0 with RETAIN (MQTT 3.3.1).
+// PUBLISH of `x` on `t/1` at QoS 2 with RETAIN, of `y` on `t/2` at QoS 1, and of nothing on `t/1`
+// at QoS 0 with RETAIN (MQTT 3.3.1).
 const RETAINED: &[u8] = &[0x35, 0x08, 0x00, 0x03, 0x74, 0x2F, 0x31, 0x00, 0x01, 0x78];
 
 const OTHER: &[u8] = &[0x32, 0x08, 0x00, 0x03, 0x74, 0x2F, 0x32, 0x00, 0x07, 0x79];
@@ -129,7 +129,7 @@ const SENT: &[Row<'static>] = &[
 /// What an accepted publication shows besides its session: QoS, RETAIN, topic and payload.
 type Shown<'a> = (QoS, bool, &'a str, &'a [u8]);
 
-/// Returns whether a publication of the first session shows these fields.
+/// Says whether a publication of the first session shows these fields.
 fn shows(one: &Accepted, shown: Shown<'_>) -> bool {
     let (qos, retain, topic, payload) = shown;
     one.session == 1
@@ -139,7 +139,7 @@ fn shows(one: &Accepted, shown: Shown<'_>) -> bool {
         && one.payload.as_slice() == payload
 }
 
-/// Returns whether just these were accepted, in this order.
+/// Says whether just these were accepted, in this order.
 fn all_show(accepted: &[Accepted], wanted: &[Shown<'_>]) -> bool {
     let mut all = accepted.len() == wanted.len();
     for (one, shown) in accepted.iter().zip(wanted) {

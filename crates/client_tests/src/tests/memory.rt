@@ -1,5 +1,6 @@
-// Memory that is refused. Run with each allocation failing in turn: a call answers `Memory` and has
-// changed nothing, or the client is as after `lost`; done again, all comes as it does with memory.
+// Memory that is refused. Each test runs with each of its allocations failing in turn: a call
+// answers `Memory` and has changed nothing, or the client is as after `lost`; if the call is made
+// again, all is as it is with memory.
 
 use super::handshakes::taken;
 use super::row::*;
@@ -17,12 +18,12 @@ fn shown_by(client: &ClientCore) -> Shown {
     (kept, accepted, client.connected(), client.present())
 }
 
-/// The same, with the connection gone.
+/// The same, with the connection lost.
 fn offline(shown: Shown) -> Shown {
     (shown.0, shown.1, false, shown.3)
 }
 
-/// Client `a`; memory is wanting at most once.
+/// Client `a`; memory runs out at most once.
 fn client_at_last(alloc: Global) -> Option<ClientCore> {
     match new_client(alloc) {
         Some(client) => Some(client),
@@ -37,15 +38,15 @@ fn is_back(client: &mut ClientCore, alloc: Global, was_accepted: bool) -> bool {
     opened && accepted && take_written(client, alloc).is_some()
 }
 
-/// Whether a client shows itself as after `lost`, and comes back.
+/// Says whether a client shows itself as after `lost`, and comes back.
 fn is_lost(client: &mut ClientCore, alloc: Global, before: Shown) -> bool {
     shown_by(client) == offline(before)
         && give(client, NOTHING) == Some(ClientError::NotActive)
         && is_back(client, alloc, before.2)
 }
 
-/// After want of memory in this act: nothing is written, and all is as it was before, or as after
-/// `lost` where bytes were read.
+/// After running out of memory in this act: nothing is written, and nothing has changed, or the
+/// client is as after `lost` if bytes were read.
 fn is_left(client: &mut ClientCore, alloc: Global, done: Act<'_>, before: Shown) -> bool {
     if !wrote(client, alloc, NOTHING) {
         return false;
@@ -56,8 +57,8 @@ fn is_left(client: &mut ClientCore, alloc: Global, done: Act<'_>, before: Shown)
     }
 }
 
-/// Does this, again where memory was wanting: what it is refused with then, or `TooLarge` where the
-/// want left something behind.
+/// Does this, and again if memory ran out. Returns what it is refused with then, or `TooLarge` if
+/// the first try left something changed.
 fn act_again(client: &mut ClientCore, alloc: Global, done: Act<'_>) -> Option<ClientError> {
     let before = shown_by(client);
     let refusal = attempt(client, alloc, done, None);
@@ -71,7 +72,7 @@ fn act_again(client: &mut ClientCore, alloc: Global, done: Act<'_>) -> Option<Cl
     }
 }
 
-/// Whether a row comes out as it says, done again where memory was wanting.
+/// Says whether a row comes out as it says, done again if memory ran out.
 fn comes_out_again(client: &mut ClientCore, alloc: Global, row: &Row<'_>) -> bool {
     let (done, refusal, written, kept, accepted) = *row;
     act_again(client, alloc, done) == refusal
@@ -130,17 +131,17 @@ fn a_call_without_memory_is_done_again(rt: HostRuntime) {
     assert_eq!(rt; taken(&mut client), (3, 0));
 }
 
-/// Opens, again where memory was wanting.
+/// Opens, again if memory ran out.
 fn is_open(client: &mut ClientCore) -> bool {
     open(client).is_none() || open(client).is_none()
 }
 
-/// Takes the CONNACK in, again on a new connection where memory was wanting.
+/// Takes the CONNACK in, again on a new connection if memory ran out.
 fn is_accepted(client: &mut ClientCore) -> bool {
     give(client, ACCEPTED).is_none() || (open(client).is_none() && give(client, ACCEPTED).is_none())
 }
 
-/// A client that the server accepted; memory is wanting at most once.
+/// Returns a client that the server accepted; memory runs out at most once.
 fn online_at_last(alloc: Global) -> Option<ClientCore> {
     let mut client = client_at_last(alloc)?;
     if !is_open(&mut client) || !is_accepted(&mut client) {
@@ -157,7 +158,7 @@ const PUBLISHES: &[u8] = &[
 
 const PUBRECS: &[u8] = &[0x50, 0x02, 0x00, 0x01, 0x50, 0x02, 0x00, 0x02];
 
-/// Whether the client wrote the PUBRECs of so many publications.
+/// Says whether the client wrote PUBRECs for this many publications.
 fn answers(client: &mut ClientCore, alloc: Global, count: usize) -> bool {
     match take_written(client, alloc) {
         Some(out) => PUBRECS.starts_with(&out) && out.len() / 4 == count,
@@ -165,7 +166,7 @@ fn answers(client: &mut ClientCore, alloc: Global, count: usize) -> bool {
     }
 }
 
-/// Whether a client that found no memory is lost, and answers both when they come again.
+/// Says whether a client that found no memory is lost, and answers both when they come again.
 fn answers_again(client: &mut ClientCore, alloc: Global) -> bool {
     !client.connected()
         && is_back(client, alloc, true)
@@ -173,7 +174,7 @@ fn answers_again(client: &mut ClientCore, alloc: Global) -> bool {
         && wrote(client, alloc, PUBRECS)
 }
 
-/// Whether both are accepted and answered, those before a want of memory at once.
+/// Says whether both are accepted and answered, those before running out of memory at once.
 fn is_taken_in(client: &mut ClientCore, alloc: Global) -> bool {
     let refusal = give(client, PUBLISHES);
     let count = client.accepted().len();
@@ -187,8 +188,8 @@ fn is_taken_in(client: &mut ClientCore, alloc: Global) -> bool {
     }
 }
 
-// Of two publications in one piece the first stands where the second found no memory, with its
-// PUBREC, and when both come again each was accepted once.
+// Of two publications in one piece, the first stays accepted, with its PUBREC, if memory ran out
+// for the second; and when both come again, each is accepted once.
 #[test]
 fn earlier_packets_of_a_piece_stand(rt: HostRuntime) {
     let mut client = online_at_last(rt.alloc()).expect(&rt, "memory is wanting at most once");

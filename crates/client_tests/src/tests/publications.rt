@@ -17,7 +17,7 @@ const PUBCOMP_2: &[u8] = &[0x70, 0x02, 0x00, 0x02];
 
 const PUBACK_3: &[u8] = &[0x40, 0x02, 0x00, 0x03];
 
-/// What is kept, in the order in which it goes out on the next connection.
+/// What is kept, in the order in which it is sent on the next connection.
 const AGAIN: &[u8] = &[
     0x62, 0x02, 0x00, 0x02, 0x3C, 0x08, 0x00, 0x03, 0x74, 0x2F, 0x31, 0x00, 0x01, 0x78, 0x32, 0x08,
     0x00, 0x03, 0x74, 0x2F, 0x31, 0x00, 0x03, 0x77,
@@ -49,7 +49,7 @@ fn kept_publications_go_out_again(rt: HostRuntime) {
     assert_eq!(rt; present, Ok(true));
 }
 
-/// Whether so many publications at QoS 2 are kept.
+/// Says whether this many publications at QoS 2 are kept.
 fn keeps_all(client: &mut ClientCore, alloc: Global, count: usize) -> bool {
     for kept in 0..count {
         let one = publish(client, alloc, QoS::ExactlyOnce, b"x");
@@ -85,7 +85,7 @@ fn the_sixty_fifth_is_refused(rt: HostRuntime) {
     assert!(rt; comes_out(&mut client, rt.alloc(), OFFLINE, None));
 }
 
-/// CONNACK without a session present, and behind it a PUBLISH.
+/// CONNACK without a session present, and after it a PUBLISH.
 const CONNACK: &[u8] = &[
     0x20, 0x02, 0x00, 0x00, 0x34, 0x08, 0x00, 0x03, 0x74, 0x2F, 0x31, 0x00, 0x01, 0x78,
 ];
@@ -106,7 +106,7 @@ const FORGETS: &[Row<'static>] = &[
     (Act::Bytes(NOTHING), None, PUBREC, 0, 2),
 ];
 
-/// Whether a client is online, and the number of the session that accepted last.
+/// Says whether a client is online, and the number of the session that accepted last.
 fn last_session(client: &ClientCore) -> (bool, Option<u64>) {
     match client.accepted() {
         [.., last] => (client.connected(), Some(last.session)),
@@ -115,7 +115,7 @@ fn last_session(client: &ClientCore) -> (bool, Option<u64>) {
 }
 
 // A session that the server lost takes with it what was kept and which identifiers were accepted.
-// What is behind its CONNACK is handled by the next call.
+// What is after its CONNACK is handled by the next call.
 #[test]
 fn a_lost_session_forgets(rt: HostRuntime) {
     let last = match play_cut(rt.alloc(), FORGETS, None) {
@@ -125,7 +125,7 @@ fn a_lost_session_forgets(rt: HostRuntime) {
     assert_eq!(rt; last, Ok((true, Some(2))));
 }
 
-/// A client that the server accepted.
+/// Returns a client that the server accepted.
 fn online(alloc: Global) -> Option<ClientCore> {
     let rows: [Row<'static>; 2] = [
         (Act::Open, None, CONNECT, 0, 0),
@@ -134,7 +134,7 @@ fn online(alloc: Global) -> Option<ClientCore> {
     play_cut(alloc, &rows, None).ok()
 }
 
-/// Publishes so many bytes on `t/1`.
+/// Publishes this many bytes on `t/1`.
 fn publish_bytes(
     client: &mut ClientCore,
     alloc: Global,
@@ -147,7 +147,7 @@ fn publish_bytes(
     }
 }
 
-/// How many bytes a client wrote.
+/// Returns how many bytes a client wrote.
 fn written_len(client: &mut ClientCore, alloc: Global) -> Option<usize> {
     match take_written(client, alloc) {
         Some(out) => Some(out.len()),
@@ -157,8 +157,8 @@ fn written_len(client: &mut ClientCore, alloc: Global) -> Option<usize> {
 
 const ONE: &Row<'static> = &(Act::Publish(QoS::ExactlyOnce, b'x'), None, PUBLISH, 1, 0);
 
-/// Whether a payload of one length is refused and nothing changes, and one of another goes out in a
-/// packet of 1,048,576 bytes.
+/// Says whether a payload of one length is refused and nothing changes, and one of another length
+/// is sent in a packet of 1,048,576 bytes.
 fn is_limited(alloc: Global, qos: QoS, refused: usize, largest: usize) -> bool {
     let Some(mut client) = online(alloc) else {
         return false;
@@ -169,8 +169,9 @@ fn is_limited(alloc: Global, qos: QoS, refused: usize, largest: usize) -> bool {
         && written_len(&mut client, alloc) == Some(1_048_576)
 }
 
-// Behind the fixed header a packet has at most 1,048,572 bytes: 5 of the topic and its length, 2 of
-// the identifier, and the payload. One byte more is refused, online and offline, and nothing changes.
+// After the fixed header a packet has at most 1,048,572 bytes: 5 of the topic and its length, 2 of
+// the identifier, and the payload. One byte more is refused, online and offline, and nothing
+// changes.
 #[test]
 fn a_publication_too_large_is_refused(rt: HostRuntime) {
     let alloc = rt.alloc();
@@ -187,7 +188,7 @@ fn too_large_is_refused_offline(rt: HostRuntime) {
     assert_eq!(rt; client.kept(), 0);
 }
 
-/// How many bytes a client writes that asks for this filter and gives it up.
+/// Returns how many bytes a client writes that asks for this filter and gives it up.
 fn asked_len(client: &mut ClientCore, alloc: Global, text: &str) -> Option<usize> {
     let subscribed = subscribe(client, alloc, text);
     let unsubscribed = unsubscribe(client, alloc, text);
@@ -197,8 +198,8 @@ fn asked_len(client: &mut ClientCore, alloc: Global, text: &str) -> Option<usize
     written_len(client, alloc)
 }
 
-// A filter has at most 65,535 bytes, so that no request is too large: the longest goes out whole.
-// Fixed header, identifier and length, the filter; and its QoS where it subscribes.
+// A filter has at most 65,535 bytes, so that no request is too large: the longest is written whole.
+// It has fixed header, identifier, length and filter, and a QoS if it is a SUBSCRIBE.
 #[test]
 fn the_longest_filter_is_asked_for(rt: HostRuntime) {
     let mut client = online(rt.alloc()).expect(&rt, "memory is left");

@@ -1,4 +1,4 @@
-// Rows: what is done with a client, and what comes of it.
+// Rows: what is done with a client, and the result of it.
 
 use client::{ClientCore, ClientError};
 use packet::{ClientId, Payload, QoS};
@@ -64,7 +64,8 @@ pub fn open(client: &mut ClientCore) -> Option<ClientError> {
     client.open().err()
 }
 
-/// Gives a piece in two parts, of which the first has so many bytes, or all: the first refusal.
+/// Gives a piece in two parts, of which the first has this many bytes, or all. Returns the first
+/// refusal.
 fn give_in_two(client: &mut ClientCore, bytes: &[u8], cut: usize) -> Option<ClientError> {
     let Some((front, behind)) = bytes.split_at_checked(cut.min(bytes.len())) else {
         return Some(ClientError::TooLarge);
@@ -86,7 +87,7 @@ fn leave(client: &mut ClientCore) -> Option<ClientError> {
     client.disconnect().err()
 }
 
-/// Asks for a filter; `Memory` also where there is none for the filter.
+/// Subscribes to a filter; `Memory` also if there is no memory for the filter.
 pub fn subscribe(client: &mut ClientCore, alloc: Global, text: &str) -> Option<ClientError> {
     match Filter::new(alloc, text) {
         Ok(filter) => client.subscribe(filter, QoS::ExactlyOnce).err(),
@@ -94,7 +95,7 @@ pub fn subscribe(client: &mut ClientCore, alloc: Global, text: &str) -> Option<C
     }
 }
 
-/// Gives a filter up; `Memory` also where there is none for the filter.
+/// Unsubscribes from a filter; `Memory` also if there is no memory for the filter.
 pub fn unsubscribe(client: &mut ClientCore, alloc: Global, text: &str) -> Option<ClientError> {
     match Filter::new(alloc, text) {
         Ok(filter) => client.unsubscribe(filter).err(),
@@ -102,14 +103,14 @@ pub fn unsubscribe(client: &mut ClientCore, alloc: Global, text: &str) -> Option
     }
 }
 
-/// A topic and a payload; none where there is no memory for them.
+/// Returns a topic and a payload; none if there is no memory for them.
 fn content(alloc: Global, bytes: &[u8]) -> Option<(TopicName, Payload)> {
     let topic = TopicName::new(alloc, "t/1").ok()?;
     let payload = Payload::new(alloc, bytes).ok()?;
     Some((topic, payload))
 }
 
-/// Publishes these bytes on `t/1`; `Memory` also where there is none for what is published.
+/// Publishes these bytes on `t/1`; `Memory` also if there is no memory for what is published.
 pub fn publish(
     client: &mut ClientCore,
     alloc: Global,
@@ -143,7 +144,7 @@ pub fn attempt(
     }
 }
 
-/// What a client wrote; none where there is no memory for it.
+/// Returns what a client wrote; none if there is no memory for it.
 pub fn take_written(client: &mut ClientCore, alloc: Global) -> Option<Vec<u8>> {
     let mut out = Vec::new(alloc);
     match client.outgoing(&mut out) {
@@ -152,7 +153,7 @@ pub fn take_written(client: &mut ClientCore, alloc: Global) -> Option<Vec<u8>> {
     }
 }
 
-/// Whether a client wrote these bytes.
+/// Says whether a client wrote these bytes.
 pub fn wrote(client: &mut ClientCore, alloc: Global, wanted: &[u8]) -> bool {
     match take_written(client, alloc) {
         Some(out) => out.as_slice() == wanted,
@@ -160,12 +161,12 @@ pub fn wrote(client: &mut ClientCore, alloc: Global, wanted: &[u8]) -> bool {
     }
 }
 
-/// How many publications are kept, and how many were accepted.
+/// Returns how many publications are kept, and how many were accepted.
 pub fn counts(client: &ClientCore) -> (usize, usize) {
     (client.kept(), client.accepted().len())
 }
 
-/// Whether a row comes out with a client as it says.
+/// Says whether a row comes out with a client as it says.
 pub fn comes_out(
     client: &mut ClientCore,
     alloc: Global,
@@ -178,8 +179,8 @@ pub fn comes_out(
         && counts(client) == (kept, accepted)
 }
 
-/// Goes through the rows with a client that was never connected, each piece of the server whole or
-/// cut in two; or tells the first row that comes out otherwise.
+/// Does the rows with a client that was never connected, each piece of the server whole or cut in
+/// two. Returns the first row whose result is another.
 pub fn play_cut(alloc: Global, rows: &[Row<'_>], cut: Option<usize>) -> Result<ClientCore, usize> {
     let Some(mut client) = new_client(alloc) else {
         return Err(0);
@@ -200,7 +201,7 @@ pub fn play(alloc: Global, rows: &[Row<'_>]) -> Result<ClientCore, usize> {
     play_cut(alloc, rows, None)
 }
 
-/// The first row that comes out otherwise, with some cut or none.
+/// Returns the first row whose result is another, with some cut or none.
 pub fn first_fault(alloc: Global, rows: &[Row<'_>]) -> Option<usize> {
     play(alloc, rows).err()
 }

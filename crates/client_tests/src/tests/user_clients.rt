@@ -1,4 +1,4 @@
-// Two clients over servers in memory, which send what they are told to send.
+// Two clients over servers in memory, which send what the test says.
 
 use packet::QoS;
 use std::alloc::Global;
@@ -117,7 +117,7 @@ const DISCONNECT: &[u8] = &[0xE0, 0];
 // SUBSCRIBE to `t/#` at QoS 2.
 const SUBSCRIBE: &[u8] = &[0x82, 8, 0, 1, 0, 3, b't', b'/', b'#', 2];
 
-// Whether these bytes are the packets, one after the other.
+// Says whether these bytes are the packets, one after another.
 fn is_written(bytes: &[u8], packets: &[&[u8]]) -> bool {
     let mut rest = bytes;
     for packet in packets {
@@ -134,8 +134,8 @@ fn publish(alloc: Global, qos: QoS, servers: &mut Told<'_>) -> Result<(), Client
     publisher.run(servers, 3)
 }
 
-// Whether a publication at this QoS over these connections comes to this: what is written, its end,
-// and how often it rested.
+// Says whether a publication at this QoS over these connections has this result: what is written,
+// how it ends, and how often it waited.
 fn publishes(
     alloc: Global,
     qos: QoS,
@@ -147,7 +147,7 @@ fn publishes(
     publishes_within(alloc, qos, usize::MAX, connections, written, ended, rests)
 }
 
-// The same, where the first connection takes no more than `room` bytes.
+// The same, if the first connection takes no more than `room` bytes.
 fn publishes_within(
     alloc: Global,
     qos: QoS,
@@ -180,7 +180,7 @@ fn a_publication_is_answered(rt: HostRuntime) {
     assert!(rt; publishes(rt.alloc(), QoS::AtMostOnce, pieces, written, Ok(()), 0));
 }
 
-// A connection that is lost before PUBREC, and one on which the server goes on.
+// A connection that is lost before PUBREC, and one on which the server continues.
 #[test]
 fn a_publication_is_sent_again(rt: HostRuntime) {
     let pieces: &[Pieces] = &[&[CONNACK], &[SESSION_PRESENT, PUBREC, PUBCOMP]];
@@ -200,7 +200,8 @@ fn a_publication_is_given_up(rt: HostRuntime) {
     assert!(rt; publishes(rt.alloc(), QoS::ExactlyOnce, pieces, written, lost, 1));
 }
 
-// What is acknowledged is done, also where the DISCONNECT cannot be written: nothing is published twice.
+// What is acknowledged is done, also if the DISCONNECT cannot be written: nothing is published
+// twice.
 #[test]
 fn an_acknowledged_publication_is_done(rt: HostRuntime) {
     let pieces: &[Pieces] = &[&[CONNACK, PUBREC, PUBCOMP], &[SESSION_PRESENT]];
@@ -241,7 +242,7 @@ fn what_comes_after_the_last_answer_does_not_matter(rt: HostRuntime) {
     assert!(rt; publishes(rt.alloc(), QoS::AtLeastOnce, pieces, written, Ok(()), 0));
 }
 
-// At QoS 0 a publication is done where its bytes are written, and not before.
+// At QoS 0 a publication is done once its bytes are written, and not before.
 #[test]
 fn a_publication_at_qos_0_is_written(rt: HostRuntime) {
     let pieces: &[Pieces] = &[&[CONNACK], &[CONNACK]];
@@ -287,8 +288,8 @@ fn subscribe(
     subscriber.run(servers, output, 2)
 }
 
-// Whether a client that wants so many publications ends well over these connections, and prints and
-// writes this.
+// Says whether a client that waits for this many publications ends well over these connections, and
+// prints and writes this.
 fn hears(
     alloc: Global,
     count: u32,
@@ -299,7 +300,7 @@ fn hears(
     hears_within(alloc, count, usize::MAX, connections, printed, written)
 }
 
-// The same, where the first connection takes no more than `room` bytes.
+// The same, if the first connection takes no more than `room` bytes.
 fn hears_within(
     alloc: Global,
     count: u32,
@@ -330,7 +331,7 @@ fn publications_are_printed(rt: HostRuntime) {
     assert!(rt; hears(rt.alloc(), 2, pieces, b"2 0 t/1 x\n0 0 t/1 x\n", written));
 }
 
-// What is printed is done, also where neither the last answer nor the DISCONNECT can be written.
+// What is printed is done, also if neither the last answer nor the DISCONNECT can be written.
 #[test]
 fn printed_publications_are_done(rt: HostRuntime) {
     let pieces: &[Pieces] = &[

@@ -1,4 +1,4 @@
--- What the functions say that read a TOML document.
+-- What the functions that read a TOML document ensure.
 use Rattle.std.specs.Prelude.{◌≡◌, ℕ, Bool, true, List, nat_le}
 use Rattle.std.specs.List.{list_all}
 use Rattle.ballot_base.specs.declared.config.Config.{Config}

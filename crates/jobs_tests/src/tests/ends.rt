@@ -10,8 +10,8 @@ use std::sync::Wait;
 use std::thread::Threads;
 use std::time::Clock;
 
-// The words of a command line, the exit status, and what comes on standard error; nothing is printed. No server listens
-// on the address of these clients.
+// The words of a command line, the exit status, and what comes on standard error; nothing is
+// printed. No server listens on the address of these clients.
 const ENDS: &[(&[&str], u8, &str)] = &[
     (
         &["vbroker", "serve", "--config", "/nowhere/nodes.toml"],
@@ -86,8 +86,8 @@ fn jobs_end_so(rt: HostRuntime) {
     }
 }
 
-// Command lines that give no job, and their exit status; whether standard error says why, or standard output where that was
-// asked for. The other one stays empty.
+// Command lines that give no job, and their exit status; whether standard error says why, or
+// standard output if that was asked for. The other one stays empty.
 const REFUSED_LINES: &[(&str, u8, bool)] = &[
     ("vbroker", 2, true),
     ("vbroker --help", 2, false),
@@ -113,7 +113,7 @@ const REFUSED_LINES: &[(&str, u8, bool)] = &[
     ),
 ];
 
-// Whether the words, which blanks part, are refused so.
+// Says whether the words, separated by blanks, are refused in this way.
 fn line_is_refused<R>(rt: &R, words: &str, wanted: u8, is_fault: bool) -> bool
 where
     R: Files + Threads + Wait + Clock + Sync + AllocGlobal,
@@ -137,7 +137,7 @@ fn lines_are_refused_with_a_status(rt: HostRuntime) {
     }
 }
 
-// Whether a refusal that no word shows has this exit status and is told so.
+// Says whether a refusal that no words lead to has this exit status and this message.
 fn is_refused_as(alloc: Global, fault: &LineFault, status: u8, told: &str) -> bool {
     let mut output = Vec::new(alloc);
     let mut faults = Vec::new(alloc);
@@ -154,7 +154,7 @@ fn other_refusals_have_their_status(rt: HostRuntime) {
     assert!(rt; is_refused_as(rt.alloc(), &LineFault::Incomplete, 2, told));
 }
 
-// Tables of nodes that are refused, and one whose address no program may have.
+// Tables of nodes that are refused, and one whose address no program may bind.
 const REFUSED: &[(&str, &str)] = &[
     ("members = [1]\nprimary = 1\n", "vbroker: config\n"),
     (
@@ -174,7 +174,7 @@ fn tables_are_refused_so(rt: HostRuntime) {
     }
 }
 
-// Whether nodes of this table are not served, for the fault that is told so.
+// Says whether nodes of this table are not served, for the fault with this message.
 fn is_refused<R>(rt: &R, text: &str, told: &str) -> bool
 where
     R: Threads + Wait + Clock + Sync + AllocGlobal,
@@ -192,7 +192,7 @@ where
     }
 }
 
-// Whether a fault has this text and this exit status.
+// Says whether a fault has this text and this exit status.
 fn is_told(alloc: Global, fault: Fault, text: &str, status: u8) -> bool {
     let mut faults = Vec::new(alloc);
     tell(&mut faults, &fault) == status && faults.as_slice() == text.as_bytes()

@@ -12,8 +12,8 @@ use std::thread::Threads;
 use std::time::{Clock, Duration};
 use std::{io, thread};
 
-// Identifiers with blanks, of 64 bytes and of 65, an empty one, one with U+0000; and lines that are no such order. Then the
-// only node that serves crashes.
+// Identifiers with blanks, of 64 bytes and of 65, an empty one, one with U+0000; and lines that are
+// no such order. Then the only node that serves crashes.
 const FIRST: &str = "expel b\n\
     expel  b c \n\
     expel aaaaaaaaaaaaaaaaaaaaaaaaaaaaaaaaaaaaaaaaaaaaaaaaaaaaaaaaaaaaaaaa\n\
@@ -24,7 +24,7 @@ const FIRST: &str = "expel b\n\
     Expel b\n\
     expel meter\n";
 
-// Once the client was told: nobody serves, and the identifier is looked at first.
+// Once the client is expelled: no node serves, and the identifier is checked first.
 const THEN: &str = "crash 1\n";
 
 const LAST: &str = "expel b\nexpel \nquit\n";
@@ -43,7 +43,7 @@ const ANSWERS: &str = "expel b\n\
     refused 6\n\
     bye\n";
 
-// Whether a `sub` whose session is ended while it waits is told that it is lost.
+// Says whether a `sub` whose session is ended while it waits reports that its session is lost.
 fn is_lost<R>(rt: &R, address: &str) -> bool
 where
     R: Clock + AllocGlobal + Net<Stream = TcpStream>,
@@ -64,13 +64,13 @@ where
     matches!(subscribe(rt, &job, &mut output), Err(Fault::Lost)) && output.is_empty()
 }
 
-// Whether these lines are given once so many milliseconds are over.
+// Gives these lines after this many milliseconds. Says whether that succeeds.
 fn gives<R: Clock>(rt: &R, orders: &mut PipeWriter, after: u64, lines: &str) -> bool {
     thread::sleep(rt, Duration::from_millis(after));
     orders.write_all(lines.as_bytes()).is_ok()
 }
 
-// Whether all orders are given, by a pipe that then ends.
+// Says whether all orders are given, by a pipe that then ends.
 fn orders_all<R: Clock>(rt: &R, orders: PipeWriter) -> bool {
     let mut orders = orders;
     gives(rt, &mut orders, 1_500, FIRST)
@@ -87,7 +87,7 @@ where
     is_lost(rt, address)
 }
 
-// Whether the orders are given, and the client is told that it is lost.
+// Says whether the orders are given, and the client reports that its session is lost.
 fn talks<R>(rt: &R, orders: PipeWriter, address: &str) -> bool
 where
     R: Threads + Clock + Sync + AllocGlobal + Net<Stream = TcpStream>,
@@ -116,7 +116,7 @@ where
     answered && talked
 }
 
-// Whether nodes on this port answer the orders, and the client is told.
+// Says whether nodes on this port answer the orders, and the client reports it.
 fn go_well_at<R>(rt: &R, port: u16) -> bool
 where
     R: Files + Threads + Wait + Clock + Sync + AllocGlobal,

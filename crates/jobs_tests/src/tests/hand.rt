@@ -12,7 +12,7 @@ use std::time::Clock;
 /// How a job ends: its exit status, and what it writes on standard output and on standard error.
 pub type End<'a> = (u8, &'a str, &'a str);
 
-/// Whether a command line of these words, over this input, ends so.
+/// Says whether a command line of these words, over this input, ends so.
 pub fn ends<R>(rt: &R, words: &[&str], input: &[u8], end: End<'_>) -> bool
 where
     R: Files + Threads + Wait + Clock + Sync + AllocGlobal,

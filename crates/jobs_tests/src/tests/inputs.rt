@@ -14,7 +14,8 @@ const ONE: &str = "members = [1]\nprimary = 1\n[[node]]\nid = 1\nlisten = \"127.
 // One that other machines may reach.
 const OPEN: &str = "members = [1]\nprimary = 1\n[[node]]\nid = 1\nlisten = \"0.0.0.0:0\"\n";
 
-// Whether a node of this table is served over this input to this exit status, prints this, and tells this among other lines.
+// Says whether a node of this table is served with this input, ends with this exit status, prints
+// this, and reports this among other lines.
 fn is_served<R, I>(
     rt: &R,
     table: &str,
@@ -69,7 +70,7 @@ fn the_end_of_input_prints_bye(rt: HostRuntime) {
     }
 }
 
-// Others than this machine may reach it, which is told.
+// Other machines may reach the node, which is reported.
 #[test]
 fn an_open_address_is_told(rt: HostRuntime) {
     let told = "node 1 is not on a loopback address: whoever reaches it can publish\n";
@@ -97,7 +98,8 @@ impl Read for Failing {
     }
 }
 
-// Whether an input whose first read fails so, and which then goes on so, ends to this exit status, with this printed and told.
+// Says whether nodes served with an input whose first read fails in this way, and which then
+// continues with this, end with this exit status, and print and report this.
 fn ends_so<R>(
     rt: &R,
     kind: ErrorKind,
@@ -127,7 +129,7 @@ fn an_input_that_cannot_be_read_ends_the_server(rt: HostRuntime) {
     assert!(rt; ends_so(&rt, ErrorKind::Other, b"status\n", 1, "", told));
 }
 
-// The server goes on after a line for which memory ran out.
+// The server continues after a line for which memory ran out.
 #[test]
 fn a_line_without_memory_is_refused(rt: HostRuntime) {
     let rest = b"status\nquit\n".as_slice();

@@ -47,7 +47,7 @@ const NEGATIVE: [&str; 8] = [
     "h:1",
 ];
 
-// What comes of the words of a command line.
+// The result of the words of a command line.
 #[derive(Clone, Copy)]
 enum Outcome<'a> {
     /// They ask for a server with this file.
@@ -56,20 +56,20 @@ enum Outcome<'a> {
     Plays(Option<&'a str>),
     /// For a way out to these members with this client.
     Escapes(&'a str, &'a str),
-    /// For the publication that stands above: the first one, or the one that is retained.
+    /// For the publication that is above: the first one, or the one that is retained.
     Publishes,
     Retains,
-    /// For the subscription that stands above.
+    /// For the subscription that is above.
     Subscribes,
     /// They are refused for this.
     Refused(ErrorKind),
     /// One of the words that go together is missing.
     Incomplete,
-    /// They are answered by a text in which this stands.
+    /// They are answered by a text that contains this.
     Answered(&'a str),
 }
 
-// Whether this comes of the words.
+// Says whether the words have this outcome.
 fn comes(alloc: Global, words: &[&str], outcome: Outcome<'_>) -> bool {
     match line(alloc, words) {
         Ok(job) => is_job(&job, outcome),
@@ -89,7 +89,7 @@ fn is_job(job: &Job<'_>, outcome: Outcome<'_>) -> bool {
     }
 }
 
-// Whether it asks for a way out of these words, in the script of the input.
+// Says whether it asks for a way out of these words, in the script of the input.
 fn is_way(job: &Play<'_>, members: &str, client: &str) -> bool {
     match &job.escape {
         Some(escape) => {
@@ -127,7 +127,7 @@ fn says(alloc: Global, error: &Error, wanted: &str) -> bool {
     }
 }
 
-// Whether this comes of the words, which blanks part.
+// Says whether the words, separated by blanks, have this outcome.
 fn comes_of(alloc: Global, words: &str, outcome: Outcome<'_>) -> bool {
     let parted: Result<Vec<&str>, _> = words.split(' ').collect(alloc);
     match parted {
@@ -136,7 +136,8 @@ fn comes_of(alloc: Global, words: &str, outcome: Outcome<'_>) -> bool {
     }
 }
 
-// What is left out has its default. An empty message stands for itself, and one that begins with a hyphen is given after
+// What is left out has its default. An empty message is allowed, and one that begins with a hyphen
+// is given after
 // `=`. Options come in any order, and after the addresses too. The program's name may be missing.
 const ROWS: &[(&[&str], Outcome<'static>)] = &[
     (

@@ -1,4 +1,5 @@
-// Two nodes over the loopback, a subscriber and a publisher, each by its command line, and orders between them.
+// Two nodes over the loopback, a subscriber and a publisher, each by its command line, and orders
+// between them.
 
 use super::hand::does;
 use super::orders::free_port;
@@ -44,10 +45,10 @@ impl Table {
     }
 }
 
-// One of those who take part, each in a thread of its own.
+// One of the parts, each in a thread of its own.
 #[derive(Drop)]
 enum Part {
-    // The nodes, whose orders come by a pipe.
+    // The nodes, whose orders come through a pipe.
     Nodes(PipeReader),
     // The subscriber.
     Meter,
@@ -57,7 +58,7 @@ enum Part {
     Ended(bool),
 }
 
-// All who take part, over one pipe.
+// Returns all parts, over one pipe.
 fn parts_of<R: Files>(rt: &R) -> io::Result<[Part; 3]> {
     let (orders, giver) = io::pipe(rt)?;
     Ok([Part::Nodes(orders), Part::Meter, Part::Switch(giver)])
@@ -84,7 +85,7 @@ where
     *part = Part::Ended(is_well);
 }
 
-// Whether `serve` answers the orders as it has to, and ends with status 0.
+// Says whether `serve` answers the orders as it has to, and ends with status 0.
 fn serves<R>(rt: &R, table: &Table, orders: PipeReader) -> bool
 where
     R: Files + Threads + Wait + Clock + Sync + AllocGlobal,
@@ -108,7 +109,7 @@ where
     status == 0 && output.as_slice() == ANSWERS.as_bytes()
 }
 
-// Whether `sub` prints what it has to, tells nothing else, and ends with status 0.
+// Says whether `sub` prints what it has to, reports nothing, and ends with status 0.
 fn hears<R>(rt: &R, table: &Table) -> bool
 where
     R: Files + Threads + Wait + Clock + Sync + AllocGlobal,
@@ -132,7 +133,7 @@ where
     ends_so(rt, words.as_slice(), PRINTED)
 }
 
-// Whether `pub` ends with status 0 and prints nothing, once the subscriber may have come.
+// Says whether `pub` ends with status 0 and prints nothing, once the subscriber may have come.
 fn publishes<R>(rt: &R, table: &Table) -> bool
 where
     R: Files + Threads + Wait + Clock + Sync + AllocGlobal,
@@ -155,7 +156,7 @@ where
     ends_so(rt, words.as_slice(), "")
 }
 
-// Whether a command line ends with status 0, prints this, and tells no fault.
+// Says whether a command line ends with status 0, prints this, and reports no fault.
 fn ends_so<R>(rt: &R, words: &[&str], printed: &str) -> bool
 where
     R: Files + Threads + Wait + Clock + Sync + AllocGlobal,
@@ -168,7 +169,8 @@ where
     status == 0 && output.as_slice() == printed.as_bytes() && faults.is_empty()
 }
 
-// The threads start here, where the runtime is known: over any runtime the files that a part opens could not be sent to them.
+// The threads start here, where the runtime is known: with a generic runtime, the files that a part
+// opens could not be sent to them.
 #[test]
 fn nodes_and_clients_end_with_0(rt: HostRuntime) -> io::Result<()> {
     let table = Table::new(&rt, free_port(&rt)?)?;

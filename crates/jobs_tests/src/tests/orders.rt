@@ -1,4 +1,4 @@
-// Orders to the nodes of a server, and its two clients beside them.
+// Orders to the nodes of a server, while its two clients run.
 
 use command_line::{Publish, Subscribe};
 use jobs::{publish, serve_table, subscribe};
@@ -52,7 +52,7 @@ impl Served {
     }
 }
 
-/// A port on which nobody listens.
+/// Returns a port on which no program listens.
 pub(super) fn free_port<R>(rt: &R) -> io::Result<u16>
 where
     R: Net<Listener = TcpListener, Stream = TcpStream>,
@@ -60,7 +60,7 @@ where
     Ok(TcpListener::bind(rt, "127.0.0.1:0")?.local_addr()?.port())
 }
 
-/// Whether the nodes of a table give these answers to the orders that come by a pipe.
+/// Says whether the nodes of a table give these answers to the orders that come by a pipe.
 pub(super) fn serve<R>(rt: &R, table: &str, orders: PipeReader, answers: &str) -> bool
 where
     R: Threads + Wait + Clock + Sync + AllocGlobal,
@@ -83,7 +83,7 @@ where
         && output.as_slice() == answers.as_bytes()
 }
 
-// Whether `sub` prints what it has to.
+// Says whether `sub` prints what it has to.
 fn prints<R>(rt: &R, address: &str) -> bool
 where
     R: Clock + AllocGlobal + Net<Stream = TcpStream>,
@@ -111,7 +111,7 @@ where
     subscribe(rt, job, &mut output).is_ok() && output.as_slice() == PRINTED.as_bytes()
 }
 
-// Whether `pub` publishes, once the subscriber may have come.
+// Says whether `pub` publishes, once the subscriber may have come.
 fn publishes<R>(rt: &R, address: &str) -> bool
 where
     R: Clock + AllocGlobal + Net<Stream = TcpStream>,
@@ -157,7 +157,7 @@ where
     order(rt, &mut orders, address)
 }
 
-// Whether nodes on this port answer the orders, and the clients do as they have to.
+// Says whether nodes on this port answer the orders, and the clients do as they have to.
 fn go_well_at<R>(rt: &R, port: u16) -> bool
 where
     R: Files + Threads + Wait + Clock + Sync + AllocGlobal,

@@ -90,7 +90,7 @@ fn ways_out_are_told(rt: HostRuntime) {
     }
 }
 
-// A name that no file has yet.
+// Returns a name that no file has yet.
 fn free_name<R: Clock + AllocGlobal>(rt: &R) -> Option<String> {
     let now = SystemTime::now(rt).ok()?.duration_since(UNIX_EPOCH).ok()?;
     let seconds = now.as_secs();
@@ -98,7 +98,7 @@ fn free_name<R: Clock + AllocGlobal>(rt: &R) -> Option<String> {
     format!(in rt.alloc(); "/tmp/vbroker_{seconds}_{nanoseconds}.script").ok()
 }
 
-// Whether the script is played from a file of this name, and the input is not read.
+// Says whether the script is played from a file of this name, and the input is not read.
 fn is_played_from<R>(rt: &R, name: &str) -> bool
 where
     R: Files + Threads + Wait + Clock + Sync + AllocGlobal,
@@ -116,7 +116,7 @@ where
     fs::remove_file(rt, name).is_ok() && is_played
 }
 
-// The same of a file that no program has.
+// The same for a file that no program has.
 fn is_played_from_a_file<R>(rt: &R) -> bool
 where
     R: Files + Threads + Wait + Clock + Sync + AllocGlobal,

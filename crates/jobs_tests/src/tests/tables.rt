@@ -9,7 +9,7 @@ const NODE_1: &str = "[[node]]\nid = 1\nlisten = \"h:1\"\n";
 const TWO: &str = "primary = 2 # keys in any order\nmembers = [1, 2]\n\
     [[node]]\nlisten = \"h:2\"\nid = 2\n[[node]]\nid = 1\nlisten = \"h:1\"\n";
 
-// What comes of a text.
+// The result of a text.
 #[derive(Clone, Copy)]
 enum Outcome {
     /// It is the table of two nodes.
@@ -20,7 +20,7 @@ enum Outcome {
     Refused,
 }
 
-// Whether this comes of a text.
+// Says whether reading a text has this outcome.
 fn comes(alloc: Global, text: &str, outcome: Outcome) -> bool {
     match table(alloc, text) {
         Ok(read) => is_read(&read, outcome),
@@ -67,8 +67,9 @@ const REFUSED: &[&str] = &[
     "members = [257]\nprimary = 257\n[[node]]\nid = 257\nlisten = \"h:1\"\n",
 ];
 
-// The members of ballot 1, the last of the nodes 1, 2, .., one of them that stands a second time, and whether the table
-// is read: at most 15 nodes, none of them twice, and at most seven members in rising order.
+// The members of ballot 1, the last of the nodes 1, 2, .., one of them that occurs twice, and
+// whether the table is read: at most 15 nodes, none of them twice, and at most seven members in
+// rising order.
 const NODES: &[(&str, u32, u32, bool)] = &[
     ("[1]", 15, 0, true),
     ("[1]", 16, 0, false),
@@ -83,7 +84,7 @@ const NODES: &[(&str, u32, u32, bool)] = &[
     ("[1, 9]", 8, 0, false),
 ];
 
-// Whether a table of these members and nodes is read, or refused.
+// Says whether a table of these members and nodes is read, or refused.
 fn is_so(alloc: Global, members: &str, last: u32, twice: u32, is_read: bool) -> bool {
     let Ok(mut text) = head(alloc, members) else {
         return false;
@@ -100,7 +101,7 @@ fn head(alloc: Global, members: &str) -> Result<String, AllocError> {
     format!(in alloc; "members = {members}\nprimary = 1\n")
 }
 
-// Adds nodes 1 to `last`, and node 1 once more after node `twice`. False where it ran out of memory.
+// Adds nodes 1 to `last`, and node 1 once more after node `twice`. False if it ran out of memory.
 fn add_nodes(alloc: Global, text: &mut String, last: u32, twice: u32) -> bool {
     for id in 1..=last {
         if !adds_node(alloc, text, id) || id == twice && text.push_str(NODE_1).is_err() {

@@ -4,7 +4,7 @@ use ballot::{Body, Message};
 use machine::{Tally, TallyCommand};
 use master::{Event, Group};
 
-// Whether a message is the command that node 1 appends at node 2.
+// Says whether a message is the command that node 1 appends at node 2.
 fn is_append(group: &Group<Tally>, at: usize) -> bool {
     match group.sent().get(at) {
         Some((2, Message { from: 1, body })) => {
@@ -14,7 +14,7 @@ fn is_append(group: &Group<Tally>, at: usize) -> bool {
     }
 }
 
-// Whether node 2 says to node 1 that it holds one place.
+// Says whether node 2 says to node 1 that it holds one place.
 fn is_held(group: &Group<Tally>, at: usize) -> bool {
     match group.sent().get(at) {
         Some((1, Message { from: 2, body })) => matches!(body, Body::Held(1, 1)),
@@ -22,7 +22,7 @@ fn is_held(group: &Group<Tally>, at: usize) -> bool {
     }
 }
 
-// Whether node 1 says to node 2 that one place is committed.
+// Says whether node 1 says to node 2 that one place is committed.
 fn is_commit(group: &Group<Tally>, at: usize) -> bool {
     match group.sent().get(at) {
         Some((2, Message { from: 1, body })) => matches!(body, Body::Commit(1, 1)),
@@ -32,12 +32,12 @@ fn is_commit(group: &Group<Tally>, at: usize) -> bool {
 
 const ANSWERED: &[Row] = &[(0, 2, 0, 1), (0, 3, 0, 1), (1, 4, 1, 1), (3, 4, 1, 1)];
 
-// Whether these messages were sent, in order.
+// Says whether these messages were sent, in order.
 fn sent_all(group: &Group<Tally>) -> bool {
     is_append(group, 0) && is_held(group, 1) && is_held(group, 2) && is_commit(group, 3)
 }
 
-/// Whether a command is answered once both members hold it.
+/// Says whether a command is answered once both members hold it.
 pub fn waits_for_all(group: &mut Group<Tally>) -> bool {
     adds(group, 1, 2)
         && counts(group) == (1, 0, 0)
@@ -61,7 +61,7 @@ const ALONE: &[TallyCommand] = &[
     TallyCommand::Add(3),
 ];
 
-// A sole member is told two numbers, and of a ballot between them.
+// Proposes two numbers to a sole member, and a Start between them.
 fn run_alone(group: &mut Group<Tally>) {
     group.run(&[
         Event::Propose(1, TallyCommand::Add(2)),
@@ -70,7 +70,7 @@ fn run_alone(group: &mut Group<Tally>) {
     ]);
 }
 
-// Whether these are the outputs and the list in the end.
+// Says whether these are the outputs and the list in the end.
 fn has_counted(group: &Group<Tally>) -> bool {
     counts(group) == (0, 2, 3)
         && gave(group, 0, 0, 2)
@@ -78,7 +78,7 @@ fn has_counted(group: &Group<Tally>) -> bool {
         && agrees(group, ALONE)
 }
 
-/// Whether a sole member answers at once.
+/// Says whether a sole member answers at once.
 pub fn counts_alone(group: &mut Group<Tally>) -> bool {
     run_alone(group);
     has_counted(group)

@@ -2,7 +2,7 @@ use super::groups::config;
 use master::{Activation, AssignError, Master};
 use std::alloc::Global;
 
-// A master whose ballot 1 is active with node 1; none where there was no memory for it.
+// Returns a master whose ballot 1 is active with node 1; none if there was no memory for it.
 fn opened(alloc: Global) -> Option<Master> {
     match config(alloc, &[1], 1) {
         Ok(config) => Master::new(config).ok(),
@@ -10,7 +10,7 @@ fn opened(alloc: Global) -> Option<Master> {
     }
 }
 
-// What the master answers to a configuration; none where there was no memory for that.
+// Returns what the master answers to a configuration; none if there was no memory for it.
 fn assigned(
     master: &mut Master,
     alloc: Global,
@@ -23,13 +23,13 @@ fn assigned(
     }
 }
 
-// Whether a ballot is activated, and which is active behind that.
+// Says whether a ballot is activated, and which is active after that.
 fn activates(master: &mut Master, ballot: u64) -> (bool, u64) {
     let activated = master.activate(ballot) == Activation::Activated;
     (activated, master.active().0)
 }
 
-// Whether the master gives this ballot.
+// Says whether the master gives this ballot.
 fn is_given(master: &mut Master, alloc: Global, members: &[u8], primary: u8, ballot: u64) -> bool {
     match assigned(master, alloc, members, primary) {
         Some(Ok(given)) => given == ballot,
@@ -44,7 +44,7 @@ const ACTIVATED: &[(u64, (bool, u64))] = &[
     (1, (false, 3)),
 ];
 
-// Whether ballots are activated in turn as these rows say.
+// Says whether ballots are activated in turn as these rows say.
 fn activates_all(master: &mut Master, rows: &[(u64, (bool, u64))]) -> bool {
     for (ballot, activated) in rows {
         if activates(master, *ballot) != *activated {
@@ -54,7 +54,7 @@ fn activates_all(master: &mut Master, rows: &[(u64, (bool, u64))]) -> bool {
     true
 }
 
-// Whether ballots 2 and 3 are given, and ballot 2 is put out.
+// Says whether ballots 2 and 3 are given, and ballot 2 is superseded.
 fn puts_out(master: &mut Master, alloc: Global) -> bool {
     is_given(master, alloc, &[1, 2], 1, 2)
         && is_given(master, alloc, &[2], 2, 3)
@@ -69,7 +69,7 @@ enum Task {
     RefusesAll,
 }
 
-// Whether a master that opens does so.
+// Says whether a master that opens does so.
 fn is_done(alloc: Global, task: Task) -> bool {
     match opened(alloc) {
         Some(mut master) => does(&mut master, alloc, task),
@@ -84,7 +84,7 @@ fn does(master: &mut Master, alloc: Global, task: Task) -> bool {
     }
 }
 
-// Ballots are given, put out and activated.
+// Ballots are given, superseded and activated.
 #[test]
 fn a_ballot_put_out_never_comes_back(rt: HostRuntime) {
     assert!(rt; is_done(rt.alloc(), Task::PutsOut));
@@ -92,7 +92,7 @@ fn a_ballot_put_out_never_comes_back(rt: HostRuntime) {
 
 const BAD: &[(&[u8], u8)] = &[(&[2, 1], 1), (&[], 1), (&[1], 2), (&[1, 16], 1)];
 
-// Whether each of these is refused for its members.
+// Says whether each of these is refused for its members.
 fn refuses_all(master: &mut Master, alloc: Global, rows: &[(&[u8], u8)]) -> bool {
     for (members, primary) in rows {
         match assigned(master, alloc, members, *primary) {
@@ -103,7 +103,7 @@ fn refuses_all(master: &mut Master, alloc: Global, rows: &[(&[u8], u8)]) -> bool
     true
 }
 
-// Whether these are refused, and ballot 2 is given behind them.
+// Says whether these are refused, and ballot 2 is given after them.
 fn refuses_bad_members(master: &mut Master, alloc: Global) -> bool {
     refuses_all(master, alloc, BAD) && is_given(master, alloc, &[1, 2], 2, 2)
 }
@@ -114,7 +114,7 @@ fn bad_members_are_given_no_ballot(rt: HostRuntime) {
     assert!(rt; is_done(rt.alloc(), Task::RefusesAll));
 }
 
-// Whether no master opens with none of its members as primary.
+// Says whether no master opens with none of its members as primary.
 fn is_no_primary(alloc: Global) -> bool {
     match config(alloc, &[2], 1) {
         Ok(config) => Master::new(config).is_err(),

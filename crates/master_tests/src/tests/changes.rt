@@ -19,8 +19,8 @@ const CHANGED: &[Row] = &[
     (8, 10, 0, 1),
 ];
 
-/// Whether the master gives the ballot to members 1 and 2 and primary 2, and its messages come as
-/// these rows say.
+/// Says whether the master gives the ballot to members 1 and 2 and primary 2, and its messages come
+/// as these rows say.
 pub fn is_changed(group: &mut Group<Tally>, alloc: Global) -> bool {
     gives_to(group, alloc, &[1, 2], 2)
         && counts(group) == (1, 0, 0)
@@ -29,8 +29,8 @@ pub fn is_changed(group: &mut Group<Tally>, alloc: Global) -> bool {
         && agrees(group, STARTED)
 }
 
-// The counts that are told of a change of configuration: [1] to [1, 2] with primary 2. The messages
-// are NewBallot, Join, State, Install, Installed, Activate, Activated, Append, Held, Commit.
+// The counts of a change of configuration: [1] to [1, 2] with primary 2. The messages are
+// NewBallot, Join, State, Install, Installed, Activate, Activated, Append, Held, Commit.
 #[test]
 fn configuration_changes(rt: HostRuntime) {
     let told = goes(rt.alloc(), 2, &[1], Story::Changes);
@@ -55,8 +55,8 @@ const PUT_OUT: &[Row] = &[
     (11, 12, 0, 1),
 ];
 
-// Whether the primary of ballot 2 asks the master for its activation by message 5, and is refused
-// by message 7.
+// Says whether the primary of ballot 2 asks the master for its activation by message 5, and is
+// refused by message 7.
 fn is_refused(group: &Group<Tally>) -> bool {
     let asks = match group.sent().get(5) {
         Some((0, Message { from: 2, body })) => matches!(body, Body::Activate(2)),
@@ -69,8 +69,8 @@ fn is_refused(group: &Group<Tally>) -> bool {
     asks && refuses
 }
 
-/// Whether the ballot of members 1 and 2 is put out by that of member 3, and messages come as these
-/// rows say.
+/// Says whether the ballot of members 1 and 2 is superseded by that of member 3, and messages come
+/// as these rows say.
 pub fn is_put_out(group: &mut Group<Tally>, alloc: Global) -> bool {
     gives_to(group, alloc, &[1, 2], 2)
         && come(group, WAITING)
@@ -81,22 +81,22 @@ pub fn is_put_out(group: &mut Group<Tally>, alloc: Global) -> bool {
         && agrees(group, &[TallyCommand::Start(3)])
 }
 
-// The counts that are told of a ballot that is put out while it waits: message 5 is Activate(2), and
-// message 7 Superseded(2).
+// The counts of a ballot that is superseded while it waits: message 5 is Activate(2), and message 7
+// Superseded(2).
 #[test]
 fn a_ballot_is_put_out(rt: HostRuntime) {
     let told = goes(rt.alloc(), 3, &[1], Story::IsPutOut);
     assert!(rt; told == Some(true));
 }
 
-// Whether a node takes a number to add. All messages come.
+// Says whether a node takes a number to add. All messages come.
 fn adds_and_settles(group: &mut Group<Tally>, node: u8, number: u64) -> bool {
     let takes = adds(group, node, number);
     settle(group);
     takes
 }
 
-// Whether node 1 stops, and ballot 2 is given to members 2 and 3 and becomes active.
+// Says whether node 1 stops, and ballot 2 is given to members 2 and 3 and becomes active.
 fn goes_over(group: &mut Group<Tally>, alloc: Global) -> bool {
     let goes = happens(group, &Event::Crash(1)) && gives_to(group, alloc, &[2, 3], 2);
     settle(group);
@@ -109,7 +109,7 @@ const TAKEN_OVER: &[TallyCommand] = &[
     TallyCommand::Add(3),
 ];
 
-// Whether these are the outputs and the list in the end.
+// Says whether these are the outputs and the list in the end.
 fn has_gone_on(group: &Group<Tally>) -> bool {
     gave(group, 0, 0, 2)
         && gave(group, 1, 2, 5)
@@ -117,7 +117,7 @@ fn has_gone_on(group: &Group<Tally>) -> bool {
         && agrees(group, TAKEN_OVER)
 }
 
-/// Whether node 1 answers a command and stops, and node 2 answers the next one.
+/// Says whether node 1 answers a command and stops, and node 2 answers the next one.
 pub fn takes_over(group: &mut Group<Tally>, alloc: Global) -> bool {
     adds_and_settles(group, 1, 2)
         && goes_over(group, alloc)
@@ -147,7 +147,7 @@ const LEFT_BEHIND: &[Row] = &[
     (12, 13, 0, 1),
 ];
 
-/// Whether the longer log of node 1 is gone behind the change to primary 2.
+/// Says whether the longer log of node 1 is replaced after the change to primary 2.
 pub fn is_replaced(group: &mut Group<Tally>, alloc: Global) -> bool {
     adds(group, 1, 2)
         && adds(group, 1, 3)
@@ -157,8 +157,8 @@ pub fn is_replaced(group: &mut Group<Tally>, alloc: Global) -> bool {
         && agrees(group, STARTED)
 }
 
-// Node 1 has two commands that node 2 never got. The log of ballot 2 takes the place of its longer
-// one, and what comes of them later changes nothing.
+// Node 1 has two commands that node 2 never got. The log of ballot 2 replaces its longer one, and
+// the result of them later changes nothing.
 #[test]
 fn a_stale_primary_has_a_longer_log(rt: HostRuntime) {
     let told = goes(rt.alloc(), 2, &[1, 2], Story::IsReplaced);

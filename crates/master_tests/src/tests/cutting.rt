@@ -6,7 +6,7 @@ use machine::{Tally, TallyCommand};
 use master::{Event, Group};
 use std::alloc::Global;
 
-// Whether a node cuts its log, and has nothing more to cut then.
+// Says whether a node cuts its log, and has nothing more to cut then.
 fn cuts(group: &mut Group<Tally>, node: u8) -> bool {
     let before = counts(group);
     happens(group, &Event::Cut(node))
@@ -14,7 +14,8 @@ fn cuts(group: &mut Group<Tally>, node: u8) -> bool {
         && counts(group) == before
 }
 
-/// Whether two members cut what they applied, and no more: node 2 applies it only with the Commit.
+/// Says whether two members cut what they applied, and no more: node 2 applies it only with the
+/// Commit.
 pub fn cuts_what_is_applied(group: &mut Group<Tally>) -> bool {
     adds(group, 1, 2)
         && !happens(group, &Event::Cut(1))
@@ -33,8 +34,8 @@ fn a_cut_changes_nothing_that_is_seen(rt: HostRuntime) {
     assert!(rt; told == Some(true));
 }
 
-// The messages 0 to 9 of the change: NewBallot, Join, State, Install, Installed, Activate, Activated, Append,
-// Held, Commit.
+// The messages 0 to 9 of the change: NewBallot, Join, State, Install, Installed, Activate,
+// Activated, Append, Held, Commit.
 const CHANGE: &[Row] = &[
     (0, 2, 1, 1),
     (1, 3, 1, 1),
@@ -47,7 +48,7 @@ const CHANGE: &[Row] = &[
     (8, 10, 1, 2),
 ];
 
-/// Whether node 1 cuts its log and node 2 takes over from its snapshot: it counts on from 2.
+/// Says whether node 1 cuts its log and node 2 takes over from its snapshot: it counts on from 2.
 pub fn takes_over_from_a_snapshot(group: &mut Group<Tally>, alloc: Global) -> bool {
     let list = [
         TallyCommand::Add(2),

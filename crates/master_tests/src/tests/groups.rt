@@ -5,7 +5,7 @@ use machine::{Memory, Tally, TallyCommand};
 use master::{Event, Group};
 use std::alloc::Global;
 
-/// A configuration with these members and this primary.
+/// Returns a configuration with these members and this primary.
 pub fn config(alloc: Global, members: &[u8], primary: u8) -> Result<Config, Memory> {
     Ok(Config {
         members: Members::from_slice(alloc, members)?,
@@ -13,33 +13,33 @@ pub fn config(alloc: Global, members: &[u8], primary: u8) -> Result<Config, Memo
     })
 }
 
-/// A group of which node 1 is the first primary.
+/// Returns a group of which node 1 is the first primary.
 pub fn group(alloc: Global, nodes: u8, members: &[u8]) -> Result<Group<Tally>, OpeningError> {
     let config = config(alloc, members, 1)?;
     Group::opening(alloc, nodes, config)
 }
 
-/// Whether an event is not idle.
+/// Says whether an event is not idle.
 pub fn happens(group: &mut Group<Tally>, event: &Event<TallyCommand>) -> bool {
     group.step(event).is_ok()
 }
 
-/// Whether a node takes a number to add.
+/// Says whether a node takes a number to add.
 pub fn adds(group: &mut Group<Tally>, node: u8, number: u64) -> bool {
     happens(group, &Event::Propose(node, TallyCommand::Add(number)))
 }
 
-/// Whether the message of a number comes.
+/// Says whether the message of a number comes.
 pub fn comes(group: &mut Group<Tally>, number: u64) -> bool {
     happens(group, &Event::Deliver(number))
 }
 
-/// Whether the master gives a ballot to a configuration.
+/// Says whether the master gives a ballot to a configuration.
 pub fn gives(group: &mut Group<Tally>, config: Config) -> bool {
     happens(group, &Event::Assign(config))
 }
 
-/// Whether the master gives a ballot to these members and this primary.
+/// Says whether the master gives a ballot to these members and this primary.
 pub fn gives_to(group: &mut Group<Tally>, alloc: Global, members: &[u8], primary: u8) -> bool {
     match config(alloc, members, primary) {
         Ok(config) => gives(group, config),
@@ -47,15 +47,15 @@ pub fn gives_to(group: &mut Group<Tally>, alloc: Global, members: &[u8], primary
     }
 }
 
-/// How many messages were sent, how many outputs left, and how many places are agreed.
+/// Returns how many messages were sent, how many outputs left, and how many places are agreed.
 pub fn counts(group: &Group<Tally>) -> (usize, usize, u64) {
     (group.sent().len(), group.left().len(), group.agreed_len())
 }
 
-/// The number of a message that comes, and the counts behind it.
+/// The number of a message that comes, and the counts after it.
 pub type Row = (u64, usize, usize, u64);
 
-/// Whether messages come one after the other, with these counts behind each.
+/// Says whether messages come one after another, with these counts after each.
 pub fn come(group: &mut Group<Tally>, rows: &[Row]) -> bool {
     for (number, sent, left, agreed) in rows {
         if !comes(group, *number) || counts(group) != (*sent, *left, *agreed) {
@@ -79,7 +79,7 @@ pub fn go_on(group: &mut Group<Tally>, first: usize) {
     }
 }
 
-/// Whether these commands are the agreed list.
+/// Says whether these commands are the agreed list.
 pub fn agrees(group: &Group<Tally>, commands: &[TallyCommand]) -> bool {
     let (recorded, kept) = group.agreed();
     let front = commands.get(..recorded.len());
@@ -90,7 +90,7 @@ pub fn agrees(group: &Group<Tally>, commands: &[TallyCommand]) -> bool {
     }
 }
 
-/// Whether the output at a place among those that left is this one.
+/// Says whether the output at a place among those that left is this one.
 pub fn gave(group: &Group<Tally>, at: usize, place: u64, total: u64) -> bool {
     match group.left().get(at) {
         Some(Effect::Out(left, output)) => *left == place && *output == total,
@@ -98,7 +98,7 @@ pub fn gave(group: &Group<Tally>, at: usize, place: u64, total: u64) -> bool {
     }
 }
 
-/// Whether a ballot is active and no step wanted memory.
+/// Says whether a ballot is active and no step wanted memory.
 pub fn is_active(group: &Group<Tally>, ballot: u64) -> bool {
     group.active().0 == ballot && group.losses() == 0
 }

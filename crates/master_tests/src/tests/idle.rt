@@ -5,12 +5,12 @@ use machine::{Tally, TallyCommand};
 use master::{Event, Group, Idle};
 use std::alloc::Global;
 
-// Whether an event is idle.
+// Says whether an event is idle.
 fn is_idle(group: &mut Group<Tally>, event: &Event<TallyCommand>) -> bool {
     !happens(group, event)
 }
 
-// Whether there is no node 0 or 3, no message, and no backup that takes a proposal.
+// Says whether there is no node 0 or 3, no message, and no backup that takes a proposal.
 fn idles_at_first(group: &mut Group<Tally>) -> bool {
     is_idle(group, &Event::Propose(0, TallyCommand::Add(1)))
         && is_idle(group, &Event::Propose(2, TallyCommand::Add(1)))
@@ -21,20 +21,20 @@ fn idles_at_first(group: &mut Group<Tally>) -> bool {
         && is_idle(group, &Event::Crash(3))
 }
 
-// Whether node 2, which has stopped, does nothing.
+// Says whether node 2, which has stopped, does nothing.
 fn idles_stopped(group: &mut Group<Tally>) -> bool {
     is_idle(group, &Event::Crash(2))
         && is_idle(group, &Event::Tick(2))
         && is_idle(group, &Event::Deliver(0))
 }
 
-// Whether a run goes on behind what is idle in it.
+// Says whether a run continues after what is idle in it.
 fn runs_on(group: &mut Group<Tally>) -> bool {
     group.run(&[Event::Tick(2), Event::Tick(1)]);
     counts(group) == (3, 0, 0) && is_active(group, 1)
 }
 
-/// Whether what cannot happen at first, and once node 2 has stopped, is idle.
+/// Says whether what cannot happen at first, and once node 2 has stopped, is idle.
 pub fn is_idle_where_nothing_can_happen(group: &mut Group<Tally>) -> bool {
     idles_at_first(group)
         && adds(group, 1, 2)
@@ -43,15 +43,15 @@ pub fn is_idle_where_nothing_can_happen(group: &mut Group<Tally>) -> bool {
         && runs_on(group)
 }
 
-// No node 0 or 3, no message, a backup that is proposed to, a node that has stopped. A run goes on
-// behind them.
+// No node 0 or 3, no message, a backup that is proposed to, a node that has stopped. A run
+// continues after them.
 #[test]
 fn what_cannot_happen_is_idle(rt: HostRuntime) {
     let told = goes(rt.alloc(), 2, &[1, 2], Story::IsIdle);
     assert!(rt; told == Some(true) && Idle.number() == 24);
 }
 
-// Whether a group is refused for its members; none where there was no memory for the question.
+// Says whether a group is refused for its members; none if there was no memory for the question.
 fn is_refused(alloc: Global, nodes: u8, members: &[u8], primary: u8) -> Option<bool> {
     match config(alloc, members, primary) {
         Ok(config) => Some(is_no_group(alloc, nodes, config)),
@@ -73,7 +73,7 @@ const BAD: &[(u8, &[u8], u8)] = &[
     (0, &[1], 1),
 ];
 
-// The first row that is not refused.
+// Returns the first row that is not refused.
 fn first_opened(alloc: Global, rows: &[(u8, &[u8], u8)]) -> Option<usize> {
     for (row, (nodes, members, primary)) in rows.iter().enumerate() {
         if is_refused(alloc, *nodes, members, *primary) != Some(true) {

@@ -1,5 +1,5 @@
-// Memory that is refused. Run with each allocation failing in turn: one step at most is counted,
-// what was half done is taken back, and the group serves on.
+// Memory that is refused. Each test runs with each of its allocations failing in turn: at most one
+// step is counted, what was half done is undone, and the group continues to serve.
 
 use super::groups::*;
 use super::stories::{Story, goes};
@@ -15,13 +15,13 @@ fn answers(group: &mut Group<Tally>, node: u8, number: u64) {
     go_on(group, first);
 }
 
-// With one growth refused the first command is answered as ever, or one step is counted.
+// With one growth refused the first command is answered as usual, or one step is counted.
 fn is_whole_or_counted(group: &Group<Tally>) -> bool {
     let losses = group.losses();
     (losses == 0 && counts(group) == (6, 1, 1) && gave(group, 0, 0, 2)) || losses == 1
 }
 
-// Whether a node has not stopped.
+// Says whether a node has not stopped.
 fn runs(group: &mut Group<Tally>, node: u8) -> bool {
     happens(group, &Event::Tick(node))
 }
@@ -51,8 +51,8 @@ fn is_taken_over(group: &mut Group<Tally>, alloc: Global) -> bool {
     group.left().len() == left.saturating_add(1)
 }
 
-/// Whether a command is answered or counted, and two nodes take over; at the second try where memory
-/// was wanting at the first.
+/// Says whether a command is answered or counted, and two nodes take over; at the second try if
+/// memory ran out at the first.
 pub fn serves_on(group: &mut Group<Tally>, alloc: Global) -> bool {
     answers(group, 1, 2);
     is_whole_or_counted(group)
@@ -66,7 +66,7 @@ fn a_refused_growth_is_counted(rt: HostRuntime) {
     assert!(rt; told != Some(false));
 }
 
-// The number that a command adds.
+// Returns the number that a command adds.
 fn number_of(command: &TallyCommand) -> u64 {
     match command {
         TallyCommand::Add(number) => *number,
@@ -74,7 +74,7 @@ fn number_of(command: &TallyCommand) -> u64 {
     }
 }
 
-// The sum of what the first commands add.
+// Returns the sum of what the first commands add.
 fn sum_of(commands: &[TallyCommand], most: usize) -> u64 {
     let mut sum: u64 = 0;
     for command in commands.iter().take(most) {
@@ -83,7 +83,7 @@ fn sum_of(commands: &[TallyCommand], most: usize) -> u64 {
     sum
 }
 
-// Whether a total is the answer at a place of the agreed list.
+// Says whether a total is the answer at a place of the agreed list.
 fn is_answer(group: &Group<Tally>, place: u64, total: u64) -> bool {
     let (recorded, kept) = group.agreed();
     let most = (place as usize).saturating_add(1);
@@ -92,7 +92,7 @@ fn is_answer(group: &Group<Tally>, place: u64, total: u64) -> bool {
     place < group.agreed_len() && front.wrapping_add(behind) == total
 }
 
-// Whether all outputs that left are answers at places of the agreed list.
+// Says whether all outputs that left are answers at places of the agreed list.
 fn are_answers(group: &Group<Tally>) -> bool {
     group.left().iter().all(|left| match left {
         Effect::Out(place, total) => is_answer(group, *place, *total),
@@ -100,7 +100,7 @@ fn are_answers(group: &Group<Tally>) -> bool {
     })
 }
 
-// Node 1 adds a command, and then cuts its log; a second time where memory ran out for that.
+// Node 1 adds a command, and then cuts its log; a second time if memory ran out for that.
 fn adds_and_cuts(group: &mut Group<Tally>) {
     answers(group, 1, 2);
     for _ in 0..2 {
@@ -121,7 +121,8 @@ fn takes_over(group: &mut Group<Tally>, alloc: Global) -> bool {
     true
 }
 
-/// Whether a log is cut and its snapshot goes over, or one loss is counted; what left is right in any case.
+/// Says whether a log is cut and its snapshot goes over, or one loss is counted; what left is right
+/// in any case.
 pub fn cuts_on(group: &mut Group<Tally>, alloc: Global) -> bool {
     adds_and_cuts(group);
     if !takes_over(group, alloc) && !takes_over(group, alloc) {

@@ -24,7 +24,7 @@ pub enum Story {
     LeavesLate,
 }
 
-// Whether a group goes through a story as it is told.
+// Says whether a group does what a story says.
 fn is_told(alloc: Global, group: &mut Group<Tally>, story: Story) -> bool {
     match story {
         Story::WaitsForAll => answers::waits_for_all(group),
@@ -43,8 +43,8 @@ fn is_told(alloc: Global, group: &mut Group<Tally>, story: Story) -> bool {
     }
 }
 
-/// Whether so many nodes, these of them members and node 1 the primary, go through a story; none
-/// where there was no memory for them.
+/// Says whether this many nodes, these of them members and node 1 the primary, do what a story
+/// says; none if there was no memory for them.
 pub fn goes(alloc: Global, nodes: u8, members: &[u8], story: Story) -> Option<bool> {
     match group(alloc, nodes, members) {
         Ok(mut group) => Some(is_told(alloc, &mut group, story)),

@@ -14,7 +14,7 @@ struct Course {
     only_grows: bool,
 }
 
-// Lets an event happen or be idle, and asks what is agreed behind it.
+// Lets an event happen or be idle, and asks what is agreed after it.
 fn goes_by(group: &mut Group<Tally>, course: &mut Course, event: &Event<TallyCommand>) {
     let _ = happens(group, event);
     let agreed = group.agreed_len();
@@ -22,7 +22,7 @@ fn goes_by(group: &mut Group<Tally>, course: &mut Course, event: &Event<TallyCom
     course.agreed = agreed;
 }
 
-// Stops a node if that is asked, and gives the next ballot to three members; false where there was no
+// Stops a node if that is asked, and gives the next ballot to three members; false if there was no
 // memory for their configuration.
 fn is_taken_over(
     group: &mut Group<Tally>,
@@ -77,8 +77,8 @@ fn serve(group: &mut Group<Tally>, course: &mut Course, leader: u8, stale: u8) {
     }
 }
 
-// Whether another configuration takes over and agrees on commands with its members. Each second time
-// its former primary has stopped.
+// Says whether another configuration takes over and agrees on commands with its members. Each
+// second time its former primary has stopped.
 fn serves_next(group: &mut Group<Tally>, course: &mut Course, alloc: Global, leader: u8) -> bool {
     let before = course.agreed;
     let stale = leader.saturating_sub(1);
@@ -89,7 +89,7 @@ fn serves_next(group: &mut Group<Tally>, course: &mut Course, alloc: Global, lea
     is_taken && is_active(group, u64::from(leader)) && course.agreed.saturating_sub(before) > 100
 }
 
-/// Whether twelve configurations do so, one after the other, and what is agreed only grows.
+/// Says whether twelve configurations do so, one after another, and what is agreed only grows.
 pub fn serves_in_turn(group: &mut Group<Tally>, alloc: Global) -> bool {
     let mut course = Course {
         next: 0,
@@ -106,15 +106,15 @@ pub fn serves_in_turn(group: &mut Group<Tally>, alloc: Global) -> bool {
 }
 
 // More than 20,000 events, in which twelve times another configuration takes over: each second time
-// its former primary has stopped, and else goes on for itself. Nothing is lost, what is agreed, asked
-// behind each event, only grows, and each primary agrees on commands with its members.
+// its former primary has stopped, and otherwise continues for itself. Nothing is lost, what is
+// agreed, asked after each event, only grows, and each primary agrees on commands with its members.
 #[test]
 fn takeovers_lose_nothing(rt: HostRuntime) {
     let told = goes(rt.alloc(), 15, &[1, 2, 3], Story::ServesInTurn);
     assert!(rt; told == Some(true));
 }
 
-// The place of the output at a place among those that left.
+// Returns the place of the output at a place among those that left.
 fn left_at(group: &Group<Tally>, at: usize) -> Option<u64> {
     match group.left().get(at) {
         Some(Effect::Out(place, _)) => Some(*place),
@@ -134,7 +134,8 @@ fn all_come(group: &mut Group<Tally>, numbers: &[u64]) -> bool {
 
 const CHANGE: &[u64] = &[2, 4, 5, 6, 7, 8, 9, 10, 11];
 
-// Whether node 1 adds a command, which node 2 holds, and ballot 2 of members 2 and 3 becomes active.
+// Says whether node 1 adds a command, which node 2 holds, and ballot 2 of members 2 and 3 becomes
+// active.
 fn goes_over(group: &mut Group<Tally>, alloc: Global) -> bool {
     adds(group, 1, 2)
         && comes(group, 0)
@@ -143,7 +144,7 @@ fn goes_over(group: &mut Group<Tally>, alloc: Global) -> bool {
         && is_active(group, 2)
 }
 
-// Whether the output of place 2 leaves, and then that of place 0.
+// Says whether the output of place 2 leaves, and then that of place 0.
 fn leaves_behind(group: &mut Group<Tally>) -> bool {
     adds(group, 2, 3)
         && all_come(group, &[13, 14])
@@ -154,13 +155,13 @@ fn leaves_behind(group: &mut Group<Tally>) -> bool {
         && gave(group, 1, 0, 2)
 }
 
-/// Whether both do so in turn.
+/// Says whether both do so in turn.
 pub fn leaves_late(group: &mut Group<Tally>, alloc: Global) -> bool {
     goes_over(group, alloc) && leaves_behind(group)
 }
 
-// A primary whose ballot has ended hears late that place 0 was held: message 1. The next primary has
-// given the output of place 2 by then.
+// A primary whose ballot has ended receives late that place 0 is held: message 1. The next primary
+// has returned the output of place 2 by then.
 #[test]
 fn a_late_answer_leaves_behind_later_ones(rt: HostRuntime) {
     let told = goes(rt.alloc(), 3, &[1, 2], Story::LeavesLate);

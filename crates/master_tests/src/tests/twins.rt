@@ -1,4 +1,4 @@
-// Two groups to which the same happens, but that one of them cuts its logs: nothing else tells them apart.
+// Two groups with the same events, except that one of them cuts its logs: nothing else differs.
 
 use super::groups::{agrees, config, counts, group};
 use ballot::{Body, Effect};
@@ -14,7 +14,8 @@ const NODES: u8 = 7;
 // The figures, as they were worked out apart from this code by the protocol's table.
 const FIGURES: [u64; 6] = [689, 116, 539, 5_358, 612, 389];
 
-// The group that cuts and the one that does not, the message that comes next, and the last number drawn.
+// The group that cuts and the one that does not, the message that comes next, and the last number
+// drawn.
 #[derive(Drop)]
 struct Twins {
     cutting: Group<Tally>,
@@ -24,7 +25,7 @@ struct Twins {
     cuts: u64,
 }
 
-// A number below 256.
+// Returns a number below 256.
 fn small(number: u64) -> u8 {
     match u8::try_from(number) {
         Ok(small) => small,
@@ -98,7 +99,8 @@ impl Twins {
         }
     }
 
-    // Whether an event comes to the same in both, and both have sent, given and agreed on as much.
+    // Says whether an event has the same result in both, and both have sent as many messages,
+    // returned as many outputs and agreed on as many commands.
     fn happens(&mut self, event: &Event<TallyCommand>) -> bool {
         let one = self.cutting.step(event).is_ok();
         let other = self.keeping.step(event).is_ok();
@@ -116,7 +118,7 @@ impl Twins {
         counts(&self.cutting) == counts(&self.keeping)
     }
 
-    // Whether all events come to the same in both.
+    // Says whether all events have the same result in both.
     fn go(&mut self, alloc: Global) -> bool {
         for at in 0..EVENTS {
             let Some(event) = self.draw_event(alloc, at) else {
@@ -129,7 +131,7 @@ impl Twins {
         true
     }
 
-    // Whether nothing is lost, and one agreed list and the same outputs came of it.
+    // Says whether nothing is lost, and both have the same agreed list and the same outputs.
     fn are_alike(&self) -> bool {
         let (recorded, kept) = self.keeping.agreed();
         let same = recorded.is_empty() && agrees(&self.cutting, kept);
@@ -138,7 +140,8 @@ impl Twins {
             && self.keeping.losses() == 0
     }
 
-    // What came of it all: cuts, the active ballot, agreed places, messages, snapshots among them, and outputs.
+    // Returns the results: cuts, the active ballot, agreed places, messages, snapshots among them,
+    // and outputs.
     fn figures(&self) -> [u64; 6] {
         [
             self.cuts,
@@ -151,7 +154,7 @@ impl Twins {
     }
 }
 
-// Whether these outputs are the same, with their places.
+// Says whether these outputs are the same, with their places.
 fn gave_the_same(one: &[Effect<TallyCommand, u64>], other: &[Effect<TallyCommand, u64>]) -> bool {
     one.len() == other.len()
         && one.iter().zip(other).all(|(mine, yours)| match (mine, yours) {
@@ -162,7 +165,7 @@ fn gave_the_same(one: &[Effect<TallyCommand, u64>], other: &[Effect<TallyCommand
         })
 }
 
-// How many logs were sent that begin with a snapshot.
+// Returns how many logs were sent that begin with a snapshot.
 fn snapshots_sent(group: &Group<Tally>) -> usize {
     group
         .sent()
@@ -185,8 +188,9 @@ fn made(alloc: Global) -> Option<Twins> {
     })
 }
 
-// 20,000 events of seven nodes, drawn by a fixed rule: changes of configuration, messages that come late, again or never,
-// and two crashes. One group cuts logs between them, and each event comes to the same in both.
+// 20,000 events of seven nodes, drawn by a fixed rule: changes of configuration, messages that come
+// late, again or never, and two crashes. One group cuts logs between them, and each event has the
+// same result in both.
 #[test]
 fn cuts_tell_no_group_apart(rt: HostRuntime) {
     let mut told = None;

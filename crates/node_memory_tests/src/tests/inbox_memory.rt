@@ -8,7 +8,7 @@ use std::alloc::Global;
 use std::marker::Brand;
 use std::sync::Wait;
 
-// Whether a lane sends an item.
+// Says whether a lane sends an item.
 fn sends<J: Naming, R: Wait>(rt: &R, lanes: &mut [Lane<u64, J>], place: usize, item: u64) -> bool {
     match lanes.get_mut(place) {
         Some(lane) => {
@@ -19,7 +19,7 @@ fn sends<J: Naming, R: Wait>(rt: &R, lanes: &mut [Lane<u64, J>], place: usize, i
     }
 }
 
-// Whether this is taken.
+// Says whether this is taken.
 fn takes<J: Naming, R: Wait>(
     rt: &R,
     receiver: &mut Receiver<u64, J>,
@@ -29,7 +29,7 @@ fn takes<J: Naming, R: Wait>(
     receiver.take(rt, receipt) == wanted
 }
 
-// Whether two items arrive, in order, and no other.
+// Says whether two items arrive, in order, and no other.
 fn arrives<J: Naming, R: Wait>(
     rt: &R,
     receiver: &mut Receiver<u64, J>,
@@ -43,7 +43,7 @@ fn arrives<J: Naming, R: Wait>(
         && sends(rt, lanes, 1, 21)
 }
 
-// Whether one item of each lane was taken, and one of the second is left over; none where memory
+// Says whether one item of each lane was taken, and one of the second is left over; none if memory
 // was refused for the question.
 fn settles<J: Naming, R: Wait>(
     rt: &R,
@@ -64,7 +64,7 @@ fn settles<J: Naming, R: Wait>(
     Some(counted.as_slice() == [1, 1].as_slice() && over.as_slice() == [(1, 21)].as_slice())
 }
 
-// The same, asked again where memory was refused.
+// The same, asked again if memory was refused.
 fn is_settled<J: Naming, R: Wait>(
     rt: &R,
     alloc: Global,
@@ -77,7 +77,7 @@ fn is_settled<J: Naming, R: Wait>(
     }
 }
 
-// Whether all arrives, where there is memory for the lanes.
+// Says whether all arrives, if there is memory for the lanes.
 fn comes_through<J: Naming, R: Wait>(rt: &R, alloc: Global, inbox: Inbox<u64>) -> bool
     requires { inbox ≡ J.inbox_of 1 }
 {

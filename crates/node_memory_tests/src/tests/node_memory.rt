@@ -1,5 +1,5 @@
-// A node with its inbox: a step for which memory is refused is counted, and the inbox goes on. What
-// is open then has all that it is to be sent.
+// A node with its inbox: a step for which memory is refused is counted, and the inbox continues.
+// What is open then has all that it is to be sent.
 
 ghost use Rattle.std.specs.Prelude.{◌≡◌};
 
@@ -28,7 +28,7 @@ fn sole(alloc: Global) -> Option<NodeCore> {
     NodeCore::new(alloc, 1, &config).ok()
 }
 
-// The CONNECT as a piece, at the second try where memory was refused at the first.
+// Returns the CONNECT as a piece, at the second try if memory was refused at the first.
 fn piece(alloc: Global) -> Option<Piece> {
     match Piece::from_slice(alloc, CONNECT) {
         Ok(piece) => Some(piece),
@@ -36,7 +36,7 @@ fn piece(alloc: Global) -> Option<Piece> {
     }
 }
 
-// Whether the lane sends an item.
+// Says whether the lane sends an item.
 fn sends<J: NodeNaming, R: Wait>(rt: &R, lanes: &mut [Lane<Item, J>], item: Item) -> bool {
     match lanes.first_mut() {
         Some(lane) => {
@@ -47,7 +47,7 @@ fn sends<J: NodeNaming, R: Wait>(rt: &R, lanes: &mut [Lane<Item, J>], item: Item
     }
 }
 
-// Whether the lane sends that a connection is opened, the CONNECT, and a tick.
+// Says whether the lane sends that a connection is opened, the CONNECT, and a tick.
 fn sends_all<J: NodeNaming, R: Wait>(rt: &R, alloc: Global, lanes: &mut [Lane<Item, J>]) -> bool {
     match piece(alloc) {
         Some(piece) => {
@@ -59,7 +59,7 @@ fn sends_all<J: NodeNaming, R: Wait>(rt: &R, alloc: Global, lanes: &mut [Lane<It
     }
 }
 
-// Whether an item is taken, or is not, with no effect on other nodes.
+// Says whether an item is taken, or is not, with no effect on other nodes.
 fn takes<J: NodeNaming, R: Wait>(
     rt: &R,
     alloc: Global,
@@ -71,8 +71,8 @@ fn takes<J: NodeNaming, R: Wait>(
     state.take_one(rt, &mut effects, receipt) == wanted && effects.is_empty()
 }
 
-// Takes out what is there for the connection. Where that finds no memory, nothing has changed, and
-// it is done again.
+// Takes out what is there for the connection. If memory runs out, nothing has changed, and it is
+// done again.
 fn look<J: NodeNaming>(state: &mut NodeState<J>, out: &mut Vec<u8>) -> Option<Handed> {
     match state.outgoing(PORT, out) {
         Ok(handed) => Some(handed),
@@ -81,7 +81,7 @@ fn look<J: NodeNaming>(state: &mut NodeState<J>, out: &mut Vec<u8>) -> Option<Ha
     }
 }
 
-// Whether the CONNECT is answered, or one loss is counted. A connection that is open has its
+// Says whether the CONNECT is answered, or one loss is counted. A connection that is open has its
 // answer.
 fn is_answered<J: NodeNaming>(alloc: Global, state: &mut NodeState<J>) -> bool {
     let mut out = Vec::new(alloc);
@@ -93,7 +93,7 @@ fn is_answered<J: NodeNaming>(alloc: Global, state: &mut NodeState<J>) -> bool {
     is_whole && state.losses() <= 1
 }
 
-// Whether each item is taken, in order, and the CONNECT is answered or lost.
+// Says whether each item is taken, in order, and the CONNECT is answered or lost.
 fn goes_through<J: NodeNaming, R: Wait>(
     rt: &R,
     alloc: Global,
@@ -107,14 +107,14 @@ fn goes_through<J: NodeNaming, R: Wait>(
         && sends(rt, lanes, Item::Tick(2))
 }
 
-// Whether three items were taken, and the last tick is left over.
+// Says whether three items were taken, and the last tick is left over.
 fn tells(report: &Report) -> bool {
     report.taken.as_slice() == [3].as_slice()
         && report.left.len() == 1
         && matches!(report.left.first(), Some((0, Item::Tick(2))))
 }
 
-// Whether the node's report tells so, where there is memory for it.
+// Says whether the node's report says this, if there is memory for it.
 fn closes<J: NodeNaming, R: Wait>(
     rt: &R,
     alloc: Global,
@@ -127,8 +127,8 @@ fn closes<J: NodeNaming, R: Wait>(
     }
 }
 
-// Whether the node goes through and tells what became of its items, where there is memory for the
-// lane.
+// Says whether the node goes through and says what happened to its items, if there is memory for
+// the lane.
 fn is_whole_or_counted<J: NodeNaming, R: Wait>(
     rt: &R,
     alloc: Global,
@@ -148,7 +148,7 @@ fn is_whole_or_counted<J: NodeNaming, R: Wait>(
     }
 }
 
-// Whether a node without memory is none, or counts what it lost.
+// Says whether a node for which memory runs out does not exist, or counts what it lost.
 fn is_well<R: Wait>(rt: &R, alloc: Global) -> bool {
     match (Inbox::new(alloc), sole(alloc)) {
         (Ok(inbox), Some(core)) => is_whole_or_counted::<Brand, R>(rt, alloc, inbox, core),

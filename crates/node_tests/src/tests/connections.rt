@@ -1,4 +1,5 @@
-// What no clause says: that a connection runs over devices of which a call fails, or that are full for a while.
+// What no clause says: a connection runs over devices whose calls fail, or that are full for a
+// while.
 
 ghost use Rattle.std.specs.Prelude.{◌≡◌};
 
@@ -21,7 +22,7 @@ const CONNECT: &[u8] = &[
 
 const PORT: Port = Port(7);
 
-// A lane that hears of a connection, which it lets in or not.
+// A lane to which a connection is reported, which accepts it or not.
 #[derive(Drop)]
 struct Ear<J: Naming> {
     lane: Lane<Item, J>,
@@ -62,7 +63,7 @@ impl Tap for OneTap {
     ghost hands = { λ _ _ _ _. Unit {0} };
 }
 
-// A node, and what it puts out for the port.
+// A node, and what it sends on the port.
 #[derive(Drop)]
 struct Spring {
     node: NodeCore,
@@ -79,7 +80,8 @@ impl Outlet<OneTap> for Spring {
     }
 }
 
-// Whether the connection is let in, which read fails, how it ends, and how many bytes are told.
+// Whether the connection is accepted, which read fails, how it ends, and how many bytes are
+// reported.
 type Row = (bool, u64, Ending, usize);
 
 // Four reads bring the CONNECT, and the fifth finds the end.
@@ -94,7 +96,7 @@ const ROWS: &[Row] = &[
     (false, 0, Ending::Refused, 0),
 ];
 
-// Whether a connection that runs so is told so.
+// Says whether a connection that runs in this way is reported in this way.
 fn hears<J: Naming, R: Wait + Clock>(rt: &R, alloc: Global, inbox: Inbox<Item>, row: &Row) -> bool
     requires { inbox ≡ J.inbox_of 1 }
 {
@@ -106,7 +108,7 @@ fn hears<J: Naming, R: Wait + Clock>(rt: &R, alloc: Global, inbox: Inbox<Item>, 
     }
 }
 
-// Whether a connection that is told to this lane ends so.
+// Says whether a connection that is reported to this lane ends in this way.
 fn ends<J: Naming, R: Wait + Clock>(
     rt: &R,
     alloc: Global,
@@ -130,7 +132,8 @@ fn take_one<J: Naming, R: Wait>(rt: &R, receiver: &mut Receiver<Item, J>) -> Opt
     receiver.take(rt, receipt)
 }
 
-// Takes an item of the connection, and keeps its bytes: whether it is not the last. None where it is no such item.
+// Takes an item of the connection, and keeps its bytes. Says whether it is not the last; none if it
+// is no such item.
 fn take<J: Naming, R: Wait>(
     rt: &R,
     receiver: &mut Receiver<Item, J>,
@@ -162,7 +165,8 @@ fn take_all<J: Naming, R: Wait>(
     false
 }
 
-// Whether a connection was opened, these many first bytes of the CONNECT came, and it ended, and no more was told.
+// Says whether a connection was opened, this many first bytes of the CONNECT came, it ended, and
+// nothing more was reported.
 fn tells<J: Naming, R: Wait>(
     rt: &R,
     alloc: Global,
@@ -188,8 +192,8 @@ fn a_connection_is_told_whole(rt: HostRuntime) -> Result<(), Fail> {
     Ok(())
 }
 
-// Which write fails and how, how often the device is full, how the writing ends, and how many bytes stand written. A fault
-// is counted once, and nothing else is.
+// Which write fails and how, how often the device is full, how the writing ends, and how many bytes
+// are written. A fault is counted once, and nothing else is.
 type WriteRow = (u64, ErrorKind, u64, Flow, usize);
 
 // Five bytes are two writes, and the answer's four are two.
@@ -210,7 +214,7 @@ const LEFT: &[u8] = b"01234";
 
 const ALL: &[u8] = &[b'0', b'1', b'2', b'3', b'4', 0x20, 0x02, 0x00, 0x00];
 
-// A node, the sole member of ballot 1.
+// Returns a node, the sole member of ballot 1.
 fn sole(alloc: Global) -> Option<Spring> {
     let config = Config {
         members: Members::from_slice(alloc, &[1]).ok()?,
@@ -220,7 +224,7 @@ fn sole(alloc: Global) -> Option<Spring> {
     Some(Spring { node })
 }
 
-// Whether the node has an answer to a CONNECT for the port.
+// Says whether the node has an answer to a CONNECT for the port.
 fn connects(alloc: Global, spring: &mut Spring) -> bool {
     let mut effects = Vec::new(alloc);
     spring.node.step(Item::Opened(PORT, 0), &mut effects);
@@ -233,8 +237,8 @@ fn connects(alloc: Global, spring: &mut Spring) -> bool {
     }
 }
 
-// Writes what is left and what the node puts out, as often as the device is full: how often it was, and how it ended then.
-// None where that does not end.
+// Writes what is left and what the node sends, as often as the device is full. Returns how often it
+// was full, and how it ended then; none if it does not end.
 fn write_all<R: Wait>(
     rt: &R,
     alloc: Global,
@@ -251,7 +255,7 @@ fn write_all<R: Wait>(
     None
 }
 
-// Whether what was left before and then the node's answer are written so.
+// Says whether what was left before and then the node's answer are written so.
 fn writes<R: Wait>(rt: &R, alloc: Global, spring: &mut Spring, row: &WriteRow) -> bool {
     let (bad_call, kind, late, flow, count) = *row;
     let mut sink = Counted::new(Sink::new(alloc, 3, bad_call, kind));
@@ -261,12 +265,12 @@ fn writes<R: Wait>(rt: &R, alloc: Global, spring: &mut Spring, row: &WriteRow) -
     ended && counted && has_written(&sink.into_device(), count)
 }
 
-// Whether so many first bytes of all stand written.
+// Says whether the first bytes of all, this many, are written.
 fn has_written(sink: &Sink, count: usize) -> bool {
     sink.bytes().len() == count && ALL.starts_with(sink.bytes())
 }
 
-// Whether a row comes out with a fresh node as it says.
+// Says whether a row comes out with a fresh node as it says.
 fn comes_out<R: Wait>(rt: &R, alloc: Global, row: &WriteRow) -> bool {
     match sole(alloc) {
         Some(mut spring) => writes(rt, alloc, &mut spring, row),

@@ -1,4 +1,4 @@
-// Devices that fail: what is counted of them, and what stands written or was read around a fault.
+// Devices that fail: what is counted of them, and what is written or was read around a fault.
 
 use super::fakes::{Sink, Source};
 use node_base::{Counted, PIECE_BYTES, ReadOutcome, Written};
@@ -8,7 +8,8 @@ use std::test::Fail;
 
 const TEXT: &[u8] = b"0123456789";
 
-// Which call fails, how the write ends, how many bytes stand written, and how many faults are counted.
+// Which call fails, how the write ends, how many bytes are written, and how many faults are
+// counted.
 type Row = (u64, Written, usize, u64);
 
 // Ten bytes at three a call are four writes, and the fifth call is the flush.
@@ -21,17 +22,17 @@ const ROWS: &[Row] = &[
     (6, Written::Whole, 10, 0),
 ];
 
-// A device that takes so many bytes a call.
+// Returns a device that takes this many bytes a call.
 fn sink_of(alloc: Global, most: usize, bad_call: u64) -> Counted<Sink> {
     Counted::new(Sink::new(alloc, most, bad_call, ErrorKind::BrokenPipe))
 }
 
-// Whether bytes are written so.
+// Says whether bytes are written so.
 fn writes(device: &mut Counted<Sink>, bytes: &[u8], end: Written, faults: u64) -> bool {
     device.write_whole(bytes) == end && device.faults() == faults
 }
 
-// Whether so many bytes of the text stand written.
+// Says whether this many bytes of the text are written.
 fn has_written(sink: &Sink, count: usize) -> bool {
     sink.bytes().len() == count && TEXT.starts_with(sink.bytes())
 }
@@ -56,7 +57,8 @@ fn a_device_that_takes_nothing_stops_the_write(rt: HostRuntime) {
     assert!(rt; writes(&mut device, b"", Written::Whole, 0));
 }
 
-// Reads a piece and appends it to those that came: whether it is what the call of this number may give.
+// Reads a piece and appends it to those that came: whether it is what the call of this number may
+// give.
 fn reads(
     device: &mut Counted<Source<'_>>,
     room: &mut [u8],
@@ -77,7 +79,7 @@ fn reads(
     }
 }
 
-// Whether the text arrives whole around a fault of this call, and that fault is counted.
+// Says whether the text arrives whole around a fault of this call, and that fault is counted.
 fn arrives(alloc: Global, room: &mut [u8], bad_call: u64) -> bool {
     let mut device = Counted::new(Source::new(TEXT, 4, bad_call));
     let mut arrived = Vec::new(alloc);
@@ -85,8 +87,8 @@ fn arrives(alloc: Global, room: &mut [u8], bad_call: u64) -> bool {
     read && arrived.as_slice() == TEXT && device.faults() == u64::from(bad_call > 0)
 }
 
-// Ten bytes at four a call are three pieces, and the fourth call finds the end. A fault loses no
-// byte: the next piece goes on where the last one ended.
+// Ten bytes at four bytes a call are three pieces, and the fourth call finds the end. A fault loses
+// no byte: the next piece continues where the last one ended.
 #[test]
 fn each_piece_arrives_around_a_fault(rt: HostRuntime) -> Result<(), Fail> {
     let alloc = rt.alloc();

@@ -7,8 +7,8 @@ use std::marker::Brand;
 use std::sync::Wait;
 use std::test::Fail;
 
-// Sends an item by the one lane of an unused inbox, and takes it. The receipts tell that there is room for it, and then
-// that it was sent. If a call looked at nothing, this could not be proved.
+// Sends an item by the one lane of an unused inbox, and takes it. The receipts say that there is
+// room for it, and then that it was sent. If a call looked at nothing, this could not be proved.
 fn echo<J: Naming, R: Wait>(
     rt: &R,
     lane: &mut Lane<u64, J>,
@@ -33,7 +33,7 @@ fn echo<J: Naming, R: Wait>(
     taken
 }
 
-// What an unused inbox of one lane gives back; none without memory.
+// Returns what an unused inbox of one lane gives back; none without memory.
 fn echo_of<J: Naming, R: Wait>(rt: &R, inbox: Inbox<u64>, item: u64) -> Option<(u8, u64)>
     requires { inbox ≡ J.inbox_of 1 }
 {

@@ -15,7 +15,8 @@ pub struct Source<'a> {
 }
 
 impl<'a> Source<'a> {
-    /// Makes a source of these bytes, which gives `most` at a time and fails at the call of number `bad_call`.
+    /// Makes a source of these bytes, which gives `most` at a time and fails at the call of number
+    /// `bad_call`.
     pub fn new(bytes: &'a [u8], most: usize, bad_call: u64) -> Source<'a> {
         Source {
             bytes,
@@ -39,7 +40,8 @@ impl<'a> Read for Source<'a> {
     }
 }
 
-/// Keeps what it is given, at most `most` bytes a call. The call number `bad_call`, from 1, fails so; a flush is a call.
+/// Keeps what it is given, at most `most` bytes a call. The call number `bad_call`, from 1, fails
+/// so; a flush is a call.
 #[derive(Drop)]
 pub struct Sink {
     bytes: Vec<u8>,
@@ -50,7 +52,8 @@ pub struct Sink {
 }
 
 impl Sink {
-    /// Makes a sink that takes `most` bytes at a time, and fails with `fault` at the call of number `bad_call`.
+    /// Makes a sink that takes `most` bytes at a time, and fails with `fault` at the call of number
+    /// `bad_call`.
     pub fn new(alloc: Global, most: usize, bad_call: u64, fault: ErrorKind) -> Sink {
         Sink {
             bytes: Vec::new(alloc),
@@ -61,7 +64,7 @@ impl Sink {
         }
     }
 
-    /// What it was given.
+    /// Returns what it was given.
     pub fn bytes(&self) -> &[u8] {
         self.bytes.as_slice()
     }

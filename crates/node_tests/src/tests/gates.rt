@@ -13,8 +13,8 @@ use std::thread;
 use std::thread::Threads;
 use std::time::Clock;
 
-// What a gate heard of a node: how many takings are done, and whether each call named the taking
-// after these.
+// What was reported to a gate about a node: how many takings are done, and whether each call named
+// the next taking.
 #[derive(Clone, Copy)]
 struct Heard {
     done: u64,
@@ -43,7 +43,8 @@ impl Meeting {
         }
     }
 
-    // Whether each node did so many takings, and each was asked for and told by its number.
+    // Says whether each node took this many times, and each taking was asked for and reported by
+    // its number.
     fn heard_all<R: Wait>(&self, rt: &R, done: u64) -> bool {
         self.heard
             .lock(rt)
@@ -64,7 +65,7 @@ fn note(all: &mut [Heard], node: u8, taking: u64, is_done: bool) {
 }
 
 impl Gate for Meeting {
-    // Of what stands behind a lock no clause tells.
+    // No clause is about what is behind a lock.
     ghost answers = { λ _ _ _ _. Unit {0} };
 
     ghost hears = { λ _ _ _. Unit {0} };
@@ -80,7 +81,7 @@ impl Gate for Meeting {
     }
 }
 
-// Whether a node takes an item, as its gate lets it.
+// Says whether a node takes an item, as its gate lets it.
 fn takes<J, S, R>(rt: &R, alloc: Global, node: &Node<'_, J, S, Meeting>) -> bool
 where
     J: NodeNaming,
@@ -99,7 +100,7 @@ where
     took
 }
 
-// Whether a node takes so many items, one after the other.
+// Says whether a node takes this many items, one after another.
 fn takes_all<J, S, R>(rt: &R, alloc: Global, node: &Node<'_, J, S, Meeting>, count: u64) -> bool
 where
     J: NodeNaming,
@@ -109,7 +110,7 @@ where
     (0..count).all(|_| takes(rt, alloc, node))
 }
 
-// Whether both nodes take so many items, each in a thread of its own.
+// Says whether both nodes take this many items, each in a thread of its own.
 fn take_both<J, S, R>(
     rt: &R,
     alloc: Global,
@@ -145,7 +146,7 @@ where
     take_both::<J, NodeState<J>, R>(rt, alloc, first, second, count)
 }
 
-// Whether three ticks are sent by the only lane of a node.
+// Says whether three ticks are sent by the only lane of a node.
 fn sends_three<J: NodeNaming, R: Wait>(rt: &R, lanes: &mut [Lane<Item, J>]) -> bool {
     let Some(lane) = lanes.first_mut() else {
         return false;
@@ -159,8 +160,8 @@ fn sends_three<J: NodeNaming, R: Wait>(rt: &R, lanes: &mut [Lane<Item, J>]) -> b
     true
 }
 
-// Whether a report tells that so many of three ticks were taken and the others are left over, and
-// that the gate was missed so many times.
+// Says whether a report says that this many of three ticks were taken and the others are left over,
+// and that the gate was missed this many times.
 fn tells(report: &Report, taken: u64, missed: u64) -> bool {
     report.taken.as_slice() == [taken].as_slice()
         && report.left.len() as u64 == 3u64.saturating_sub(taken)
@@ -170,7 +171,7 @@ fn tells(report: &Report, taken: u64, missed: u64) -> bool {
         && report.gate_missed == missed
 }
 
-// Whether a node reports so at its end.
+// Says whether a node reports so at its end.
 fn closes<J: NodeNaming, R: Wait>(
     rt: &R,
     node: Node<'_, J, NodeState<J>, Meeting>,
@@ -181,8 +182,8 @@ fn closes<J: NodeNaming, R: Wait>(
     node.has_all(lanes) && tells(&node.close(rt, lanes), taken, missed)
 }
 
-// Whether two nodes meet at a gate that shuts after so many takings, go on, and report so: each is
-// sent three ticks and takes two.
+// Says whether two nodes meet at a gate that shuts after this many takings, continue, and report
+// so: each is sent three ticks and takes two.
 fn meet<J, R>(rt: &R, alloc: Global, first: Start, second: Start, gate: &Meeting) -> bool
 where
     J: NodeNaming + Send + Sync,
@@ -229,7 +230,7 @@ fn nodes_meet_at_their_gate(rt: HostRuntime) -> Result<(), Fail> {
 }
 
 // The gate shuts after the first taking: before the second it is asked ten thousand times, and then
-// the nodes go on.
+// the nodes continue.
 #[test]
 fn a_gate_that_stays_shut_is_passed(rt: HostRuntime) -> Result<(), Fail> {
     let gate = Meeting::new(1);

@@ -11,12 +11,12 @@ use std::test::Fail;
 use std::thread;
 use std::thread::Threads;
 
-// What is done with an inbox, and what comes of it. A lane is meant by its place.
+// What is done with an inbox, and the result of it. A lane is meant by its place.
 #[derive(Clone, Copy)]
 enum Act<'a> {
     // A lane sends this item.
     Send(usize, u64),
-    // A lane sends the numbers from 0 on, so many.
+    // A lane sends the numbers from 0 on, this many.
     SendMany(usize, u64),
     // This item of a lane comes back.
     HandBack(usize, u64),
@@ -32,7 +32,8 @@ enum Act<'a> {
     Settle(&'a [u64], &'a [(u8, u64)]),
 }
 
-// Sends an item, with a receipt of what the lane itself knows: what comes back, or none without that lane.
+// Sends an item, with a receipt of what the lane itself knows: what comes back, or none without
+// that lane.
 fn send<J: Naming, R: Wait>(
     rt: &R,
     lanes: &mut [Lane<u64, J>],
@@ -50,7 +51,7 @@ fn take<J: Naming, R: Wait>(rt: &R, receiver: &mut Receiver<u64, J>) -> Option<(
     receiver.take(rt, receipt)
 }
 
-// Whether an item is sent, or comes back.
+// Says whether an item is sent, or comes back.
 fn sends<J: Naming, R: Wait>(
     rt: &R,
     lanes: &mut [Lane<u64, J>],
@@ -61,7 +62,7 @@ fn sends<J: Naming, R: Wait>(
     send(rt, lanes, place, item) == Some(wanted)
 }
 
-// Whether all lanes but the first are not all of the inbox.
+// Says whether all lanes but the first are not all of the inbox.
 fn lacks_one<J: Naming>(receiver: &Receiver<u64, J>, lanes: &[Lane<u64, J>]) -> bool {
     match lanes {
         [_, rest @ ..] => !receiver.has_all(rest),
@@ -69,7 +70,7 @@ fn lacks_one<J: Naming>(receiver: &Receiver<u64, J>, lanes: &[Lane<u64, J>]) -> 
     }
 }
 
-// Whether the inbox is settled so.
+// Says whether the inbox is settled so.
 fn settles<J: Naming, R: Wait>(
     rt: &R,
     alloc: Global,
@@ -112,7 +113,7 @@ fn is_right<J: Naming, R: Wait>(
     }
 }
 
-// Goes through the rows with an inbox of so many lanes: the first that comes out otherwise.
+// Does the rows with an inbox of this many lanes. Returns the first row whose result is another.
 fn first_fault<J: Naming, R: Wait>(
     rt: &R,
     alloc: Global,
@@ -168,7 +169,7 @@ fn what_is_left_over_is_listed(rt: HostRuntime) -> Result<(), Fail> {
     Ok(())
 }
 
-// What is done with two inboxes, meant by their places, of one lane each, and what comes of it.
+// What is done with two inboxes, meant by their places, of one lane each, and the result of it.
 #[derive(Clone, Copy)]
 enum Deed {
     // The lane of an inbox sends an item.
@@ -179,7 +180,7 @@ enum Deed {
     Meet(usize, usize, Option<u64>),
 }
 
-// What a receiver and the first lane meet at, if they are of one inbox, as their numbers tell.
+// Returns the inbox of a receiver and the first lane, if their numbers say that it is the same one.
 fn meet<J: Naming>(receiver: &mut Receiver<u64, J>, lanes: &mut [Lane<u64, J>]) -> Option<u64> {
     let lane = lanes.first_mut()?;
     if receiver.number() == lane.number() {
@@ -289,7 +290,7 @@ fn pour<J: Naming, R: Wait>(rt: &R, lane: &mut Lane<u64, J>) {
     }
 }
 
-// Whether each of four lanes' numbers come from 0 on, with none left out.
+// Says whether each of four lanes' numbers come from 0 on, with none left out.
 fn come_in_order<J: Naming, R: Wait>(rt: &R, receiver: &mut Receiver<u64, J>) -> bool {
     let mut next = [0u64; 4];
     for _ in rt.forever() {
@@ -334,7 +335,7 @@ fn pour_and_take<J: Naming + Send, R: Threads + Wait + Sync>(
     whole
 }
 
-// Whether what four lanes send at once, each in a thread of its own, comes in order.
+// Says whether what four lanes send at once, each in a thread of its own, comes in order.
 fn pour_four<J: Naming + Send, R: Threads + Wait + Sync + Abort>(rt: &R, inbox: Inbox<u64>) -> bool
     requires { inbox ≡ J.inbox_of 1 }
 {

@@ -1,4 +1,5 @@
-// Nodes: what no clause says, that items are taken while there is memory, and that what is left over is told.
+// Nodes: what no clause says: items are taken while there is memory, and what is left over is
+// reported.
 
 ghost use Rattle.std.specs.Prelude.{◌≡◌, ◌≤◌};
 
@@ -21,7 +22,7 @@ const ACCEPTED: &[u8] = &[0x20, 0x02, 0x00, 0x00];
 
 const PORT: Port = Port(1);
 
-// What is done with a node, and what comes of it. A lane is meant by its place.
+// What is done with a node, and the result of it. A lane is meant by its place.
 #[derive(Clone, Copy)]
 enum Act<'a> {
     // A lane sends that the connection is opened.
@@ -34,14 +35,14 @@ enum Act<'a> {
     Take(bool),
     // How many items of a lane were taken.
     Meet(usize, u64),
-    // The node holds so many commands.
+    // The node holds this many commands.
     Held(u64),
     // What is handed over for the connection, which is open.
     HandOver(&'a [u8]),
 }
 
-// How many lanes a node has, what is done with it, how many items of each lane it took at the end, and the lanes and
-// times of the ticks that are left over.
+// How many lanes a node has, what is done with it, how many items of each lane it took at the end,
+// and the lanes and times of the ticks that are left over.
 struct Story<'a> {
     lanes: u8,
     acts: &'a [Act<'a>],
@@ -60,7 +61,7 @@ fn sole(alloc: Global, number: u8) -> Result<NodeCore, Fail>
     Ok(NodeCore::new(alloc, number, &config)?)
 }
 
-// Whether a lane sends an item.
+// Says whether a lane sends an item.
 fn sends<J: NodeNaming, R: Wait>(
     rt: &R,
     lanes: &mut [Lane<Item, J>],
@@ -76,7 +77,7 @@ fn sends<J: NodeNaming, R: Wait>(
     }
 }
 
-// Whether a lane sends bytes of the connection.
+// Says whether a lane sends bytes of the connection.
 fn sends_bytes<J: NodeNaming, R: Wait>(
     rt: &R,
     alloc: Global,
@@ -90,7 +91,7 @@ fn sends_bytes<J: NodeNaming, R: Wait>(
     }
 }
 
-// Whether an item is taken, or is not, with no effect on other nodes.
+// Says whether an item is taken, or is not, with no effect on other nodes.
 fn takes<J: NodeNaming, R: Wait>(
     rt: &R,
     alloc: Global,
@@ -102,7 +103,8 @@ fn takes<J: NodeNaming, R: Wait>(
     state.take_one(rt, &mut effects, receipt) == wanted && effects.is_empty()
 }
 
-// How many items of a lane were taken, if it is of the node's inbox, as their numbers tell.
+// Returns how many items of a lane were taken, if the numbers say that it is a lane of the node's
+// inbox.
 fn met<J: NodeNaming>(
     state: &mut NodeState<J>,
     lanes: &mut [Lane<Item, J>],
@@ -116,7 +118,7 @@ fn met<J: NodeNaming>(
     }
 }
 
-// Whether these bytes are handed over for the connection, which is open.
+// Says whether these bytes are handed over for the connection, which is open.
 fn hands_over<J: NodeNaming>(alloc: Global, state: &mut NodeState<J>, bytes: &[u8]) -> bool {
     let mut out = Vec::new(alloc);
     state.outgoing(PORT, &mut out) == Ok(Handed::Open) && out.as_slice() == bytes
@@ -140,7 +142,7 @@ fn is_right<J: NodeNaming, R: Wait>(
     }
 }
 
-// The node's lock is held all the while: were a lane to wait for it, it would wait for ever.
+// The node's lock is held until the end, so a lane that waited for it would wait for ever.
 fn all_is_right<J: NodeNaming, R: Wait>(
     rt: &R,
     alloc: Global,
@@ -154,7 +156,7 @@ fn all_is_right<J: NodeNaming, R: Wait>(
         .all(|act| is_right(rt, alloc, state, lanes, *act))
 }
 
-// Whether a report is that of a story.
+// Says whether a report is that of a story.
 fn tells(report: &Report, story: &Story<'_>) -> bool {
     report.taken.as_slice() == story.taken
         && report.left.len() == story.left.len()
@@ -163,7 +165,7 @@ fn tells(report: &Report, story: &Story<'_>) -> bool {
         })
 }
 
-// Whether the node's report is that of the story, once its lanes send no more.
+// Says whether the node's report is that of the story, once its lanes send no more.
 fn closes<J: NodeNaming, R: Wait>(
     rt: &R,
     node: Node<'_, J, NodeState<J>, NoGate>,
@@ -173,7 +175,7 @@ fn closes<J: NodeNaming, R: Wait>(
     node.has_all(lanes) && tells(&node.close(rt, lanes), story)
 }
 
-// Whether a story comes out as it says with a node that is started for it.
+// Says whether a story comes out as it says with a node that is started for it.
 fn goes<J: NodeNaming, R: Wait>(
     rt: &R,
     alloc: Global,
@@ -190,7 +192,7 @@ fn goes<J: NodeNaming, R: Wait>(
     }
 }
 
-// Whether a story comes out with node 1 as it says.
+// Says whether a story comes out with node 1 as it says.
 fn comes_out<J: NodeNaming, R: Wait>(
     rt: &R,
     alloc: Global,
@@ -214,7 +216,7 @@ fn comes_out<J: NodeNaming, R: Wait>(
     }
 }
 
-// What a lane sends is taken, one item at a time, and the answer goes out.
+// What a lane sends is taken, one item at a time, and the answer is sent.
 const IN_ORDER: &Story<'static> = &Story {
     lanes: 1,
     acts: &[
@@ -239,7 +241,8 @@ fn items_are_taken_in_their_order(rt: HostRuntime) -> Result<(), Fail> {
     Ok(())
 }
 
-// A lane sends three items while somebody else has the node, of which two are taken then, and the third is left over.
+// A lane sends three items while another thread has the node. Two of them are taken then, and the
+// third is left over.
 const BESIDE: &Story<'static> = &Story {
     lanes: 1,
     acts: &[
@@ -290,14 +293,15 @@ fn what_is_not_taken_is_left_over(rt: HostRuntime) -> Result<(), Fail> {
     Ok(())
 }
 
-// What is done with two nodes, meant by their places, of one lane each, and what comes of it.
+// What is done with two nodes, meant by their places, of one lane each, and the result of it.
 #[derive(Clone, Copy)]
 enum Deed {
     // The lane of a node sends a tick of this time.
     Send(usize, u64),
     // Whether a node takes an item.
     Take(usize, bool),
-    // How many items of a node's lane another node took, or the same; none where the lane is not its own.
+    // How many items of a node's lane another node took, or the same; none if the lane is not its
+    // own.
     Meet(usize, usize, Option<u64>),
 }
 
@@ -345,7 +349,7 @@ pub(super) struct Start {
     pub(super) core: NodeCore,
 }
 
-// Goes through the rows with two nodes: the first that comes out otherwise.
+// Does the rows with two nodes. Returns the first row whose result is another.
 fn first_fault_of_two<J: NodeNaming, R: Wait>(
     rt: &R,
     alloc: Global,
@@ -398,7 +402,7 @@ const MET: &[Deed] = &[
     Deed::Meet(1, 1, Some(2)),
 ];
 
-/// An unused inbox, and the node of this number, the sole member of ballot 1.
+/// Returns an unused inbox, and the node of this number, the sole member of ballot 1.
 pub(super) fn fresh(alloc: Global, number: u8) -> Result<Start, Fail>
     requires { (1 ≤ number) × (number ≤ 15) }
 {

@@ -7,7 +7,7 @@ use topics::MalformedKind;
 /// What bytes are.
 #[derive(Clone, Copy, PartialEq)]
 pub enum Answer {
-    /// A packet of this many bytes, at their front.
+    /// A packet of this many bytes, at the front.
     Whole(usize),
     /// Less than a packet.
     More,

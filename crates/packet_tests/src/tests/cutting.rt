@@ -12,7 +12,7 @@ pub const STREAM: [u8; 27] = [
     0x08, 0x00, 0x03, 0x74, 0x2F, 0x31, 0x00, 0x01, 0x78, 0xC0, 0x00,
 ];
 
-// What became of one try to take a packet.
+// What happened to one try to take a packet.
 #[derive(Clone, Copy, PartialEq)]
 enum Taken {
     One,
@@ -62,14 +62,14 @@ fn are_cut(cutter: &mut Cutter, pieces: &[&[u8]], out: &mut Vec<u8>) -> bool {
     true
 }
 
-// Whether the stream in these pieces is cut into its packets.
+// Says whether the stream in these pieces is cut into its packets.
 fn is_stream(alloc: Global, pieces: &[&[u8]]) -> bool {
     let mut cutter = Cutter::new(alloc);
     let mut out = Vec::new(alloc);
     are_cut(&mut cutter, pieces, &mut out) && out.as_slice() == STREAM.as_slice()
 }
 
-// The first place at which the stream may not be cut in two.
+// Returns the first place at which the stream may not be cut in two.
 fn first_cut(alloc: Global, stream: &[u8]) -> Option<usize> {
     for at in 0..=stream.len() {
         if !is_stream(alloc, &[&stream[..at], &stream[at..]]) {
@@ -93,7 +93,7 @@ fn are_bytes_cut(cutter: &mut Cutter, stream: &[u8], out: &mut Vec<u8>) -> bool 
     true
 }
 
-// Whether the stream is cut into its packets where it comes byte by byte.
+// Says whether the stream is cut into its packets if it comes byte by byte.
 fn is_stream_of_bytes(alloc: Global) -> bool {
     let mut cutter = Cutter::new(alloc);
     let mut out = Vec::new(alloc);
@@ -108,7 +108,8 @@ fn byte_by_byte(rt: HostRuntime) {
 // Packet type 15 is reserved (MQTT 2.2.1).
 const FAULT: CutError = CutError::Decode(DecodeFault::Malformed(MalformedKind::PacketType));
 
-// Whether three packets, the fault and that there is one already are answered in turn.
+// Says whether the answers are, in turn, three packets, the fault, and that there is a fault
+// already.
 fn is_faulty(cutter: &mut Cutter, out: &mut Vec<u8>) -> bool {
     cutter.feed(&STREAM).is_ok()
         && cutter.feed(&[0xF0, 0x00]).is_ok()

@@ -4,7 +4,7 @@ use super::answers::*;
 use std::test::*;
 use topics::MalformedKind;
 
-/// CONNECT of client `a` with keep alive 60, but for the last letter of the protocol's name.
+/// CONNECT of client `a` with keep alive 60, except the last letter of the protocol's name.
 const OTHER_PROTOCOL: &[u8] = &[
     0x10, 0x0D, 0x00, 0x04, 0x4D, 0x51, 0x54, 0x55, 0x04, 0x00, 0x00, 0x3C, 0x00, 0x01, 0x61,
 ];

@@ -15,7 +15,7 @@ const LENGTHS: &[(u32, &[u8])] = &[
     (268_435_455, &[0xFF, 0xFF, 0xFF, 0x7F]),
 ];
 
-// Appends the bytes of a length, and tells whether there is room for them and it is not too great.
+// Appends the bytes of a length, and says whether there is room for them and it is not too great.
 fn is_put(out: &mut Vec<u8>, length: u32) -> bool {
     if length >= 268_435_456 || out.reserve(length_size(length)).is_err() {
         return false;

@@ -1,5 +1,5 @@
-// Memory that is refused. Run with each allocation failing in turn: a call answers `Memory`, or the
-// answer that it gives with memory, and nothing else.
+// Memory that is refused. Each test runs with each of its allocations failing in turn: a call
+// answers `Memory`, or the answer that it gives with memory, and nothing else.
 
 use super::cutting::STREAM;
 use super::spelling::write;
@@ -31,7 +31,7 @@ fn round(alloc: Global, bytes: &[u8], out: &mut Vec<u8>) -> Option<u8> {
     }
 }
 
-/// Whether these bytes come back, or it ran out of memory and none came.
+/// Says whether these bytes come back, or it ran out of memory and none came.
 fn is_free_or_same(alloc: Global, bytes: &[u8]) -> bool {
     let mut out = Vec::new(alloc);
     match round(alloc, bytes, &mut out) {
@@ -46,7 +46,7 @@ fn memory_is_the_one_free_answer(rt: HostRuntime) {
     assert!(rt; is_free_or_same(rt.alloc(), &PUBLISH));
 }
 
-/// Feeds a piece, again where it ran out of memory, which leaves the cutter as it was.
+/// Feeds a piece, again if it ran out of memory, which leaves the cutter as it was.
 fn feed(cutter: &mut Cutter, piece: &[u8]) -> bool {
     match cutter.feed(piece) {
         Ok(()) => true,
@@ -55,7 +55,7 @@ fn feed(cutter: &mut Cutter, piece: &[u8]) -> bool {
     }
 }
 
-/// Takes the next packet, again where it ran out of memory.
+/// Takes the next packet, again if it ran out of memory.
 fn take(cutter: &mut Cutter) -> Option<Packet> {
     match cutter.next() {
         Ok(packet) => packet,
@@ -67,7 +67,7 @@ fn take(cutter: &mut Cutter) -> Option<Packet> {
     }
 }
 
-/// Spells a packet, again where it ran out of memory, which leaves the bytes as they were.
+/// Spells a packet, again if it ran out of memory, which leaves the bytes as they were.
 fn spell(packet: &Packet, out: &mut Vec<u8>) -> bool {
     let before = out.len();
     write(packet, out).is_none() || (out.len() == before && write(packet, out).is_none())
@@ -81,7 +81,7 @@ fn is_next(cutter: &mut Cutter, out: &mut Vec<u8>) -> bool {
     }
 }
 
-/// Whether a stream in two pieces is cut into its three packets.
+/// Says whether a stream in two pieces is cut into its three packets.
 fn is_cut(cutter: &mut Cutter, out: &mut Vec<u8>) -> bool {
     feed(cutter, &STREAM[..20])
         && is_next(cutter, out)

@@ -63,19 +63,20 @@ fn answers_and_empty_packets_in_both_directions(rt: HostRuntime) {
     assert_eq!(rt; other_spelling(rt.alloc(), ANSWERS), None);
 }
 
-/// What comes of a PUBLISH with a payload of so many sevens that is written after the bytes 1 and 2.
+/// The result of a PUBLISH with a payload of this many sevens that is written after the bytes 1 and
+/// 2.
 #[derive(Clone, Copy)]
 struct Large<'a> {
     /// How many bytes of payload.
     count: usize,
     /// The number of the refusal, if there is one.
     refusal: Option<u8>,
-    /// How many bytes stand there then, and which come first.
+    /// How many bytes are there then, and which come first.
     len: usize,
     front: &'a [u8],
 }
 
-/// Whether the bytes after the first two are read as a packet.
+/// Says whether the bytes after the first two are read as a packet.
 fn is_read_after(alloc: Global, packet: &Packet, bytes: &[u8]) -> bool {
     match bytes {
         [_, _, after @ ..] => is_read(alloc, packet, after),
@@ -83,7 +84,7 @@ fn is_read_after(alloc: Global, packet: &Packet, bytes: &[u8]) -> bool {
     }
 }
 
-/// Whether a packet is written as wanted, and what is not refused is read again.
+/// Says whether a packet is written as expected, and what is not refused is read again.
 fn is_written_so(alloc: Global, packet: &Packet, out: &mut Vec<u8>, wanted: Large<'_>) -> bool {
     out.extend_from_slice(&[1, 2]).is_ok()
         && write(packet, out) == wanted.refusal

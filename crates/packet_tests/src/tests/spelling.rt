@@ -7,12 +7,13 @@ use topics::{Filter, TopicName};
 /// A packet to make.
 #[derive(Clone, Copy)]
 pub enum Made<'a> {
-    /// The CONNECT of a client with this keep alive, which goes on with a session.
+    /// The CONNECT of a client with this keep alive, which continues with a session.
     Connect(&'a str, u16),
     Connack(Connack),
-    /// A PUBLISH of `hi` on topic `t` with this QoS, DUP and RETAIN; with identifier 10, if with one.
+    /// A PUBLISH of `hi` on topic `t` with this QoS, DUP and RETAIN; with identifier 10, if with
+    /// one.
     Publish(QoS, bool, bool),
-    /// The packet that has the identifier 0x1234 alone, by its first byte.
+    /// The packet, given by its first byte, that holds only the identifier 0x1234.
     Answer(u8),
     /// A SUBSCRIBE of these filters with the identifier 10.
     Subscribe(&'a [(&'a str, QoS)]),
@@ -75,7 +76,7 @@ fn id_alone(first: u8, id: PacketId) -> Packet {
     }
 }
 
-// Adds a subscription, and tells whether there was memory for it.
+// Adds a subscription, and says whether there was memory for it.
 fn is_added(alloc: Global, filters: &mut Vec<Subscription>, text: &str, qos: QoS) -> bool {
     match Filter::new(alloc, text) {
         Ok(filter) => filters.push(Subscription { filter, qos }).is_ok(),
@@ -107,7 +108,7 @@ fn subscribe(alloc: Global, rows: &[(&str, QoS)]) -> Option<Packet> {
     Some(subscribe_of(filters))
 }
 
-// Adds a filter, and tells whether there was memory for it.
+// Adds a filter, and says whether there was memory for it.
 fn is_filter_added(alloc: Global, filters: &mut Vec<Filter>, text: &str) -> bool {
     match Filter::new(alloc, text) {
         Ok(filter) => filters.push(filter).is_ok(),
@@ -177,7 +178,7 @@ pub fn is_read(alloc: Global, packet: &Packet, bytes: &[u8]) -> bool {
     }
 }
 
-/// Writes the packet, or tells the number of the refusal, which is 0 for an empty list.
+/// Writes the packet, or returns the number of the refusal, which is 0 for an empty list.
 pub fn write(packet: &Packet, out: &mut Vec<u8>) -> Option<u8> {
     if !packet.has_no_empty_list() {
         return Some(0);
@@ -188,7 +189,7 @@ pub fn write(packet: &Packet, out: &mut Vec<u8>) -> Option<u8> {
     }
 }
 
-// Whether these bytes are written for the packet, after a byte that the vector is given.
+// Says whether these bytes are written for the packet, after a byte that the vector is given.
 fn is_written(packet: &Packet, out: &mut Vec<u8>, bytes: &[u8]) -> bool {
     if out.push(9).is_err() || write(packet, out).is_some() {
         return false;
@@ -199,7 +200,7 @@ fn is_written(packet: &Packet, out: &mut Vec<u8>, bytes: &[u8]) -> bool {
     }
 }
 
-// Whether these bytes are written for the packet and read as it.
+// Says whether these bytes are written for the packet and read as it.
 fn is_spelled(alloc: Global, packet: &Packet, bytes: &[u8]) -> bool {
     let mut out = Vec::new(alloc);
     is_written(packet, &mut out, bytes) && is_read(alloc, packet, bytes)

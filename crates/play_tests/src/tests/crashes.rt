@@ -1,4 +1,4 @@
-// A node crashes after an event of a script, each node after each event, and the script goes on.
+// A node crashes after an event of a script, each node after each event, and the script continues.
 
 use crate::tests::scripts::{SCRIPTS, SNAPSHOT_TRAVELS};
 use play::play;
@@ -8,7 +8,7 @@ use std::str;
 // A crash of each node. That of a node which a script does not have is idle.
 const CRASHES: [&[u8]; 3] = [b"crash 1\n", b"crash 2\n", b"crash 3\n"];
 
-// How long the agreed list is by a line of a transcript; none where the line does not say.
+// Returns how long the agreed list is by a line of a transcript; none if the line does not say.
 fn agreed_in(line: &str) -> Option<u64> {
     let (_, rest) = line.split_once("agreed=")?;
     match rest.split_once(" ") {
@@ -17,7 +17,7 @@ fn agreed_in(line: &str) -> Option<u64> {
     }
 }
 
-// Whether the agreed list never becomes shorter, and its length is given at all.
+// Says whether the transcript gives the length of the agreed list, and it never becomes shorter.
 fn only_grows(told: &str) -> bool {
     let mut agreed = None;
     for line in told.lines() {
@@ -32,12 +32,13 @@ fn only_grows(told: &str) -> bool {
     agreed.is_some()
 }
 
-// How often a line stands in a text.
+// Returns how often a line is in a text.
 fn count_in(text: &str, line: &str) -> usize {
     text.lines().filter(|other| *other == line).count()
 }
 
-// Whether each publication that is told stands in the script's own transcript, as often at least.
+// Says whether each publication of a transcript is in the script's own transcript, at least as
+// often.
 fn tells_no_more(told: &str, own: &str) -> bool {
     for line in told.lines() {
         if line.starts_with("accepted") && count_in(told, line) > count_in(own, line) {
@@ -47,7 +48,7 @@ fn tells_no_more(told: &str, own: &str) -> bool {
     true
 }
 
-/// A script with a line put in at this byte.
+/// Returns a script with a line put in at this byte.
 pub fn with_line(alloc: Global, script: &[u8], at: usize, line: &[u8]) -> Option<Vec<u8>> {
     let (front, rest) = script.split_at_checked(at)?;
     let mut edited = Vec::new(alloc);
@@ -57,7 +58,8 @@ pub fn with_line(alloc: Global, script: &[u8], at: usize, line: &[u8]) -> Option
     Some(edited)
 }
 
-// Whether an edited script is played to its end with no loss, and its transcript tells no more than this one.
+// Says whether an edited script is played to its end with no loss, and its transcript has no
+// publication that this one has not.
 fn goes_no_further(alloc: Global, script: &[u8], own: &str) -> bool {
     let mut transcript = Vec::new(alloc);
     if play(alloc, script, &mut transcript).is_err() {
@@ -69,7 +71,7 @@ fn goes_no_further(alloc: Global, script: &[u8], own: &str) -> bool {
     }
 }
 
-// Whether a script goes no further with a line put in at this byte.
+// Says whether a script goes no further with a line put in at this byte.
 fn survives(alloc: Global, row: &[&str; 2], at: usize, line: &[u8]) -> bool {
     match with_line(alloc, row[0].as_bytes(), at, line) {
         Some(edited) => goes_no_further(alloc, edited.as_slice(), row[1]),
@@ -77,12 +79,12 @@ fn survives(alloc: Global, row: &[&str; 2], at: usize, line: &[u8]) -> bool {
     }
 }
 
-// Whether it does so with a crash of each node put in at this byte.
+// Says whether it does so with a crash of each node put in at this byte.
 fn survives_each(alloc: Global, row: &[&str; 2], at: usize) -> bool {
     CRASHES.iter().all(|line| survives(alloc, row, at, line))
 }
 
-// Whether it does so after each of its lines.
+// Says whether it does so after each of its lines.
 fn survives_after_each(alloc: Global, row: &[&str; 2]) -> bool {
     for (at, byte) in row[0].as_bytes().iter().enumerate() {
         if *byte == b'\n' && !survives_each(alloc, row, at.saturating_add(1)) {
@@ -92,8 +94,8 @@ fn survives_after_each(alloc: Global, row: &[&str; 2]) -> bool {
     true
 }
 
-// Whichever node crashes after whichever event, the agreed list never becomes shorter, and nothing is taken in that
-// is not in the script's own run.
+// Whichever node crashes after whichever event, the agreed list never becomes shorter, and no
+// client accepts a publication that it does not accept in the script's own run.
 #[test]
 fn a_crash_anywhere_takes_nothing_back(rt: HostRuntime) {
     for row in &SCRIPTS {

@@ -1,4 +1,5 @@
-// A node cuts its log after an event of a script, each node after each event, and the script goes on as ever.
+// A node cuts its log after an event of a script, each node after each event, and the script
+// continues as usual.
 
 use crate::tests::crashes::with_line;
 use crate::tests::scripts::{PRIMARY_CRASHES, STALE_PRIMARY};
@@ -9,7 +10,7 @@ use std::str;
 // A cut of each node.
 const CUTS: [&[u8]; 2] = [b"cut 1\n", b"cut 2\n"];
 
-// A line of a transcript without the number of its event.
+// Returns a line of a transcript without the number of its event.
 fn told_in(line: &str) -> &str {
     match line.split_once(" ") {
         Some((_, told)) => told,
@@ -17,7 +18,8 @@ fn told_in(line: &str) -> &str {
     }
 }
 
-// Whether a transcript is another one with one line more after so many events, which tells no message and no more agreed.
+// Says whether a transcript is another one with one more line after this many events, and that line
+// has no new message and no new agreed command.
 fn is_own_with(told: &str, own: &str, events: usize) -> bool {
     let mut rest = own.lines();
     let mut seen = 0;
@@ -34,7 +36,8 @@ fn is_own_with(told: &str, own: &str, events: usize) -> bool {
     rest.next().is_none()
 }
 
-// Whether a script with a cut put in at this byte, after so many events, goes on as its own.
+// Says whether a script with a cut inserted at this byte, after this many events, continues as
+// without the cut.
 fn goes_as_ever(alloc: Global, row: &[&str; 2], at: usize, events: usize, line: &[u8]) -> bool {
     let Some(edited) = with_line(alloc, row[0].as_bytes(), at, line) else {
         return false;
@@ -49,13 +52,13 @@ fn goes_as_ever(alloc: Global, row: &[&str; 2], at: usize, events: usize, line: 
     }
 }
 
-// Whether it does so with a cut of each node.
+// Says whether it does so with a cut of each node.
 fn goes_with_each(alloc: Global, row: &[&str; 2], at: usize, events: usize) -> bool {
     CUTS.iter()
         .all(|line| goes_as_ever(alloc, row, at, events, line))
 }
 
-// Whether it does so after each of its lines. The first line is no event.
+// Says whether it does so after each of its lines. The first line is no event.
 fn goes_after_each(alloc: Global, row: &[&str; 2]) -> bool {
     let mut events = 0;
     for (at, byte) in row[0].as_bytes().iter().enumerate() {
@@ -69,7 +72,8 @@ fn goes_after_each(alloc: Global, row: &[&str; 2]) -> bool {
     true
 }
 
-// A cut of node 1 or 2 after each event changes no message, no agreed length and no publication that is taken in.
+// A cut of node 1 or 2 after each event changes no message, no agreed length and no publication
+// that is accepted.
 #[test]
 fn cuts_change_nothing_that_is_told(rt: HostRuntime) {
     let crashes = goes_after_each(rt.alloc(), &PRIMARY_CRASHES);

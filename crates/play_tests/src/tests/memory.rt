@@ -1,11 +1,11 @@
-// Memory that is refused, in the script `answer_waits_for_the_backup`. Run with each allocation failing in turn: it is
-// played as ever, or reported to have run out of memory.
+// Memory that is refused, in the script `answer_waits_for_the_backup`. Run with each allocation
+// failing in turn: it is played as usual, or reported to have run out of memory.
 
 use crate::tests::scripts::ANSWER_WAITS_FOR_THE_BACKUP;
 use play::{PlayError, play};
 use std::alloc::Global;
 
-// How many lines of a transcript tell of a publication that was taken in.
+// Returns how many lines of a transcript say that a publication was accepted.
 fn accepted_in(transcript: &[u8]) -> usize {
     transcript
         .split(|byte| *byte == b'\n')
@@ -13,12 +13,13 @@ fn accepted_in(transcript: &[u8]) -> usize {
         .count()
 }
 
-// How many lines a transcript has.
+// Returns how many lines a transcript has.
 fn lines_in(transcript: &[u8]) -> usize {
     transcript.iter().filter(|byte| **byte == b'\n').count()
 }
 
-// Whether the script is played as ever, or to its end with losses, or is broken off. Nothing is ever taken in.
+// Says whether the script is played as usual, or to its end with losses, or stops early. No
+// publication is ever accepted.
 fn is_played_or_told(alloc: Global, row: &[&str; 2]) -> bool {
     let mut transcript = Vec::new(alloc);
     let played = play(alloc, row[0].as_bytes(), &mut transcript);

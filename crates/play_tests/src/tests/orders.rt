@@ -5,7 +5,7 @@ use std::alloc::Global;
 
 const HEAD: &str = "world 2 1,2 1 a,b\n";
 
-// Lines, and what they order: the same line, where nothing stands beside it.
+// Lines, and what they order: the same line, if the second text is empty.
 const LINES: &[(&str, &str)] = &[
     ("assign 2,3 2", "assign 2,3 2"),
     ("assign 300 0300", "assign 300 300"),
@@ -46,7 +46,7 @@ fn lines_order_so(rt: HostRuntime) {
     }
 }
 
-// Whether a line orders this, after a first line.
+// Says whether a line orders this, after a first line.
 fn orders(alloc: Global, line: &str, wanted: &str) -> bool {
     match format!(in alloc; "{HEAD}{line}\n") {
         Ok(text) => comes(alloc, text.as_str().as_bytes(), Outcome::Orders(1, wanted)),
@@ -54,7 +54,7 @@ fn orders(alloc: Global, line: &str, wanted: &str) -> bool {
     }
 }
 
-// Texts, and what comes of them: how many orders they have.
+// Texts, and the result of them: how many orders they have.
 const COUNTED: &[(&str, Outcome<'static>)] = &[
     ("world 2 1,2 1 a,b", Outcome::Counts(0)),
     ("world 2 1,2 1 a,b\n", Outcome::Counts(0)),

@@ -1,4 +1,4 @@
-// What comes of a text: whether it is a script, and what its lines order.
+// The result of a text: whether it is a script, and what its lines order.
 
 use crate::tests::worlds::World;
 use packet::{ClientId, Payload, QoS};
@@ -7,12 +7,12 @@ use session_base::Publication;
 use std::alloc::{AllocError, Global};
 use topics::Filter;
 
-/// What comes of a text.
+/// The result of a text.
 #[derive(Clone, Copy)]
 pub enum Outcome<'a> {
-    /// It has so many orders, and these lines tell them.
+    /// It has this many orders, and these lines spell them.
     Orders(usize, &'a str),
-    /// It has so many.
+    /// It has this many.
     Counts(usize),
     /// It opens the world of this row.
     Opens(&'a World),
@@ -22,7 +22,7 @@ pub enum Outcome<'a> {
     Bad(u64),
 }
 
-/// Whether this comes of a text.
+/// Says whether reading a text has this outcome.
 pub fn comes(alloc: Global, text: &[u8], outcome: Outcome<'_>) -> bool {
     let read: Result<Script, ScriptError> = read(alloc, text);
     match read {
@@ -50,7 +50,7 @@ fn is_refusal(error: ScriptError, outcome: Outcome<'_>) -> bool {
     }
 }
 
-// Whether a first line opens the world of its row.
+// Says whether a first line opens the world of its row.
 fn is_opened(opening: &Opening, world: &World) -> bool {
     let (_, nodes, members, primary, clients) = world;
     (opening.nodes, opening.config.primary) == (*nodes, *primary)
@@ -63,7 +63,7 @@ fn is_opened(opening: &Opening, world: &World) -> bool {
             .all(|(client, name)| client.as_str() == *name)
 }
 
-// Whether these orders are told by the lines of a text.
+// Says whether the lines of a text spell these orders.
 fn are_told(alloc: Global, orders: &[Order], lines: &str) -> bool {
     orders
         .iter()
@@ -71,7 +71,7 @@ fn are_told(alloc: Global, orders: &[Order], lines: &str) -> bool {
         .all(|(order, line)| is_told(alloc, order, line))
 }
 
-// Whether an order is told by this line, without zeros in front.
+// Says whether this line spells an order, without zeros in front.
 fn is_told(alloc: Global, order: &Order, line: &str) -> bool {
     match told(alloc, order) {
         Ok(text) => text.as_str() == line,

@@ -128,7 +128,7 @@ const NO_ORDERS: &[&str] = &[
     "world 2 1,2 1 a",
 ];
 
-// Whether the text that these make is refused by this line.
+// Says whether the text that these make is refused by this line.
 fn is_bad(alloc: Global, before: &str, line: &str, after: &str, number: u64) -> bool {
     match format!(in alloc; "{before}{line}{after}") {
         Ok(text) => comes(alloc, text.as_str().as_bytes(), Outcome::Bad(number)),
@@ -145,7 +145,7 @@ fn no_worlds_are_refused_at_line_1(rt: HostRuntime) {
     }
 }
 
-// What stands before a line, and its number.
+// What is before a line, and its number.
 const BEFORE: &[(&str, u64)] = &[
     ("world 2 1,2 1 a,b\n", 2),
     ("world 2 1,2 1 a,b\ntick 1\n", 3),

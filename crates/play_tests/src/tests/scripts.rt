@@ -1,4 +1,4 @@
-// Whole scripts with their transcripts, as they stand in the folder `examples` of the repository.
+// Whole scripts with their transcripts, as they are in the folder `examples` of the repository.
 
 use crate::tests::hand::gives;
 
@@ -44,8 +44,8 @@ pub const CONFIGURATION_CHANGES: [&str; 2] = [
     end agreed=1 active=2\n",
 ];
 
-/// The primary crashes before it commits what its backup holds. A client publishes again what was not answered, and
-/// the subscriber takes it in once.
+/// The primary crashes before it commits what its backup holds. A client publishes again what was
+/// not answered, and the subscriber takes it in once.
 pub const PRIMARY_CRASHES: [&str; 2] = [
     "world 2 1,2 1 a,b\n\
     open b 1\n\
@@ -120,7 +120,8 @@ pub const PRIMARY_CRASHES: [&str; 2] = [
     end agreed=8 active=2\n",
 ];
 
-/// A primary of a ballot that is over adds a command that nobody is told of; its message changes nothing.
+/// A primary of a ballot that has ended appends a command that no client sees; its message changes
+/// nothing.
 pub const STALE_PRIMARY: [&str; 2] = [
     "world 2 1,2 1 a,b\n\
     open b 1\n\
@@ -233,7 +234,8 @@ pub const BALLOT_IS_PUT_OUT: [&str; 2] = [
     end agreed=2 active=3\n",
 ];
 
-/// A client that is served is expelled, and comes back to a session that begins: what came meanwhile is not for it.
+/// A client that is served is expelled, and comes back to a session that begins: what came
+/// meanwhile is not for it.
 pub const CLIENT_IS_EXPELLED: [&str; 2] = [
     "world 1 1 1 a,b\n\
     open b 1\n\
@@ -328,7 +330,8 @@ pub const SNAPSHOT_TRAVELS: [&str; 2] = [
     end agreed=3 active=2\n",
 ];
 
-/// All of them. They have two nodes, but for the last but one, which has three, and the last, which has one.
+/// All of them. They have two nodes, except the last but one, which has three, and the last, which
+/// has one.
 pub const SCRIPTS: [&[&str; 2]; 6] = [
     &ANSWER_WAITS_FOR_THE_BACKUP,
     &CONFIGURATION_CHANGES,
@@ -338,8 +341,8 @@ pub const SCRIPTS: [&[&str; 2]; 6] = [
     &CLIENT_IS_EXPELLED,
 ];
 
-// The messages of an answer come again in the reverse order: the backup holds the place once more
-// and says so, and nothing else comes of it.
+// The messages of an answer come again in the reverse order: the backup acknowledges the place once
+// more, and nothing else happens.
 const REVERSED: [&str; 2] = [
     "world 2 1,2 1 a\n\
     open a 1\n\
@@ -373,7 +376,7 @@ fn scripts_give_their_transcripts(rt: HostRuntime) {
     }
 }
 
-// What a client that was expelled takes in afterwards is of its second session.
+// What a client that was expelled accepts afterwards belongs to its second session.
 const SECOND_SESSION: [&str; 2] = [
     "world 1 1 1 a,b\n\
     open b 1\n\
@@ -423,7 +426,8 @@ fn an_expelled_client_has_a_second_session(rt: HostRuntime) {
     assert!(rt; gives(rt.alloc(), SECOND_SESSION[0], SECOND_SESSION[1]));
 }
 
-// Idle where the world has no such client, and where the node is none, no active primary, or has crashed.
+// Idle if the world has no such client, and if the node does not exist, is no active primary, or
+// has crashed.
 const IDLE: [&str; 2] = [
     "world 2 1,2 1 a\n\
     expel b 1\n\

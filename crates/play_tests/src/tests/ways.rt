@@ -7,7 +7,8 @@ use packet::ClientId;
 use play::{PlayError, escape, play};
 use std::alloc::Global;
 
-// To node 2 alone, after both nodes answered a. Three messages were sent, and the first of two members is asked for its log.
+// To node 2 as sole member, after both nodes answered a. Three messages were sent, and the first of
+// two members is asked for its log.
 const ALONE: &str = "assign 2 2\n\
     deliver 3\n\
     deliver 4\n\
@@ -19,7 +20,8 @@ const ALONE: &str = "assign 2 2\n\
     up 2 15\n\
     down 2 4\n";
 
-// To both, with node 1 as primary: node 2 is sent the log, the ballot's start and the CONNECT, and answers each.
+// To both, with node 1 as primary: node 2 is sent the log, the ballot's start and the CONNECT, and
+// answers each.
 const BOTH: &str = "assign 1,2 1\n\
     deliver 3\n\
     deliver 4\n\
@@ -37,7 +39,7 @@ const BOTH: &str = "assign 1,2 1\n\
     deliver 15\n\
     down 2 4\n";
 
-// The lines of a way out; none where it is refused.
+// Returns the lines of a way out; none if it is refused.
 fn way_of(alloc: Global, script: &str, members: &[u8], client: &str) -> Option<Vec<u8>> {
     let client = ClientId::new(alloc, client).ok()?;
     let mut way = Vec::new(alloc);
@@ -45,7 +47,7 @@ fn way_of(alloc: Global, script: &str, members: &[u8], client: &str) -> Option<V
     Some(way)
 }
 
-// Whether these are the lines.
+// Says whether these are the lines.
 fn tells(alloc: Global, script: &str, members: &[u8], client: &str, wanted: &str) -> bool {
     match way_of(alloc, script, members, client) {
         Some(way) => way.as_slice() == wanted.as_bytes(),
@@ -53,7 +55,7 @@ fn tells(alloc: Global, script: &str, members: &[u8], client: &str, wanted: &str
     }
 }
 
-// The transcript of a script that is followed by its way out.
+// Returns the transcript of a script that is followed by its way out.
 fn goes_on(alloc: Global, script: &str, members: &[u8], client: &str) -> Option<Vec<u8>> {
     let way = way_of(alloc, script, members, client)?;
     let mut whole = Vec::new(alloc);
@@ -64,7 +66,8 @@ fn goes_on(alloc: Global, script: &str, members: &[u8], client: &str) -> Option<
     Some(transcript)
 }
 
-// Whether a script that is followed by its way out ends so, and no line of the way is idle.
+// Says whether a script that is followed by its way out has this end, and no line of the way is
+// idle.
 fn ends(alloc: Global, script: &[&str; 2], members: &[u8], client: &str, end: &str) -> bool {
     match goes_on(alloc, script[0], members, client) {
         Some(transcript) => {
@@ -75,7 +78,7 @@ fn ends(alloc: Global, script: &[&str; 2], members: &[u8], client: &str, end: &s
     }
 }
 
-// How many lines are idle.
+// Returns how many lines are idle.
 fn count_idle(transcript: &[u8]) -> usize {
     transcript
         .split(|byte| *byte == b'\n')
@@ -83,7 +86,7 @@ fn count_idle(transcript: &[u8]) -> usize {
         .count()
 }
 
-// What an attempt without a way out is answered.
+// Returns what an attempt without a way out is answered.
 fn answer(alloc: Global, script: &str, members: &[u8], client: &str) -> Option<PlayError> {
     let client = ClientId::new(alloc, client).ok()?;
     let mut way = Vec::new(alloc);

@@ -1,4 +1,4 @@
-// Whole scripts, which are read line by line as they stand.
+// Whole scripts, which are read line by line as they are written.
 
 use crate::tests::reading::{Outcome, comes};
 use crate::tests::scripts::{
@@ -7,7 +7,7 @@ use crate::tests::scripts::{
 };
 use std::alloc::Global;
 
-// Scripts, and how many of their lines are read after the first one: all, but for the third.
+// Scripts, and how many of their lines are read after the first one: all, except the third.
 const SCRIPTS: &[(&[&str; 2], usize)] = &[
     (&ANSWER_WAITS_FOR_THE_BACKUP, 5),
     (&CONFIGURATION_CHANGES, 10),
@@ -17,7 +17,7 @@ const SCRIPTS: &[(&[&str; 2], usize)] = &[
     (&BALLOT_IS_PUT_OUT, 18),
 ];
 
-// Each line of these scripts is as it is told.
+// Each line of these scripts is read as it is written.
 #[test]
 fn scripts_order_what_they_say(rt: HostRuntime) {
     for (script, count) in SCRIPTS {
@@ -28,7 +28,7 @@ fn scripts_order_what_they_say(rt: HostRuntime) {
     }
 }
 
-// Whether the first so many lines of a script after the first one order what they say.
+// Says whether each of the lines 2 to `count` + 1 of a script orders what it says.
 fn orders_what_it_says(alloc: Global, script: &str, count: usize) -> bool {
     match script.split_once("\n") {
         Some((_, lines)) => {
@@ -39,7 +39,7 @@ fn orders_what_it_says(alloc: Global, script: &str, count: usize) -> bool {
     }
 }
 
-// The first so many lines of a text, or all.
+// Returns the first `count` lines of a text, or all.
 fn front(text: &[u8], count: usize) -> &[u8] {
     let mut lines = 0usize;
     for (at, byte) in text.iter().enumerate() {

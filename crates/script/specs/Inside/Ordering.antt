@@ -6,13 +6,13 @@ use Rattle.script.specs.Fields.{Text, amount_of, client_of, filter_of, number_of
 use Rattle.script.specs.declared.order.Order.{Order}
 use Rattle.script.specs.declared.order.Order.TheVariants as orders
 
--- what is made of one value more, where there is one
+-- the result with one more value, if there is one
 abbrev pub with : {X Y : Type 0} → Option (X → Y) → Option X → Option Y
 with (Some make) (Some x) = Some (make x)
 with (Some make) None = None
 with None x = None
 
--- the value of one field, where there is no other
+-- the value of one field, if there is no other
 abbrev pub only : {X : Type 0} → (Text → Option X) → List Text → Option X
 only reads [] = None
 only reads (field ∷ []) = reads field
@@ -65,7 +65,7 @@ publish_of (c ∷ t ∷ q ∷ r ∷ p ∷ []) =
     with (with (Some publication_order) (client_of c)) (publication_of t q r p)
 publish_of (c ∷ t ∷ q ∷ r ∷ p ∷ d ∷ more) = None
 
--- what the fields behind this word order
+-- what the fields after this word order
 unfoldable pub order_by : Text → List Text → Option Order
 order_by word fields =
     if bytes_eq word (codes "assign") then two orders.Assign numbers_of number_of fields else

@@ -43,8 +43,8 @@ fn one_client_is_answered(rt: HostRuntime) {
     assert_eq!(rt; fault_in(&rt, TABLES), None);
 }
 
-/// Whether a client with keep alive 1 that falls silent is closed after one and a half seconds (MQTT 3.1.2.10), and
-/// nothing more was sent to it.
+/// Says whether a client with keep alive 1 that falls silent is closed after one and a half seconds
+/// (MQTT 3.1.2.10), and nothing more was sent to it.
 pub(super) fn is_silence_ended<R>(rt: &R, place: Option<&Place>) -> bool
 where
     R: Clock + Net<Stream = TcpStream>,
@@ -58,7 +58,7 @@ where
     }
 }
 
-// Whether the CONNECT is answered, and then the stream ends.
+// Says whether the CONNECT is answered, and then the stream ends.
 fn is_ended(stream: &mut TcpStream) -> bool {
     let mut sent = connect(b'a', false);
     sent[11] = 1;
@@ -66,7 +66,7 @@ fn is_ended(stream: &mut TcpStream) -> bool {
     fills(stream, &sent, &mut room) && matches!(stream.read(&mut room), Ok(0))
 }
 
-// Whether 1.5 to 5 seconds have gone by.
+// Says whether 1.5 to 5 seconds have passed.
 fn has_taken<R: Clock>(rt: &R, start: Instant) -> bool {
     match start.elapsed(rt) {
         Ok(took) => took.as_millis() > 1_500 && took.as_millis() < 5_000,
@@ -92,12 +92,12 @@ impl Flood {
         })
     }
 
-    /// Whether the PINGREQ are sent.
+    /// Says whether the PINGREQ are sent.
     pub(super) fn is_sent(&self, stream: &mut TcpStream) -> bool {
         stream.write_all(self.sent.as_slice()).is_ok()
     }
 
-    /// Whether the PINGRESP come.
+    /// Says whether the PINGRESP come.
     pub(super) fn is_heard(&mut self, stream: &mut TcpStream) -> bool {
         stream.read_exact(self.room.as_mut_slice()).is_ok() && self.room == self.wanted
     }
@@ -112,7 +112,7 @@ fn packets(alloc: Global, first: u8) -> Result<Vec<u8>, AllocError> {
     Ok(bytes)
 }
 
-/// Whether 32,768 PINGREQ in one write are answered by as many PINGRESP and nothing else.
+/// Says whether 32,768 PINGREQ in one write are answered by as many PINGRESP and nothing else.
 pub(super) fn is_flood_answered<R>(rt: &R, place: Option<&Place>) -> bool
 where
     R: AllocGlobal + Net<Stream = TcpStream>,

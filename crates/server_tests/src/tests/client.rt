@@ -10,7 +10,7 @@ pub(super) const SUBSCRIBE: [u8; 10] = [0x82, 8, 0, 1, 0, 3, 0x74, 0x2F, 0x23, 2
 
 pub(super) const SUBSCRIBED: [u8; 5] = [0x90, 3, 0, 1, 2];
 
-/// CONNECT of the client of this letter with keep alive 60, where a session is kept or not.
+/// CONNECT of the client of this letter with keep alive 60; its session is clean or kept.
 pub(super) fn connect(letter: u8, clean: bool) -> [u8; 15] {
     let flags = if clean { 2 } else { 0 };
     [
@@ -18,7 +18,7 @@ pub(super) fn connect(letter: u8, clean: bool) -> [u8; 15] {
     ]
 }
 
-/// A PUBLISH on `t/1` at QoS 2, with this first byte, identifier and payload.
+/// Returns a PUBLISH on `t/1` at QoS 2, with this first byte, identifier and payload.
 pub(super) fn publish(first: u8, id: u8, payload: u8) -> [u8; 10] {
     [first, 8, 0, 3, 0x74, 0x2F, 0x31, 0, id, payload]
 }
@@ -36,22 +36,22 @@ where
     }
 }
 
-// Whether a read of this stream ends after so many milliseconds from now on.
+// Says whether a read of this stream ends after this many milliseconds from now on.
 fn waits_for(stream: &TcpStream, milliseconds: u64) -> bool {
     stream
         .set_read_timeout(Some(Duration::from_millis(milliseconds)))
         .is_ok()
 }
 
-/// Whether a write on this stream ends after so many milliseconds from now on.
+/// Says whether a write on this stream ends after this many milliseconds from now on.
 pub(super) fn waits_to_write(stream: &TcpStream, milliseconds: u64) -> bool {
     stream
         .set_write_timeout(Some(Duration::from_millis(milliseconds)))
         .is_ok()
 }
 
-/// Opens a stream of the client of this letter. There is none unless its CONNECT is accepted, and the CONNACK says so
-/// of its session.
+/// Opens a stream of the client of this letter. There is none unless its CONNECT is accepted and
+/// the CONNACK says this of its session.
 pub(super) fn join<R>(
     rt: &R,
     place: Option<&Place>,
@@ -90,13 +90,13 @@ impl Pair {
         }
     }
 
-    /// Whether the subscriber subscribes to `t/#` at QoS 2.
+    /// Says whether the subscriber subscribes to `t/#` at QoS 2.
     pub(super) fn subscribes(&mut self) -> bool {
         is_answered(&mut self.hearer, &SUBSCRIBE, &SUBSCRIBED)
     }
 }
 
-/// Whether these bytes are answered by those, of which there are at most ten.
+/// Says whether these bytes are answered by those, of which there are at most ten.
 pub(super) fn is_answered(stream: &mut TcpStream, sent: &[u8], wanted: &[u8]) -> bool {
     let mut room = [0; 10];
     let is_filled = match room.get_mut(..wanted.len()) {
@@ -106,30 +106,30 @@ pub(super) fn is_answered(stream: &mut TcpStream, sent: &[u8], wanted: &[u8]) ->
     is_filled && room.starts_with(wanted)
 }
 
-/// Whether a publication at QoS 2 is answered by PUBREC, and its PUBREL by PUBCOMP.
+/// Says whether a publication at QoS 2 is answered by PUBREC, and its PUBREL by PUBCOMP.
 pub(super) fn is_delivered(speaker: &mut TcpStream, publish: [u8; 10]) -> bool {
     let id = publish[8];
     is_answered(speaker, &publish, &[0x50, 2, 0, id])
         && is_answered(speaker, &[0x62, 2, 0, id], &[0x70, 2, 0, id])
 }
 
-/// Whether these bytes are answered by as many as there is room for.
+/// Says whether these bytes are answered by as many as there is room for.
 pub(super) fn fills(stream: &mut TcpStream, sent: &[u8], room: &mut [u8]) -> bool {
     stream.write_all(sent).is_ok() && stream.read_exact(room).is_ok()
 }
 
-/// Whether nothing comes for a third of a second, and the stream stays open.
+/// Says whether nothing comes for a third of a second, and the stream stays open.
 pub(super) fn is_silent(stream: &mut TcpStream) -> bool {
     is_open_for(stream, 333)
 }
 
-/// Whether nothing comes for so many milliseconds, and the stream stays open.
+/// Says whether nothing comes for this many milliseconds, and the stream stays open.
 pub(super) fn is_open_for(stream: &mut TcpStream, milliseconds: u64) -> bool {
     let mut room = [0; 1];
     waits_for(stream, milliseconds) && stream.read(&mut room).is_err() && waits_for(stream, 10_000)
 }
 
-/// Whether the server ends the stream within two seconds, and sends nothing.
+/// Says whether the server ends the stream within two seconds, and sends nothing.
 pub(super) fn is_closed(stream: &mut TcpStream) -> bool {
     let mut room = [0; 1];
     waits_for(stream, 2_000) && matches!(stream.read(&mut room), Ok(0))

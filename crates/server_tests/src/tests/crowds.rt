@@ -1,4 +1,4 @@
-// Many clients, at the same time and one after the other.
+// Many clients, at the same time and one after another.
 
 use super::client::{
     Pair, SUBSCRIBE, SUBSCRIBED, connect, is_answered, is_closed, is_open_for, join, open,
@@ -57,7 +57,8 @@ fn a_client_that_never_reads_keeps_nobody_waiting(rt: HostRuntime) {
     assert_eq!(rt; fault_in(&rt, NEVER_READS), None);
 }
 
-/// Whether sixty clients are answered by PINGRESP while they are connected and one more has come.
+/// Says whether sixty clients are answered by PINGRESP while they are connected and one more has
+/// come.
 pub(super) fn are_sixty_answered<R>(rt: &R, place: Option<&Place>) -> bool
 where
     R: AllocGlobal + Net<Stream = TcpStream>,
@@ -70,7 +71,7 @@ where
             .all(|stream| is_answered(stream, &[0xC0, 0], &[0xD0, 0]))
 }
 
-// Whether the client of this letter joins those of the streams.
+// Says whether the client of this letter joins those of the streams.
 fn joins<R>(rt: &R, place: Option<&Place>, letter: u8, streams: &mut Vec<TcpStream>) -> bool
 where
     R: Net<Stream = TcpStream>,
@@ -81,7 +82,7 @@ where
     }
 }
 
-// Whether the next connection is closed within two seconds.
+// Says whether the next connection is closed within two seconds.
 fn is_turned_away<R>(rt: &R, place: Option<&Place>) -> bool
 where
     R: Net<Stream = TcpStream>,
@@ -92,7 +93,8 @@ where
     }
 }
 
-/// Whether sixty clients that say nothing keep their places for six seconds, and not for fourteen. Then another is accepted.
+/// Says whether sixty clients that say nothing keep their places for six seconds, and not for
+/// fourteen. Then another is accepted.
 pub(super) fn are_silent_ones_ended<R>(rt: &R, place: Option<&Place>) -> bool
 where
     R: AllocGlobal + Net<Stream = TcpStream>,
@@ -105,7 +107,7 @@ where
         && is_accepted(rt, place, b'a')
 }
 
-// Whether a stream is opened, and joins these.
+// Says whether a stream is opened, and joins these.
 fn opens<R>(rt: &R, place: Option<&Place>, streams: &mut Vec<TcpStream>) -> bool
 where
     R: Net<Stream = TcpStream>,
@@ -116,7 +118,8 @@ where
     }
 }
 
-/// Whether 200 clients that come one after the other, each once the one before has left, are all accepted.
+/// Says whether 200 clients that come one after another, each once the one before has left, are all
+/// accepted.
 pub(super) fn are_all_accepted<R>(rt: &R, place: Option<&Place>) -> bool
 where
     R: Net<Stream = TcpStream>,
@@ -124,7 +127,7 @@ where
     (0..200u8).all(|count| is_accepted(rt, place, b'a' + count % 26))
 }
 
-// Whether the client of this letter, which wants no session, is accepted. Then it leaves.
+// Says whether the client of this letter, which wants no session, is accepted. Then it leaves.
 fn is_accepted<R>(rt: &R, place: Option<&Place>, letter: u8) -> bool
 where
     R: Net<Stream = TcpStream>,
@@ -135,7 +138,7 @@ where
     }
 }
 
-// A PUBLISH, and room for what comes of it.
+// A PUBLISH, and room for the result of it.
 #[derive(Drop)]
 struct Large {
     sent: Vec<u8>,
@@ -150,7 +153,7 @@ impl Large {
         })
     }
 
-    // Whether the PUBLISH, with this last byte, comes to the subscriber as it was sent.
+    // Says whether the PUBLISH, with this last byte, comes to the subscriber as it was sent.
     fn passes(&mut self, pair: &mut Pair, last: u8) -> bool {
         if let Some(byte) = self.sent.last_mut() {
             *byte = last;
@@ -161,8 +164,8 @@ impl Large {
     }
 }
 
-/// A PUBLISH at QoS 0 on `t/1` with 1,000,000 bytes of payload. The 1,000,005 bytes after its length are 69 + 128 * (4 +
-/// 128 * 61).
+/// Returns a PUBLISH at QoS 0 on `t/1` with 1,000,000 bytes of payload. The 1,000,005 bytes after
+/// its length are 69 + 128 * (4 + 128 * 61).
 pub(super) fn large_publish(alloc: Global) -> Result<Vec<u8>, AllocError> {
     let mut bytes = Vec::from_elem(alloc, 0u8, 1_000_009)?;
     if let Some(beginning) = bytes.first_chunk_mut() {
@@ -171,7 +174,8 @@ pub(super) fn large_publish(alloc: Global) -> Result<Vec<u8>, AllocError> {
     Ok(bytes)
 }
 
-/// Whether a subscriber gets 50 MB beside another one that has the same subscription and never reads.
+/// Says whether a subscriber gets 50 MB while another one has the same subscription and never
+/// reads.
 pub(super) fn is_heard_beside<R>(rt: &R, place: Option<&Place>) -> bool
 where
     R: AllocGlobal + Net<Stream = TcpStream>,
@@ -182,7 +186,7 @@ where
     }
 }
 
-// Whether a subscriber gets 50 MB.
+// Says whether a subscriber gets 50 MB.
 fn is_heard<R>(rt: &R, place: Option<&Place>) -> bool
 where
     R: AllocGlobal + Net<Stream = TcpStream>,
@@ -200,8 +204,8 @@ fn are_fifty_heard(alloc: Global, pair: &mut Pair) -> bool {
     }
 }
 
-/// Whether a subscriber with keep alive 4 that never reads, and says nothing more, keeps its place for a while, and then
-/// loses it to another client.
+/// Says whether a subscriber with keep alive 4 that never reads, and says nothing more, keeps its
+/// place for a while, and then loses it to another client.
 pub(super) fn is_deaf_one_ended<R>(rt: &R, place: Option<&Place>) -> bool
 where
     R: AllocGlobal + Wait + Clock + Net<Stream = TcpStream>,
@@ -219,7 +223,7 @@ where
     }
 }
 
-// A subscriber with keep alive 4.
+// Returns a subscriber with keep alive 4.
 fn deaf<R>(rt: &R, place: Option<&Place>) -> Option<TcpStream>
 where
     R: Net<Stream = TcpStream>,
@@ -235,7 +239,7 @@ where
     }
 }
 
-// Whether a client publishes 20 MB, and is answered after that.
+// Says whether a client publishes 20 MB, and is answered after that.
 fn are_twenty_sent(alloc: Global, stream: Option<&mut TcpStream>) -> bool {
     match (large_publish(alloc), stream) {
         (Ok(large), Some(stream)) => {
@@ -246,7 +250,7 @@ fn are_twenty_sent(alloc: Global, stream: Option<&mut TcpStream>) -> bool {
     }
 }
 
-// Whether client `a` is accepted within ten seconds.
+// Says whether client `a` is accepted within ten seconds.
 fn is_accepted_in_time<R>(rt: &R, place: Option<&Place>) -> bool
 where
     R: Wait + Clock + Net<Stream = TcpStream>,

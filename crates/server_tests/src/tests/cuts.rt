@@ -1,4 +1,4 @@
-// Nodes that cut their logs, as their reports tell.
+// Nodes that cut their logs, as their reports show.
 
 use super::client::{is_answered, join};
 use super::crowds::large_publish;
@@ -11,8 +11,8 @@ use std::thread;
 use std::thread::Threads;
 use std::time::{Clock, Duration};
 
-// What a client sends to the first of some members, the primary, how long they serve then, and which of them have cut their logs
-// at the end.
+// What a client sends to the first of some members, the primary, how long they serve then, and
+// which of them have cut their logs at the end.
 struct Row {
     name: &'static str,
     members: &'static [u8],
@@ -21,8 +21,9 @@ struct Row {
     are_cut: &'static [bool],
 }
 
-// Node 1 has its log cut after its seventh tick, 1.4 seconds from the beginning, and node 7 after its 49th, 9.8 seconds from there.
-// A publication has 1,000,000 bytes of payload, so the seventeenth passes 16 MiB.
+// Node 1 has its log cut after its seventh tick, 1.4 seconds from the beginning, and node 7 after
+// its 49th, 9.8 seconds from there. A publication has 1,000,000 bytes of payload, so the
+// seventeenth passes 16 MiB.
 const ROWS: &[Row] = &[
     Row {
         name: "after the seventh tick one of two",
@@ -61,7 +62,7 @@ fn logs_are_cut(rt: HostRuntime) {
     }
 }
 
-// Whether a row holds beside nodes of its own.
+// Says whether a row holds with nodes of its own.
 fn holds<R>(rt: &R, row: &Row) -> bool
 where
     R: AllocGlobal
@@ -103,7 +104,7 @@ where
     }
 }
 
-// Whether the publications are sent and taken, and then it waits.
+// Says whether the publications are sent and taken, and then it waits.
 fn sends<R>(rt: &R, row: &Row, place: Option<&Place>) -> bool
 where
     R: AllocGlobal + Wait + Clock + Net<Stream = TcpStream>,
@@ -118,7 +119,8 @@ where
     sent
 }
 
-// Whether the logs of these nodes were cut, and of no others: a log that was cut begins at a higher place than the first.
+// Says whether the logs of these nodes were cut, and of no others: a log that was cut begins at a
+// higher place than the first.
 fn are_as_told(reports: &[NodeReport], are_cut: &[bool]) -> bool {
     reports.len() == are_cut.len()
         && reports

@@ -31,8 +31,9 @@ fn sessions_are_expelled(rt: HostRuntime) {
     assert_eq!(rt; fault_in(&rt, TABLES), None);
 }
 
-/// Whether client `h` finds no session and nothing of before each time that its session is ended, while it is connected and
-/// while it is away; and whether another client that is away gets all that was published.
+/// Says whether client `h` finds no session and nothing of before each time that its session is
+/// ended, while it is connected and while it is away; and whether another client that is away gets
+/// all that was published.
 pub(super) fn expels<R>(rt: &R, peers: &Peers, place: Option<&Place>) -> bool
 where
     R: AllocGlobal + Wait + Clock + Net<Stream = TcpStream>,
@@ -48,7 +49,7 @@ where
         }
 }
 
-// Whether client `q` subscribes, and then is away.
+// Says whether client `q` subscribes, and then is away.
 fn leaves_a_queue<R>(rt: &R, place: Option<&Place>) -> bool
 where
     R: Net<Stream = TcpStream>,
@@ -59,7 +60,8 @@ where
     }
 }
 
-// Whether the subscriber's connection is closed after it was sent `x`, which it has not acknowledged.
+// Says whether the subscriber's connection is closed after it was sent `x`, which it has not
+// acknowledged.
 fn is_ended_while_connected<R>(rt: &R, peers: &Peers, pair: &mut Pair) -> bool
 where
     R: AllocGlobal + Wait + Clock,
@@ -73,7 +75,8 @@ where
         && is_delivered(&mut pair.speaker, publish(0x34, 2, b'y'))
 }
 
-// Whether the subscriber comes back to a new session, and to another one after an Expel while `z` waits for it.
+// Says whether the subscriber comes back to a new session, and to another one after an Expel while
+// `z` waits for it.
 fn is_ended_while_away<R>(
     rt: &R,
     peers: &Peers,
@@ -90,7 +93,8 @@ where
         && begins_anew(rt, place)
 }
 
-// Whether the subscriber finds no session and gets nothing, subscribes again, and then is away.
+// Says whether the subscriber finds no session and gets nothing, subscribes again, and then is
+// away.
 fn begins_anew<R>(rt: &R, place: Option<&Place>) -> bool
 where
     R: Wait + Clock + Net<Stream = TcpStream>,
@@ -103,7 +107,7 @@ where
     }
 }
 
-// Whether the order to end the subscriber's session is taken.
+// Says whether the order to end the subscriber's session is taken.
 fn is_ordered<R>(rt: &R, peers: &Peers) -> bool
 where
     R: AllocGlobal + Wait + Clock,
@@ -120,7 +124,7 @@ fn has_time<R: Clock>(rt: &R) -> bool {
     true
 }
 
-// Whether client `q` finds its session, and gets all three publications.
+// Says whether client `q` finds its session, and gets all three publications.
 fn is_heard_whole<R>(rt: &R, place: Option<&Place>) -> bool
 where
     R: AllocGlobal + Net<Stream = TcpStream>,

@@ -20,8 +20,8 @@ trait Watched: Gate {
         R: AllocGlobal + Wait + Clock + Net<Stream = TcpStream>;
 }
 
-// Whether that goes well beside these nodes, the members of ballot 1, of which node 1 is the primary, and each node
-// took what was sent to it.
+// Says whether that goes well with these nodes, the members of ballot 1, of which node 1 is the
+// primary, and each node took what was sent to it.
 fn goes_well<R, G>(rt: &R, members: &[u8], gate: &G) -> bool
 where
     R: AllocGlobal
@@ -58,12 +58,12 @@ where
     }
 }
 
-// Whether each of so many nodes took what was sent to it.
+// Says whether each of this many nodes took what was sent to it.
 fn are_through(reports: &[NodeReport], count: usize) -> bool {
     reports.len() == count && reports.iter().all(|report| is_through(report))
 }
 
-// Whether a node took what was sent to it, and never went on though the gate was shut.
+// Says whether a node took what was sent to it, and never continued while the gate was shut.
 fn is_through(report: &NodeReport) -> bool {
     report.report.gate_missed == 0
         && report.report.left.is_empty()
@@ -83,7 +83,7 @@ struct Meeting {
 }
 
 impl Meeting {
-    /// Of so many nodes, at most three.
+    /// For this many nodes, at most three.
     fn new(nodes: usize) -> Meeting {
         Meeting {
             nodes,
@@ -108,7 +108,7 @@ impl Meeting {
         }
     }
 
-    // A node comes, or goes: whether all are there.
+    // Notes that a node comes or goes; says whether all are there.
     fn sees<R: Wait>(&self, rt: &R, node: u8, comes: bool) -> bool {
         let mut there = self.there.lock(rt);
         if let Some(place) = there.get_mut(usize::from(node).wrapping_sub(1)) {
@@ -123,7 +123,7 @@ impl Meeting {
 }
 
 impl Gate for Meeting {
-    // Of what stands behind a lock no clause tells.
+    // No clause is about what is behind a lock.
     ghost answers = { λ _ _ _ _. Unit {0} };
 
     ghost hears = { λ _ _ _. Unit {0} };
@@ -143,8 +143,8 @@ impl Gate for Meeting {
 }
 
 impl Watched for Meeting {
-    // Whether the nodes meet within ten seconds, client `a` is answered then, and each taking was
-    // asked for by its number.
+    // Says whether the nodes meet within ten seconds, client `a` is answered then, and each taking
+    // was asked for by its number.
     fn attend<R>(&self, rt: &R, _peers: &Peers, place: Option<&Place>) -> bool
     where
         R: AllocGlobal + Wait + Clock + Net<Stream = TcpStream>,
@@ -159,7 +159,8 @@ impl Watched for Meeting {
     }
 }
 
-// Were one thread to run all nodes in turn, or a lock round them all be held at the gate, they would not meet.
+// If one thread ran all nodes in turn, or if a common lock were held at the gate, the nodes would
+// not meet.
 #[test]
 fn nodes_run_apart(rt: HostRuntime) {
     for members in [[1, 2].as_slice(), [1, 2, 3].as_slice()] {
@@ -179,7 +180,7 @@ enum Load {
     Bytes,
 }
 
-/// A gate that is shut for node 3 alone, for a while.
+/// A gate that is shut only for node 3, for a while.
 #[derive(Drop)]
 pub(super) struct Bar {
     shut: Mutex<bool>,
@@ -192,7 +193,7 @@ impl Bar {
         *self.shut.lock(rt) = shut;
     }
 
-    // Whether `holds` holds of a subscriber and a publisher.
+    // Says whether `holds` holds for a subscriber and a publisher.
     fn passes<R>(&self, rt: &R, place: Option<&Place>) -> bool
     where
         R: AllocGlobal + Wait + Net<Stream = TcpStream>,
@@ -204,7 +205,8 @@ impl Bar {
         }
     }
 
-    // Whether a publication at QoS 2 is answered, and comes to its subscriber, but neither while node 3 is held.
+    // Says whether a publication at QoS 2 is answered, and comes to its subscriber, but neither
+    // while node 3 is held.
     fn holds<R: Wait>(&self, rt: &R, pair: &mut Pair, heard: &mut Heard) -> bool {
         let subscribed = pair.subscribes();
         self.set(rt, true);

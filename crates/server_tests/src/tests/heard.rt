@@ -3,7 +3,7 @@
 use std::io::{Read, Write};
 use std::net::TcpStream;
 
-/// What a subscriber took in of publications at QoS 2, each once (MQTT 4.3.3).
+/// What a subscriber accepted of publications at QoS 2, each once (MQTT 4.3.3).
 #[derive(Drop)]
 pub(super) struct Heard {
     /// Their payloads.
@@ -20,7 +20,8 @@ impl Heard {
         }
     }
 
-    /// Takes in the next packet, a PUBLISH or a PUBREL: its answer. There is none where something else comes.
+    /// Takes the next packet, a PUBLISH or a PUBREL, and returns the answer to it. There is none if
+    /// something else comes.
     pub(super) fn hear(&mut self, stream: &mut TcpStream) -> Option<[u8; 4]> {
         let mut head = [0; 2];
         stream.read_exact(&mut head).ok()?;
@@ -33,7 +34,7 @@ impl Heard {
         }
     }
 
-    // Takes in what a PUBLISH is made of: its PUBREC.
+    // Takes the parts of a PUBLISH, and returns its PUBREC.
     fn take(&mut self, stream: &mut TcpStream) -> Option<[u8; 4]> {
         let mut body = [0; 8];
         stream.read_exact(&mut body).ok()?;
@@ -55,7 +56,7 @@ impl Heard {
         Some([0x70, 2, high, low])
     }
 
-    /// Whether the next packet comes, and its answer is sent.
+    /// Says whether the next packet comes, and its answer is sent.
     pub(super) fn answers(&mut self, stream: &mut TcpStream) -> bool {
         match self.hear(stream) {
             Some(answer) => stream.write_all(&answer).is_ok(),
@@ -63,8 +64,8 @@ impl Heard {
         }
     }
 
-    /// Whether the publication of this payload comes as one of the next twenty packets, all of which are
-    /// answered, and no handshake stays open.
+    /// Says whether the publication of this payload comes as one of the next twenty packets, all of
+    /// which are answered, and no handshake stays open.
     pub(super) fn hears(&mut self, stream: &mut TcpStream, payload: u8) -> bool {
         for _ in 0..20 {
             if !self.answers(stream) {

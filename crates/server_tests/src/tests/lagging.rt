@@ -12,8 +12,8 @@ use std::sync::Wait;
 use std::thread;
 use std::time::{Clock, Duration};
 
-/// Whether of 98,304 PINGREQ that come while a member is held no more than 37,000 become places until it goes on, and then all
-/// are answered.
+/// Says whether, of 98,304 PINGREQ that come while a member is held, no more than 37,000 become
+/// places until it continues, and whether all are answered then.
 pub(super) fn are_places_bounded<R>(rt: &R, bar: &Bar, peers: &Peers, place: Option<&Place>) -> bool
 where
     R: AllocGlobal + Wait + Clock + Net<Stream = TcpStream>,
@@ -39,7 +39,7 @@ fn waits<R: Wait + Clock>(
     sent && open > 4_096 && open <= 37_000 && (0..3u8).all(|_| flood.is_heard(stream))
 }
 
-// How many places of the primary's log are not known to be held by all.
+// Returns how many places of the primary's log are not known to be held by all.
 fn open_places<R: Wait + Clock>(rt: &R, peers: &Peers) -> u64 {
     match peers.status(rt, 1) {
         Some(status) => status.held.saturating_sub(status.committed),
@@ -47,8 +47,8 @@ fn open_places<R: Wait + Clock>(rt: &R, peers: &Peers) -> u64 {
     }
 }
 
-/// Whether of 150 MB that a client sends while a member is held no more than 64 MiB become places, and the rest is not read. Once
-/// the member goes on another client is answered.
+/// Says whether, of 150 MB that a client sends while a member is held, no more than 64 MiB become
+/// places and the rest is not read. Once the member continues, another client is answered.
 pub(super) fn are_bytes_bounded<R>(rt: &R, bar: &Bar, peers: &Peers, place: Option<&Place>) -> bool
 where
     R: AllocGlobal + Wait + Clock + Net<Stream = TcpStream>,

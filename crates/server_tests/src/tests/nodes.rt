@@ -1,4 +1,4 @@
-// Nodes on free ports of the loopback, and the rows that run beside them.
+// Nodes on free ports of the loopback interface, and the rows that run with them.
 
 use super::row::{Row, Table, holds};
 use server::{Config, Members, Memory, Peers, Place, serve_while};
@@ -17,7 +17,7 @@ pub(super) fn opening(alloc: Global, members: &[u8]) -> Result<Config, Memory> {
     })
 }
 
-/// Adds a place for each of these nodes, on a free port. False where one cannot be had.
+/// Adds a place for each of these nodes, on a free port. False if there is no free port.
 pub(super) fn listen_all<R>(rt: &R, numbers: &[u8], places: &mut Vec<Place>) -> bool
 where
     R: AllocGlobal + Net<Listener = TcpListener, Stream = TcpStream>,
@@ -43,7 +43,7 @@ where
     }
 }
 
-/// The first of these tables whose row does not hold, each beside nodes of its own.
+/// Returns the first of these tables whose row does not hold, each with nodes of its own.
 pub(super) fn fault_in<R>(rt: &R, tables: &[Table]) -> Option<&'static str>
 where
     R: AllocGlobal
@@ -61,7 +61,8 @@ where
     None
 }
 
-// Whether a row holds beside these nodes, the members of ballot 1, of which node 1 is the primary.
+// Says whether a row holds with these nodes, the members of ballot 1, of which node 1 is the
+// primary.
 fn holds_beside<R>(rt: &R, members: &[u8], row: Row) -> bool
 where
     R: AllocGlobal
@@ -97,7 +98,8 @@ where
     held.unwrap_or(false)
 }
 
-/// Whether the next ballot is given to these members, and their primary becomes the active one.
+/// Says whether the next ballot is given to these members, and their primary becomes the active
+/// one.
 pub(super) fn moves_to<R>(rt: &R, peers: &Peers, members: &[u8], primary: u8) -> bool
 where
     R: AllocGlobal + Wait + Clock,
@@ -108,7 +110,7 @@ where
     peers.assign(rt, Config { members, primary }).is_ok() && is_primary(rt, peers, primary)
 }
 
-// Whether a node becomes the active primary within two seconds.
+// Says whether a node becomes the active primary within two seconds.
 fn is_primary<R: Wait + Clock>(rt: &R, peers: &Peers, number: u8) -> bool {
     for _ in 0..200 {
         if peers

@@ -1,4 +1,4 @@
-// Rows: what clients do beside nodes that serve them.
+// Rows: what clients do with nodes that serve them.
 
 use super::answers::{is_flood_answered, is_silence_ended};
 use super::crowds::{
@@ -23,13 +23,13 @@ pub(super) enum Row {
     Flood,
     /// Sixty clients are answered, and one more is closed.
     Sixty,
-    /// 200 clients, one after the other, are all accepted.
+    /// 200 clients, one after another, are all accepted.
     ComeAndGo,
     /// Sixty clients that say nothing are ended after ten seconds.
     SilentOnes,
     /// A client that never reads and falls silent loses its place.
     Deaf,
-    /// A subscriber gets 50 MB beside another one that never reads.
+    /// A subscriber gets 50 MB while another one never reads.
     NeverReads,
     /// A client finds its session at node 2, after a crash of node 1.
     Moves,
@@ -39,14 +39,14 @@ pub(super) enum Row {
     TakesOver,
 }
 
-/// A row, and the members of ballot 1 beside which it runs.
+/// A row, and the members of ballot 1 with which it runs.
 pub(super) struct Table {
     pub(super) name: &'static str,
     pub(super) members: &'static [u8],
     pub(super) row: Row,
 }
 
-/// Whether a row holds beside the nodes of these places.
+/// Says whether a row holds with the nodes of these places.
 pub(super) fn holds<R>(rt: &R, peers: &Peers, places: &[Place], row: Row) -> bool
 where
     R: AllocGlobal + Wait + Clock + Net<Stream = TcpStream>,

@@ -1,4 +1,4 @@
-// Sessions that go on at another node.
+// Sessions that continue at another node.
 
 use super::client::{Pair, connect, fills, is_answered, is_delivered, is_silent, open, publish};
 use super::heard::Heard;
@@ -32,8 +32,8 @@ fn sessions_go_on(rt: HostRuntime) {
 // CONNACK with a session present, and the PUBLISH again.
 const FOUND: [u8; 14] = [0x20, 2, 1, 0, 0x3C, 8, 0, 3, 0x74, 0x2F, 0x31, 0, 1, 0x78];
 
-/// Whether client `a`, which has not finished a handshake with node 1 when ballot 2, of node 2 alone, is given, finds
-/// its session at node 2, and is sent the publication again.
+/// Says whether client `a`, which has not finished a handshake with node 1 when ballot 2 with node
+/// 2 as sole member is given, finds its session at node 2, and is sent the publication again.
 pub(super) fn moves<R>(rt: &R, peers: &Peers, places: &[Place]) -> bool
 where
     R: AllocGlobal + Wait + Clock + Net<Stream = TcpStream>,
@@ -55,8 +55,8 @@ where
     }
 }
 
-/// Whether the subscriber gets each of four publications once, in their order, where node 2 takes over from node 1,
-/// which crashes among them.
+/// Says whether the subscriber gets each of four publications once, in order, if node 1 crashes
+/// between them and node 2 takes over.
 pub(super) fn takes_over<R>(rt: &R, peers: &Peers, places: &[Place]) -> bool
 where
     R: AllocGlobal + Wait + Clock + Net<Stream = TcpStream>,
@@ -68,7 +68,7 @@ where
         && heard.payloads.as_slice() == b"xyz!".as_slice()
 }
 
-// Whether two clients begin at node 1, which then crashes.
+// Says whether two clients begin at node 1, which then crashes.
 fn begins<R>(rt: &R, peers: &Peers, place: Option<&Place>, heard: &mut Heard) -> bool
 where
     R: Wait + Clock + Net<Stream = TcpStream>,
@@ -79,8 +79,9 @@ where
     }
 }
 
-// Of `x` the publisher's handshake is done and the subscriber's lacks the PUBCOMP; of `y` the publisher has the PUBREC
-// and the subscriber the PUBLISH; of `z` nobody knows whether the PUBLISH came.
+// Of `x` the publisher's handshake is done and the subscriber's lacks the PUBCOMP; of `y` the
+// publisher has the PUBREC and the subscriber the PUBLISH; of `z` it is not known whether the
+// PUBLISH came.
 fn is_begun(pair: &mut Pair, heard: &mut Heard) -> bool {
     pair.subscribes()
         && is_delivered(&mut pair.speaker, publish(0x34, 1, b'x'))
@@ -91,7 +92,7 @@ fn is_begun(pair: &mut Pair, heard: &mut Heard) -> bool {
         && pair.speaker.write_all(&publish(0x34, 3, b'z')).is_ok()
 }
 
-// Whether both find their sessions at another node, and end there what they began.
+// Says whether both find their sessions at another node, and end there what they began.
 fn goes_on<R>(rt: &R, place: Option<&Place>, heard: &mut Heard) -> bool
 where
     R: Net<Stream = TcpStream>,

@@ -14,14 +14,14 @@ const SENT: [u8; 35] = [
 // CONNACK, SUBACK, and PUBREC with the PUBLISH in either order.
 const ANSWERED: usize = 4 + 5 + 4 + 10;
 
-// Whether these are the CONNACK, the SUBACK, and a PUBREC with the PUBLISH.
+// Says whether these are the CONNACK, the SUBACK, and a PUBREC with the PUBLISH.
 fn are_answers(got: &[u8]) -> bool {
     got.starts_with([0x20, 2, 0, 0, 0x90, 3, 0, 1, 2].as_slice())
         && got.contains(&0x50)
         && got.contains(&0x34)
 }
 
-/// Whether client `a` is answered where it sends all at once.
+/// Says whether client `a` is answered if it sends all at once.
 pub(super) fn visits<R>(rt: &R, place: Option<&Place>) -> bool
 where
     R: Net<Stream = TcpStream>,

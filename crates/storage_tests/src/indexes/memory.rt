@@ -1,5 +1,6 @@
-// Memory that is refused. Run with each allocation failing in turn: a call that finds no memory
-// leaves the index, and the rows, as they were, and does its work when it is made again.
+// Memory that is refused. Each test runs with each of its allocations failing in turn: a call that
+// runs out of memory leaves the index, and the rows, as they were, and does its work when it is
+// made again.
 
 use crate::indexes::calls::{Grant, are_wanted};
 use packet::QoS::{AtLeastOnce, AtMostOnce, ExactlyOnce};
@@ -9,7 +10,7 @@ use std::test::*;
 use subs::{ListIndex, SubIndex, TreeIndex};
 use topics::{Filter, TopicName};
 
-/// What is set in turn: a new client, levels that are new or stand, `#`, `+`, and another QoS.
+/// What is set in turn: a new client, levels that are new or exist, `#`, `+`, and another QoS.
 const SUBSCRIPTIONS: [(&str, &str, QoS); 6] = [
     ("b", "t/1", AtMostOnce),
     ("a", "t/1/2", AtLeastOnce),
@@ -21,7 +22,7 @@ const SUBSCRIPTIONS: [(&str, &str, QoS); 6] = [
 
 const TOPICS: [&str; 4] = ["t/1", "t/1/2", "t", "s/1"];
 
-/// What is granted at these topics in the end, one behind the other.
+/// What is granted at these topics in the end, one after another.
 const GRANTS: [Grant<'static>; 5] = [
     ("a", ExactlyOnce),
     ("b", ExactlyOnce),
@@ -53,14 +54,15 @@ fn topic_of(alloc: Global, text: &str) -> Option<TopicName> {
     }
 }
 
-/// Appends what is granted. Whether a try without memory left the rows alone, and the next found it.
+/// Appends what is granted. Says whether a try without memory left the rows unchanged, and the next
+/// try had memory.
 fn is_appended<I: SubIndex>(index: &I, topic: &TopicName, rows: &mut Vec<(ClientId, QoS)>) -> bool {
     let before = rows.len();
     index.granted(topic, rows).is_ok()
         || (rows.len() == before && index.granted(topic, rows).is_ok())
 }
 
-/// The same of the topic that is spelled so.
+/// The same for the topic that is spelled so.
 fn is_shown<I: SubIndex>(
     alloc: Global,
     index: &I,
@@ -73,7 +75,7 @@ fn is_shown<I: SubIndex>(
     }
 }
 
-/// Appends what is granted at the topics, one behind the other.
+/// Appends what is granted at the topics, one after another.
 fn show<I: SubIndex>(alloc: Global, index: &I, rows: &mut Vec<(ClientId, QoS)>) -> bool {
     for text in &TOPICS {
         if !is_shown(alloc, index, text, rows) {
@@ -83,13 +85,13 @@ fn show<I: SubIndex>(alloc: Global, index: &I, rows: &mut Vec<(ClientId, QoS)>) 
     true
 }
 
-/// Whether these are granted at the topics.
+/// Says whether these are granted at the topics.
 fn shows<I: SubIndex>(alloc: Global, index: &I, wanted: &[Grant<'_>]) -> bool {
     let mut rows = Vec::new(alloc);
     show(alloc, index, &mut rows) && are_wanted(rows.as_slice(), wanted)
 }
 
-/// Whether as much is granted at the topics as before.
+/// Says whether as much is granted at the topics as before.
 fn shows_still<I: SubIndex>(alloc: Global, index: &I, before: &[(ClientId, QoS)]) -> bool {
     let mut rows = Vec::new(alloc);
     show(alloc, index, &mut rows) && rows.as_slice() == before
@@ -110,7 +112,7 @@ fn is_set<I: SubIndex>(
                 && index.set(client, filter, qos).is_ok()))
 }
 
-/// The same of the client and the filter that are spelled so.
+/// The same for the client and the filter that are spelled so.
 fn is_row_set<I: SubIndex>(
     alloc: Global,
     index: &mut I,
@@ -143,7 +145,7 @@ fn is_dropped<I: SubIndex>(alloc: Global, index: &mut I, text: &str) -> bool {
     }
 }
 
-/// Whether it grants what it is to when all is set, and nothing when both clients are dropped.
+/// Says whether it grants what it is to when all is set, and nothing when both clients are dropped.
 fn goes_through<I: SubIndex>(alloc: Global, index: &mut I) -> bool {
     all_are_set(alloc, index)
         && shows(alloc, index, &GRANTS)

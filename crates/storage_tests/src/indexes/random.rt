@@ -54,7 +54,7 @@ fn set_alike(both: &mut Both, client: &ClientId, filter: &Filter, level: u64) ->
     both.list.set(client, filter, qos).is_ok() && both.tree.set(client, filter, qos).is_ok()
 }
 
-/// How many rows both grant alike; none where they differ.
+/// Returns how many rows both grant alike; none if they differ.
 fn granted_alike(alloc: Global, both: &Both, topic: &str) -> Option<usize> {
     let mut list = Vec::new(alloc);
     let mut tree = Vec::new(alloc);
@@ -83,7 +83,7 @@ fn none_granted(is_alike: bool) -> Option<usize> {
 }
 
 /// Makes the call of the next number for this client, filter and topic: how many rows were granted,
-/// none where the answers differ.
+/// none if the answers differ.
 fn called_with(
     alloc: Global,
     both: &mut Both,
@@ -103,7 +103,7 @@ fn called_with(
     }
 }
 
-/// Makes the call of the next numbers: how many rows were granted, none where the answers differ.
+/// Makes the call of the next numbers: how many rows were granted, none if the answers differ.
 fn called_alike(alloc: Global, both: &mut Both, numbers: &mut Numbers) -> Option<usize> {
     let client = ClientId::new(alloc, CLIENTS[(numbers.next() % 8) as usize]).ok()?;
     let filter = Filter::new(alloc, FILTERS[(numbers.next() % 32) as usize]).ok()?;
@@ -123,7 +123,7 @@ fn first_difference(alloc: Global, both: &mut Both, rows: &mut usize) -> Option<
     None
 }
 
-/// The first call that the two indexes do not answer alike, and how many rows were granted.
+/// Returns the first call that the two indexes do not answer alike, and how many rows were granted.
 fn called_in_turn(alloc: Global) -> (Option<u32>, usize) {
     let mut rows: usize = 0;
     let mut both = Both {

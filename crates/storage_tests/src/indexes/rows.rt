@@ -1,4 +1,4 @@
-// Worked rows: who is granted what (MQTT 3.3.5, 3.8.4, 3.10.4, 4.7).
+// Tables of examples: who is granted what (MQTT 3.3.5, 3.8.4, 3.10.4, 4.7).
 
 use crate::indexes::calls::Call::{self, Clear, DropClient, Granted, Set};
 use crate::indexes::calls::first_fault;
@@ -26,7 +26,7 @@ const ONE_TOPIC: &[Call<'static>] = &[
     Clear("b", "t/#", false),
 ];
 
-/// Of three clients, `$a/b` is granted to the one whose filter names `$a`, and to nobody else.
+/// Of three clients, `$a/b` is granted to the one whose filter names `$a`, and to no other.
 const THREE_CLIENTS: &[Call<'static>] = &[
     Set("a", "#", AtMostOnce),
     Set("b", "+/b", AtLeastOnce),
@@ -46,7 +46,7 @@ const DOLLAR: &[Call<'static>] = &[
     Granted("a/b", &[("a", AtMostOnce), ("b", AtLeastOnce)]),
 ];
 
-/// An identical filter is replaced, also by a smaller QoS, for this client alone.
+/// An identical filter is replaced, also by a smaller QoS, for only this client.
 const REPLACED: &[Call<'static>] = &[
     Set("a", "t", ExactlyOnce),
     Set("ab", "t", ExactlyOnce),
@@ -54,7 +54,7 @@ const REPLACED: &[Call<'static>] = &[
     Granted("t", &[("a", AtMostOnce), ("ab", ExactlyOnce)]),
 ];
 
-/// What is cleared or dropped takes nothing along that stands beside it, behind it or before it.
+/// What is cleared or dropped removes nothing that is next to it, after it or before it.
 const ONE_FRONT: &[Call<'static>] = &[
     Set("a", "t/1", AtLeastOnce),
     Set("b", "t", AtLeastOnce),
@@ -119,7 +119,7 @@ const ROWS: &[&[Call<'static>]] = &[
     EMPTY_LEVELS,
 ];
 
-/// The first row, and its first call, that an index does not answer as wanted.
+/// Returns the first row, and its first call, that an index does not answer as expected.
 fn first_row<I: SubIndex>(alloc: Global, rows: &[&[Call<'_>]]) -> Option<(usize, usize)> {
     for (number, row) in rows.iter().enumerate() {
         if let Some(place) = first_fault::<I>(alloc, row) {

@@ -1,5 +1,6 @@
-// Memory that is refused. Run with each allocation failing in turn: a call that finds none leaves
-// the store, and what was found, as they were, and does its work when it is made again.
+// Memory that is refused. Each test runs with each of its allocations failing in turn: a call that
+// runs out of memory leaves the store, and what was found, as they were, and does its work when it
+// is made again.
 
 use crate::retaining::row::put;
 use packet::QoS;
@@ -7,8 +8,8 @@ use retained::{RetainedError, RetainedStore};
 use std::alloc::Global;
 use topics::Filter;
 
-// Puts a publication, again where memory was refused: whether as many topics are kept then as
-// wanted, and as many as before in between.
+// Puts a publication, again if memory was refused: whether as many topics are kept then as
+// expected, and as many as before in between.
 fn is_put(
     alloc: Global,
     store: &mut RetainedStore,
@@ -35,7 +36,7 @@ fn filter_of(alloc: Global, text: &str) -> Option<Filter> {
     }
 }
 
-// How many topics a filter finds, none where memory was refused.
+// Returns how many topics a filter finds, none if memory was refused.
 fn count_of(alloc: Global, store: &RetainedStore, filter: &Filter) -> Option<usize> {
     let mut found = Vec::new(alloc);
     let is_found = store.matching(filter, &mut found).is_ok()
@@ -66,7 +67,8 @@ fn a_store_comes_through(rt: HostRuntime) {
     assert!(rt; comes_through(rt.alloc(), &mut store));
 }
 
-// The text of a topic by its number; a second try where the first one found no memory.
+// Returns the text of a topic by its number; it tries a second time if the first try ran out of
+// memory.
 fn text_of(alloc: Global, number: usize) -> Option<String> {
     match format!(in alloc; "t/{number}") {
         Ok(text) => Some(text),
@@ -81,7 +83,7 @@ fn is_filled(alloc: Global, store: &mut RetainedStore, number: usize) -> bool {
     }
 }
 
-// Whether as many topics are kept as may be, and another one is refused; again where memory was
+// Says whether as many topics are kept as may be, and another one is refused; again if memory was
 // refused for the question.
 fn is_full(alloc: Global, store: &mut RetainedStore) -> bool {
     let full = Some(Err(RetainedError::RetainedFull));

@@ -14,11 +14,11 @@ pub(crate) enum Row<'a> {
     IsFull(&'a str, QoS, &'a str),
     /// A filter finds these topics, in this order, each with its QoS and the length of its payload.
     Finds(&'a str, &'a [(&'a str, QoS, usize)]),
-    /// So many topics are kept.
+    /// This many topics are kept.
     Has(usize),
 }
 
-/// Whether a store does as a row says.
+/// Says whether a store does as a row says.
 pub(crate) fn is_right(alloc: Global, store: &mut RetainedStore, row: Row<'_>) -> bool {
     match row {
         Row::Put(topic, qos, payload) => put(alloc, store, topic, qos, payload) == Some(Ok(())),
@@ -30,7 +30,7 @@ pub(crate) fn is_right(alloc: Global, store: &mut RetainedStore, row: Row<'_>) -
     }
 }
 
-/// What a store answers to a publication; none where there was no memory for it.
+/// Returns what a store answers to a publication; none if there was no memory for it.
 pub(crate) fn put(
     alloc: Global,
     store: &mut RetainedStore,

@@ -1,5 +1,6 @@
-// Memory that is refused. Run with each allocation failing in turn: a call that finds none leaves
-// the session, and what was to be sent, as they were, and does its work when it is made again.
+// Memory that is refused. Each test runs with each of its allocations failing in turn: a call that
+// runs out of memory leaves the session, and what was to be sent, as they were, and does its work
+// when it is made again.
 
 use crate::sessions::row::Sent::{Again, New, Release};
 use crate::sessions::row::{Sent, are_sent, publication};
@@ -17,8 +18,8 @@ fn publication_at_last(alloc: Global) -> Option<Publication> {
     }
 }
 
-// Adds a publication: whether there is room for one less then, and as much as before where memory
-// was refused.
+// Adds a publication: whether there is room for one less then, and as much as before if memory was
+// refused.
 fn is_added(alloc: Global, session: &mut Session) -> Option<bool> {
     let room = session.room();
     match session.enqueue(publication_at_last(alloc)?) {
@@ -30,7 +31,7 @@ fn is_added(alloc: Global, session: &mut Session) -> Option<bool> {
     }
 }
 
-// Whether these are sent next, and nothing is where memory was refused.
+// Says whether these are sent next, and nothing is if memory was refused.
 fn sends(alloc: Global, session: &mut Session, wanted: &[Sent]) -> bool {
     let mut out = Vec::new(alloc);
     let is_sent = session.fill(16, &mut out).is_ok()
@@ -38,7 +39,7 @@ fn sends(alloc: Global, session: &mut Session, wanted: &[Sent]) -> bool {
     is_sent && are_sent(out.as_slice(), wanted)
 }
 
-// The same of what is sent again.
+// The same for what is sent again.
 fn sends_again(alloc: Global, session: &Session, wanted: &[Sent]) -> bool {
     let mut out = Vec::new(alloc);
     let is_sent = session.resend(&mut out).is_ok()
@@ -46,8 +47,8 @@ fn sends_again(alloc: Global, session: &Session, wanted: &[Sent]) -> bool {
     is_sent && are_sent(out.as_slice(), wanted)
 }
 
-// Whether the PUBREC of identifier 1 is answered, and one that ends nothing is not, without memory
-// too.
+// Says whether the PUBREC of identifier 1 is answered, and one that ends nothing is not, without
+// memory too.
 fn is_released(alloc: Global, session: &mut Session) -> bool {
     let mut out: Vec<Packet> = Vec::new(alloc);
     let id = PacketId::new(1);
@@ -59,7 +60,7 @@ fn is_released(alloc: Global, session: &mut Session) -> bool {
         && out.len() == 1
 }
 
-// Whether an identifier comes for the first time, and then again.
+// Says whether an identifier comes for the first time, and then again.
 fn is_received(session: &mut Session) -> bool {
     let id = PacketId::new(7);
     let is_first = session.inbound(id) == Ok(Arrival::First)

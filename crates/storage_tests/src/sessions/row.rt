@@ -23,7 +23,7 @@ pub(crate) enum Sent {
 /// What is done to a session.
 #[derive(Clone, Copy)]
 pub(crate) enum Row<'a> {
-    /// So many publications at a QoS are to wait.
+    /// This many publications at a QoS are to wait.
     Enqueue(u32, QoS),
     /// The queue is full.
     IsFull,
@@ -50,7 +50,7 @@ pub(crate) enum Row<'a> {
     Granted(Option<QoS>),
 }
 
-/// Which row a session does not do as it says, if there is one.
+/// Returns which row a session does not do as it says, if there is one.
 pub(crate) fn first_fault(alloc: Global, session: &mut Session, rows: &[Row<'_>]) -> Option<usize> {
     rows.iter().position(|row| !is_right(alloc, session, *row))
 }
@@ -85,7 +85,7 @@ fn topic(alloc: Global) -> Option<TopicName> {
     TopicName::new(alloc, "t/1").ok()
 }
 
-/// A publication of `x` on `t/1`.
+/// Returns a publication of `x` on `t/1`.
 pub(crate) fn publication(alloc: Global, qos: QoS) -> Option<Publication> {
     Some(Publication {
         retain: false,
@@ -132,7 +132,7 @@ fn pubrec(alloc: Global, session: &mut Session, number: u16, wanted: &[Sent]) ->
     session.on_pubrec(id, &mut out).is_ok() && are_sent(out.as_slice(), wanted)
 }
 
-/// Whether these packets are what is to be sent.
+/// Says whether these packets are what is to be sent.
 pub(crate) fn are_sent(packets: &[Packet], wanted: &[Sent]) -> bool {
     packets.len() == wanted.len()
         && packets
@@ -187,7 +187,7 @@ fn unsubscribe(alloc: Global, session: &mut Session, text: &str, count: usize) -
     !session.has_subscription(&filter) && session.subscription_count() == count
 }
 
-// At which QoS `t/1` is granted; none where there was no memory for the topic.
+// At which QoS `t/1` is granted; none if there was no memory for the topic.
 pub(crate) fn granted(alloc: Global, session: &Session) -> Option<Option<QoS>> {
     Some(session.granted(&topic(alloc)?))
 }

@@ -14,7 +14,7 @@ use Rattle.story.specs.Inside.Shape as shape
 
 -- ---- numbers
 
--- the numbers alone
+-- only the numbers
 pub numbers_alone : (n : ℕ) (own : List Own) → shape.AreNumbered n own → AreNumbered n own
 numbers_alone n [] h = tt
 numbers_alone n (Own.Unsent k p id ∷ own) h = (h.0, numbers_alone (suc n) own h.1)

@@ -32,13 +32,13 @@ use Rattle.story.proofs.carrying.Distinct.{IsTwo, two_is, count_id, count_more, 
 use Rattle.client_base.specs.Keeper.{all_own}
 use Rattle.client_base.proofs.NumbersStay.{joined_numbers}
 
--- ---- entries from places behind
+-- ---- entries from places after
 
 below_more : (m n : ℕ) (es : List Entry) → m ≤ n → MadeBelow m es → MadeBelow n es
 below_more m n [] less h = tt
 below_more m n (e ∷ es) less h = ((let first = h.0 in omega (arith, first, less)), below_more m n es less h.1)
 
--- one of two beginnings of a list has the place, or is not as long
+-- one of two prefixes of a list has the place, or is not as long
 either_side : (later front earlier below : Past) (place : Place) → later ++ earlier ≡ front ++ place ∷ below → StandsAt earlier place below ⊎ (length earlier ≤ length below)
 either_side [] front earlier below place e = inl (record { later = front; is = e })
 either_side (next ∷ later) [] earlier below place e =

@@ -28,7 +28,7 @@ one_more : (keeper : Keeper) (κ : Connection) (packet : Packet) → Each (IsOfO
     → Each (IsOfOwn (publications_of (all_own keeper))) (κ.written ++ plain packet ∷ [])
 one_more keeper κ packet all = each_append (IsOfOwn (publications_of (all_own keeper))) κ.written (plain packet ∷ []) all (plain_of (publications_of (all_own keeper)) packet, tt)
 
--- behind a PUBLISH
+-- after a PUBLISH
 publish_handles : (keeper : Keeper) (κ : Connection) (d : Delivery) (p : Publication) → Handles keeper κ (takes_in d p (counted_side keeper κ))
 publish_handles keeper κ deliveries.AtMostOnce p = record { said = refl; of = λ all. all }
 publish_handles keeper κ (deliveries.AtLeastOnce dup id) p = record { said = refl; of = one_more keeper κ (packets.Puback id) }
@@ -41,7 +41,7 @@ publish_handles keeper κ (deliveries.ExactlyOnce dup id) p = by (has_id id keep
     by true = record { said = refl; of = one_more keeper κ (packets.Pubrec id) }
     by false = record { said = refl; of = one_more keeper κ (packets.Pubrec id) }
 
--- behind a PUBREC
+-- after a PUBREC
 pubrec_handles : (keeper : Keeper) (κ : Connection) (i : ℕ) → Handles keeper κ (releasing i (counted_side keeper κ))
 pubrec_handles keeper κ i = by (is_sent_with i keeper.own) (has_id i keeper.releases)
   where
@@ -60,7 +60,7 @@ online_handles keeper κ (packets.Pubcomp i) = record { said = said_behind keepe
 online_handles keeper κ (packets.Pubrel i) = record { said = refl; of = one_more keeper κ (packets.Pubcomp i) }
 online_handles keeper κ _ = record { said = refl; of = λ all. all }
 
--- behind a CONNACK 0, whether it discards what was kept or not
+-- after a CONNACK 0, whether it discards what was kept or not
 confirmed_handles : (keeper : Keeper) (κ : Connection) (present : Bool) → AreNumbered (length keeper.earlier) keeper.own → Handles keeper κ (confirmed present (counted_side keeper κ))
 confirmed_handles keeper κ present numbered = by (not present && keeper.was_served)
   where

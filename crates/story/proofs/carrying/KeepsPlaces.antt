@@ -57,7 +57,7 @@ none_carried connections (commands.Expel d) past e = refl
 
 -- ---- the events
 
--- where no place is added
+-- if no place is added
 stays_carried : (limits : Limits) (s t : Story) → AreWithin s.past s.connections → Happens limits s t → t.past ≡ s.past → IsCarried limits s → IsCarried limits t
 stays_carried limits s t within h same c =
     record {
@@ -80,7 +80,7 @@ place_carried limits s command none c =
       numbers = c.numbers;
     }
 
--- what is left to show: what the place says where the client's next packet is taken
+-- what is left to show: what the place says if the client's next packet is taken
 abbrev pub SaysNext : {limits : Limits} {s t : Story} → Happens limits s t → Type 0
 SaysNext {limits = limits} {s = s} (takes i κ w stands next) =
     Says s.keeper.client (publications_of (all_own s.keeper)) (counted_at i s.connections) (place_of limits s.past (command_of κ.name κ.taken w.packet)) s.past

@@ -1,4 +1,4 @@
--- What a place that carries a publication of the client says of it, in every later story too.
+-- What a place that carries a publication of the client says about it, in every later story too.
 use Rattle.std.proofs.Common.{◌≡◌, ℕ, Bool, true, false, List, [], ◌∷◌, Some, None, sym, ◌∙◌, subst, arith}
 use Rattle.std.specs.Prelude.{slice_get}
 use Rattle.packet.specs.declared.publish.Publish.{Publish}

@@ -94,9 +94,9 @@ said_sent (Own.Sent k p id ∷ own) = ap (λ l. p ∷ l) (said_sent own)
 said_sent (Own.Released k p id ∷ own) = ap (λ l. p ∷ l) (said_sent own)
 said_sent (Own.Done k p ∷ own) = ap (λ l. p ∷ l) (said_sent own)
 
--- ---- what is sent behind a CONNACK 0
+-- ---- what is sent after a CONNACK 0
 
--- these stand in the whole from number n on
+-- these are in the whole from number n on
 abbrev StandFrom : List Publication → ℕ → List Publication → Type 0
 StandFrom ps n qs = (j : ℕ) (q : Publication) → slice_get qs j ≡ Some q → slice_get ps (n + j) ≡ Some q
 
@@ -131,7 +131,7 @@ releases_of : (ps : List Publication) (ids : List ℕ) → Each (IsOfOwn ps) (ma
 releases_of ps [] = tt
 releases_of ps (id ∷ ids) = (tt, releases_of ps ids)
 
--- behind these stand the others
+-- the others come after these
 get_behind : (xs ys : List Publication) (j : ℕ) → slice_get (xs ++ ys) (length xs + j) ≡ slice_get ys j
 get_behind [] ys j = let same : 0 + j ≡ j = omega arith in ap (slice_get ys) same
 get_behind (x ∷ xs) ys j = let same : suc (length xs) + j ≡ suc (length xs + j) = omega arith in ap (slice_get (x ∷ xs ++ ys)) same ∙ get_behind xs ys j

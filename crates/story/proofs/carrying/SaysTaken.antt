@@ -1,4 +1,4 @@
--- What the place says where the list takes the next packet of one of the client's connections.
+-- What the place says if the list takes the next packet of one of the client's connections.
 use Rattle.std.proofs.Common.{◌≡◌, ℕ, zero, suc, Bool, true, false, if◌then◌else◌, List, ◌∷◌, drop, Option, Some, None, refl, sym, ◌∙◌, ap, ap₂, subst, inl, inr, ◌⊎◌}
 use Rattle.std.specs.Prelude.{slice_get}
 use Rattle.std.proofs.lemmas.Bool.{both_ways}
@@ -85,7 +85,7 @@ only_own false false c d e = cc
 
 -- ---- the place
 
--- a PUBLISH of one of the client's connections, behind its CONNECT
+-- a PUBLISH of one of the client's connections, after its CONNECT
 publish_says : (limits : Limits) (past : Past) (keeper : Keeper) (connections : List Connection) (ps : List Publication) (i n : ℕ) (κ : Connection) (p : Publish) (number : Option ℕ)
     → HasShape limits (story_by past connections keeper) → IsGood (as_publisher limits (story_by past connections keeper)) → slice_get connections i ≡ Some κ
     → slice_get κ.written κ.taken ≡ Some (record { packet = packets.Publish p; number = number }) → κ.taken ≡ suc n → IsOf ps (packets.Publish p) number
@@ -122,7 +122,7 @@ publish_says limits past keeper connections ps i n κ p (Some j) shape good stan
     number_is : (k : ℕ) → number_at (count_of κ.name past) (connection_named κ.name (counted_at i connections)) ≡ Some k → j ≡ k
     number_is k e = let found : Some j ≡ Some k = sym carried ∙ e in cc
 
-    -- the connection is the current one, or it is nobody's
+    -- the connection is the current one, or it has no client
     marked : (mark ≡ packet_mark limits past c (packets.Publish p)) × (current_connection past c ≡ Some κ.name) ⊎ (mark ≡ Mark.NoPart)
     marked = by (current_or_not (current_connection past c) κ.name)
       where

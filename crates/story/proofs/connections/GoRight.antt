@@ -97,7 +97,7 @@ no_connack_sent command past y other (Send z packet ∷ answers) h = by (cases_B
     by (inl e) ih = subst (λ (b : Bool). no_connacks (if b then packet ∷ sends_to y answers else sends_to y answers)) (sym e) (plain e h.0.1, ih)
     by (inr e) ih = subst (λ (b : Bool). no_connacks (if b then packet ∷ sends_to y answers else sends_to y answers)) (sym e) ih
 
--- nothing where the command is not its own, and it is nobody's
+-- nothing if the command is not its own, and it has no client
 nothing_sent : (command : Command) (past : Past) (y : ConnectionName) → is_packet_of command y ≡ false → ((d : Client) → current_connection past d ≡ Some y → ⊥) → (answers : List Output)
     → Each (GoesRight command past) answers → sends_to y answers ≡ []
 nothing_sent command past y other none [] h = refl
@@ -110,11 +110,11 @@ nothing_sent command past y other none (Send z packet ∷ answers) h =
     by (inl e) (inl f) = absurd (both_ways (is_packet_of command y) other (ap (is_packet_of command) (same_name y z e) ∙ f))
     by (inl e) (inr f) = absurd (none f.0 (f.1 ∙ ap (λ x. Some x) (sym (same_name y z e))))
 
--- where none of its packets was taken it is nobody's
+-- if none of its packets was taken it has no client
 uncounted_nobody : (past : Past) (y : ConnectionName) → count_of y past ≡ 0 → (d : Client) → current_connection past d ≡ Some y → ⊥
 uncounted_nobody past y none d e = let some = current_counted past d y e in absurd (omega (arith, some, none))
 
--- a command that is none of its own is no Connect of it
+-- a command that is not its own is no Connect of it
 pub not_its_connect : (command : Command) (y : ConnectionName) → is_packet_of command y ≡ false → is_connect_of command y ≡ false
 not_its_connect (commands.Packet x packet) y e = refl
 not_its_connect (commands.Connect x c clean) y e = e
@@ -126,7 +126,7 @@ not_its_connect (commands.Expel d) y e = refl
 pub place_no_connack : (limits : Limits) (place : Place) (past : Past) (y : ConnectionName) → is_connect_of place.command y ≡ false → no_connacks (sends_to y (answers_at limits place past))
 place_no_connack limits place past y other = no_connack_sent place.command past y other (answers_at limits place past) (all_right limits place past)
 
--- and nothing where the place is of another, and it is nobody's
+-- and nothing if the place is of another, and it has no client
 pub place_to_nobody : (limits : Limits) (place : Place) (past : Past) (y : ConnectionName) → is_packet_of place.command y ≡ false → ((d : Client) → current_connection past d ≡ Some y → ⊥)
     → sends_to y (answers_at limits place past) ≡ []
 place_to_nobody limits place past y other none = nothing_sent place.command past y other none (answers_at limits place past) (all_right limits place past)

@@ -85,7 +85,7 @@ each_other limits place past connections e rows = both connections (none_named (
 
 -- ---- the next packet of one of them
 
--- it is one of them, and the place is none of the others
+-- it is one of them, and the place is not of one of the others
 first_taken : (limits : Limits) (place : Place) (past : Past) (i : ℕ) (connections : List Connection) (κ : Connection) → ((y : ConnectionName) → is_packet_of place.command y ≡ same_connection κ.name y)
     → NamesApart connections → slice_get connections i ≡ Some κ → FirstOf limits (place ∷ past) (taken_more κ) → Each (KeptFirst limits past) connections
     → Each (FirstOf limits (place ∷ past)) (counted_at i connections)

@@ -76,7 +76,7 @@ writes_of limits s shape =
     each_then (ConnectionInShape limits s.past s.keeper.client) (WritesOf s.keeper.client) s.connections
     (λ κ r. record { more = r.more; written = r.written; one_connect = r.one_connect; silent = r.silent; handled_some = r.handled_some }) shape.connections
 
--- where it is online, more is written
+-- if it is online, more is written
 writes_online : (limits : Limits) (s : Story) (b : Bool) → HasShape limits s → s.keeper.is_online ≡ b → (more : List Written) → Each IsLater more
     → Each (WritesOf s.keeper.client) (if b then writes_first more s.connections else s.connections)
 writes_online limits s true shape on more later =

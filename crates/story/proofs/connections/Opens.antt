@@ -37,7 +37,7 @@ pub record FirstOf (limits : Limits) (past : Past) (κ : Connection) : Type 0 wh
   pub connack_first : ConnackFirst κ.taken (put_to limits past κ.name)
   pub asks_first : κ.taken ≤ 1 → backward_of_own (put_to limits past κ.name) ≡ []
 
--- more that is no CONNACK comes behind one
+-- more that is no CONNACK comes after one
 pub connack_more : (n m : ℕ) (put more : List Packet) → ConnackFirst (suc n) put → no_connacks more → ConnackFirst (suc m) (put ++ more)
 connack_more n m [] more h none = absurd h
 connack_more n m (first ∷ put) more h none = (h.0, each_append (λ packet. is_connack packet ≡ false) put more h.1 none)

@@ -1,4 +1,5 @@
--- A packet that the client handles leaves a confirmed connection confirmed; where it leaves one unconfirmed nothing is written.
+-- A packet that the client handles leaves a confirmed connection confirmed; if it leaves one
+-- unconfirmed, nothing is written.
 use Rattle.std.proofs.Common.{◌≡◌, ℕ, Bool, true, false, if◌then◌else◌, [], ◌∷◌, ◌++◌, map, refl, sym, ◌∙◌}
 use Rattle.std.proofs.lemmas.Bool.{both_ways}
 use Rattle.packet.specs.declared.connack.Connack.TheVariants as connacks
@@ -17,7 +18,7 @@ use Rattle.story.proofs.publishing.Answered.{counted_side}
 
 -- ---- what is confirmed stays so
 
--- behind a PUBLISH
+-- after a PUBLISH
 taking_confirmed : (d : Delivery) (p : Publication) (side : Side) → (takes_in d p side).connection.confirmed ≡ side.connection.confirmed
 taking_confirmed deliveries.AtMostOnce p side = refl
 taking_confirmed (deliveries.AtLeastOnce dup id) p side = refl
@@ -30,7 +31,7 @@ taking_confirmed (deliveries.ExactlyOnce dup id) p side = by (has_id id side.kee
     by true = refl
     by false = refl
 
--- behind a PUBREC
+-- after a PUBREC
 releasing_confirmed : (i : ℕ) (side : Side) → (releasing i side).connection.confirmed ≡ side.connection.confirmed
 releasing_confirmed i side = by (is_sent_with i side.keeper.own) (has_id i side.keeper.releases)
   where
@@ -41,23 +42,23 @@ releasing_confirmed i side = by (is_sent_with i side.keeper.own) (has_id i side.
     by false true = refl
     by false false = refl
 
--- behind any packet
+-- after any packet
 online_confirmed : (packet : Packet) (side : Side) → (handled_online packet side).connection.confirmed ≡ side.connection.confirmed
 online_confirmed (packets.Publish p) side = taking_confirmed p.delivery (publication_of p) side
 online_confirmed (packets.Pubrec i) side = releasing_confirmed i side
 online_confirmed _ side = refl
 
--- one that is not confirmed behind a packet was not before, and wrote nothing
+-- one that is not confirmed after a packet was not before, and wrote nothing
 abbrev pub StaysSilent : Connection → Connection → Type 0
 StaysSilent κ after = after.confirmed ≡ false → (κ.confirmed ≡ false) × (after.written ≡ κ.written)
 
--- behind a first packet
+-- after a first packet
 first_silent : (packet : Packet) (keeper : Keeper) (κ : Connection) → StaysSilent κ (handled_first packet (counted_side keeper κ)).connection
 first_silent (packets.Connack (connacks.Accepted present)) keeper κ e = absurd (both_ways true e refl)
 first_silent (packets.Connack (connacks.Refused code)) keeper κ e = (e, refl)
 first_silent _ keeper κ e = (e, refl)
 
--- behind any
+-- after any
 pub handled_silent : (packet : Packet) (keeper : Keeper) (κ : Connection) → (keeper.is_online ≡ true → κ.confirmed ≡ true) → StaysSilent κ (handled packet (record { keeper = keeper; connection = κ })).connection
 handled_silent packet keeper κ on = by keeper.is_online on
   where

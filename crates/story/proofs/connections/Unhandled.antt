@@ -15,7 +15,7 @@ not_there (packet ∷ put) zero connack none e =
     both_ways (is_connack packet) none.0 (ap is_connack same)
 not_there (packet ∷ put) (suc n) connack none e = not_there put n connack none.1 e
 
--- so it stands first
+-- so it comes first
 pub connack_at_first : (taken n : ℕ) (put : List Packet) (connack : Connack) → ConnackFirst taken put → slice_get put n ≡ Some (packets.Connack connack) → n ≡ 0
 connack_at_first taken zero put connack first e = refl
 connack_at_first zero (suc n) put connack first e = absurd (let f : slice_get [] (suc n) ≡ Some (packets.Connack connack) = subst (λ (ps : List Packet). slice_get ps (suc n) ≡ Some (packets.Connack connack)) first e in cc)

@@ -1,4 +1,4 @@
--- What a connection is sent at one more place: a CONNACK stands there at a Connect of its own alone.
+-- What a connection is sent at one more place: a CONNACK is there only at a Connect of its own.
 use Rattle.std.proofs.Common.{◌≡◌, ℕ, zero, suc, Bool, true, false, not, if◌then◌else◌, List, [], ◌∷◌, length, Some, refl, sym, ◌∙◌, subst, Option, None}
 use Rattle.std.specs.Prelude.{slice_get}
 use Rattle.packet.specs.RefusalCode.TheVariants as refusals
@@ -31,7 +31,8 @@ use Rattle.story.proofs.subscribing.events.Opening.{is_new_one}
 use Rattle.story.proofs.subscribing.events.OtherConnects.{at_connect, connect_elsewhere}
 use Rattle.story.proofs.keeping.Quiet.{quiet_sends, resent_quiet, closed_quiet, packet_quiet}
 
--- what is asked of packets at a place: it holds of those that are no CONNACK, and of a CONNACK that refuses
+-- what is asked of packets at a place: it holds for those that are no CONNACK, and of a CONNACK
+-- that refuses
 pub record IsAsked (P : Place → Packet → Type 0) : Type 0 where
   pub quiet : (place : Place) (packet : Packet) → is_connack packet ≡ false → P place packet
   pub refused : (place : Place) → P place (packets.Connack (connacks.Refused refusals.ServerUnavailable))
@@ -44,7 +45,7 @@ one_send P y x packet more p g = by (same_connection y x)
     by true = (p, g)
     by false = g
 
--- what any connection is sent at a Connect, where it holds of its CONNACK 0
+-- what any connection is sent at a Connect, if it holds for its CONNACK 0
 pub connect_sends : (P : Place → Packet → Type 0) → IsAsked P → (limits : Limits) (past : Past) (y x : ConnectionName) (c : Client) (mark : Mark)
     → (mark ≡ Mark.Accepted → P (at_connect x c false mark) (packets.Connack (connacks.Accepted (not (begins (at_connect x c false mark) past c)))))
     → Each (P (at_connect x c false mark)) (sends_to y (answers_at limits (at_connect x c false mark) past))
@@ -68,7 +69,7 @@ packet_sends P asked limits past y x packet =
     let place = place_of limits past (commands.Packet x packet) in
     quiet_sends (P place) (asked.quiet place) y (answers_at limits place past) (packet_quiet packet (mark_of limits past (commands.Packet x packet)) limits place past x)
 
--- where the next written packet of one of the client's connections is taken
+-- if the next written packet of one of the client's connections is taken
 pub own_sends : (P : Place → Packet → Type 0) → IsAsked P → (limits : Limits) (past : Past) (c : Client) (κ : Connection) (w : Written) (y : ConnectionName) → ConnectionInShape limits past c κ
     → slice_get κ.written κ.taken ≡ Some w
     → ((mark : Mark) → mark ≡ Mark.Accepted → P (at_connect κ.name c false mark) (packets.Connack (connacks.Accepted (not (begins (at_connect κ.name c false mark) past c)))))
@@ -85,7 +86,7 @@ own_sends P asked limits past c κ w y shape next accepted = by κ.taken refl
         subst (λ (z : Written). goal (command_of κ.name zero z.packet)) (sym new.first) (connect_sends P asked limits past y κ.name c mark (accepted mark))
     by (suc n) e = packet_sends P asked limits past y κ.name w.packet
 
--- where a command of another connection is taken
+-- if a command of another connection is taken
 pub other_sends : (P : Place → Packet → Type 0) → IsAsked P → (limits : Limits) (past : Past) (command : Command) (y : ConnectionName) → is_packet_of command y ≡ false
     → Each (P (place_of limits past command)) (sends_to y (answers_at limits (place_of limits past command) past))
 other_sends P asked limits past (commands.Packet x packet) y other = packet_sends P asked limits past y x packet

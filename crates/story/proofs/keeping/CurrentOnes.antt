@@ -43,7 +43,7 @@ last_one (Some x) connections h = (h.0, this_of x connections h.1)
 
 -- ---- places
 
--- a place after which it stays or is none
+-- a place after which it stays or there is none
 pub top_stays : (before behind : Option ConnectionName) (connections : List Connection) → IsTopOne before connections → (behind ≡ before) ⊎ (behind ≡ None) → IsTopOne behind connections
 top_stays before behind connections h (inl e) = subst (λ (o : Option ConnectionName). IsTopOne o connections) (sym e) h
 top_stays before behind connections h (inr e) = subst (λ (o : Option ConnectionName). IsTopOne o connections) (sym e) tt

@@ -1,5 +1,6 @@
--- The row of shape of the connection that the client holds is kept by every event: it is confirmed where the client is online,
--- and where it is not yet, no CONNACK 0 on it says that a session that was there is gone.
+-- The row of shape of the connection that the client holds is kept by every event: it is confirmed
+-- if the client is online, and if it is not yet, no CONNACK 0 on it says that a session that was
+-- there is gone.
 use Rattle.std.proofs.Common.{◌≡◌, ℕ, zero, suc, Bool, true, false, not, if◌then◌else◌, List, [], ◌∷◌, Some, refl, ap, ap₂, sym, ◌∙◌, subst, inl, inr}
 use Rattle.std.proofs.lemmas.Bool.{both_ways}
 use Rattle.packet.specs.declared.connack.Connack.TheVariants as connacks
@@ -54,7 +55,7 @@ says_present past x c mark there e f =
 
 -- ---- places
 
--- where what the first one is sent then is in order
+-- if what the first one is sent then is in order
 held_placed : (limits : Limits) (place : Place) (past : Past) (keeper : Keeper) (connections : List Connection)
     → (keeper.was_served ≡ true → Each (λ (κ : Connection). Each IsPresent (sends_to κ.name (answers_at limits place past))) connections)
     → HeldInShape limits past keeper connections → HeldInShape limits (place ∷ past) keeper connections

@@ -17,7 +17,7 @@ use Rattle.story.proofs.keeping.Settled.{IsWelcome, served_handled}
 use Rattle.story.proofs.keeping.Welcomed.{still_there}
 use Rattle.story.proofs.places.Spared.{taken_spares, other_spares}
 
--- it holds of the one that is there
+-- it holds for the one that is there
 pub packet_at : (P : Packet → Type 0) (xs : List Packet) (n : ℕ) (x : Packet) → Each P xs → slice_get xs n ≡ Some x → P x
 packet_at P [] n x h e = absurd (cc)
 packet_at P (y ∷ xs) zero x h e = let f : y ≡ x = cc in subst P f h.0

@@ -1,4 +1,4 @@
--- Each event keeps the shape of a story, where it keeps that of the client's connections.
+-- Each event keeps the shape of a story, if it keeps that of the client's connections.
 use Rattle.std.proofs.Common.{◌≡◌, refl, subst, sym}
 use Rattle.broker_base.specs.Place.{Client, Limits}
 use Rattle.broker_base.specs.Past.{session_of}
@@ -30,7 +30,7 @@ same_story limits s t (publishes_one p needs) = refl
 same_story limits s t (subscribes p on id) = refl
 same_story limits s t (unsubscribes p on id) = refl
 
--- all rows, with those of its connections behind the event
+-- all rows, with those of its connections after the event
 pub events_keep_rest : (limits : Limits) (s t : Story) → IsSoundStory limits s → Happens limits s t
     → Each (ConnectionInShape limits t.past t.keeper.client) t.connections → HasShape limits t
 events_keep_rest limits s t sound h connections =

@@ -1,4 +1,4 @@
--- No answer to a packet is a CONNACK: a Connect alone is answered with one.
+-- No answer to a packet is a CONNACK: only a Connect is answered with one.
 use Rattle.std.proofs.Common.{◌≡◌, ℕ, suc, Bool, true, false, ◌==◌, if◌then◌else◌, List, [], ◌∷◌, ◌++◌, length, map, take, drop, Option, Some, None, refl}
 use Rattle.std.specs.Prelude.{flat_map}
 use Rattle.packet.specs.declared.delivery.Delivery.{Delivery}
@@ -33,7 +33,8 @@ each_flat : {X : Type 0} (f : X → List Output) (xs : List X) → ((x : X) → 
 each_flat f [] h = tt
 each_flat f (x ∷ xs) h = each_append IsQuiet (f x) (flat_map f xs) (h x) (each_flat f xs h)
 
--- what holds of each packet that is no CONNACK holds of each that a connection is sent of quiet answers
+-- what holds for each packet that is no CONNACK holds for each that a connection is sent of quiet
+-- answers
 pub quiet_sends : (P : Packet → Type 0) → ((packet : Packet) → is_connack packet ≡ false → P packet) → (x : ConnectionName) (answers : List Output) → Each IsQuiet answers → Each P (sends_to x answers)
 quiet_sends P quiet x [] h = tt
 quiet_sends P quiet x (Send y packet ∷ answers) h = by (same_connection x y) (quiet_sends P quiet x answers h.1)

@@ -17,7 +17,7 @@ use Rattle.broker_base.proofs.ConnectionNames.{same_name}
 use Rattle.story.proofs.subscribing.Newest.{Unconfirmed}
 use Rattle.story.proofs.subscribing.Counted.{named_at}
 
--- no connection of this name that is confirmed stands behind a confirmed one
+-- no connection of this name that is confirmed comes after a confirmed one
 abbrev pub IsTop : ConnectionName → List Connection → Type 0
 IsTop x [] = Unit {0}
 IsTop x (κ ∷ others) = (κ.confirmed ≡ true → Unconfirmed x others) × IsTop x others
@@ -29,7 +29,7 @@ none_unconfirmed x (κ ∷ others) h =
     let g = or_none (same_connection x κ.name) (any_named (same_connection x) others) h in
     (λ e. absurd (both_ways (same_connection x κ.name) g.0 e), none_unconfirmed x others g.1)
 
--- where all of the name are unconfirmed
+-- if all of the name are unconfirmed
 pub unconfirmed_top : (x : ConnectionName) (connections : List Connection) → Unconfirmed x connections → IsTop x connections
 unconfirmed_top x [] h = tt
 unconfirmed_top x (κ ∷ others) h = (λ e. h.1, unconfirmed_top x others h.1)

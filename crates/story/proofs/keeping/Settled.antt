@@ -1,4 +1,5 @@
--- Behind each packet that it handles a client is online on its open connection, or has left it; and what makes it served.
+-- After each packet that it handles a client is online on its open connection, or has left it; and
+-- what makes it served.
 use Rattle.std.proofs.Common.{◌≡◌, ℕ, Bool, true, false, not, ◌&&◌, if◌then◌else◌, refl, sym, ◌∙◌, ◌⊎◌, inl, inr}
 use Rattle.std.proofs.lemmas.Bool.{cases_Bool}
 use Rattle.packet.specs.declared.connack.Connack.TheVariants as connacks
@@ -81,7 +82,7 @@ served_first _ side e = inl e
 
 -- ---- any packet that the client handles
 
--- where it is open, and online as far as its connection is confirmed
+-- if it is open, and online as far as its connection is confirmed
 pub settled_handled : (packet : Packet) (side : Side) → side.keeper.is_open ≡ true → side.connection.confirmed ≡ side.keeper.is_online → IsSettled (handled packet side)
 settled_handled packet side opened same = by side.keeper.is_online refl
   where

@@ -1,5 +1,5 @@
--- Every event keeps the shape, so every story is sound, and its client
--- accepts a beginning of its session's entries.
+-- Every event keeps the shape, so every story is sound, and its client accepts a prefix of its
+-- session's entries.
 use Rattle.broker_base.specs.Place.{Client, Limits}
 use Rattle.broker_base.specs.QuietLaws.{IsSteady}
 use Rattle.story.specs.Story.{Story, Told}
@@ -20,6 +20,6 @@ events_keep_shape limits s t sound happens =
 pub told_stories_are_sound : (limits : Limits) → IsSteady limits → (c : Client) (s : Story) → Told limits c s → IsSoundStory limits s
 told_stories_are_sound = stories_are_sound events_keep_shape events_publish event_subscribes
 
--- the client accepts a beginning of its entries, and each released one is among it
+-- the client accepts a prefix of its entries, and each released one is among it
 pub told_stories_accept : (limits : Limits) → IsSteady limits → (c : Client) (s : Story) → Told limits c s → AcceptedInOrder limits s
 told_stories_accept = stories_accept events_keep_shape events_publish event_subscribes

@@ -1,5 +1,5 @@
--- A row that shape needs beside the others, kept by every event: where a CONNACK 0 stands among the answers to one of the
--- client's connections, the client has a session, and it is not clean.
+-- A row that shape needs in addition to the others, kept by every event: if a CONNACK 0 is among
+-- the answers to one of the client's connections, the client has a session, and it is not clean.
 use Rattle.std.proofs.Common.{◌≡◌, ℕ, zero, suc, Bool, true, false, if◌then◌else◌, List, [], ◌∷◌, Option, Some, None, refl, ap, sym, ◌∙◌, subst, inl, inr}
 use Rattle.std.proofs.lemmas.Bool.{both_ways}
 use Rattle.packet.specs.declared.packet.Packet.{Packet}
@@ -34,7 +34,7 @@ use Rattle.story.proofs.places.Spared.{taken_spares, other_spares}
 
 -- ---- places
 
--- a session that is there and not clean stays where none ends
+-- a session that is there and not clean stays if none ends
 pub still_there : (place : Place) (past : Past) (c : Client) → IsSpared place.command past c → session_of past c ≡ Some false → IsKeptSession (session_of (place ∷ past) c) → session_of (place ∷ past) c ≡ Some false
 still_there place past c spared there (inr e) = e
 still_there place past c spared there (inl none) = by (accepts place.command place.mark c) refl

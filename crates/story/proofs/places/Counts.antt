@@ -1,4 +1,5 @@
--- How many packets of a connection stand in a list, and that a current connection has its Connect there.
+-- How many packets of a connection are in a list, and that a current connection has its Connect
+-- there.
 use Rattle.std.proofs.Common.{◌≡◌, ◌≤◌, ◌<◌, suc, Bool, true, false, not, if◌then◌else◌, [], ◌∷◌, Option, Some, None, refl, subst, arith, inl, inr, ◌⊎◌}
 use Rattle.std.proofs.lemmas.Bool.{both_ways}
 use Rattle.broker_base.specs.Connection.{ConnectionName}
@@ -38,7 +39,7 @@ accepted_counts (commands.Connect x d clean) Mark.Accepted c opened e =
     subst (λ (o : ConnectionName × Bool). is_packet_of (commands.Connect x d clean) o.0 ≡ true) same (same_itself x)
 accepted_counts _ _ c opened e = cc
 
--- a connection that is current behind a place was opened there, or was current before
+-- a connection that is current after a place was opened there, or was current before
 opened_or_old : (command : Command) (mark : Mark) (c : Client) (over : Bool) (old : Option ConnectionName) (x : ConnectionName) → newest_connection (accepts command mark c) over old ≡ Some x
     → (is_packet_of command x ≡ true) ⊎ (old ≡ Some x)
 opened_or_old command mark c over old x e = by (accepts command mark c) refl e

@@ -1,4 +1,4 @@
--- A client's connection and received identifiers behind one more place, for each kind of command.
+-- A client's connection and received identifiers after one more place, for each kind of command.
 use Rattle.std.proofs.Common.{◌≡◌, ℕ, Bool, true, false, ◌&&◌, if◌then◌else◌, List, ◌∷◌, Option, Some, None, refl, ap, ◌∙◌, inr}
 use Rattle.packet.specs.declared.publish.Publish.{Publish}
 use Rattle.packet.specs.declared.packet.Packet.{Packet}
@@ -19,7 +19,7 @@ use Rattle.broker_base.proofs.ConnectionNames.{same_itself}
 use Rattle.story.proofs.places.After.{IsKeptSession, current_stays, current_ends, current_opens, session_stays, session_opens, received_live, received_stays, received_opens}
 use Rattle.story.proofs.places.Owned.{NobodyElse, none_owns, own_owner}
 
--- what stands behind a place
+-- what comes after a place
 pub record Behind (place : Place) (past : Past) (c : Client) (connection : Option ConnectionName) (session : Option Bool) (received : List ℕ) : Type 0 where
   pub connection_is : current_connection (place ∷ past) c ≡ connection
   pub session_is : session_of (place ∷ past) c ≡ session

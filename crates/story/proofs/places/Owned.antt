@@ -1,4 +1,5 @@
--- Whose current connection one of a client's is, where nobody else is on any of them.
+-- Which client has one of a client's connections as its current one, if no other client is on any
+-- of them.
 use Rattle.std.proofs.Common.{◌≡◌, Bool, true, false, List, Option, Some, None, refl, ap, sym, subst}
 use Rattle.std.specs.Prelude.{is_some}
 use Rattle.std.proofs.lemmas.Bool.{both_ways}
@@ -12,7 +13,7 @@ use Rattle.story.specs.Story.{any_named}
 use Rattle.broker_base.proofs.ConnectionNames.{same_name, same_itself}
 use Rattle.story.proofs.places.Owners.{owner_has, owner_there}
 
--- nobody else is on one of these connections
+-- no other client is on one of these connections
 abbrev pub NobodyElse : Past → Client → List Connection → Type 0
 NobodyElse past c connections = (d : Client) (x : ConnectionName) → current_connection past d ≡ Some x → any_named (same_connection x) connections ≡ true → same_client d c ≡ true
 
@@ -29,7 +30,7 @@ owner_is_own past c d connections x nobody named e =
     let same : d ≡ c = same_is d c (nobody d x has named) in
     (same, subst (λ (k : Client). current_connection past k ≡ Some x) same has)
 
--- one that is not current is nobody's
+-- one that is not current has no client
 pub none_owns : (past : Past) (c : Client) (connections : List Connection) (x : ConnectionName) → NobodyElse past c connections → any_named (same_connection x) connections ≡ true
     → (current_connection past c ≡ Some x → ⊥) → owner_of past x ≡ None
 none_owns past c connections x nobody named not = by (owner_of past x) refl
@@ -47,7 +48,7 @@ own_owner past c connections x nobody named current = by (owner_of past x) refl 
     by None e some = absurd (both_ways false refl some)
     by (Some d) e some = ap (λ k. Some k) (owner_is_own past c d connections x nobody named e).0
 
--- an owner of one that is none of them is not the client
+-- an owner of a connection that is not one of them is not the client
 pub owner_is_other : (past : Past) (c d : Client) (connections : List Connection) (x : ConnectionName)
     → ((y : ConnectionName) → current_connection past c ≡ Some y → any_named (same_connection y) connections ≡ true) → any_named (same_connection x) connections ≡ false
     → owner_of past x ≡ Some d → same_client d c ≡ false

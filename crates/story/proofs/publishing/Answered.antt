@@ -25,7 +25,7 @@ use Rattle.story.proofs.publishing.Own.{items_released, items_finished, sent_the
 use Rattle.story.proofs.publishing.Written.{dropped_next}
 use Rattle.story.proofs.publishing.First.{story_by, first_link, goes_first}
 
--- the first answer under way is due
+-- the first answer in transit is due
 pub due_first : (h : Handshake ℕ) (good : IsGood h) (cur : Bool) (m : Backward) (f : List (Forward ℕ)) (b : List Backward) → h.link ≡ link_by cur true f (m ∷ b)
     → IsDue h.received good.old m
 due_first h good true m f b e = (subst (λ (l : Link ℕ). IsLinked h.received good.old good.new l) e good.link).due.0

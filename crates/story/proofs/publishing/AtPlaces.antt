@@ -1,4 +1,5 @@
--- One more place in the list: what is to show that it is a run of the handshake, where no packet of the handshake is taken.
+-- One more place in the list: what is to show that it is a run of the handshake, if no packet of
+-- the handshake is taken.
 use Rattle.std.proofs.Common.{◌≡◌, ◌≤◌, ℕ, Bool, true, false, List, ◌∷◌, ◌++◌, length, drop, Option, Some, None, refl, ap, ap₂, sym, ◌∙◌, subst, inl, inr, ◌⊎◌}
 use Rattle.std.proofs.lemmas.List.{append-nil}
 use Rattle.lists.specs.Lists.{has_id, Each}
@@ -26,7 +27,7 @@ pub put_more : (limits : Limits) (place : Place) (past : Past) (x : ConnectionNa
 unfolding put_to
 put_more limits place past x = refl
 
--- come behind those that are not handled yet
+-- come after those that are not handled yet
 pub come_more : (limits : Limits) (place : Place) (past : Past) (κ : Connection) → κ.handled ≤ length (put_to limits past κ.name)
     → backward_of_own (drop κ.handled (put_to limits (place ∷ past) κ.name)) ≡ backward_of_own (to_come limits past κ) ++ backward_of_own (sends_to κ.name (answers_at limits place past))
 come_more limits place past κ within =
@@ -42,7 +43,7 @@ no_number connections later place past old same =
 abbrev pub NoneToLast : Limits → Place → Past → List Connection → Type 0
 NoneToLast limits place past connections = (κ : Connection) → last_confirmed connections ≡ Some κ → NoneSent κ.name (answers_at limits place past)
 
--- so nothing more is under way to it
+-- so nothing more is in transit to it
 pub come_same : (limits : Limits) (place : Place) (past : Past) (keeper : Keeper) (connections : List Connection) → Each (ConnectionInShape limits past keeper.client) connections
     → NoneToLast limits place past connections
     → backward_last limits past (last_confirmed connections) ≡ backward_last limits (place ∷ past) (last_confirmed connections)

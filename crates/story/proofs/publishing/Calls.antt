@@ -59,7 +59,7 @@ pub holds_of : (limits : Limits) (past : Past) (keeper : Keeper) (κ : Connectio
     → HeldInShape limits past keeper (κ ∷ others) → Holds limits past keeper κ
 holds_of limits past keeper κ others each held = record { shape = each.0; confirmed = λ on. held.0 (held.1 on) ∙ on }
 
--- it says that it leaves, where it is online
+-- it sends DISCONNECT, if it is online
 pub disconnects_it : (limits : Limits) (past : Past) (keeper : Keeper) (connections : List Connection) → Each (ConnectionInShape limits past keeper.client) connections
     → HeldInShape limits past keeper connections
     → GoesTo (as_publisher limits (story_by past connections keeper))

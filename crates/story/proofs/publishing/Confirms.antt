@@ -39,7 +39,7 @@ each_among own (id ∷ ids) all among same =
 
 -- ---- the run
 
--- all is sent again, where anybody takes it in
+-- all is sent again, if any client accepts it
 restarts_by : (h : Handshake ℕ) (cur : Bool) (releases : List ℕ) → IsDistinct releases → Each (λ id. has_released id h.items ≡ true) releases
     → Reaches h h.items (link_by cur true (resend releases h.items) [])
 restarts_by h true releases d e = reaches_by h h.items (Link.Joined (resend releases h.items) []) (Link.Joined (resend releases h.items) []) (restarts releases d e) refl

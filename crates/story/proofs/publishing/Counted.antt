@@ -1,4 +1,5 @@
--- The list takes one more packet of a connection of the client: what is to show, and that nothing happens where it is nobody's.
+-- The list takes one more packet of a connection of the client: what is to show, and that nothing
+-- happens if it has no client.
 use Rattle.std.proofs.Common.{◌≡◌, ℕ, Bool, true, false, ◌&&◌, List, ◌∷◌, Option, Some, None, refl, ap, ap₂, sym, ◌∙◌, subst, inl, inr, ◌⊎◌}
 use Rattle.std.specs.Prelude.{slice_get}
 use Rattle.std.proofs.lemmas.Bool.{cases_Bool}
@@ -28,7 +29,7 @@ use Rattle.story.proofs.publishing.Last.{is_named, LastAfter, last_counted}
 use Rattle.story.proofs.publishing.Elsewhere.{NoneSent}
 use Rattle.story.proofs.publishing.AtPlaces.{no_number, NoneToLast, come_same, StaysOrLeaves, goes_place}
 
--- where no packet of the handshake is taken
+-- if no packet of the handshake is taken
 pub goes_counted : (limits : Limits) (place : Place) (past : Past) (keeper : Keeper) (connections : List Connection) (i : ℕ) (κ : Connection) → HasShape limits (story_by past connections keeper)
     → slice_get connections i ≡ Some κ → is_new place.command place.mark ≡ false → received_of past keeper.client ≡ received_of (place ∷ past) keeper.client → NoneToLast limits place past connections
     → (LastAfter (last_confirmed connections) (last_confirmed (counted_at i connections)) κ
@@ -55,7 +56,7 @@ not_current (Some y) x not = by (cases_Bool (same_connection y x))
     by (inl e) = absurd (not (ap (λ z. Some z) (same_name y x e)))
     by (inr e) = e
 
--- ---- a packet that is nobody's
+-- ---- a packet on a connection without a client
 
 new_nobodys : (x : ConnectionName) (packet : Packet) → is_new (commands.Packet x packet) Mark.NoPart ≡ false
 new_nobodys x (packets.Publish p) = refl

@@ -23,11 +23,11 @@ use Rattle.story.proofs.publishing.Written.{dropped_next, forward_more}
 abbrev pub story_by : Past → List Connection → Keeper → Story
 story_by past connections keeper = record { past = past; connections = connections; keeper = keeper }
 
--- the connection behind an event of the client
+-- the connection after an event of the client
 abbrev pub after_by : Connection → List Written → ℕ → Bool → List Publication → Connection
 after_by κ ws handled confirmed accepted = record { name = κ.name; written = ws; taken = κ.taken; handled = handled; confirmed = confirmed; accepted = accepted }
 
--- the link where the newest connection is confirmed
+-- the link if the newest connection is confirmed
 pub first_link : (limits : Limits) (past : Past) (keeper : Keeper) (κ : Connection) (others : List Connection) → κ.confirmed ≡ true
     → (as_publisher limits (story_by past (κ ∷ others) keeper)).link
     ≡ link_by (is_current (current_connection past keeper.client) κ.name) keeper.is_online (forward_of_own (to_be_taken κ)) (backward_of_own (to_come limits past κ))

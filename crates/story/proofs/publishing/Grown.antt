@@ -1,4 +1,5 @@
--- What a packet that the client handles makes of its newest connection: one more is handled, and more may be written.
+-- What a packet that the client handles does to its newest connection: one more is handled, and
+-- more may be written.
 use Rattle.std.proofs.Common.{◌≡◌, ℕ, suc, Bool, true, false, not, ◌&&◌, if◌then◌else◌, List, [], ◌∷◌, ◌++◌, map, refl, sym}
 use Rattle.std.proofs.lemmas.List.{append-nil}
 use Rattle.packet.specs.declared.connack.Connack.TheVariants as connacks
@@ -21,7 +22,7 @@ use Rattle.story.proofs.publishing.Answered.{counted_side}
 abbrev pub IsLater : Written → Type 0
 IsLater w = (is_two_unnumbered w.packet w.number ≡ false) × (is_connect w ≡ false)
 
--- the connection with so many handled, and later packets written
+-- the connection with this many handled, and later packets written
 pub record Grown (κ after : Connection) (n : ℕ) : Type 0 where
   pub name : after.name ≡ κ.name
   pub taken : after.taken ≡ κ.taken
@@ -64,13 +65,13 @@ resent_later keeper =
     each_append IsLater (map (λ id. plain (packets.Pubrel id)) keeper.releases ++ sent_again keeper.own) (sent_first keeper.own)
     (each_append IsLater (map (λ id. plain (packets.Pubrel id)) keeper.releases) (sent_again keeper.own) (releases_later keeper.releases) (again_later keeper.own)) (first_later keeper.own)
 
--- behind a CONNACK 0
+-- after a CONNACK 0
 confirmed_grows : (κ : Connection) (keeper : Keeper) (present : Bool) → Grown κ (confirmed present (counted_side keeper κ)).connection (suc κ.handled)
 confirmed_grows κ keeper present =
     let kept = if not present && keeper.was_served then discarded keeper else keeper in
     record { name = refl; taken = refl; handled = refl; more = resent kept; written = refl; later = resent_later kept }
 
--- behind a PUBLISH
+-- after a PUBLISH
 publish_grows : (κ : Connection) (keeper : Keeper) (d : Delivery) (p : Publication) → Grown κ (takes_in d p (counted_side keeper κ)).connection (suc κ.handled)
 publish_grows κ keeper deliveries.AtMostOnce p = same_written κ keeper
 publish_grows κ keeper (deliveries.AtLeastOnce dup id) p = one_written κ (counted_side keeper κ) (plain (packets.Puback id)) refl refl refl refl (refl, refl)
@@ -83,7 +84,7 @@ publish_grows κ keeper (deliveries.ExactlyOnce dup id) p = by (has_id id keeper
     by true = one_written κ (counted_side keeper κ) (plain (packets.Pubrec id)) refl refl refl refl (refl, refl)
     by false = record { name = refl; taken = refl; handled = refl; more = plain (packets.Pubrec id) ∷ []; written = refl; later = ((refl, refl), tt) }
 
--- behind a PUBREC
+-- after a PUBREC
 pubrec_grows : (κ : Connection) (keeper : Keeper) (i : ℕ) → Grown κ (releasing i (counted_side keeper κ)).connection (suc κ.handled)
 pubrec_grows κ keeper i = by (is_sent_with i keeper.own) (has_id i keeper.releases)
   where

@@ -1,4 +1,4 @@
--- The last confirmed connection, where one more packet of a connection is taken.
+-- The last confirmed connection, if one more packet of a connection is taken.
 use Rattle.std.proofs.Common.{◌≡◌, ℕ, zero, suc, Bool, true, false, if◌then◌else◌, List, [], ◌∷◌, Option, Some, ap, sym, ◌∙◌, subst, inl, inr, ◌⊎◌}
 use Rattle.std.specs.Prelude.{slice_get}
 use Rattle.std.proofs.lemmas.Bool.{cases_Bool}
@@ -12,7 +12,7 @@ use Rattle.story.specs.Inside.Projections.{last_confirmed}
 use Rattle.story.specs.Inside.Shape.{NamesApart}
 use Rattle.broker_base.proofs.ConnectionNames.{same_itself}
 
--- what holds of each holds of the last confirmed one
+-- what holds for each holds for the last confirmed one
 pub each_last : (P : Connection → Type 0) (connections : List Connection) (κ : Connection) → Each P connections → last_confirmed connections ≡ Some κ → P κ
 each_last P [] κ h e = cc
 each_last P (μ ∷ connections) κ h e = by (cases_Bool μ.confirmed) (each_last P connections κ h.1)

@@ -1,4 +1,4 @@
--- The link of a publisher by two tests, and what a run makes of a handshake's items and link.
+-- The link of a publisher by two tests, and what a run does to a handshake's items and link.
 use Rattle.std.proofs.Common.{◌≡◌, ℕ, Bool, true, false, if◌then◌else◌, List, [], ◌∷◌, ◌++◌, Option, Some, None, refl, ap, ◌∙◌}
 use Rattle.broker_base.specs.Connection.{ConnectionName}
 use Rattle.broker_base.specs.Place.{Past, Limits}
@@ -67,7 +67,7 @@ pub reaches_by : (h : Handshake ℕ) (items : List (Item ℕ)) (l m : Link ℕ) 
 reaches_by h items l m move e =
     record { after = with_items items l h; run = goes_on stays move; items_are = refl; accepted = refl; received = refl; link = e }
 
--- one after the other
+-- one after another
 pub reaches_then : (h : Handshake ℕ) (items more : List (Item ℕ)) (l m : Link ℕ) → Reaches h items l
     → ((k : Handshake ℕ) → k.items ≡ items → k.link ≡ l → Reaches k more m) → Reaches h more m
 reaches_then h items more l m r next =
@@ -81,7 +81,7 @@ reaches_then h items more l m r next =
       link = n.link;
     }
 
--- to a story's handshake, where the rest did not change
+-- to a story's handshake, if the rest did not change
 pub goes_of : (h k : Handshake ℕ) (items : List (Item ℕ)) (l : Link ℕ) → Reaches h items l → items ≡ k.items → h.accepted ≡ k.accepted
     → ((id : ℕ) → h.received id ≡ k.received id) → l ≡ k.link → GoesTo h k
 goes_of h k items l r i a e n =
@@ -107,7 +107,7 @@ receiver_goes h true false f b e = reaches_by h h.items (Link.Behind []) (Link.B
 receiver_goes h false true f b e = reaches_itself h (Link.Behind b) e
 receiver_goes h false false f b e = reaches_itself h (Link.Behind []) e
 
--- the sender, while it is there, hears an answer
+-- the sender, while it is there, receives an answer
 pub hears_one : (h : Handshake ℕ) (cur : Bool) (m : Backward) (f : List (Forward ℕ)) (b : List Backward) → h.link ≡ link_by cur true f (m ∷ b)
     → Reaches h (heard m h.items) (link_by cur true (f ++ reply m) b)
 hears_one h true m f b e = reaches_by h (heard m h.items) (Link.Joined (f ++ reply m) b) (Link.Joined (f ++ reply m) b) (hears m f b e) refl

@@ -1,4 +1,5 @@
--- Which answers to a packet are of the handshake in which a client publishes: those to PUBLISH and PUBREL on its own connection alone.
+-- Which answers to a packet belong to the handshake in which a client publishes: only those to
+-- PUBLISH and PUBREL on its own connection.
 use Rattle.std.proofs.Common.{◌≡◌, suc, Bool, true, false, if◌then◌else◌, [], ◌∷◌, length, refl, ap, sym, ◌∙◌}
 use Rattle.std.specs.Prelude.{flat_map}
 use Rattle.std.proofs.lemmas.List.{append-nil}

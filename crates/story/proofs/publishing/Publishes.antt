@@ -1,4 +1,4 @@
--- A PUBLISH that the client writes is of the handshake where it is of QoS 2.
+-- A PUBLISH that the client writes belongs to the handshake if it is at QoS 2.
 use Rattle.std.proofs.Common.{◌≡◌, ℕ, Bool, if◌then◌else◌, List, ◌∷◌, Some, refl}
 use Rattle.packet.specs.declared.qos.QoS.{QoS}
 use Rattle.packet.specs.declared.qos.QoS.TheVariants as levels

@@ -1,4 +1,4 @@
--- Which identifiers are released behind a PUBREC and a PUBCOMP.
+-- Which identifiers are released after a PUBREC and a PUBCOMP.
 use Rattle.std.proofs.Common.{◌≡◌, ℕ, Bool, true, false, not, ◌&&◌, ◌||◌, ◌==◌, List, [], ◌∷◌, map, refl, ap, sym, ◌∙◌, arith, inl, inr, ◌⊎◌}
 use Rattle.std.proofs.lemmas.Bool.{cases_Bool}
 use Rattle.handshake.specs.Items.{Item, has_sent, has_released, releasing, finishing}

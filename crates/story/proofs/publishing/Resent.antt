@@ -1,4 +1,4 @@
--- What a client writes behind a CONNACK 0 is what a handshake sends again, and then what starts.
+-- What a client writes after a CONNACK 0 is what a handshake sends again, and then what starts.
 use Rattle.std.proofs.Common.{◌≡◌, ℕ, Bool, true, false, if◌then◌else◌, List, [], ◌∷◌, ◌++◌, map, refl, ap, ap₂, sym, ◌∙◌}
 use Rattle.packet.specs.declared.packet.Packet.TheVariants as packets
 use Rattle.client_base.specs.session_base.declared.publication.Publication.{Publication}

@@ -15,7 +15,7 @@ use Rattle.story.proofs.publishing.Links.{link_by, Reaches, reaches_itself, reac
 use Rattle.story.proofs.publishing.Publishes.{forward_publishes}
 use Rattle.story.proofs.publishing.Starting.{NoneWaits, none_waits_more, starts_one}
 
--- what stands in front uses none of these identifiers
+-- what is in front uses none of these identifiers
 abbrev pub IsApart : List ℕ → List (Item ℕ) → Type 0
 IsApart ids pre = (i : ℕ) → has_id i ids ≡ true → has_id i (busy pre) ≡ false
 
@@ -44,7 +44,7 @@ past_item true item pre items later k l e next =
     subst (λ (more : List (Item ℕ)). Reaches k more l) (append_assoc pre (item ∷ []) later) (next (e ∙ sym (append_assoc pre (item ∷ []) items)))
 past_item false item pre items later k l e next = next e
 
--- an identifier that no publication has is none of an item
+-- an identifier that no publication has is not that of an item
 item_free : (two : Bool) (i : ℕ) (item : Item ℕ) (items : List (Item ℕ)) → has_id i (busy (item ∷ items)) ≡ false → has_id i (busy items) ≡ false → has_id i (busy (if two then item ∷ items else items)) ≡ false
 item_free true i item items e f = e
 item_free false i item items e f = f

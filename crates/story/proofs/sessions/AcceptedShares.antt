@@ -1,4 +1,4 @@
--- What a client accepted in one of its sessions, behind a place and behind what the client does.
+-- What a client accepted in one of its sessions, after a place and after what the client does.
 use Rattle.std.proofs.Common.{◌≡◌, ℕ, zero, suc, Bool, true, false, if◌then◌else◌, List, [], ◌∷◌, ◌++◌, refl, sym, ◌∙◌, ap, ap₂, inl, inr}
 use Rattle.std.proofs.lemmas.List.{append-nil}
 use Rattle.lists.specs.Lists.{Each}

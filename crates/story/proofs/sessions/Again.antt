@@ -34,11 +34,11 @@ use Rattle.story.proofs.sessions.Awaiting.{HasAwaiting}
 abbrev pub accepted_at : ConnectionName → Client → Place
 accepted_at x c = record { command = commands.Connect x c false; mark = Mark.Accepted }
 
--- it begins a session where there is none
+-- it begins a session if there is none
 pub begins_there : (past : Past) (c : Client) (x : ConnectionName) → session_of past c ≡ None → begins (accepted_at x c) past c ≡ true
 begins_there past c x none = ap₂ is_beginning (opened x c) none
 
--- and is told so
+-- and the CONNACK says so
 told_so : (limits : Limits) (past : Past) (c : Client) (x : ConnectionName) → session_of past c ≡ None → put_to limits past x ≡ [] → (more : List Packet) × (put_to limits (accepted_at x c ∷ past) x ≡ session_lost ∷ more)
 unfolding put_to
 told_so limits past c x none nothing =

@@ -79,7 +79,7 @@ opens_again limits list c earlier own κ others held none numbers unsent apart f
     by true = opened
     by false = goes_on opened loses
 
--- ---- the CONNACK that tells of it
+-- ---- the CONNACK that says it
 
 -- a CONNACK 0 without session present
 abbrev pub session_lost : Packet

@@ -57,7 +57,7 @@ first_more : (limits : Limits) (place : Place) (past : Past) (x : ConnectionName
 unfolding put_to
 first_more limits place past x more e = ap (λ xs. xs ++ sends_to x (answers_at limits place past)) e
 
--- a place, with the story behind it
+-- a place, with the story after it
 placed : (limits : Limits) (c : Client) (flags : List Bool) (past : Past) (keeper : Keeper) (κ κ' : Connection) (others later : List Connection) (place : Place) → (a : Awaits limits c flags past keeper κ others)
     → κ'.name ≡ κ.name → κ'.confirmed ≡ κ.confirmed → κ'.handled ≡ κ.handled → AreGone flags (κ' ∷ later)
     → ((earlier : List Own) → AreNumbered 0 earlier → Told limits c (with_connections (place ∷ past) (waiting c earlier [] keeper.is_open) (kept_of flags (κ' ∷ later)))) → Awaits limits c flags (place ∷ past) keeper κ' later
@@ -118,7 +118,7 @@ first_is : (limits : Limits) (past : Past) (κ : Connection) (more : List Packet
 first_is limits past κ more packet first unhandled next =
     let e : Some session_lost ≡ Some packet = sym (ap₂ slice_get first unhandled) ∙ next in cc
 
--- what a new client makes of it, the client makes of it
+-- what a packet does to a new client, it does to the client
 heard_same : (limits : Limits) (c : Client) (flags : List Bool) (past : Past) (keeper : Keeper) (κ : Connection) (others : List Connection) (a : Awaits limits c flags past keeper κ others) (packet : Packet) → keeper.is_open ≡ true
     → slice_get (put_to limits past κ.name) κ.handled ≡ Some packet
     → handled packet (let side : Side = record { keeper = waiting c (all_own keeper) [] true; connection = κ } in side) ≡ handled packet (let side : Side = record { keeper = keeper; connection = κ } in side)
@@ -147,7 +147,7 @@ settled limits c flags past keeper κ others a packet numbers opened next = subs
 
 -- ---- the events
 
--- with the same connections, which are not told of it
+-- with the same connections, which do not change
 abbrev pub kept_awaiting : (limits : Limits) (c : Client) (flags : List Bool) (past : Past) (keeper : Keeper) (later : Keeper) (κ : Connection) (others : List Connection)
     → (a : Awaits limits c flags past keeper κ others) → later.client ≡ keeper.client → later.is_online ≡ false → later.was_served ≡ keeper.was_served → later.requests ≡ []
     → ((earlier : List Own) → AreNumbered 0 earlier → Told limits c (with_connections past (waiting c earlier [] later.is_open) (kept_of flags (κ ∷ others)))) → Awaits limits c flags past later κ others
@@ -181,7 +181,8 @@ pub record IsSettled (limits : Limits) (c : Client) (flags : List Bool) (s t : S
 moves : (keeper : Keeper) (κ : Connection) → keeper.is_online ≡ false → keeper.was_served ≡ true → (handled session_lost (let side : Side = record { keeper = keeper; connection = κ } in side)).keeper.earlier ≡ all_own keeper
 moves keeper κ offline served = rw (offline, served) refl
 
--- a client that awaits that CONNACK goes on awaiting it, or takes it in; as long as it is in step it opens no further connection
+-- a client that awaits that CONNACK continues awaiting it, or takes it in; as long as it is in step
+-- it opens no further connection
 pub awaiting_goes : (limits : Limits) (c : Client) (flags : List Bool) (s t : Story) → NamesApart s.connections → HasAwaiting limits c flags s → (h : Happens limits s t) → AreAllNumbered s.keeper → IsInStep t
     → HasAwaiting limits c (flags_after flags h) t ⊎ IsSettled limits c (flags_after flags h) s t
 awaiting_goes limits c flags s t apart b (takes i κ w stands next) numbers step =

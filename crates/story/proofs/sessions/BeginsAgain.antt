@@ -1,5 +1,6 @@
--- Where the newest connection's Connect is accepted, and no session is there: the story of the session that begins stands beside the
--- life, whether its client was served before or not, and what was accepted in earlier sessions stays.
+-- If the newest connection's Connect is accepted, and there is no session: the life then has a
+-- story of the session that begins, whether its client was served before or not, and what was
+-- accepted in earlier sessions stays.
 use Rattle.std.proofs.Common.{◌≡◌, ◌<◌, ℕ, zero, suc, Bool, true, false, if◌then◌else◌, List, [], ◌∷◌, ◌++◌, length, Option, Some, None, refl, sym, ◌∙◌, ap, ap₂, subst, arith, inl, inr, ◌⊎◌}
 use Rattle.std.specs.Prelude.{slice_get, ◌==◌}
 use Rattle.std.proofs.lemmas.Bool.{both_ways}
@@ -57,7 +58,7 @@ offline : (b : Bool) (κ : Connection) (keeper : Keeper) → keeper.is_online �
 offline false κ keeper e unconfirmed held opened = e
 offline true κ keeper e unconfirmed held opened = absurd (both_ways κ.confirmed unconfirmed (held (opened e) ∙ e))
 
--- it was never served, and its story stands beside its life
+-- it was never served, and its life has a story of the session
 pub record IsUnservedBeside (limits : Limits) (c : Client) (flags : List Bool) (s : Story) : Type 0 where
   pub beside : HasBeside limits c flags s
   pub unserved : s.keeper.was_served ≡ false

@@ -1,5 +1,5 @@
--- Beside a client's life stands the story of its session, in which the connections of earlier sessions are left out: while the
--- session lasts, each event of the life is one of that story.
+-- The story of a client's session along with the client's life: the connections of earlier sessions
+-- are left out in it; while the session lasts, each event of the life is one of that story.
 use Rattle.std.proofs.Common.{◌≡◌, ◌≤◌, ℕ, zero, suc, Bool, true, false, ◌||◌, if◌then◌else◌, List, [], ◌∷◌, Some, refl, sym, ◌∙◌, ap, ap₂, subst, arith, inl, inr, ◌⊎◌}
 use Rattle.std.specs.Prelude.{slice_get}
 use Rattle.packet.specs.declared.packet.Packet.{Packet}
@@ -22,7 +22,7 @@ use Rattle.story.specs.Sends.{put_to}
 
 -- ---- connections that are left out
 
--- those that are kept: false leaves one out, and behind the flags all are kept
+-- those that are kept: false leaves one out, and after the flags all are kept
 abbrev pub kept_of : List Bool → List Connection → List Connection
 kept_of [] connections = connections
 kept_of (true ∷ flags) (κ ∷ connections) = κ ∷ kept_of flags connections
@@ -50,7 +50,7 @@ pub record HasBeside (limits : Limits) (c : Client) (flags : List Bool) (s : Sto
   pub gone : AreGone flags s.connections
   pub told : Told limits c (beside flags s)
 
--- behind an event: a connection that it opens is kept
+-- after an event: a connection that it opens is kept
 abbrev pub flags_after : {limits : Limits} {s t : Story} → List Bool → Happens limits s t → List Bool
 flags_after flags (opens_anew x fresh none uncounted) = true ∷ flags
 flags_after flags _ = flags
@@ -128,7 +128,7 @@ find (false ∷ flags) (μ ∷ connections) (suc i) κ apart gone at = by (find 
     by (inl k) = inl (record { j = k.j; stands = k.stands; counted = k.counted })
     by (inr l) = inr (record { taken = l.taken; none = l.none; counted = l.counted })
 
--- a packet behind the CONNECT
+-- a packet after the CONNECT
 pub later_other : (past : Past) (c : Client) (x : ConnectionName) (n : ℕ) (packet : Packet) → 1 ≤ n → names_client past c (command_of x n packet) → ⊥
 later_other past c x zero packet less h = omega (arith, less)
 later_other past c x (suc n) packet less h = h

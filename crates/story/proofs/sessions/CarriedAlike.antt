@@ -53,7 +53,7 @@ both_carry past c i j connections kept κ w command (inr k) apart apart' stands 
     by (packets.Publish p) = carries_it past i connections κ w Mark.NoPart apart stands next counted ∙ sym (carries_it past j kept κ w Mark.NoPart apart' stands' next counted)
     by _ = refl
 
--- of a connection that is nobody's
+-- of a connection without a client
 pub nobody_new : (x : ConnectionName) (packet : Packet) → is_new (commands.Packet x packet) Mark.NoPart ≡ false
 nobody_new x (packets.Publish p) = refl
 nobody_new x _ = refl
@@ -91,7 +91,7 @@ pub nobodys_new : (limits : Limits) (past : Past) (c : Client) (i : ℕ) (connec
 nobodys_new limits past c i connections κ packet nobody stands not =
     ap (λ (p : Place). is_new p.command p.mark) (nobodys_mark limits past c connections κ.name packet nobody (is_named i connections κ stands) not) ∙ nobody_new κ.name packet
 
--- one that is left out is nobody's, where the current one is kept
+-- one that is left out has no client, if the current one is kept
 pub left_not_current : (x : ConnectionName) (current : Option ConnectionName) (kept : List Connection) → LastIsCurrent current kept → any_named (same_connection x) kept ≡ false → current ≡ Some x → ⊥
 left_not_current x None kept last none e = cc
 left_not_current x (Some y) kept last none e =

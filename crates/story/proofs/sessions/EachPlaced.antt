@@ -1,4 +1,5 @@
--- What holds of each connection behind a place: of the one whose packet is taken, and of all others.
+-- What holds for each connection after a place: of the one whose packet is taken, and of all
+-- others.
 use Rattle.std.proofs.Common.{◌≡◌, ◌≤◌, ℕ, zero, suc, Bool, false, List, [], ◌∷◌, length, Some, refl, sym, ◌∙◌, ap, subst, arith, inl, inr, ◌⊎◌, if◌then◌else◌, true}
 use Rattle.std.specs.Prelude.{slice_get}
 use Rattle.packet.specs.declared.packet.Packet.{Packet}
@@ -26,7 +27,7 @@ use Rattle.story.proofs.sessions.Placed.{untouched_other, shut_still, shut_other
 
 -- ---- each of them
 
--- where none is named
+-- if none is named
 pub each_other : (P Q : Connection → Type 0) (test : ConnectionName → Bool) (connections : List Connection) → any_named test connections ≡ false → ((μ : Connection) → test μ.name ≡ false → P μ → Q μ)
     → Each P connections → Each Q connections
 each_other P Q test [] none f h = tt
@@ -44,7 +45,7 @@ each_own P Q zero κ (μ ∷ connections) at apart f g h =
     )
 each_own P Q (suc i) κ (μ ∷ connections) at apart f g h = (f μ (other_name μ.name connections i κ apart.0 at) h.0, each_own P Q i κ connections at apart.1 f g h.1)
 
--- none is taken behind the last one
+-- none is taken after the last one
 pub counted_none : (connections : List Connection) → counted_at (length connections) connections ≡ connections
 counted_none [] = refl
 counted_none (κ ∷ connections) = ap (λ l. κ ∷ l) (counted_none connections)
@@ -67,7 +68,7 @@ own_command limits past c κ w untouched next = by κ.taken refl
         inl (e, ap (λ n. command_of κ.name n w.packet) e ∙ ap (λ (v : Written). command_of κ.name 0 v.packet) (sym same))
     by (suc n) e = inr (omega (arith, e), ap (λ m. command_of κ.name m w.packet) e)
 
--- it is a packet of this connection alone
+-- it is a packet only of this connection
 pub own_alone : (c : Client) (κ : Connection) (packet : Packet) (command : Command) (y : ConnectionName) → IsOwnCommand c κ packet command → same_connection κ.name y ≡ false → is_packet_of command y ≡ false
 own_alone c κ packet command y (inl k) other = ap (λ d. is_packet_of d y) k.1 ∙ other
 own_alone c κ packet command y (inr k) other = ap (λ d. is_packet_of d y) k.1 ∙ other

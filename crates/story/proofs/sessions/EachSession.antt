@@ -1,4 +1,5 @@
--- In each of its sessions a client that is in step accepts a beginning of the QoS 2 entries, in order, and each that is released.
+-- In each of its sessions a client that is in step accepts a prefix of the QoS 2 entries, in order,
+-- and each that is released.
 use Rattle.std.proofs.Common.{ℕ, [], ◌∷◌, length, refl, ◌∙◌, ap, subst, inl, inr, ◌⊎◌}
 use Rattle.broker_base.specs.Place.{Client, Limits}
 use Rattle.broker_base.specs.Past.{current_connection, session_of, session_start}
@@ -28,7 +29,8 @@ use Rattle.story.proofs.sessions.Expelled.IsOver.{lingers, parts}
 use Rattle.story.proofs.sessions.EachPlaced.{counted_none}
 use Rattle.story.proofs.sessions.BeginsAgain.{anew_stands}
 
--- how it stands with a client's sessions: one lasts, or none has begun; or it is over, and the client still hears of it, or not
+-- its status with a client's sessions: one lasts, or none has begun; or it has ended, and the
+-- client still receives packets of it, or not
 data IsAt (limits : Limits) (c : Client) (s : Story) : Type 0 where
   lasts : LastsStill limits c s → IsAt limits c s
   over : IsOver limits c s → IsAt limits c s

@@ -1,4 +1,5 @@
--- An Expel of a client: its session is over, and the client still hears of it on its newest connection, or hears nothing of it.
+-- An Expel of a client: its session has ended, and the client still receives packets of it on its
+-- newest connection, or receives nothing of it.
 use Rattle.std.proofs.Common.{◌≡◌, ◌≤◌, ℕ, zero, suc, Bool, true, false, ◌&&◌, ◌||◌, List, [], ◌∷◌, ◌++◌, length, Option, Some, None, refl, sym, ◌∙◌, ap, subst, arith, inl, inr, ◌⊎◌}
 use Rattle.std.specs.Prelude.{is_some}
 use Rattle.std.proofs.lemmas.Bool.{both_ways}
@@ -33,7 +34,7 @@ use Rattle.story.proofs.sessions.Parted.{Parts, entries_parted}
 use Rattle.story.proofs.sessions.Lingering.{Lingers}
 use Rattle.story.proofs.subscribing.events.OthersTake.{closes_only}
 
--- ---- where there was none
+-- ---- if there was none
 
 -- a Connect began a session again, so one began
 began_begun : (past : Past) (c : Client) (x : ConnectionName) → began_again past c x ≡ true → has_begun past c ≡ true
@@ -65,7 +66,7 @@ lasts_expelled limits c flags s life none l =
     subst (Lasts limits c flags (place ∷ s.past)) (counted_none s.connections)
     (lasts_placed limits c flags place s.past (length s.connections) s.connections life.session (λ opened e. cc) (inr none) (all_fresh place c s.connections refl) life.connections.shut l)
 
--- ---- where one was there
+-- ---- if one was there
 
 accepts_expelled : (limits : Limits) (past : Past) (c : Client) (connections : List Connection) (start : ℕ) → Accepts limits c past connections start
     → Accepts limits c (place_of limits past (commands.Expel c) ∷ past) connections start
@@ -74,7 +75,7 @@ accepts_expelled limits past c connections start =
     accepts_same limits c past (place ∷ past) connections connections start (entries_parted limits place past c start (expelled_session limits past c))
     (accepted_placed place past c start connections (all_fresh place c connections refl))
 
--- what comes of it
+-- the result of it
 pub data IsOver (limits : Limits) (c : Client) (t : Story) : Type 0 where
   lingers : Lingers limits c t → IsOver limits c t
   parts : Parts limits c t.past t.connections → IsOver limits c t

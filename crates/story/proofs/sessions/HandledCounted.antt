@@ -1,4 +1,4 @@
--- What a client makes of a packet does not depend on how many packets of its connection were taken.
+-- What a client does to a packet does not depend on how many packets of its connection were taken.
 use Rattle.std.proofs.Common.{◌≡◌, ℕ, Bool, true, false, if◌then◌else◌, [], ◌∷◌, ◌++◌, map, refl}
 use Rattle.packet.specs.declared.connack.Connack.TheVariants as connacks
 use Rattle.packet.specs.declared.delivery.Delivery.{Delivery}
@@ -13,7 +13,7 @@ use Rattle.client_base.specs.Handled.{at_pubrec, is_sent_with, takes_in, releasi
 use Rattle.story.specs.Sides.{Side}
 use Rattle.story.proofs.subscribing.Given.{one_handled}
 
--- so many were taken
+-- this many were taken
 abbrev pub counting : ℕ → Side → Side
 counting n side = record side { connection = record side.connection { taken = n } }
 

@@ -1,4 +1,4 @@
--- What a client accepted it accepted in its sessions, one after the other.
+-- What a client accepted it accepted in its sessions, one after another.
 use Rattle.std.proofs.Common.{◌≡◌, ◌<◌, ℕ, zero, suc, Bool, true, false, if◌then◌else◌, List, [], ◌∷◌, ◌++◌, length, Option, Some, None, refl, sym, ◌∙◌, ap, ap₂, subst, inl, inr, ◌⊎◌, arith}
 use Rattle.std.specs.Prelude.{◌==◌}
 use Rattle.std.specs.List.{flat_map}
@@ -129,7 +129,7 @@ module _ (past : Past) (c : Client) (κ : Connection) (others : List Connection)
   here_all : whole n ≡ rest n ++ κ.accepted
   here_all = ap (λ o. rest n ++ (if is_at n o then κ.accepted else [])) opened ∙ ap (λ b. rest n ++ (if b then κ.accepted else [])) (eq_same n)
 
-  -- the last share stands at the end
+  -- the last share is at the end
   at_last : (starts : List ℕ) → IsLastOf starts n → flat_map rest starts ++ κ.accepted ≡ flat_map whole starts
   at_last starts l =
       ap (λ ms. flat_map rest ms ++ κ.accepted) l.are

@@ -43,7 +43,7 @@ head_parted : (limits : Limits) (past : Past) (c : Client) (connections : List C
 head_parted limits past c [] head shut = tt
 head_parted limits past c (κ ∷ others) none shut = inl (shut.0 none).nothing
 
--- where the client still hears of one that is over, it is as at the Expel
+-- if the client still receives packets of one that has ended, it is as at the Expel
 head_lingers : (limits : Limits) (c : Client) (s : Story) → Lingers limits c s → IsHeadOfLast s.past c s.connections
 head_lingers limits c s l =
     subst (IsHeadOfLast s.past c) (sym l.are) (by (head_lasting limits l.earlier c (l.newest ∷ l.before) l.frozen.lasts.head l.frozen.life.connections.shut))

@@ -73,7 +73,7 @@ unserved_lost c keeper h e = lost_unserved c keeper (h e)
 pub unserved_opened : (c : Client) (keeper : Keeper) → (keeper.was_served ≡ false → IsUnserved c keeper) → keeper.was_served ≡ false → IsUnserved c (record (lost keeper) { is_open = true })
 unserved_opened c keeper h e = let u = h e in record { is = ap (λ (k : Keeper). record (lost k) { is_open = true }) u.is; unsent = u.unsent; apart = u.apart }
 
--- who is not served behind a packet was not before, and the packet ended the connection
+-- who is not served after a packet was not before, and the packet ended the connection
 pub unserved_ends : (c : Client) (packet : Packet) (side : Side) → (side.keeper.was_served ≡ false → IsUnserved c side.keeper) → (handled packet side).keeper.was_served ≡ false
     → (side.keeper.was_served ≡ false) × (handled packet side ≡ record (one_handled side) { keeper = lost side.keeper })
 unserved_ends c packet side h e = by side.keeper.was_served refl

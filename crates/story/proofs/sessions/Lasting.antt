@@ -1,4 +1,5 @@
--- While a session of a client lasts: what the client accepted in it, and in those before it, behind each place.
+-- While a session of a client lasts: what the client accepted in it, and in those before it, after
+-- each place.
 use Rattle.std.proofs.Common.{◌≡◌, ℕ, zero, suc, Bool, true, false, if◌then◌else◌, List, [], ◌∷◌, length, Option, Some, None, refl, sym, ◌∙◌, ap, inl, inr, ◌⊎◌}
 use Rattle.std.proofs.lemmas.Bool.{both_ways}
 use Rattle.lists.specs.Lists.{Each}
@@ -77,7 +78,7 @@ head_counted past c i [] h = h
 head_counted past c zero (κ ∷ others) h = h
 head_counted past c (suc i) (κ ∷ others) h = h
 
--- where the session was there
+-- if the session was there
 tail_placed : (place : Place) (past : Past) (c : Client) (start i : ℕ) (flags : List Bool) (connections : List Connection) → Each (IsFresh place c) connections → IsTailKept past c start flags connections
     → IsTailKept (place ∷ past) c start flags (counted_at i connections)
 tail_placed place past c start i flags [] fresh h = tt
@@ -85,7 +86,7 @@ tail_placed place past c start zero flags (κ ∷ others) fresh h = accepted_pla
 tail_placed place past c start (suc i) flags (κ ∷ others) fresh h =
     accepted_counted (place ∷ past) c start i others ∙ accepted_placed place past c start others fresh.1 ∙ h ∙ sym (kept_counted (behind_first flags) i others)
 
--- where it begins, the first one
+-- if it begins, the first one
 nothing_kept : (past : Past) (c : Client) (start : ℕ) (flags : List Bool) (others : List Connection) → Each (λ (κ : Connection). κ.accepted ≡ []) others
     → accepted_in past c start others ≡ accepted_on (kept_of flags others)
 nothing_kept past c start flags others h =

@@ -1,4 +1,4 @@
--- While a session of a client lasts, the client accepted a beginning in each of its sessions.
+-- While a session of a client lasts, the client accepted a prefix in each of its sessions.
 use Rattle.std.proofs.Common.{◌≡◌, ℕ, Bool, true, false, if◌then◌else◌, List, [], ◌∷◌, Option, Some, None, refl, sym, ◌∙◌, ap, subst, inl, inr}
 use Rattle.std.specs.Prelude.{◌==◌}
 use Rattle.lists.proofs.Tests.{eq_same, eq_is}

@@ -96,7 +96,7 @@ pub all_fresh : (place : Place) (c : Client) (connections : List Connection) →
 all_fresh place c [] none = tt
 all_fresh place c (κ ∷ connections) none = (inl (ap (opens_on κ.name) none), all_fresh place c connections none)
 
--- the story of the session stands beside the life
+-- the life has a story of the session
 abbrev pub Stands : Limits → Client → List Bool → Story → Type 0
 Stands limits c flags s = HasAwaiting limits c flags s ⊎ HasBeside limits c flags s
 

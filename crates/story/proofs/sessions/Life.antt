@@ -1,4 +1,4 @@
--- What holds of a client's life at any time, whichever of its sessions lasts.
+-- What holds for a client's life at any time, whichever of its sessions lasts.
 use Rattle.std.proofs.Common.{◌≡◌, Bool, true, false, List, [], ◌∷◌, None, ◌≤◌, length}
 use Rattle.packet.specs.declared.connack.Connack.TheVariants as connacks
 use Rattle.packet.specs.declared.packet.Packet.{Packet}
@@ -44,12 +44,12 @@ IsShutUnopened limits past c κ = opened_in past c κ.name ≡ None → IsShut l
 abbrev pub AreShutUnopened : Limits → Past → Client → List Connection → Type 0
 AreShutUnopened limits past c = Each (IsShutUnopened limits past c)
 
--- as many of its packets stand in the list as were taken of those that it wrote
+-- as many of its packets are in the list as were taken of those that it wrote
 pub record IsCounted (past : Past) (κ : Connection) : Type 0 where
   pub counted : count_of κ.name past ≡ κ.taken
   pub within : κ.taken ≤ length κ.written
 
--- the first one is open where the client holds one, and confirmed where it is online
+-- the first one is open if the client holds one, and confirmed if it is online
 abbrev pub IsHeld : Keeper → List Connection → Type 0
 IsHeld keeper [] = (keeper.is_open ≡ false) × (keeper.is_online ≡ false)
 IsHeld keeper (κ ∷ connections) = (keeper.is_open ≡ true → κ.confirmed ≡ keeper.is_online) × (keeper.is_online ≡ true → keeper.is_open ≡ true)

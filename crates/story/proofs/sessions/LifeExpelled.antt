@@ -1,4 +1,4 @@
--- An Expel of a client keeps what holds of its life, and leaves no session.
+-- An Expel of a client keeps what holds for its life, and leaves no session.
 use Rattle.std.proofs.Common.{◌≡◌, Bool, true, false, List, [], ◌∷◌, ◌++◌, Option, Some, None, refl, ◌∙◌, ap, inl}
 use Rattle.broker_base.specs.Place.{Client, Past, Limits}
 use Rattle.broker_base.specs.Past.{ends_any, newest_session, current_connection, session_of}

@@ -1,4 +1,4 @@
--- Every event keeps what holds of a client's life.
+-- Every event keeps what holds for a client's life.
 use Rattle.std.proofs.Common.{false, [], ◌∷◌, refl, sym, ap, subst, arith}
 use Rattle.std.proofs.lemmas.Bool.{both_ways}
 use Rattle.packet.specs.declared.packet.Packet.TheVariants as packets

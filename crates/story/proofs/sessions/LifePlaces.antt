@@ -1,4 +1,4 @@
--- A place keeps what holds of a client's life: of a packet that it wrote, and of another command.
+-- A place keeps what holds for a client's life: of a packet that it wrote, and of another command.
 use Rattle.std.proofs.Common.{◌≡◌, ℕ, zero, suc, false, List, [], ◌∷◌, ◌++◌, Some, refl, sym, ◌∙◌, ap, subst, inl, inr}
 use Rattle.std.specs.Prelude.{slice_get}
 use Rattle.packet.specs.declared.packet.Packet.{Packet}

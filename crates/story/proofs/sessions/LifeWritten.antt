@@ -1,4 +1,4 @@
--- What a client writes, and that it leaves, keeps what holds of its life.
+-- What a client writes, and that it leaves, keeps what holds for its life.
 use Rattle.std.proofs.Common.{◌≡◌, Bool, true, false, if◌then◌else◌, List, [], ◌∷◌, refl, sym, ◌∙◌, ap, subst, ◌≤◌, length, arith, ◌++◌}
 use Rattle.std.proofs.lemmas.Bool.{both_ways}
 use Rattle.std.proofs.lemmas.List.{append-nil, length-append}
@@ -73,7 +73,7 @@ held_lost : (keeper : Keeper) (connections : List Connection) → IsHeld (lost k
 held_lost keeper [] = (refl, refl)
 held_lost keeper (κ ∷ connections) = (λ e. absurd (both_ways false refl e), λ e. absurd (both_ways false refl e))
 
--- nothing, where it was never served
+-- nothing, if it was never served
 abbrev pub AreSilent : Client → List Connection → Type 0
 AreSilent c = Each (λ (κ : Connection). κ.written ≡ opens c ∷ [])
 

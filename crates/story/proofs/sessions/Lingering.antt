@@ -1,5 +1,5 @@
--- A session that is over, of which the client still hears on its newest connection: the life as it stood at the Expel, in which the
--- client goes on, and what came in the list since.
+-- A session that has ended, of which the client still receives packets on its newest connection:
+-- the life as it was at the Expel, in which the client continues, and what came in the list since.
 use Rattle.std.proofs.Common.{◌≡◌, ◌≤◌, ℕ, zero, suc, Bool, true, if◌then◌else◌, List, [], ◌∷◌, ◌++◌, None, sym, ◌∙◌, ap, ap₂, subst, arith}
 use Rattle.std.proofs.lemmas.List.{append-nil}
 use Rattle.lists.specs.Lists.{Each}
@@ -34,7 +34,8 @@ pub record IsFrozen (limits : Limits) (c : Client) (flags : List Bool) (earlier 
   pub lasts : Lasts limits c flags earlier (newest ∷ before)
   pub step : Each (WasWelcome earlier c) before
 
--- what came in the list since: nothing for the newest connection, of which so many packets are taken by now
+-- what came in the list since: nothing for the newest connection, of which this many packets are
+-- taken by now
 pub record IsSince (limits : Limits) (c : Client) (past earlier : Past) (x : ConnectionName) (count : ℕ) (others before : List Connection) : Type 0 where
   pub none : session_of past c ≡ None
   pub begun : has_begun past c ≡ true
@@ -64,7 +65,7 @@ lingers_accepts limits steady c s l start =
     (ap (accepted_in s.past c start) l.are ∙ ap₂ (λ a b. a ++ b) (l.since.rest start) (ap (λ o. if is_at start o then l.newest.accepted else []) l.since.opened))
     (lasting_accepts limits steady c l.flags (with_connections l.earlier s.keeper (l.newest ∷ l.before)) l.frozen.life l.frozen.stands l.frozen.lasts start)
 
--- ---- the client goes on
+-- ---- the client continues
 
 pub frozen_goes : (limits : Limits) (c : Client) (flags : List Bool) (earlier : Past) (keeper later : Keeper) (newest after : Connection) (before connections : List Connection)
     → IsFrozen limits c flags earlier keeper newest before → (h : Happens limits (with_connections earlier keeper (newest ∷ before)) (with_connections earlier later connections)) → flags_after flags h ≡ flags

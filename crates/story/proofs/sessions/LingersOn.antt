@@ -1,4 +1,5 @@
--- A session that is over, of which the client still hears: each event goes on in it, or the client opens a further connection.
+-- A session that has ended, of which the client still receives packets: each event continues in it,
+-- or the client opens a further connection.
 use Rattle.std.proofs.Common.{◌≡◌, Bool, true, false, if◌then◌else◌, List, [], ◌∷◌, ◌++◌, Some, refl, sym, ◌∙◌, ap, subst, inl, inr, ◌⊎◌}
 use Rattle.std.specs.Prelude.{slice_get}
 use Rattle.packet.specs.declared.packet.Packet.{Packet}

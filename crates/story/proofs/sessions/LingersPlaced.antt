@@ -1,4 +1,5 @@
--- A session that is over, of which the client still hears: a place of the list leaves what it hears as it was.
+-- A session that has ended, of which the client still receives packets: a place of the list does
+-- not change what it receives.
 use Rattle.std.proofs.Common.{◌≡◌, ◌≤◌, ℕ, zero, suc, Bool, true, false, ◌||◌, List, [], ◌∷◌, length, Some, None, refl, sym, ◌∙◌, ap, subst, arith, inl, inr, ◌⊎◌}
 use Rattle.std.specs.Prelude.{slice_get, is_some}
 use Rattle.std.proofs.lemmas.Bool.{both_ways}
@@ -71,7 +72,7 @@ first_taken i connections κ newest count others names at are some new name =
     by (suc j) names at =
         both_ways (same_connection κ.name newest.name) (other_name newest.name others j κ names.0 at) (ap (same_connection κ.name) (sym name) ∙ same_itself κ.name)
 
--- nor is an older one's accepted, where the client is in step
+-- nor is an older one's accepted, if the client is in step
 behind_newest : (limits : Limits) (c : Client) (past : Past) (i : ℕ) (κ newest : Connection) (count : ℕ) (others : List Connection) → session_of past c ≡ None → has_begun past c ≡ true
     → slice_get (record newest { taken = count } ∷ others) i ≡ Some κ → 1 ≤ count → κ.taken ≡ 0 → κ.confirmed ≡ false
     → AreWelcome (accepted_at κ.name c ∷ past) c (counted_at i (record newest { taken = count } ∷ others)) → ⊥

@@ -1,4 +1,4 @@
--- What holds of a client's life at any time holds of every life, in step or not.
+-- What holds for a client's life at any time holds for every life, in step or not.
 use Rattle.broker_base.specs.Place.{Client, Limits}
 use Rattle.story.specs.Story.{Story}
 use Rattle.story.specs.Lives.{Lived}

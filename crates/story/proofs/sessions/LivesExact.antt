@@ -54,7 +54,7 @@ use Rattle.std.proofs.lemmas.Bool.{both_ways}
 use Rattle.std.specs.Prelude.{is_some}
 use Rattle.story.proofs.carrying.PlacesSay.{Says}
 
--- how it stands with a client's sessions, and which of its publications are new
+-- its status with a client's sessions, and which of its publications are new
 pub data Stage (limits : Limits) (c : Client) (s : Story) : Type 0 where
   lasting : (flags : List Bool) → Numbered limits c flags s → Lasts limits c flags s.past s.connections → Stage limits c s
   over : IsOver limits c s → RisesSoFar c s.past s.keeper s.connections → Stage limits c s
@@ -216,7 +216,7 @@ lives_in_turn limits steady c s lived step =
 
 -- ---- while its first session lasts
 
--- beside the life stands the story of that session, with the same client and the same new publications
+-- the life has a story of that session, with the same client and the same new publications
 pub record HasOneStory (limits : Limits) (c : Client) (s : Story) : Type 0 where
   pub flags : List Bool
   pub told : Told limits c (beside flags s)

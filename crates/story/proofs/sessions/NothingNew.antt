@@ -52,7 +52,7 @@ kept_uncounted limits past c (κ ∷ connections) h = by κ.taken refl (kept_unc
     by zero e ih = ((h.0 e).uncounted, ih)
     by (suc n) e ih = ih
 
--- where a session begins again its story has nothing new
+-- if a session begins again its story has nothing new
 pub nothing_new_yet : (limits : Limits) (past : Past) (c : Client) (κ : Connection) (others : List Connection) → AreUntouched limits past c (κ ∷ others) → κ.taken ≡ 0
     → new_numbers (kept_of (true ∷ flags_of others) (record κ { taken = suc κ.taken } ∷ others)) (accepted_at κ.name c ∷ past) ≡ []
 nothing_new_yet limits past c κ others fresh new =

@@ -1,5 +1,5 @@
--- Which of a client's publications are new in the list: those of sessions that are over, and behind them those of the session that
--- lasts; so their numbers rise.
+-- Which of a client's publications are new in the list: those of sessions that are over, and after
+-- them those of the session that lasts; so their numbers rise.
 use Rattle.std.proofs.Common.{◌≡◌, ◌<◌, ◌≤◌, ℕ, Bool, List, [], ◌∷◌, ◌++◌, length, refl, sym, ◌∙◌, ap, subst, arith, inl, inr}
 use Rattle.lists.specs.Lists.{Each, IsPrefixOf}
 use Rattle.lists.proofs.OfEach.{each_append, each_then}
@@ -24,13 +24,14 @@ use Rattle.story.proofs.sessions.LastingGoes.{Stands}
 
 -- ---- the rows
 
--- the numbers of those that are new rise, and each was given; while one session began they are a beginning of what was published
+-- the numbers of those that are new rise, and each was given; while one session began they are a
+-- prefix of what was published
 pub record RisesSoFar (c : Client) (past : Past) (keeper : Keeper) (connections : List Connection) : Type 0 where
   pub rising : IsRising (new_numbers connections past)
   pub below : Each (λ n. n < next_number keeper) (new_numbers connections past)
   pub first : sessions_begun past c ≤ 1 → IsPrefixOf (new_numbers connections past) (published (all_own keeper))
 
--- those of earlier sessions, each below this number, stand before those of the story of this session
+-- those of earlier sessions, each below this number, are before those of the story of this session
 pub record HasOlds (c : Client) (flags : List Bool) (past : Past) (connections : List Connection) (bound : ℕ) : Type 0 where
   pub olds : List ℕ
   pub is : new_numbers connections past ≡ olds ++ new_numbers (kept_of flags connections) past

@@ -1,4 +1,5 @@
--- Without a session no event brings a new publication of the client, so their numbers rise still; and where a session begins.
+-- Without a session no event brings a new publication of the client, so their numbers still rise;
+-- the same when a session begins.
 use Rattle.std.proofs.Common.{◌≡◌, ◌<◌, ℕ, List, [], ◌∷◌, ◌++◌, Some, None, sym, ◌∙◌, ap, ap₂, subst, arith, inl, inr}
 use Rattle.std.specs.Prelude.{slice_get}
 use Rattle.std.proofs.lemmas.List.{append-nil}

@@ -1,4 +1,4 @@
--- A client that is offline behind a packet asks for nothing.
+-- A client that is offline after a packet asks for nothing.
 use Rattle.std.proofs.Common.{◌≡◌, ℕ, Bool, true, false, if◌then◌else◌, [], ◌∷◌, ◌++◌, map, refl}
 use Rattle.std.proofs.lemmas.Bool.{both_ways}
 use Rattle.packet.specs.declared.connack.Connack.TheVariants as connacks

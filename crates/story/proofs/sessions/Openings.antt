@@ -1,4 +1,4 @@
--- In which session a connection was opened, and when that session began, behind one more place.
+-- In which session a connection was opened, and when that session began, after one more place.
 use Rattle.std.proofs.Common.{◌≡◌, ◌<◌, ℕ, suc, Bool, true, false, ◌||◌, if◌then◌else◌, [], ◌∷◌, length, Option, Some, None, refl, sym, ◌∙◌, ap, ap₂, arith, inl, inr, ◌⊎◌}
 use Rattle.std.specs.Prelude.{is_some}
 use Rattle.std.proofs.lemmas.Bool.{both_ways, cases_Bool}
@@ -46,7 +46,7 @@ no_start (place ∷ past) c e = by (accepts place.command place.mark c) refl
     by None f =
         ap₂ (λ b s. if b then Some (length past) else only_if (is_some s) (session_start past c)) (ap (λ o. is_beginning o (session_of past c)) f) e
 
--- where none begins, and one is there, it began where it did
+-- if none begins, and one is there, it began where it did
 pub start_stays : (place : Place) (past : Past) (c : Client) → begins place past c ≡ false → is_some (session_of (place ∷ past) c) ≡ true → session_start (place ∷ past) c ≡ session_start past c
 unfolding session_start
 start_stays place past c e s = ap₂ (λ b t. if b then Some (length past) else only_if t (session_start past c)) e s

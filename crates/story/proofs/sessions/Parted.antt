@@ -1,4 +1,5 @@
--- A client without a session, which hears nothing of an earlier one any more: what it accepted stays at a place that opens none of its connections.
+-- A client without a session, which receives nothing of an earlier one any more: what it accepted
+-- stays at a place that opens none of its connections.
 use Rattle.std.proofs.Common.{◌≡◌, ℕ, zero, suc, Bool, true, false, List, [], ◌∷◌, Some, None, refl, ◌∙◌, ap, subst, inl, inr, ◌⊎◌}
 use Rattle.std.specs.Prelude.{slice_get}
 use Rattle.std.proofs.lemmas.Bool.{both_ways}

@@ -1,4 +1,5 @@
--- A client without a session, which hears nothing of an earlier one any more: each event keeps what it accepted, until a session begins.
+-- A client without a session, which receives nothing of an earlier one any more: each event keeps
+-- what it accepted, until a session begins.
 use Rattle.std.proofs.Common.{◌≡◌, ℕ, zero, suc, Bool, true, false, if◌then◌else◌, List, [], ◌∷◌, ◌++◌, length, Some, None, refl, sym, ◌∙◌, ap, subst, inl, inr, ◌⊎◌, ◌≤◌}
 use Rattle.std.specs.Prelude.{slice_get}
 use Rattle.packet.specs.declared.packet.Packet.TheVariants as packets

@@ -25,7 +25,7 @@ use Rattle.story.proofs.sessions.Anew.{IsUntouched}
 use Rattle.story.proofs.sessions.Openings.{session_began, opens_packet, opened_same, opened_here}
 use Rattle.story.proofs.sessions.Life.{is_welcome, NoneWelcome, IsShut, IsShutUnopened}
 
--- ---- where the command is none of its packets
+-- ---- if the command is none of its packets
 
 pub untouched_other : (limits : Limits) (place : Place) (past : Past) (c : Client) (κ : Connection) → is_packet_of place.command κ.name ≡ false → IsUntouched limits past c κ → IsUntouched limits (place ∷ past) c κ
 untouched_other limits place past c κ other u =

@@ -67,7 +67,7 @@ next_grows limits s t before h =
     let b = long t.keeper in
     omega (arith, l, a, b)
 
--- ---- what was published before stays so, where no session is lost
+-- ---- what was published before stays so, if no session is lost
 
 taking_earlier : (d : Delivery) (p : Publication) (side : Side) → (takes_in d p side).keeper.earlier ≡ side.keeper.earlier
 taking_earlier deliveries.AtMostOnce p side = refl
@@ -96,7 +96,7 @@ online_earlier (packets.Publish p) side = taking_earlier p.delivery (publication
 online_earlier (packets.Pubrec i) side = releasing_earlier i side
 online_earlier _ side = refl
 
--- no CONNACK 0 tells it that its session is gone
+-- no CONNACK 0 says that its session is lost
 abbrev pub IsKeeping : Packet → Keeper → Type 0
 IsKeeping packet keeper = keeper.was_served ≡ true → (packet ≡ packets.Connack (connacks.Accepted false)) → ⊥
 

@@ -1,4 +1,5 @@
--- Numbers that rise: of publications by their places, of a beginning of these, of some below a bound and others from it on.
+-- Numbers that rise: of publications by their places, of a prefix of these, of some below a bound
+-- and others from it on.
 use Rattle.std.proofs.Common.{◌≡◌, ◌<◌, ◌≤◌, ◌+◌, ℕ, suc, Bool, true, false, ◌==◌, if◌then◌else◌, List, [], ◌∷◌, ◌++◌, length, refl, subst, arith}
 use Rattle.lists.specs.Lists.{has_id, IsDistinct, IsPrefixOf, Each}
 use Rattle.lists.proofs.OfEach.{each_then, each_left}
@@ -22,7 +23,7 @@ joined : (x : ℕ) (xs ys : List ℕ) → Each (λ m. x < m) xs → Each (λ m. 
 joined x [] ys h g = g
 joined x (z ∷ xs) ys h g = (h.0, joined x xs ys h.1 g)
 
--- those below a bound stand in front of those from it on
+-- those below a bound are in front of those from it on
 pub rising_behind : (b : ℕ) (xs ys : List ℕ) → IsRising xs → Each (λ n. n < b) xs → IsRising ys → Each (λ n. b ≤ n) ys → IsRising (xs ++ ys)
 rising_behind b [] ys h less g more = g
 rising_behind b (x ∷ xs) ys h less g more = (joined x xs ys h.0 (above b x ys less.0 more), rising_behind b xs ys h.1 less.1 g more)
@@ -79,7 +80,7 @@ published_rises n (o ∷ own) h =
     by true more rest = (more, rest)
     by false more rest = rest
 
--- a beginning of these
+-- a prefix of these
 pub prefix_each : (P : ℕ → Type 0) (xs ys : List ℕ) → IsPrefixOf xs ys → Each P ys → Each P xs
 prefix_each P xs ys p h = each_left P xs p.rest (subst (Each P) p.is h)
 

@@ -1,5 +1,5 @@
--- While a session lasts, a place where the client's next packet is taken says what it carries, and brings what is new to the story of the
--- session as well.
+-- While a session lasts, a place at which the client's next packet is taken says what it carries,
+-- and adds what is new to the story of the session as well.
 use Rattle.std.proofs.Common.{◌≡◌, ℕ, Bool, true, false, List, [], ◌∷◌, ◌++◌, Option, Some, None, refl, sym, ◌∙◌, ap, subst, arith, inl, inr, ◌⊎◌}
 use Rattle.std.specs.Prelude.{slice_get}
 use Rattle.lists.specs.Lists.{In}

@@ -8,7 +8,7 @@ use Rattle.story.proofs.places.After.{IsKeptSession, IsSpared, session_spared, s
 use Rattle.story.proofs.publishing.kept.KeepsNames.{OpensKept}
 use Rattle.story.proofs.sessions.Openings.{no_start, start_stays}
 
--- it began, so it is there, and not clean
+-- it began, so it exists, and is not clean
 pub started_there : (past : Past) (c : Client) (n : ℕ) → IsKeptSession (session_of past c) → session_start past c ≡ Some n → session_of past c ≡ Some false
 started_there past c n (inl none) e = absurd (let f : None ≡ Some n = sym (no_start past c none) ∙ e in cc)
 started_there past c n (inr live) e = live

@@ -74,6 +74,6 @@ in_step_before limits s t (publishes_one p needs) h = unwritten_welcome s.past s
 in_step_before limits s t (subscribes p on id) h = unwritten_welcome s.past s.keeper.client (plain (packets.Subscribe p) ∷ []) s.connections h
 in_step_before limits s t (unsubscribes p on id) h = unwritten_welcome s.past s.keeper.client (plain (packets.Unsubscribe p) ∷ []) s.connections h
 
--- so does an Expel
+-- an Expel does, too
 pub in_step_expelled : (limits : Limits) (c : Client) (s : Story) → IsInStep (record s { past = place_of limits s.past (commands.Expel c) ∷ s.past }) → IsInStep s
 in_step_expelled limits c s h = below_welcome (place_of limits s.past (commands.Expel c)) s.past s.keeper.client s.connections h

@@ -19,7 +19,7 @@ use Rattle.story.specs.Inside.Projections.{published_in, as_subscriber, IsLike, 
 use Rattle.story.proofs.subscribing.events.Handling.{handles_one}
 use Rattle.story.proofs.subscribing.events.Receiving.{IsNext, counted, next_quiet, next_other}
 
--- a PUBLISH of QoS 2 stands first
+-- a PUBLISH of QoS 2 is first
 first_two : (d : Delivery) (dup : Bool) (id : ℕ) (p : Publication) (f : List (Forward Publication)) → d ≡ deliveries.ExactlyOnce dup id → published_in d p f ≡ Forward.Publish id p ∷ f
 first_two d dup id p f e = ap (λ (z : Delivery). published_in z p f) e
 

@@ -21,7 +21,7 @@ use Rattle.story.proofs.Starts.{Starts, rows_started, sending_all, all_starts}
 
 -- ---- new entries
 
--- those of QoS 2 are added, one after the other
+-- those of QoS 2 are added, one after another
 pub adds_all : (n : ℕ) (ps : List Publication) (h : Handshake Publication) → Starts h (h.items ++ items_of (map (Entry.Waits n) ps)) []
 adds_all n [] h = record { after = h; run = stays; items_are = sym (append-nil h.items); accepted = refl; received = refl; link = refl }
 adds_all n (p ∷ ps) h = by (is_two p.qos) (adds_all n ps (with_items (h.items ++ Item.Waits p ∷ []) h.link h)) (adds_all n ps h)
@@ -85,7 +85,7 @@ place_starts w n current es ps h e s = by current (adds_all n ps h)
           link = q.link ∙ ap (sending_all (rows_started w [] (es ++ map (Entry.Waits n) ps))) r.link;
         }
 
--- behind a run
+-- after a run
 pub goes_started : (h k t : Handshake Publication) (w n : ℕ) (current : Option ConnectionName) (es : List Entry) (ps : List Publication)
     → Run h k → k.items ≡ items_of es → Sound (suc n) es → k.accepted ≡ t.accepted → ((id : ℕ) → k.received id ≡ t.received id)
     → t.items ≡ items_of (started w n current (es ++ map (Entry.Waits n) ps)) → t.link ≡ sending_all (rows_at w current (es ++ map (Entry.Waits n) ps)) k.link → GoesTo h t

@@ -41,7 +41,7 @@ own_puback limits s i κ w id o e =
     (link_is limits s.past current s.keeper s.connections
     ∙ ap₂ link_as (sym (grown_none v)) (own_left limits s i κ w o ∙ ap (λ (z : Packet). backward_one z (left_behind current (counted_at i s.connections))) e))
 
--- the sender hears the answer
+-- the sender receives the answer
 pub own_hears : (limits : Limits) (s : Story) (i : ℕ) (κ : Connection) (w : Written) (packet : Packet) (m : Backward) → IsOwn limits s i κ w → w.packet ≡ packet → ((b : List Backward) → backward_one packet b ≡ m ∷ b)
     → GoesOn limits s (at_own s κ.name packet) (answered s limits κ.name packet) [] (reply m) → heard m (items_of (entries_of limits s.past s.keeper.client)) ≡ items_of (answered s limits κ.name packet)
     → GoesTo (as_subscriber limits s) (as_subscriber limits (placed s (at_own s κ.name packet) (counted_at i s.connections)))

@@ -1,4 +1,4 @@
--- What the place of a client's PUBACK, PUBREC or PUBCOMP makes of its entries.
+-- What the place of a client's PUBACK, PUBREC or PUBCOMP does to its entries.
 use Rattle.std.proofs.Common.{◌≡◌, ℕ, Bool, true, false, if◌then◌else◌, List, [], ◌∷◌, ◌++◌, length, map, Option, Some, None, refl, ap, sym, ◌∙◌}
 use Rattle.packet.specs.declared.packet.Packet.{Packet}
 use Rattle.client_base.specs.session_base.declared.publication.Publication.{Publication}
@@ -41,7 +41,7 @@ session_there past c x e = by (session_of past c) refl
 abbrev pub at_own : Story → ConnectionName → Packet → Place
 at_own s y packet = at_packet y packet (Mark.Handled s.keeper.client)
 
--- its entries behind it, before any starts
+-- its entries after it, before any starts
 abbrev pub answered : Story → Limits → ConnectionName → Packet → List Entry
 answered s limits y packet = answered_by (commands.Packet y packet) (Mark.Handled s.keeper.client) (length s.past) s.keeper.client (entries_of limits s.past s.keeper.client)
 
@@ -64,7 +64,7 @@ started_sends w n y x current es after e f h =
     by true g = ap (λ (z : ConnectionName). forward_of (sends_to x (all_started z n (start_all w n [] es)))) (same_name y x g) ∙ forward_started x w n [] es h
     by false g = ap forward_of (started_elsewhere x y n (start_all w n [] es) (same_turned x y ∙ g))
 
--- the entries behind it
+-- the entries after it
 pub entries_answered : (limits : Limits) (s : Story) (y : ConnectionName) (packet : Packet) → current_connection s.past s.keeper.client ≡ Some y → copies_at (at_own s y packet) s.past s.keeper.client ≡ []
     → entries_of limits (at_own s y packet ∷ s.past) s.keeper.client
     ≡ started (window_at limits (at_own s y packet ∷ s.past)) (length s.past) (current_connection s.past s.keeper.client) (answered s limits y packet ++ [])
@@ -73,7 +73,7 @@ entries_answered limits s y packet e copies =
     entries_next limits (at_own s y packet) s.past s.keeper.client there.0 refl (stays_on y packet (Mark.Handled s.keeper.client) (current_connection s.past s.keeper.client) refl) there.1
     ∙ ap (λ ps. started (window_at limits (at_own s y packet ∷ s.past)) (length s.past) (current_connection s.past s.keeper.client) (answered s limits y packet ++ map (Entry.Waits (length s.past)) (queued ps))) copies
 
--- what the place makes of them
+-- what the place does to them
 pub answers_on : (limits : Limits) (s : Story) (y : ConnectionName) (packet : Packet) (more : List (Forward Publication)) → current_connection s.past s.keeper.client ≡ Some y
     → copies_at (at_own s y packet) s.past s.keeper.client ≡ []
     → SendsAt limits (at_own s y packet) s.past (current_connection s.past s.keeper.client) s.connections

@@ -48,7 +48,7 @@ one_sent : (x : ConnectionName) (dup : Bool) (id : ℕ) (p : Publication) (more 
     → forward_of (sends_to x (publish x dup id p ∷ more)) ≡ (if is_two p.qos then Forward.Publish id p ∷ forward_of (sends_to x more) else forward_of (sends_to x more))
 one_sent x dup id p more = ap forward_of (sends_publish x dup id p more) ∙ forward_publish dup id p (sends_to x more)
 
--- where an entry starts at this place it is sent
+-- if an entry starts at this place it is sent
 same_place : (n : ℕ) → (n == n) ≡ true
 same_place n = grind arith
 

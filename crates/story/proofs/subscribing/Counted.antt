@@ -16,7 +16,7 @@ use Rattle.story.proofs.subscribing.events.Leaving.{same_name}
 use Rattle.story.proofs.subscribing.Written.{backward_one, backward_first}
 use Rattle.story.proofs.subscribing.Views.{seen, view}
 
--- it holds of the one that is there
+-- it holds for the one that is there
 pub each_at : (P : Connection → Type 0) (connections : List Connection) (i : ℕ) (κ : Connection) → Each P connections → slice_get connections i ≡ Some κ → P κ
 each_at P [] i κ h e = absurd (cc)
 each_at P (first ∷ others) zero κ h e = let f : first ≡ κ = cc in subst P f h.0
@@ -58,7 +58,7 @@ left_other x (first ∷ others) zero κ e n =
     ∙ sym (ap (λ b. if b then backward_of (to_be_taken first) else left_behind (Some x) others) g)
 left_other x (first ∷ others) (suc i) κ e n = ap (λ l. if same_connection x first.name then backward_of (to_be_taken first) else l) (left_other x others i κ e n)
 
--- what comes back on the connection, before and behind
+-- what comes back on the connection, before and after
 pub left_own : (x : ConnectionName) (connections : List Connection) (i : ℕ) (κ : Connection) → NamesApart connections → slice_get connections i ≡ Some κ → same_connection x κ.name ≡ true
     → (left_behind (Some x) connections ≡ backward_of (to_be_taken κ)) × (left_behind (Some x) (counted_at i connections) ≡ backward_of (drop (suc κ.taken) κ.written))
 left_own x [] i κ a e n = absurd (cc)

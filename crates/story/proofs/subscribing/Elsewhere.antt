@@ -41,7 +41,7 @@ no_reply x (packets.Pubrec i) d c limits past n es e = reply_if (same_client d c
 no_reply x (packets.Pubcomp i) d c limits past n es e = reply_if (same_client d c) es (map (at_pubcomp n i) es) e
 no_reply x _ d c limits past n es e = refl
 
--- a packet that is nobody's answers none
+-- a packet on a connection without a client answers none
 pub nobodys_reply : (x : ConnectionName) (packet : Packet) (c : Client) (n : ℕ) (es : List Entry) → answered_by (commands.Packet x packet) Mark.NoPart n c es ≡ es
 nobodys_reply x (packets.Puback i) c n es = refl
 nobodys_reply x (packets.Pubrec i) c n es = refl
@@ -82,7 +82,7 @@ publish_sends limits past y x p d c none = by (is_repeat past d p.delivery) (is_
     by false true = refused_sends limits past y x p d c
     by false false = taken_sends limits past y x p d c none
 
--- where a packet gives the connection nothing and makes no copies
+-- if a packet gives the connection nothing and makes no copies
 pub both_none : (limits : Limits) (place : Place) (past : Past) (x : ConnectionName) (c : Client) → forward_of (sends_to x (answers_at limits place past)) ≡ [] → copies_at place past c ≡ []
     → forward_of (sends_to x (answers_at limits place past)) ≡ forward_of (sends_to x (deliveries_to limits place past c))
 both_none limits place past x c e f = e ∙ sym (ap (λ l. forward_of (sends_to x l)) (none_handed limits place past c f))

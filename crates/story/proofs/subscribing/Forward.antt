@@ -21,7 +21,7 @@ one_of_two (packets.Publish p) f g = by p.delivery
 one_of_two (packets.Pubrel id) f g = refl
 one_of_two _ f g = refl
 
--- what stands behind comes behind
+-- what comes after comes after
 pub forward_append : (ps qs : List Packet) → forward_of (ps ++ qs) ≡ forward_of ps ++ forward_of qs
 forward_append [] qs = refl
 forward_append (p ∷ ps) qs =

@@ -7,7 +7,7 @@ use Rattle.handshake.specs.Handshake.Run.{stays, goes_on}
 use Rattle.story.specs.Inside.Projections.{GoesTo}
 use Rattle.story.proofs.subscribing.Standing.{Stands}
 
--- the receiver leaves, where it had not: what the broker's connection still brings is heard
+-- the receiver leaves, if it had not: what the broker's connection still brings is received
 pub gone : (h t : Handshake Publication) (b : List Backward) → Stands h.link b
     → h.items ≡ t.items → h.accepted ≡ t.accepted → ((id : ℕ) → h.received id ≡ t.received id) → t.link ≡ Link.Behind b → GoesTo h t
 gone h t b (inl e) i a r l = record { between = h; run = stays; like = record { items = i; accepted = a; received = r; link = e ∙ sym l } }

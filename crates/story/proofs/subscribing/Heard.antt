@@ -1,4 +1,4 @@
--- The list takes an answer of the client: the sender hears it.
+-- The list takes an answer of the client: the sender receives it.
 use Rattle.std.proofs.Common.{◌≡◌, ℕ, true, false, ◌==◌, List, [], ◌∷◌, ◌++◌, Some, None, refl, ap, sym, ◌∙◌, subst, inl, inr}
 use Rattle.std.proofs.lemmas.Bool.{both_ways}
 use Rattle.client_base.specs.session_base.declared.publication.Publication.{Publication}
@@ -23,13 +23,13 @@ not_behind f b e = cc
 no_cons : (m : Backward) (b : List Backward) → m ∷ b ≡ [] → ⊥
 no_cons m b e = cc
 
--- nothing comes where the sender has left
+-- nothing comes if the sender has left
 never_ahead : (l : Link Publication) (f : List (Forward Publication)) (m : Backward) (b : List Backward) → l ≡ Link.Ahead f → Stands l (m ∷ b) → ⊥
 never_ahead l f m b e (inl g) = not_behind f (m ∷ b) (sym e ∙ g)
 never_ahead l f m b e (inr (inl (k, g))) = not_joined f k (m ∷ b) (sym e ∙ g)
 never_ahead l f m b e (inr (inr (k, g, n))) = no_cons m b n
 
--- the sender hears what comes first
+-- the sender receives what comes first
 pub hears_view : (h : Handshake Publication) (v : View) (m : Backward) (b : List Backward) → h.link ≡ link_as v (m ∷ b) → Stands h.link (m ∷ b)
     → Run h (with_items (heard m h.items) (link_as (grown (reply m) v) b) h)
 hears_view h None m b e st = goes_on stays (hears_alone m b e)

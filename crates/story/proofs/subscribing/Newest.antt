@@ -1,4 +1,5 @@
--- The new row of shape that the newest connection is served, where its Connect is taken, is kept by every event on the list.
+-- The new row of shape that the newest connection is served, if its Connect is taken, is kept by
+-- every event on the list.
 use Rattle.std.proofs.Common.{◌≡◌, ℕ, zero, suc, true, false, List, [], ◌∷◌, Option, Some, None, ap, sym, ◌∙◌, subst, ◌⊎◌, inl, inr, arith}
 use Rattle.std.specs.Prelude.{slice_get}
 use Rattle.std.proofs.lemmas.Bool.{both_ways, cases_Bool}
@@ -30,7 +31,7 @@ pub newest_stays : (before behind : Option ConnectionName) (connections : List C
 newest_stays before behind connections h (inl e) = subst (λ (o : Option ConnectionName). NewestIsServed o connections) (sym e) h
 newest_stays before behind connections h (inr e) = subst (λ (o : Option ConnectionName). NewestIsServed o connections) (sym e) tt
 
--- where those of this name are unconfirmed
+-- if those of this name are unconfirmed
 abbrev pub Unconfirmed : ConnectionName → List Connection → Type 0
 Unconfirmed x connections = Each (λ (other : Connection). same_connection x other.name ≡ true → other.confirmed ≡ false) connections
 
@@ -41,7 +42,7 @@ unconfirmed_counted x [] (suc i) h = tt
 unconfirmed_counted x (κ ∷ others) zero h = (h.0, h.1)
 unconfirmed_counted x (κ ∷ others) (suc i) h = (h.0, unconfirmed_counted x others i h.1)
 
--- a packet behind the CONNECT is taken
+-- a packet after the CONNECT is taken
 pub newest_counted : (current : Option ConnectionName) (connections : List Connection) (i n : ℕ) (κ : Connection) → slice_get connections i ≡ Some κ → κ.taken ≡ suc n
     → NewestIsServed current connections → NewestIsServed current (counted_at i connections)
 newest_counted None connections i n κ at t h = tt

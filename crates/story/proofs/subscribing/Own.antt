@@ -45,7 +45,7 @@ pub record IsOwn (limits : Limits) (s : Story) (i : ℕ) (κ : Connection) (w : 
   pub taken : κ.taken ≡ suc n
   pub current : current_connection s.past s.keeper.client ≡ Some κ.name
 
--- what comes back on it, before and behind
+-- what comes back on it, before and after
 pub own_left : (limits : Limits) (s : Story) (i : ℕ) (κ : Connection) (w : Written) → IsOwn limits s i κ w
     → left_behind (current_connection s.past s.keeper.client) s.connections ≡ backward_one w.packet (left_behind (current_connection s.past s.keeper.client) (counted_at i s.connections))
 own_left limits s i κ w o =
@@ -95,7 +95,7 @@ own_parts limits s i κ w packet mark o leaving answers copies sends =
     place_parts limits s place (counted_at i s.connections) o.shape over (entries_over limits place s.past s.keeper.client o.shape.session refl refl over answers copies) sends
     (view_counted limits (place ∷ s.past) None s.keeper s.connections i o.n κ o.at o.taken) (accepted_counted i s.connections)
 
--- a PUBLISH, by what becomes of it
+-- a PUBLISH, by what happens to it
 pub own_publish : (limits : Limits) (s : Story) (i : ℕ) (κ : Connection) (w : Written) (p : Publish) → IsOwn limits s i κ w → w.packet ≡ packets.Publish p
     → GoesTo (as_subscriber limits s) (as_subscriber limits (placed s (at_packet κ.name (packets.Publish p) (packet_mark limits s.past s.keeper.client (packets.Publish p))) (counted_at i s.connections)))
 own_publish limits s i κ w p o e =

@@ -22,7 +22,7 @@ use Rattle.story.proofs.Takes.{same_name_self}
 use Rattle.story.proofs.subscribing.Views.{View, seen, view, link_as, link_is, parted, comes_behind}
 use Rattle.story.proofs.subscribing.Placed.{placed}
 
--- a client without a connection has nothing left behind
+-- a client without a connection has nothing in transit on an earlier one
 pub nothing_behind : (connections : List Connection) → left_behind None connections ≡ []
 nothing_behind [] = refl
 nothing_behind (κ ∷ others) = refl
@@ -51,7 +51,7 @@ view_parted limits place past c current other keeper (κ ∷ others) g sends not
         (comes_behind limits place past κ g.0.handled_within ∙ ap (λ l. forward_of (to_come limits past κ) ++ l) (sends κ.name first) ∙ append-nil (forward_of (to_come limits past κ)))
         (not κ.name first)
 
--- the sender leaves, where it had not
+-- the sender leaves, if it had not
 pub parts_view : (h t : Handshake Publication) (v : View) (b : List Backward) → h.link ≡ link_as v b → h.items ≡ t.items → h.accepted ≡ t.accepted → ((id : ℕ) → h.received id ≡ t.received id)
     → t.link ≡ link_as (parted v) [] → GoesTo h t
 parts_view h t None b e i a r l = record { between = with_items h.items (Link.Behind []) h; run = goes_on stays parts; like = record { items = i; accepted = a; received = r; link = sym l } }

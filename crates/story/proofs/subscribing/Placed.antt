@@ -18,7 +18,7 @@ use Rattle.story.proofs.Starts.{sending_all}
 use Rattle.story.proofs.subscribing.Adding.{rows_at, goes_started}
 use Rattle.story.proofs.subscribing.Views.{View, view, link_as, link_is, grown, link_grown, SendsAt, view_grown}
 
--- what a place that leaves the client's connection makes of its entries, and sends
+-- what a place that leaves the client's connection does to its entries, and sends
 pub record GoesOn (limits : Limits) (s : Story) (place : Place) (es : List Entry) (ps : List Publication) (more : List (Forward Publication)) : Type 0 where
   pub current : current_connection (place ∷ s.past) s.keeper.client ≡ current_connection s.past s.keeper.client
   pub entries : entries_of limits (place ∷ s.past) s.keeper.client
@@ -37,7 +37,7 @@ grown_twice more rest None = refl
 grown_twice more rest (Some (f, true)) = ap (λ l. Some (l, true)) (sym (append_assoc f more rest))
 grown_twice more rest (Some (f, false)) = refl
 
--- behind what is heard, the place adds and starts
+-- after what is received, the place adds and starts
 pub place_goes : (limits : Limits) (s : Story) (place : Place) (connections : List Connection) (es : List Entry) (ps : List Publication) (more : List (Forward Publication)) (k : Handshake Publication)
     → HasShape limits s → GoesOn limits s place es ps more
     → view limits (place ∷ s.past) (current_connection s.past s.keeper.client) s.keeper connections ≡ view limits (place ∷ s.past) (current_connection s.past s.keeper.client) s.keeper s.connections

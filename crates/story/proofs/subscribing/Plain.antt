@@ -40,7 +40,7 @@ pub record IsPlain (limits : Limits) (s : Story) (place : Place) : Type 0 where
 nothing_handed : (limits : Limits) (place : Place) (past : Past) (c : Client) → current_connection past c ≡ None → deliveries_to limits place past c ≡ []
 nothing_handed limits place past c e = ap (λ o. handed_to o (length past) (copies_at place past c) (made_at (length past) (entries_of limits (place ∷ past) c))) e
 
--- what it makes of the client's entries
+-- what it does to the client's entries
 pub plain_on : (limits : Limits) (s : Story) (place : Place) → IsPlain limits s place → (ps : List Publication) × GoesOn limits s place (entries_of limits s.past s.keeper.client) ps []
 plain_on limits s place p = by (session_of s.past s.keeper.client) refl
   where

@@ -39,7 +39,7 @@ use Rattle.story.proofs.subscribing.places.Quiet.{full_rows}
 use Rattle.story.proofs.subscribing.Answers.{at_own, answered, entries_answered, answers_on, own_if}
 use Rattle.story.proofs.subscribing.Answering.{own_hears}
 
--- the PUBREL behind a PUBREC
+-- the PUBREL after a PUBREC
 pubrel_sends : (b : Bool) (current : Option ConnectionName) (y x : ConnectionName) (id : ℕ) → b ≡ true → current ≡ Some y
     → forward_of (sends_to x (if b then Send y (packets.Pubrel id) ∷ [] else [])) ≡ (if is_current current x then Forward.Pubrel id ∷ [] else [])
 pubrel_sends false current y x id t e = absurd (both_ways false refl t)

@@ -48,7 +48,7 @@ kept_puback n i (Entry.Started made p id start ∷ es) h = by ((i == id) && is_a
 kept_puback n i (Entry.Released made p id start release ∷ es) h = (h.0, kept_puback n i es h.1)
 kept_puback n i (Entry.Finished made p id start release finish ∷ es) h = (h.0, kept_puback n i es h.1)
 
--- so does PUBREC
+-- the same for PUBREC
 kept_pubrec : (n i : ℕ) (es : List Entry) → AreKept es → AreKept (map (at_pubrec n i) es)
 kept_pubrec n i [] h = tt
 kept_pubrec n i (Entry.Waits made p ∷ es) h = (h.0, kept_pubrec n i es h.1)

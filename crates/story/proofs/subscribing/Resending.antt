@@ -76,7 +76,7 @@ forward_again x n (Entry.Finished made p id start release finish ∷ es) h = for
 
 -- ---- all of it
 
--- none started at a place behind
+-- none started at a place after
 pub none_here : (n : ℕ) (es : List Entry) → StartedBefore n es → NoneStartedAt n es
 none_here n [] h = tt
 none_here n (Entry.Waits made p ∷ es) h = none_here n es h

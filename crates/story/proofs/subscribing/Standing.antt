@@ -1,5 +1,5 @@
--- Where the link of the handshake in which a client subscribes stands: with the connection that the client holds, or with
--- what may still come on the broker's.
+-- The state of the link of the handshake in which a client subscribes: with the connection that the
+-- client holds, or with what may still come on the broker's.
 use Rattle.std.proofs.Common.{◌≡◌, ◌≤◌, ℕ, zero, suc, Bool, true, false, if◌then◌else◌, List, [], ◌∷◌, drop, Option, Some, None, refl, ap, ◌∙◌, ◌⊎◌, inl, inr, arith}
 use Rattle.client_base.specs.session_base.declared.publication.Publication.{Publication}
 use Rattle.broker_base.specs.Connection.{ConnectionName, same_connection}
@@ -28,7 +28,7 @@ pub unconfirmed_none : (limits : Limits) (past : Past) (c : Client) (κ : Connec
 unconfirmed_none limits past c κ g e =
     ap (λ ws. backward_of (drop κ.taken ws)) (g.written ∙ ap (λ (more : List Written). opens c ∷ more) (g.silent e)) ∙ only_connect c κ.taken
 
--- nothing comes where only unconfirmed connections have the name
+-- nothing comes if only unconfirmed connections have the name
 pub nothing_left : (limits : Limits) (past : Past) (c : Client) (x : ConnectionName) (connections : List Connection) → Each (ConnectionInShape limits past c) connections
     → Each (λ (other : Connection). same_connection x other.name ≡ true → other.confirmed ≡ false) connections
     → left_behind (Some x) connections ≡ []

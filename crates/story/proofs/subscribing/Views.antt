@@ -68,7 +68,7 @@ put_more : (limits : Limits) (place : Place) (past : Past) (x : ConnectionName) 
 unfolding put_to
 put_more limits place past x = refl
 
--- what a place sends comes behind
+-- what a place sends comes after
 pub comes_behind : (limits : Limits) (place : Place) (past : Past) (κ : Connection) → κ.handled ≤ length (put_to limits past κ.name)
     → forward_of (to_come limits (place ∷ past) κ) ≡ forward_of (to_come limits past κ) ++ forward_of (sends_to κ.name (answers_at limits place past))
 comes_behind limits place past κ h =
@@ -76,7 +76,7 @@ comes_behind limits place past κ h =
     ∙ ap forward_of (drop-append-le κ.handled (put_to limits past κ.name) (sends_to κ.name (answers_at limits place past)) h)
     ∙ forward_append (to_come limits past κ) (sends_to κ.name (answers_at limits place past))
 
--- more comes, where it is the current one
+-- more comes, if it is the current one
 abbrev pub grown : List (Forward Publication) → View → View
 grown more None = None
 grown more (Some (f, true)) = Some (f ++ more, true)
@@ -109,7 +109,7 @@ link_grown rows None b = sym (sent_behind rows b)
 link_grown rows (Some (f, true)) b = sym (sent_joined rows f b)
 link_grown rows (Some (f, false)) b = sym (sent_ahead rows f)
 
--- what each connection of the client is sent at a place: this, where it is current
+-- what each connection of the client is sent at a place: this, if it is current
 abbrev pub SendsAt : Limits → Place → Past → Option ConnectionName → List Connection → List (Forward Publication) → Type 0
 SendsAt limits place past current connections more =
     (x : ConnectionName) → any_named (same_connection x) connections ≡ true
@@ -119,7 +119,7 @@ SendsAt limits place past current connections more =
 first_named : (κ : Connection) (others : List Connection) → any_named (same_connection κ.name) (κ ∷ others) ≡ true
 first_named κ others = ap (λ b. b || any_named (same_connection κ.name) others) (same_name_self κ.name)
 
--- the view behind a place that leaves the current connection
+-- the view after a place that leaves the current connection
 pub view_grown : (limits : Limits) (place : Place) (past : Past) (c : Client) (current : Option ConnectionName) (keeper : Keeper) (connections : List Connection) (more : List (Forward Publication))
     → Each (ConnectionInShape limits past c) connections → SendsAt limits place past current connections more
     → view limits (place ∷ past) current keeper connections ≡ grown more (view limits past current keeper connections)

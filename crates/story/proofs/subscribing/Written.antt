@@ -29,7 +29,7 @@ one_of_two (packets.Pubrec id) a b = refl
 one_of_two (packets.Pubcomp id) a b = refl
 one_of_two _ a b = refl
 
--- what stands behind comes behind
+-- what comes after comes after
 pub backward_append : (ws more : List Written) → backward_of (ws ++ more) ≡ backward_of ws ++ backward_of more
 backward_append [] more = refl
 backward_append (w ∷ ws) more =
@@ -38,7 +38,7 @@ backward_append (w ∷ ws) more =
     ∙ one_of_two w.packet (backward_of ws) (backward_of more)
     ∙ ap (λ l. l ++ backward_of more) (sym (backward_first w ws))
 
--- what is written behind is to be taken behind
+-- what is written after is to be taken after
 pub taken_behind : (n : ℕ) (ws more : List Written) → n ≤ length ws → backward_of (drop n (ws ++ more)) ≡ backward_of (drop n ws) ++ backward_of more
 taken_behind n ws more h = ap backward_of (drop-append-le n ws more h) ∙ backward_append (drop n ws) more
 
@@ -73,7 +73,7 @@ none_first (Own.Done k p ∷ own) = none_first own
 none_both : (ws more : List Written) → backward_of ws ≡ [] → backward_of more ≡ [] → backward_of (ws ++ more) ≡ []
 none_both ws more e f = backward_append ws more ∙ ap (λ l. l ++ backward_of more) e ∙ f
 
--- what is written behind a CONNACK has no answers
+-- what is written after a CONNACK has no answers
 pub none_resent : (keeper : Keeper) → backward_of (resent keeper) ≡ []
 none_resent keeper =
     none_both (map (λ id. plain (packets.Pubrel id)) keeper.releases ++ sent_again keeper.own) (sent_first keeper.own)

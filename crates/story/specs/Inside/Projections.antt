@@ -38,14 +38,14 @@ abbrev pub published_in : Delivery → Publication → List (Forward Publication
 published_in (deliveries.ExactlyOnce dup id) p f = Forward.Publish id p ∷ f
 published_in _ p f = f
 
--- what of the broker's packets is of the handshake
+-- the part of the broker's packets that belongs to the handshake
 abbrev pub forward_of : List Packet → List (Forward Publication)
 forward_of (packets.Publish p ∷ more) = published_in p.delivery (publication_of p) (forward_of more)
 forward_of (packets.Pubrel id ∷ more) = Forward.Pubrel id ∷ forward_of more
 forward_of (_ ∷ more) = forward_of more
 forward_of [] = []
 
--- and of the client's
+-- and of the client's packets
 abbrev pub backward_of : List Written → List Backward
 backward_of (w ∷ more) = by w.packet (backward_of more)
   where
@@ -75,7 +75,7 @@ abbrev pub is_current : Option ConnectionName → ConnectionName → Bool
 is_current (Some y) x = same_connection y x
 is_current None x = false
 
--- what may still come back on the broker's connection
+-- what may still come to the broker on its connection
 abbrev pub left_behind : Option ConnectionName → List Connection → List Backward
 left_behind (Some x) (κ ∷ connections) =
     if same_connection x κ.name then backward_of (to_be_taken κ) else left_behind (Some x) connections
@@ -98,7 +98,8 @@ as_subscriber limits s =
       link = link_to limits s.past (current_connection s.past s.keeper.client) s.connections (held s.keeper s.connections);
     }
 
--- ---- the client as a publisher: it sends the numbers of its publications, the broker accepts them as new
+-- ---- the client as a publisher: it sends the numbers of its publications, the broker accepts them
+-- as new
 
 abbrev pub own_item : Publication → Item ℕ → List (Item ℕ) → List (Item ℕ)
 own_item p item items = if is_two p.qos then item ∷ items else items
@@ -153,7 +154,7 @@ as_publisher limits s =
 
 -- ---- the refinement, event by event
 
--- two handshakes that differ in nothing that matters
+-- two handshakes that do not differ in any relevant part
 pub record IsLike {A : Type 0} (h k : Handshake A) : Type 0 where
   pub items : h.items ≡ k.items
   pub accepted : h.accepted ≡ k.accepted

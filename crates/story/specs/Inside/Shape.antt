@@ -1,4 +1,4 @@
--- What every story keeps beside its two handshakes, and what is left to show of each event.
+-- What every story keeps besides its two handshakes, and what is left to show for each event.
 use Rattle.std.specs.Prelude.{◌≡◌, ◌≤◌, ◌⊎◌, ℕ, zero, suc, Bool, true, false, List, [], ◌∷◌, length, Option, Some, None}
 use Rattle.packet.specs.declared.connack.Connack.TheVariants as connacks
 use Rattle.packet.specs.declared.packet.Packet.{Packet}
@@ -63,7 +63,7 @@ is_connect w = by w.packet
     by (packets.Connect c) = true
     by _ = false
 
--- a PUBLISH of QoS 2 of which it is not known which publication it is of
+-- a PUBLISH of QoS 2 for which it is not known which publication it carries
 abbrev pub is_two_unnumbered : Packet → Option ℕ → Bool
 is_two_unnumbered (packets.Publish p) None = is_exactly_once p.delivery
 is_two_unnumbered _ _ = false
@@ -94,13 +94,13 @@ LastIsCurrent (Some x) connections =
     (any_named (same_connection x) connections ≡ true)
     × Each (λ (κ : Connection). same_connection x κ.name ≡ true → κ.confirmed ≡ true → last_confirmed connections ≡ Some κ) connections
 
--- where the newest one's Connect is taken, no other confirmed one is current
+-- if the newest one's Connect is taken, no other confirmed one is current
 abbrev pub NewestIsServed : Option ConnectionName → List Connection → Type 0
 NewestIsServed (Some x) (κ ∷ connections) =
     1 ≤ κ.taken → same_connection x κ.name ≡ false → Each (λ (other : Connection). same_connection x other.name ≡ true → other.confirmed ≡ false) connections
 NewestIsServed _ _ = Unit {0}
 
--- the first one is open where the client holds one
+-- the first one is open if the client holds one
 abbrev pub HeldInShape : Limits → Past → Keeper → List Connection → Type 0
 HeldInShape limits past keeper [] = keeper.is_open ≡ false
 HeldInShape limits past keeper (κ ∷ connections) =
@@ -108,7 +108,7 @@ HeldInShape limits past keeper (κ ∷ connections) =
     × (keeper.is_open ≡ true → keeper.is_online ≡ false → keeper.was_served ≡ true →
     Each (λ packet. (packet ≡ packets.Connack (connacks.Accepted false)) → ⊥) (put_to limits past κ.name))
 
--- a CONNACK 0 that stands among the answers means that the client's session is there, and not clean
+-- a CONNACK 0 among the answers means that the client's session exists, and is not clean
 abbrev pub IsMeant : Client → Past → Packet → Type 0
 IsMeant c past packet = (b : Bool) → packet ≡ packets.Connack (connacks.Accepted b) → session_of past c ≡ Some false
 
@@ -128,7 +128,7 @@ pub record HasShape (limits : Limits) (s : Story) : Type 0 where
   pub nobody_else : (d : Client) (x : ConnectionName) → current_connection s.past d ≡ Some x → any_named (same_connection x) s.connections ≡ true →
       same_client d s.keeper.client ≡ true
   pub held : HeldInShape limits s.past s.keeper s.connections
-  -- a keeper's session is not clean, and is there once it was served; so none of its sessions ends
+  -- a keeper's session is not clean, and exists once it was served; so none of its sessions ends
   pub session : (session_of s.past s.keeper.client ≡ None) ⊎ (session_of s.past s.keeper.client ≡ Some false)
   pub welcomed : AreWelcomed limits s.past s.keeper.client s.connections
   pub served : s.keeper.was_served ≡ true → session_of s.past s.keeper.client ≡ Some false
@@ -143,8 +143,9 @@ pub record IsSoundStory (limits : Limits) (s : Story) : Type 0 where
 abbrev pub EventKeepsShape : Type 0
 EventKeepsShape = (limits : Limits) (s t : Story) → IsSoundStory limits s → Happens limits s t → HasShape limits t
 
--- Each event is a run of the handshake in which the client publishes, and of that in which it subscribes: this one while the
--- window changes at a new ballot alone, since what starts at another place is not always sent.
+-- Each event is a run of the handshake in which the client publishes, and of that in which it
+-- subscribes; the latter only while the window changes only at a new ballot, since what starts at
+-- another place is not always sent.
 abbrev pub EventPublishes : Type 0
 EventPublishes = (limits : Limits) (s t : Story) → IsSoundStory limits s → Happens limits s t → GoesTo (as_publisher limits s) (as_publisher limits t)
 

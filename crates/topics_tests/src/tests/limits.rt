@@ -5,7 +5,7 @@ use std::alloc::Global;
 use std::test::*;
 use topics::MalformedKind;
 
-/// A text that is a part so many times, and the fault of it.
+/// A text that repeats a part this many times, and its fault.
 type Row<'a> = (&'a str, usize, Option<MalformedKind>);
 
 fn is_filter_fault(alloc: Global, row: Row<'_>) -> bool {
@@ -24,12 +24,12 @@ fn is_topic_fault(alloc: Global, row: Row<'_>) -> bool {
     }
 }
 
-/// The first row that is another fault as a Topic Filter.
+/// Returns the first row that is another fault as a Topic Filter.
 fn other_filter(alloc: Global, rows: &[Row<'_>]) -> Option<usize> {
     rows.iter().position(|row| !is_filter_fault(alloc, *row))
 }
 
-/// The first row that is another fault as a Topic Name.
+/// Returns the first row that is another fault as a Topic Name.
 fn other_topic(alloc: Global, rows: &[Row<'_>]) -> Option<usize> {
     rows.iter().position(|row| !is_topic_fault(alloc, *row))
 }

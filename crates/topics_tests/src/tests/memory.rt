@@ -1,5 +1,6 @@
-// Memory that is refused. Run with each allocation failing in turn: a text is made, or `Memory` is answered and it is made at
-// the second try; a text that is refused for a fault is refused for it as ever; and a match takes no memory.
+// Memory that is refused. Each test runs with each of its allocations failing in turn: a text is
+// made, or `Memory` is answered and it is made at the second try; a text that is refused for a
+// fault is refused for it as usual; and a match takes no memory.
 
 use std::alloc::Global;
 use std::test::*;
@@ -28,7 +29,7 @@ fn are_copied(filter: &Filter, topic: &TopicName) -> bool {
         && (topic.clone().is_ok() || topic.clone().is_ok())
 }
 
-// Whether a filter is made and copied, and matches a topic.
+// Says whether a filter is made and copied, and matches a topic.
 fn is_match(alloc: Global, filter: &str, topic: &str) -> bool {
     match (&filter_of(alloc, filter), &topic_of(alloc, topic)) {
         (Some(filter), Some(topic)) => are_copied(filter, topic) && matches(filter, topic),

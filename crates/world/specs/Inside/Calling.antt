@@ -10,16 +10,16 @@ use Rattle.world_pipes.specs.declared.sending.Sending.TheVariants as sendings
 use Rattle.world_pipes.specs.Piped.{Calls, Piped}
 use Rattle.world.specs.World.{WorldState}
 
--- memory was wanting, which is counted
+-- memory ran out, which is counted
 abbrev pub forgetful : WorldState → WorldState
 forgetful w = record w { losses = one_more w.losses }
 
--- a call with a copy, for which memory may be wanting
+-- a call with a copy, for which memory may run out
 abbrev pub IsCall : Call → Piped → Result Sending ClientError → Piped → Type 0
 IsCall call old (Err errors.Memory) new = Unit {0}
 IsCall call old done new = Calls (keeper_step call old.core.state) old done new
 
--- what a call comes to: want of memory is counted, and any other refusal is idle
+-- the result of a call: running out of memory is counted, and any other refusal is idle
 abbrev pub Counts : Result Sending ClientError → WorldState → Result (Unit {0}) Idle → WorldState → Type 0
 Counts (Ok sendings.Sent) old result new = IsOk result × (new ≡ old)
 Counts (Ok sendings.Lost) old result new = IsOk result × (new ≡ forgetful old)

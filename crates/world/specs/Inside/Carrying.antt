@@ -1,4 +1,4 @@
--- Bytes come to a node, or to a client.
+-- Bytes reach a node, or a client.
 use Rattle.std.specs.Prelude.{◌≡◌, ◌⊎◌, ◌-◌, ◌==◌, ◌&&◌, ◌≤◌, ◌<◌, ℕ, suc, Bool, true, false, Some, None, Err, length, slice_get, take}
 use Rattle.world_pipes.specs.world_base.declared.Port.{Port}
 use Rattle.world_pipes.specs.world_base.declared.item.Item.TheVariants.{Bytes}
@@ -16,9 +16,10 @@ use Rattle.world.specs.Cannot.{IsNoPart}
 use Rattle.world.specs.Doing.{HearsThem}
 use Rattle.world.specs.World.{WorldState}
 
--- ---- bytes come to a node
+-- ---- bytes reach a node
 
--- the first so many bytes under way on the connection at this place come to its node, which runs, and are gone from it
+-- this many bytes in transit up on this connection reach its node, which runs, and are removed from
+-- it
 pub record TakesUp (place : Place) (port : Port) (count : ℕ) (old : NodesState) (client : Piped) (new : NodesState) (later : Piped) : Type 0 where
   pub way : Way
   pub found : slice_get client.ways place.at ≡ Some way
@@ -37,7 +38,7 @@ pub record CanTake (place : Place) (count : ℕ) (nodes : NodesState) (client : 
   pub part : count ≤ length way.up
   pub runs : running nodes.nodes place.node ≡ None → ⊥
 
--- where there is no memory for them, nothing happens
+-- if there is no memory for them, nothing happens
 abbrev pub TakesUpWhere : Bool → Place → Port → ℕ → NodesState → Piped → NodesState → Piped → Type 0
 TakesUpWhere true place port count old client new later = TakesUp place port count old client new later
 TakesUpWhere false place port count old client new later = (new ≡ old) × (later ≡ client) × CanTake place count old client
@@ -56,7 +57,7 @@ pub record TakesUpOn (number : ℕ) (place : Place) (count : ℕ) (old new : Wor
   pub takes : TakesUp place (port_of number) count old.nodes client.piped between piped
   pub is : new ≡ record (with_piped place.client client piped old) { nodes = between }
 
--- where there is no memory for them, nothing happens
+-- if there is no memory for them, nothing happens
 abbrev pub TakesUpOnWhere : Bool → ℕ → Place → ℕ → WorldState → WorldState → Type 0
 TakesUpOnWhere true number place count old new = TakesUpOn number place count old new
 TakesUpOnWhere false number place count old new =
@@ -66,9 +67,10 @@ abbrev pub CannotTakeOn : Place → ℕ → WorldState → Type 0
 CannotTakeOn place count w =
     (client : WorldClient) → slice_get w.clients place.client ≡ Some client → CannotTake place count w.nodes client.piped
 
--- ---- bytes come to a client
+-- ---- bytes reach a client
 
--- it holds the connection at this place, some bytes wait there, and it hears them, with memory for all or not; or that cannot be
+-- it holds the connection at this index, some bytes wait there, and it receives them, with memory
+-- for all or not; or that is impossible
 pub record HearsOn (had : Bool) (at count : ℕ) (old new : Piped) : Type 0 where
   pub held : (is_holding old && (suc at == length old.ways)) ≡ true
   pub some : (way : Way) → slice_get old.ways at ≡ Some way → IsNoPart count way.down → ⊥

@@ -19,19 +19,19 @@ use Rattle.world.specs.Gathering.{Gathers}
 use Rattle.world.specs.Doing.{NoneOpens, next_number}
 use Rattle.world.specs.World.{WorldState}
 
--- the node of this number is there, and has a connection at this port or not
+-- the node of this number exists, and has a connection at this port or not
 pub record IsKnown (has : Bool) (node : ℕ) (port : Port) (n : NodesState) : Type 0 where
   pub core : CountedCore
   pub stands : node_of n.nodes node ≡ Some core
   pub known : is_some (listed_at port core.core) ≡ has
 
--- a node hears of a new connection, and has it then or not
+-- a new connection is reported to a node, which then has it or not
 pub record HearsAndHas (has : Bool) (node : ℕ) (port : Port) (old new : NodesState) : Type 0 where
   pub step : TakesIn node (Opened port 0) old new
   pub acts : Acts (node - 1) (takes (Opened port 0)) old new
   pub known : IsKnown has node port new
 
--- .. or does not hear of it
+-- .. or it is not reported
 abbrev pub HearsOfOne : Bool → ℕ → Port → NodesState → NodesState → Type 0
 HearsOfOne true node port old new = HearsAndHas true node port old new
 HearsOfOne false node port old new = (new ≡ old) ⊎ HearsAndHas false node port old new
@@ -48,7 +48,8 @@ Reaches true node port old client new later = HasNew node port old client new la
 Reaches false node port old client new later =
     FollowsAll client later × HearsOfOne false node port old new × NoneOpens node port old client new later
 
--- the client at this place has a new connection to the node, under the next number, and the node has taken it
+-- the client at this index has a new connection to the node, under the next number, and the node
+-- has taken it
 pub record ConnectsAt (i node : ℕ) (old new : WorldState) : Type 0 where
   pub client : WorldClient
   pub found : slice_get old.clients i ≡ Some client
@@ -60,7 +61,7 @@ pub record ConnectsAt (i node : ℕ) (old new : WorldState) : Type 0 where
     connections = old.connections ++ record { client = i; at = length client.piped.ways; node = node; is_open = true } ∷ [];
   }
 
--- and what the node put out then goes down
+-- and what the node queued then goes down
 pub record OpensAt (i node : ℕ) (old new : WorldState) : Type 0 where
   pub between : WorldState
   pub connects : ConnectsAt i node old between
@@ -80,7 +81,7 @@ pub record OpensNoneAt (i node : ℕ) (old new : WorldState) : Type 0 where
 abbrev pub MayOpenNone : ℕ → ℕ → WorldState → WorldState → Type 0
 MayOpenNone i node old new = (new ≡ old) ⊎ OpensNoneAt i node old new
 
--- it opens one; or it has none, which the nodes counted, or else the world
+-- it opens one; or it has none, which the nodes counted, or otherwise the world
 abbrev pub Begins : ℕ → ℕ → WorldState → WorldState → Type 0
 Begins i node old new =
     OpensAt i node old new

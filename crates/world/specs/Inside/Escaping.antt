@@ -11,7 +11,7 @@ use Rattle.world.specs.World.{WorldState}
 
 -- ---- the member of the active configuration whose log is fetched
 
--- the first that runs stands at this place and has this number, and its log has room for two more
+-- the first that runs is at this index and has this number, and its log has room for two more
 pub record IsFetchedFrom (w : WorldState) (place source : ℕ) : Type 0 where
   pub first : position (is_running w.nodes.nodes) w.nodes.master.members ≡ Some place
   pub asked : slice_get w.nodes.master.members place ≡ Some source
@@ -25,7 +25,8 @@ group_events w members place =
     events.Assign (configuration_of members)
     ∷ map events.Deliver (way_out (length w.nodes.sent) (length w.nodes.master.members) place (length members - 1))
 
--- a client that holds a connection loses it; it opens another, and its CONNECT comes to the new primary
+-- a client that holds a connection loses it; it opens another, and its CONNECT reaches the new
+-- primary
 abbrev pub leaving : Bool → List ℕ → List Event
 leaving true name = events.Abandon name ∷ []
 leaving false name = []

@@ -1,4 +1,4 @@
--- What a node put out goes down.
+-- What a node queued goes down.
 use Rattle.std.specs.Prelude.{◌≡◌, ◌⊎◌, ◌-◌, ℕ, Bool, true, false, List, ◌++◌, Some, Result, Ok, Err, length, set, slice_get, take}
 use Rattle.master.specs.declared.event.Idle.{Idle}
 use Rattle.world_pipes.specs.world_base.declared.Handed.{Handed}
@@ -18,26 +18,26 @@ use Rattle.world.specs.Quiet.{HoldsNothing}
 use Rattle.world.specs.World.{WorldState}
 use Rattle.world.specs.Inside.Steps.{NodesStay}
 
--- whether a node's answer tells that an end is open
+-- whether a node's answer says that an end is open
 abbrev pub tells_open : Result Handed Idle → Bool
 tells_open (Ok handed) = is_more handed
 tells_open (Err idle) = false
 
--- A node hands over what it put out for a port, after these bytes, and tells whether its end is open. Or it runs out of memory: it
--- hands nothing over, and its end is open.
+-- A node hands over what it queued for a port, after these bytes, and says whether its end is open.
+-- Or it runs out of memory: it hands nothing over, and its end is open.
 abbrev pub HandsDown : ℕ → Port → NodesState → List ℕ → NodesState → List ℕ → Bool → Type 0
 HandsDown node port old before new after is_open =
     (Gives (node_of old.nodes node) node port old new × (after ≡ before ++ put_out port (node_of old.nodes node))
     × (is_open ≡ is_told_open port (node_of old.nodes node)))
     ⊎ ((new ≡ nodes_forgetful old) × (after ≡ before) × (is_open ≡ true))
 
--- so it does after what is under way to a client on the connection at this place
+-- the same after what is in transit to a client on the connection at this index
 abbrev pub PutsDown : ℕ → ℕ → Port → NodesState → Piped → NodesState → Piped → Bool → Type 0
 PutsDown at node port old client new later is_open =
     (way : Way) → slice_get client.ways at ≡ Some way →
     (bytes : List ℕ) × HandsDown node port old way.down new bytes is_open × (later ≡ with_down at way bytes client)
 
--- it may find no memory: then it hands over nothing
+-- it may have no memory: then it hands over nothing
 abbrev pub MayHandDown : ℕ → Port → NodesState → List ℕ → NodesState → List ℕ → Type 0
 MayHandDown node port old before new behind =
     (NodesStay old new × (behind ≡ before)) ⊎ (Acts (node - 1) (gives port) old new × HandsOver node port old before behind)
@@ -47,7 +47,7 @@ MayPutDown at node port old client new later =
     (way : Way) → slice_get client.ways at ≡ Some way →
     (bytes : List ℕ) × MayHandDown node port old way.down new bytes × (later ≡ with_down at way bytes client)
 
--- on the connection of this number, and this is told of its end
+-- on the connection of this number, and this is said about its end
 pub record HandsOn (number : ℕ) (place : Place) (old : WorldState) (is_open : Bool) (new : WorldState) : Type 0 where
   pub client : WorldClient
   pub owned : slice_get old.clients place.client ≡ Some client
@@ -59,12 +59,12 @@ pub record HandsOn (number : ℕ) (place : Place) (old : WorldState) (is_open : 
   pub is : new ≡ record (with_piped place.client client
       (with_down place.at way (way.down ++ put_out (port_of number) (node_of old.nodes.nodes place.node)) client.piped) old) { nodes = between }
 
--- or its node ran out of memory: nothing is changed, its end is open, and that is counted
+-- or its node ran out of memory: nothing changes, its end is open, and that is counted
 abbrev pub MayHandOn : ℕ → Place → WorldState → Bool → WorldState → Type 0
 MayHandOn number place old is_open new =
     HandsOn number place old is_open new ⊎ ((is_open ≡ true) × (new ≡ record old { nodes = nodes_forgetful old.nodes }))
 
--- a node that has nothing to hand over has nothing then, and counts no loss
+-- a node that has nothing to hand over then has nothing, and counts no loss
 abbrev pub StaysQuiet : ℕ → NodesState → NodesState → Type 0
 StaysQuiet node old new = HoldsNothing node old → HoldsNothing node new × (new.losses ≡ old.losses)
 
@@ -74,7 +74,8 @@ marked number place is_open w = record w { connections = set w.connections (numb
 
 -- ---- a walk over the connections whose end is open
 
--- the one at this place among them was asked, where it leads to the node, and those that were opened before it stand as they did
+-- the one at this index among them was asked, if it leads to the node, and those that were opened
+-- before it stay as they were
 pub record AsksAt (node at : ℕ) (old new : WorldState) : Type 0 where
   pub number : ℕ
   pub stands : slice_get (open_from 1 old.connections) at ≡ Some number

@@ -15,7 +15,8 @@ use Rattle.world.specs.Happening.{HappensLosing}
 use Rattle.world.specs.Standing.{WorldGoesBy}
 use Rattle.world.specs.World.{WorldState}
 
--- counts do not fall, and whichever world stood for it goes on, while its clients publish this
+-- counts do not fall, and each world of the model that corresponded to it moves on, while its
+-- clients publish this
 pub record GoesOnBy (asked : List (ℕ × Publication)) (old new : WorldState) : Type 0 where
   pub rises : old.losses ≤ new.losses
   pub nodes : NodesGoOn old.nodes new.nodes
@@ -31,7 +32,7 @@ pub record GoesAsked (event : Event) (old : WorldState) (result : Result (Unit {
   pub is : IsAsked event old result asked new
   pub goes : GoesOnBy asked old new
 
--- whichever group stands for the nodes before stands for them still
+-- each group that corresponds to the nodes before still corresponds to them
 abbrev pub NodesStay : NodesState → NodesState → Type 0
 NodesStay old new = (g : Group) → NodesStand g old → NodesStand g new
 
@@ -42,13 +43,13 @@ pub record IsDone (event : Event) (old new : WorldState) : Type 0 where
   pub exact : NodesLoseNothing old.nodes new.nodes → Does true event old new
   pub uncounted : new.losses ≡ old.losses
 
--- what comes of an event, before the step counts what its nodes count
+-- the result of an event, before the step counts what its nodes counted
 abbrev pub Meets : Event → WorldState → Result (Unit {0}) Idle → WorldState → Type 0
 Meets event old (Err idle) new = CannotHappen event old × (new ≡ old)
 Meets event old (Ok done) new = IsDone event old new ⊎ HappensLosing event old new
 
--- Nothing is counted where the nodes' count of losses is what it was; else one loss is counted, where the world's count is still
--- what it was.
+-- Nothing is counted if the nodes' count of losses is what it was; otherwise one loss is counted,
+-- if the world's count is still what it was.
 abbrev pub IsCounted : ℕ → ℕ → WorldState → WorldState → Type 0
 IsCounted before counted old new =
     ((new ≡ old) × (old.losses ≡ counted → (old.nodes.losses ≡ before) × (before < 2 ^ 64 - 1)))

@@ -96,7 +96,8 @@ fn a_repeat_enters_once(rt: HostRuntime) {
     assert_eq!(rt; first_fault(rt.alloc(), REPEATED), None);
 }
 
-// A retained message comes without RETAIN to who is subscribed, and with it to who subscribes then.
+// A retained message comes with RETAIN 0 to a client that is subscribed, and with RETAIN 1 to one
+// that subscribes afterwards.
 const RETAINED: &[Row<'static>] = &[
     (0, 1, Act::Open, NOTHING, true),
     (0, 1, Act::Bytes(CONNECT_B), ACCEPTED, true),
@@ -157,7 +158,7 @@ const UNSUBSCRIBE: &[u8] = &[0xA2, 0x07, 0x00, 0x03, 0x00, 0x03, 0x74, 0x2F, 0x2
 
 const UNSUBACK: &[u8] = &[0xB0, 0x02, 0x00, 0x03];
 
-// An UNSUBSCRIBE is answered where nothing was subscribed, too (MQTT 3.10.4).
+// An UNSUBSCRIBE is answered if nothing was subscribed, too (MQTT 3.10.4).
 const NOT_SUBSCRIBED: &[Row<'static>] = &[
     (0, 1, Act::Open, NOTHING, true),
     (0, 1, Act::Bytes(CONNECT_B), ACCEPTED, true),

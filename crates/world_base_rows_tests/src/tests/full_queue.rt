@@ -1,4 +1,5 @@
-// A publication that finds a session's queue full is not answered, and its publisher is closed; sent again, it enters.
+// A publication that finds a session's queue full is not answered, and its publisher is closed;
+// sent again, it enters.
 
 use super::row::{
     ACCEPTED, CONNECT_A, CONNECT_B, Coming, NOTHING, PRESENT, comes, hands_over, primary, take,
@@ -6,7 +7,7 @@ use super::row::{
 use std::alloc::Global;
 use world_base::{Item, NodeCore, Port};
 
-// How many entries a queue holds, but for one.
+// How many entries a queue holds, except one.
 const MOST_BUT_ONE: usize = 4_095;
 
 // PUBLISH of `w` on `t/1` at QoS 1 with identifier 1, and its PUBACK.
@@ -52,7 +53,7 @@ fn brings(way: Way, node: &mut NodeCore, port: u64, bytes: &[u8]) -> bool {
     comes(way.alloc, node, port, bytes, 0, way.coming)
 }
 
-// Whether bytes that come on a port are answered so.
+// Says whether bytes that come on a port are answered so.
 fn answers(
     way: Way,
     node: &mut NodeCore,
@@ -64,7 +65,7 @@ fn answers(
     brings(way, node, port, bytes) && hands_over(way.alloc, node, port, wanted, open)
 }
 
-// Whether a client connects on a port, and is answered so.
+// Says whether a client connects on a port, and is answered so.
 fn connects(way: Way, node: &mut NodeCore, port: u64, connect: &[u8], wanted: &[u8]) -> bool {
     take(way.alloc, node, Item::Opened(Port(port), 0));
     answers(way, node, port, connect, wanted, true)
@@ -81,7 +82,7 @@ fn fills(way: Way, node: &mut NodeCore) -> bool {
     subscribed && away && filled
 }
 
-// What a subscriber got: the payloads in their order, and its answers to what came last.
+// What a subscriber got: the payloads in order, and its answers to what came last.
 #[derive(Drop)]
 struct Got {
     payloads: Vec<u8>,
@@ -174,14 +175,14 @@ fn ends_with_three(payloads: &[u8]) -> bool {
     }
 }
 
-// Whether the subscriber comes back, and is handed what waited for it.
+// Says whether the subscriber comes back, and is handed what waited for it.
 fn comes_back(way: Way, node: &mut NodeCore, got: &mut Got) -> bool {
     take(way.alloc, node, Item::Opened(Port(3), 0));
     brings(way, node, 3, CONNECT_B) && got.look(way.alloc, node, 3) == Some(true)
 }
 
-// Whether the subscriber answers the first two, the publisher sends its three again, and the subscriber answers the
-// others then.
+// Says whether the subscriber answers the first two, the publisher sends its three again, and the
+// subscriber answers the others then.
 fn goes_on(way: Way, node: &mut NodeCore, got: &mut Got, rest: &[u8]) -> bool {
     brings(way, node, 3, TWO)
         && connects(way, node, 4, CONNECT_A, PRESENT)
@@ -197,7 +198,7 @@ fn rest_of(alloc: Global, got: &Got) -> Option<Vec<u8>> {
     Vec::from_slice(alloc, rest).ok()
 }
 
-// Whether the subscriber goes on so with its answers but the first two.
+// Says whether the subscriber continues so with its answers but the first two.
 fn goes_on_with_the_rest(way: Way, node: &mut NodeCore, got: &mut Got) -> bool {
     match rest_of(way.alloc, got) {
         Some(rest) => goes_on(way, node, got, rest.as_slice()),
@@ -224,7 +225,7 @@ fn is_kept(alloc: Global, coming: Coming) -> bool {
 // The longest piece of a publisher: three publications.
 const LONGEST: usize = 30;
 
-// The first cut with which it is not kept, as far as a publisher's pieces are long.
+// Returns the first cut with which it is not kept, as far as a publisher's pieces are long.
 fn first_cut(alloc: Global) -> Option<usize> {
     for cut in 0..=LONGEST {
         if !is_kept(alloc, Coming::Cut(cut)) {

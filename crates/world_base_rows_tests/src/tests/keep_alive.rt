@@ -1,4 +1,5 @@
-// Keep alive: a client that gives no whole packet for more than one and a half times of it is closed (MQTT 3.1.2.10).
+// Keep alive: a client that gives no whole packet for more than one and a half times of it is
+// closed (MQTT 3.1.2.10).
 
 use super::row::{
     ACCEPTED, Act, CONNECT_A, CONNECT_B, Effects, NOTHING, Row, bring, first_fault, hands_over,
@@ -20,7 +21,7 @@ fn keep_alive_ends(rt: HostRuntime) {
     assert_eq!(rt; first_fault(rt.alloc(), &rows), None);
 }
 
-// A PINGREQ begins the time anew; bytes of less than a packet do not.
+// A PINGREQ begins the time again; bytes of less than a packet do not.
 #[test]
 fn a_whole_packet_counts(rt: HostRuntime) {
     let rows: [Row<'static>; 7] = [
@@ -53,13 +54,13 @@ fn keep_alive_0_does_not_end(rt: HostRuntime) {
     assert_eq!(rt; first_fault(rt.alloc(), &rows), None);
 }
 
-// Whether a client connects on a port; another node is to hold that first.
+// Says whether a client connects on a port; another node is to hold that first.
 fn connects(alloc: Global, node: &mut NodeCore, port: u64, connect: &[u8]) -> bool {
     take(alloc, node, Item::Opened(Port(port), 0));
     bring(alloc, node, port, connect, 0).is_some()
 }
 
-// The numbers of the connections whose loss is sent.
+// Returns the numbers of the connections whose loss is sent.
 fn lost_in(alloc: Global, effects: &Effects) -> Option<Vec<u64>> {
     let mut counts = Vec::new(alloc);
     for effect in effects {
@@ -70,7 +71,7 @@ fn lost_in(alloc: Global, effects: &Effects) -> Option<Vec<u64>> {
     Some(counts)
 }
 
-// Whether at this time the losses of these connections are sent, in this order.
+// Says whether at this time the losses of these connections are sent, in this order.
 fn loses(alloc: Global, node: &mut NodeCore, time: u64, wanted: &[u64]) -> bool {
     match lost_in(alloc, &take(alloc, node, Item::Tick(time))) {
         Some(counts) => counts.as_slice() == wanted,
@@ -88,7 +89,7 @@ fn closes_in_order(alloc: Global, node: &mut NodeCore) -> bool {
         && node.losses() == 0
 }
 
-// The primary of two nodes.
+// Returns the primary of two nodes.
 fn is_in_order(alloc: Global) -> bool {
     match primary(alloc, &[1, 2]) {
         Some(mut node) => closes_in_order(alloc, &mut node),

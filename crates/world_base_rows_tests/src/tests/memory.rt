@@ -1,5 +1,5 @@
-// Memory that is refused, in the conversations of `clients`. Run with each allocation failing in turn: all comes out as
-// ever, or one step that ran out of memory is counted.
+// Memory that is refused, in the conversations of `clients`. Run with each allocation failing in
+// turn: all results are as usual, or one step that ran out of memory is counted.
 
 use super::clients::TABLES;
 use super::row::{Act, Row, bring, primary, take};
@@ -24,7 +24,8 @@ fn comes_at_last(alloc: Global, node: &mut NodeCore, row: &Row<'_>) {
     take(alloc, node, item);
 }
 
-// Whether a row's bytes are handed over, and its port is open or not. What found no memory is asked again.
+// Says whether a row's bytes are handed over, and its port is open or not. What found no memory is
+// asked again.
 fn hands_over_at_last(alloc: Global, node: &mut NodeCore, row: &Row<'_>) -> bool {
     let (_, port, _, bytes, open) = *row;
     let answer = if open { Handed::Open } else { Handed::Closed };
@@ -37,7 +38,7 @@ fn hands_over_at_last(alloc: Global, node: &mut NodeCore, row: &Row<'_>) -> bool
     false
 }
 
-// Whether each row comes out as it says where nothing was lost; at most one step is counted.
+// Says whether each row comes out as it says if nothing was lost; at most one step is counted.
 fn is_whole_or_counted(alloc: Global, node: &mut NodeCore, rows: &[Row<'_>]) -> bool {
     let mut is_whole = true;
     for row in rows {
@@ -50,7 +51,7 @@ fn is_whole_or_counted(alloc: Global, node: &mut NodeCore, rows: &[Row<'_>]) -> 
     }
 }
 
-// Without memory for a node nothing is asked of it.
+// If memory runs out for a node nothing is asked of it.
 fn is_well(alloc: Global, rows: &[Row<'_>]) -> bool {
     match primary(alloc, &[1]) {
         Some(mut node) => is_whole_or_counted(alloc, &mut node, rows),

@@ -1,4 +1,4 @@
-// Rows: what comes to a node by a port, and what it hands over for that port then.
+// Rows: what comes to a node by a port, and which bytes it gives for that port then.
 
 use std::alloc::Global;
 use world_base::{
@@ -21,7 +21,8 @@ pub enum Act<'a> {
     Look,
 }
 
-/// A time, a port, what comes then by that port, what is handed over for it, and whether it is open.
+/// A time, a port, what comes then by that port, what is handed over for it, and whether it is
+/// open.
 pub type Row<'a> = (u64, u64, Act<'a>, &'a [u8], bool);
 
 /// How a piece comes: whole, cut in two after this many bytes, or byte by byte.
@@ -40,7 +41,7 @@ pub const CONNECT_A: &[u8] = &[
     0x10, 0x0D, 0x00, 0x04, 0x4D, 0x51, 0x54, 0x54, 0x04, 0x00, 0x00, 0x3C, 0x00, 0x01, 0x61,
 ];
 
-/// The same of client `b`.
+/// The same for client `b`.
 pub const CONNECT_B: &[u8] = &[
     0x10, 0x0D, 0x00, 0x04, 0x4D, 0x51, 0x54, 0x54, 0x04, 0x00, 0x00, 0x3C, 0x00, 0x01, 0x62,
 ];
@@ -70,8 +71,7 @@ pub fn take(alloc: Global, node: &mut NodeCore, item: Item) -> Effects {
     effects
 }
 
-/// Takes bytes that come on a port: what is handed out to other nodes, where there is memory for
-/// them.
+/// Takes bytes that come on a port: what is handed out to other nodes, if there is memory for them.
 pub fn bring(
     alloc: Global,
     node: &mut NodeCore,
@@ -83,7 +83,7 @@ pub fn bring(
     Some(take(alloc, node, Item::Bytes(Port(port), piece, time)))
 }
 
-/// The connection whose loss is sent to another node.
+/// Returns the connection whose loss is sent to another node.
 pub fn lost(effect: &Effect<Command, Output>) -> Option<ConnectionId> {
     match effect {
         Effect::To(_, message) => match &message.body {
@@ -94,7 +94,7 @@ pub fn lost(effect: &Effect<Command, Output>) -> Option<ConnectionId> {
     }
 }
 
-/// Whether these bytes are handed over for a port, which is open then or not.
+/// Says whether these bytes are handed over for a port, which is open then or not.
 pub fn hands_over(alloc: Global, node: &mut NodeCore, port: u64, bytes: &[u8], open: bool) -> bool {
     let mut out = Vec::new(alloc);
     let answer = if open { Handed::Open } else { Handed::Closed };
@@ -113,7 +113,7 @@ fn comes_by_bytes(alloc: Global, node: &mut NodeCore, port: u64, bytes: &[u8], t
         .all(|byte| comes_whole(alloc, node, port, &[*byte], time))
 }
 
-// Takes bytes in two pieces, of which the first has `cut` bytes, or all: whether no message
+// Gives bytes in two pieces, of which the first has `cut` bytes, or all. Says whether no message
 // follows.
 fn comes_cut(
     alloc: Global,
@@ -161,7 +161,7 @@ fn bring_row(alloc: Global, node: &mut NodeCore, row: &Row<'_>, coming: Coming) 
     take(alloc, node, item).is_empty()
 }
 
-// Whether a row comes out with a node as it says, and nothing is lost.
+// Says whether a row comes out with a node as it says, and nothing is lost.
 fn comes_out(alloc: Global, node: &mut NodeCore, row: &Row<'_>, coming: Coming) -> bool {
     let (_, port, _, bytes, open) = *row;
     bring_row(alloc, node, row, coming)
@@ -179,7 +179,7 @@ pub fn first_fault_so(alloc: Global, rows: &[Row<'_>], coming: Coming) -> Option
         .position(|row| !comes_out(alloc, &mut node, row, coming))
 }
 
-// How many bytes the longest piece of the rows has.
+// Returns how many bytes the longest piece of the rows has.
 fn longest(rows: &[Row<'_>]) -> usize {
     let mut longest: usize = 0;
     for (_, _, act, _, _) in rows {

@@ -5,8 +5,8 @@ use super::row::{
 };
 use std::alloc::Global;
 
-// The first bytes of a PUBLISH at QoS 1 with the Remaining Lengths 127, 128, 16,383 and 16,384 (MQTT 2.2.3), and how
-// many bytes follow them.
+// The first bytes of a PUBLISH at QoS 1 with the Remaining Lengths 127, 128, 16,383 and 16,384
+// (MQTT 2.2.3), and how many bytes follow them.
 const LENGTHS: [(&[u8], usize); 4] = [
     (&[0x32, 0x7F], 127),
     (&[0x32, 0x80, 0x01], 128),
@@ -17,7 +17,7 @@ const LENGTHS: [(&[u8], usize); 4] = [
 // The topic `t/1` and identifier 1.
 const TOPIC: [u8; 7] = [0x00, 0x03, 0x74, 0x2F, 0x31, 0x00, 0x01];
 
-// A PUBLISH with these first bytes, filled up.
+// Returns a PUBLISH with these first bytes, filled up.
 fn filled(alloc: Global, first: &[u8], length: usize) -> Option<Vec<u8>> {
     let mut bytes = Vec::from_slice(alloc, first).ok()?;
     bytes.extend_from_slice(&TOPIC).ok()?;
@@ -27,7 +27,7 @@ fn filled(alloc: Global, first: &[u8], length: usize) -> Option<Vec<u8>> {
     Some(bytes)
 }
 
-// Whether a PUBLISH of this length is answered.
+// Says whether a PUBLISH of this length is answered.
 fn is_answered(alloc: Global, first: &[u8], length: usize) -> bool {
     let Some(bytes) = filled(alloc, first, length) else {
         return false;
@@ -56,8 +56,8 @@ fn each_length_is_read(rt: HostRuntime) {
     );
 }
 
-// Bytes after a CONNECT, and whether the connection stays open: less than a packet, a packet over the size limit, no
-// length.
+// Bytes after a CONNECT, and whether the connection stays open: less than a packet, a packet over
+// the size limit, no length.
 const FRONTS: [(&[u8], bool); 7] = [
     (&[], true),
     (&[0x30], true),
@@ -68,7 +68,7 @@ const FRONTS: [(&[u8], bool); 7] = [
     (&[0x30, 0xFF, 0xFF, 0xFF, 0xFF], false),
 ];
 
-// Whether a connection on which these bytes come is open then, or not.
+// Says whether a connection on which these bytes come is open then, or not.
 fn stays(alloc: Global, bytes: &[u8], open: bool) -> bool {
     let rows: [Row<'_>; 3] = [
         (0, 1, Act::Open, NOTHING, true),
@@ -95,8 +95,8 @@ const FINANCE: &[u8] = &[
     0x30, 0x0A, 0x00, 0x08, 0x2F, 0x66, 0x69, 0x6E, 0x61, 0x6E, 0x63, 0x65,
 ];
 
-// A SUBSCRIBE at QoS 0 with identifier 1 to `#`, `+/b`, `$a/#`, `+/+`, `/+` and `+`, a publication, and whether it
-// comes (MQTT 4.7.1, 4.7.2).
+// A SUBSCRIBE at QoS 0 with identifier 1 to `#`, `+/b`, `$a/#`, `+/+`, `/+` and `+`, a publication,
+// and whether it comes (MQTT 4.7.1, 4.7.2).
 const FILTERS: [(&[u8], &[u8], bool); 6] = [
     (
         &[0x82, 0x06, 0x00, 0x01, 0x00, 0x01, 0x23, 0x00],
@@ -132,7 +132,7 @@ const FILTERS: [(&[u8], &[u8], bool); 6] = [
     ),
 ];
 
-// Whether a publication comes to who has that filter, or does not.
+// Says whether a publication comes, or does not come, to a client with that filter.
 fn comes<'a>(alloc: Global, subscribe: &'a [u8], publish: &'a [u8], matches: bool) -> bool {
     let got = if matches { publish } else { NOTHING };
     let rows: [Row<'a>; 7] = [
@@ -163,7 +163,7 @@ fn dollar_and_empty_levels(rt: HostRuntime) {
     );
 }
 
-// So many PINGREQ, and as many PINGRESP.
+// This many PINGREQ, and as many PINGRESP.
 const PINGS: usize = 32_768;
 
 fn many(alloc: Global, packet: &[u8]) -> Option<Vec<u8>> {

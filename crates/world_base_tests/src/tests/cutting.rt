@@ -30,7 +30,8 @@ const BEGUN: &[u8] = &[
     0x00, 0x00,
 ];
 
-// Bytes that stand for no broker: none at all, a form alone, a window that is neither, and bytes left over.
+// Bytes that are no frozen broker: none at all, only a form, a window that is neither of the two,
+// and bytes left over.
 const UNREADABLE: &[&[u8]] = &[
     &[],
     &[0x02],
@@ -38,13 +39,14 @@ const UNREADABLE: &[&[u8]] = &[
     &[0x02, 0x40, 0x00, 0x00, 0x00, 0x00, 0x00],
 ];
 
-// Whether this is the base of a node's log, and these are the bytes there.
+// Says whether this is the base of a node's log, and these are the bytes there.
 fn stands_at(node: &NodeCore, base: u64, bytes: &[u8]) -> bool {
     let (at, snapshot) = node.snapshot();
     at == base && snapshot == bytes
 }
 
-// Whether a node has something to cut, cuts it and keeps no command; once more it does nothing.
+// Says whether a node has something to cut, cuts it and keeps no command; once more it does
+// nothing.
 fn cuts(alloc: Global, node: &mut NodeCore, base: u64, bytes: &[u8]) -> bool {
     let can = node.can_cut();
     let first = take(alloc, node, Item::Cut);
@@ -53,14 +55,15 @@ fn cuts(alloc: Global, node: &mut NodeCore, base: u64, bytes: &[u8]) -> bool {
     can && cannot && first.is_empty() && second.is_empty() && stands_at(node, base, bytes)
 }
 
-// The master's word on ballot 2 with these members, after ballot 1 of node 1.
+// Returns the master's word on ballot 2 with these members, after ballot 1 of node 1.
 fn ballot_2(alloc: Global, members: &[u8]) -> Option<Body<Command>> {
     let members = Members::from_slice(alloc, members).ok()?;
     let before = Members::from_slice(alloc, &[1]).ok()?;
     Some(Body::NewBallot(2, members, 1, before))
 }
 
-// Whether the one message is State of ballot 2 for node 2, with the broker of one connection at base 1 and no command.
+// Says whether the one message is State of ballot 2 for node 2, with the broker of one connection
+// at base 1 and no command.
 fn sends_snapshot(effects: &Effects) -> bool {
     let [Effect::To(2, message)] = effects.as_slice() else {
         return false;
@@ -73,7 +76,7 @@ fn sends_snapshot(effects: &Effects) -> bool {
     }
 }
 
-// Whether the one message asks the master to activate ballot 2.
+// Says whether the one message asks the master to activate ballot 2.
 fn asks_for_2(effects: &Effects) -> bool {
     let [Effect::To(0, message)] = effects.as_slice() else {
         return false;
@@ -81,7 +84,7 @@ fn asks_for_2(effects: &Effects) -> bool {
     matches!(&message.body, Body::Activate(2))
 }
 
-// Whether node 1, the sole member, takes client `a` and cuts its log.
+// Says whether node 1, the sole member, takes client `a` and cuts its log.
 fn serves_and_cuts(alloc: Global, one: &mut NodeCore) -> bool {
     take(alloc, one, Item::Opened(Port(1), 0));
     bring(alloc, one, 1, CONNECT, 0).is_some()
@@ -89,7 +92,8 @@ fn serves_and_cuts(alloc: Global, one: &mut NodeCore) -> bool {
         && cuts(alloc, one, 1, CONNECTED)
 }
 
-// Whether node 2 takes over with node 1 as its backup: State brings the snapshot, and each message goes to its receiver.
+// Says whether node 2 takes over with node 1 as its backup: State brings the snapshot, and each
+// message goes to its receiver.
 fn takes_over(alloc: Global, one: &mut NodeCore, two: &mut NodeCore) -> Option<bool> {
     let joins = tell(alloc, two, 0, ballot_2(alloc, &[1, 2])?);
     let state = give(alloc, one, 1, joins);
@@ -109,7 +113,7 @@ fn commits(alloc: Global, one: &mut NodeCore, two: &mut NodeCore, appended: Effe
     give(alloc, one, 1, committed);
 }
 
-// Whether client `a` comes back at node 2, and finds its session.
+// Says whether client `a` comes back at node 2, and finds its session.
 fn comes_back(alloc: Global, one: &mut NodeCore, two: &mut NodeCore) -> bool {
     take(alloc, two, Item::Opened(Port(1), 0));
     match bring(alloc, two, 1, CONNECT, 0) {
@@ -119,7 +123,7 @@ fn comes_back(alloc: Global, one: &mut NodeCore, two: &mut NodeCore) -> bool {
     hands_over(alloc, two, 1, PRESENT, true)
 }
 
-// Whether a session goes over by a snapshot, and both nodes lose nothing.
+// Says whether a session goes over by a snapshot, and both nodes lose nothing.
 fn session_goes_over(alloc: Global, one: &mut NodeCore, two: &mut NodeCore) -> bool {
     let served = serves_and_cuts(alloc, one);
     let taken_over = takes_over(alloc, one, two) == Some(true);
@@ -127,7 +131,8 @@ fn session_goes_over(alloc: Global, one: &mut NodeCore, two: &mut NodeCore) -> b
     served && taken_over && back && one.losses() == 0 && two.losses() == 0
 }
 
-// The same with fresh nodes. Each node has an owner of its own, which has one way on which it drops it.
+// The same with fresh nodes. Each node has an owner of its own, which has one way on which it drops
+// it.
 fn goes_over_to_fresh(alloc: Global, one: &mut NodeCore) -> bool {
     match node_of(alloc, 2, &[1]) {
         Some(mut two) => session_goes_over(alloc, one, &mut two),
@@ -154,7 +159,8 @@ fn sends(alloc: Global, two: &mut NodeCore, bytes: &[u8]) -> Option<Effects> {
     Some(tell(alloc, two, 1, Body::State(2, log)))
 }
 
-// Whether node 2, alone in ballot 2, goes on from the snapshot of form 1, and its own one is of form 2.
+// Says whether node 2, the sole member of ballot 2, continues from the snapshot of form 1, and its
+// own snapshot is of form 2.
 fn goes_on(alloc: Global, two: &mut NodeCore) -> Option<bool> {
     let asked = sends(alloc, two, CONNECTED_BEFORE)?;
     let is_asked = asks_for_2(&asked) && stands_at(two, 1, CONNECTED_BEFORE);
@@ -162,7 +168,7 @@ fn goes_on(alloc: Global, two: &mut NodeCore) -> Option<bool> {
     Some(is_asked && cuts(alloc, two, 2, BEGUN))
 }
 
-// Whether a snapshot of form 1 is read, and frozen to form 2.
+// Says whether a snapshot of form 1 is read, and frozen to form 2.
 fn form_1_is_read(alloc: Global, two: &mut NodeCore) -> Option<bool> {
     tell(alloc, two, 0, ballot_2(alloc, &[2])?);
     Some(goes_on(alloc, two)? && two.losses() == 0)
@@ -180,7 +186,8 @@ fn a_snapshot_of_form_1_is_frozen_to_form_2(rt: HostRuntime) {
     assert_eq!(rt; fresh_reads_form_1(rt.alloc()), Some(true));
 }
 
-// Whether bytes that stand for no broker count as one lost message more, and nothing else comes of them.
+// Says whether bytes that are no frozen broker count as one lost message more, and have no other
+// effect.
 fn is_lost(alloc: Global, two: &mut NodeCore, bytes: &[u8]) -> bool {
     let (before, losses) = (two.status(), two.losses());
     let Some(effects) = sends(alloc, two, bytes) else {
@@ -193,12 +200,12 @@ fn is_lost(alloc: Global, two: &mut NodeCore, bytes: &[u8]) -> bool {
     effects.is_empty() && same && same_places && kept && two.losses() == losses.saturating_add(1)
 }
 
-// Whether each is lost.
+// Says whether each is lost.
 fn are_lost(alloc: Global, two: &mut NodeCore) -> bool {
     UNREADABLE.iter().all(|bytes| is_lost(alloc, two, bytes))
 }
 
-// Whether each is lost, and the node goes on from bytes that it can read.
+// Says whether each is lost, and the node continues from bytes that it can read.
 fn unreadable_are_lost(alloc: Global, two: &mut NodeCore) -> Option<bool> {
     tell(alloc, two, 0, ballot_2(alloc, &[2])?);
     let lost = are_lost(alloc, two);
@@ -217,7 +224,8 @@ fn bytes_that_are_no_snapshot_count_as_lost(rt: HostRuntime) {
     assert_eq!(rt; fresh_loses_unreadable(rt.alloc()), Some(true));
 }
 
-// Ballot 2 of nodes 1 and 2 goes on until nothing is said any more. What found no memory is said again when time passes.
+// Ballot 2 of nodes 1 and 2 continues until nothing is said any more. What found no memory is said
+// again when time passes.
 fn settles(alloc: Global, one: &mut NodeCore, two: &mut NodeCore) {
     for round in 0..16 {
         let said = take(alloc, two, Item::Tick(round));
@@ -243,7 +251,7 @@ fn connects(alloc: Global, node: &mut NodeCore) -> Effects {
     Vec::new(alloc)
 }
 
-// What is handed over for port 1.
+// Returns what is handed over for port 1.
 fn handed(alloc: Global, node: &mut NodeCore) -> Vec<u8> {
     let mut out = Vec::new(alloc);
     for _ in 0..2 {
@@ -254,7 +262,8 @@ fn handed(alloc: Global, node: &mut NodeCore) -> Vec<u8> {
     out
 }
 
-// Whether client `a` finds its session at node 2; or, where a loss was counted, none, or no node that serves.
+// Says whether client `a` finds its session at node 2; or, if a loss was counted, finds no session
+// or no node that serves.
 fn finds_session(alloc: Global, one: &mut NodeCore, two: &mut NodeCore) -> bool {
     let appended = connects(alloc, two);
     commits(alloc, one, two, appended);
@@ -267,7 +276,8 @@ fn finds_session(alloc: Global, one: &mut NodeCore, two: &mut NodeCore) -> bool 
     }
 }
 
-// Whether a session goes over by a snapshot where one growth is refused, and one step at most is counted.
+// Says whether a session moves by a snapshot if one allocation is refused, and at most one step is
+// counted.
 fn goes_over_or_counts(alloc: Global, one: &mut NodeCore, two: &mut NodeCore) -> bool {
     connects(alloc, one);
     for _ in 0..2 {
@@ -281,7 +291,7 @@ fn goes_over_or_counts(alloc: Global, one: &mut NodeCore, two: &mut NodeCore) ->
     finds_session(alloc, one, two)
 }
 
-// Without memory for a node nothing is asked of the other.
+// If memory runs out for a node nothing is asked of the other.
 fn is_well_with(alloc: Global, one: &mut NodeCore) -> bool {
     match node_of(alloc, 2, &[1]) {
         Some(mut two) => goes_over_or_counts(alloc, one, &mut two),

@@ -1,4 +1,4 @@
-// What comes to a node, and what it hands out.
+// What comes to a node, and what it sends.
 
 use std::alloc::Global;
 use world_base::{
@@ -14,7 +14,7 @@ pub const CONNECT_A: &[u8] = &[
     0x10, 0x0D, 0x00, 0x04, 0x4D, 0x51, 0x54, 0x54, 0x04, 0x00, 0x00, 0x3C, 0x00, 0x01, 0x61,
 ];
 
-/// The same of client `b`.
+/// The same for client `b`.
 pub const CONNECT_B: &[u8] = &[
     0x10, 0x0D, 0x00, 0x04, 0x4D, 0x51, 0x54, 0x54, 0x04, 0x00, 0x00, 0x3C, 0x00, 0x01, 0x62,
 ];
@@ -52,8 +52,7 @@ pub fn take(alloc: Global, node: &mut NodeCore, item: Item) -> Effects {
     effects
 }
 
-/// Takes bytes that come on a port: what is handed out to other nodes, where there is memory for
-/// them.
+/// Takes bytes that come on a port: what is handed out to other nodes, if there is memory for them.
 pub fn bring(
     alloc: Global,
     node: &mut NodeCore,
@@ -65,7 +64,7 @@ pub fn bring(
     Some(take(alloc, node, Item::Bytes(Port(port), piece, time)))
 }
 
-/// Takes a message of another node; 0 is the master.
+/// Gives a node a message of another node; 0 is the master.
 pub fn tell(alloc: Global, node: &mut NodeCore, from: u8, body: Body<Command>) -> Effects {
     take(alloc, node, Item::Peer(Message { from, body }))
 }
@@ -84,7 +83,7 @@ pub fn give(alloc: Global, node: &mut NodeCore, number: u8, effects: Effects) ->
     answers
 }
 
-/// The connection whose CONNECT is sent to another node.
+/// Returns the connection whose CONNECT is sent to another node.
 pub fn connecting(effect: &Effect<Command, Output>) -> Option<ConnectionId> {
     match effect {
         Effect::To(_, message) => match &message.body {
@@ -95,7 +94,7 @@ pub fn connecting(effect: &Effect<Command, Output>) -> Option<ConnectionId> {
     }
 }
 
-/// Whether these bytes are handed over for a port, which is open then or not.
+/// Says whether these bytes are handed over for a port, which is open then or not.
 pub fn hands_over(alloc: Global, node: &mut NodeCore, port: u64, bytes: &[u8], open: bool) -> bool {
     let mut out = Vec::new(alloc);
     let answer = if open { Handed::Open } else { Handed::Closed };

@@ -1,5 +1,6 @@
-// Memory that is refused. Run with each allocation failing in turn: a step in which it was wanting is counted, where
-// none was all comes out as ever, and what is still open then has all that it is to be sent.
+// Memory that is refused. Each test runs with each of its allocations failing in turn: a step that
+// ran out of memory is counted; if none did, all results are as usual; and what is still open then
+// has all that it is to be sent.
 
 use super::handling::{ACCEPTED, CONNECT_A, CONNECT_B, bring, primary, take};
 use std::alloc::Global;
@@ -35,7 +36,8 @@ struct Seen {
     open: bool,
 }
 
-// Takes out what is there for a port. What found no memory outside of a step is done again: one allocation fails.
+// Takes out what is there for a port. What found no memory outside of a step is done again: one
+// allocation fails.
 fn look(node: &mut NodeCore, port: u64, seen: &mut Seen) {
     for _ in 0..2 {
         if let Ok(answer) = node.outgoing(Port(port), &mut seen.bytes) {
@@ -45,7 +47,8 @@ fn look(node: &mut NodeCore, port: u64, seen: &mut Seen) {
     }
 }
 
-// Lets all rows come, whatever is lost: what was handed over for the subscriber, and for the publisher.
+// Lets all rows come, whatever is lost: what was handed over for the subscriber, and for the
+// publisher.
 fn rows_seen(alloc: Global, node: &mut NodeCore) -> (Seen, Seen) {
     let mut subscriber = Seen {
         bytes: Vec::new(alloc),
@@ -69,7 +72,7 @@ fn rows_seen(alloc: Global, node: &mut NodeCore) -> (Seen, Seen) {
     (subscriber, publisher)
 }
 
-// Whether these are the bytes of so many of the packets.
+// Says whether these are the bytes of this many of the packets.
 fn are(bytes: &[u8], packets: &[&[u8]]) -> bool {
     let mut rest = bytes;
     for packet in packets {
@@ -81,7 +84,7 @@ fn are(bytes: &[u8], packets: &[&[u8]]) -> bool {
     rest.is_empty()
 }
 
-// Whether these bytes begin those of the packets.
+// Says whether these bytes begin those of the packets.
 fn begin(bytes: &[u8], packets: &[&[u8]]) -> bool {
     let mut rest = bytes;
     for packet in packets {
@@ -93,8 +96,8 @@ fn begin(bytes: &[u8], packets: &[&[u8]]) -> bool {
     rest.is_empty()
 }
 
-// Whether what is open has all that it is to be sent, and what is closed a beginning. A publisher that was closed may
-// not have been heard.
+// Says whether what is open has all that it is to be sent, and what is closed has a prefix of it.
+// The packets of a publisher that was closed may not have been read.
 fn has_no_gap(subscriber: &Seen, publisher: &Seen) -> bool {
     let told = subscriber.bytes.as_slice();
     let unheard = !publisher.open && are(told, &TO_SUBSCRIBER[..2]);
@@ -121,7 +124,7 @@ fn is_whole_or_counted(alloc: Global, node: &mut NodeCore) -> bool {
     }
 }
 
-// Without memory for a node nothing is asked of it.
+// If memory runs out for a node nothing is asked of it.
 fn is_well(alloc: Global) -> bool {
     match primary(alloc, &[1]) {
         Some(mut node) => is_whole_or_counted(alloc, &mut node),

@@ -6,7 +6,7 @@ use super::handling::{
 use std::alloc::Global;
 use world_base::{Body, Command, Item, Members, NodeCore, Port};
 
-// Whether a connection is accepted by the node, the sole member of ballot 1.
+// Says whether a connection is accepted by the node, the sole member of ballot 1.
 fn serves(alloc: Global, node: &mut NodeCore) -> bool {
     take(alloc, node, Item::Opened(Port(1), 0));
     bring(alloc, node, 1, CONNECT_A, 0).is_some()
@@ -28,7 +28,7 @@ fn change(alloc: Global, node: &mut NodeCore, ballot: Body<Command>) {
     tell(alloc, node, 0, Body::Activated(2));
 }
 
-// Whether the node becomes the primary of ballot 2.
+// Says whether the node becomes the primary of ballot 2.
 fn changes(alloc: Global, node: &mut NodeCore) -> bool {
     match ballot_2(alloc) {
         Some(ballot) => {
@@ -39,13 +39,13 @@ fn changes(alloc: Global, node: &mut NodeCore) -> bool {
     }
 }
 
-// The ballot and the number of the first connection whose CONNECT is sent.
+// Returns the ballot and the number of the first connection whose CONNECT is sent.
 fn first_name(effects: &Effects) -> Option<(u64, u64)> {
     let name = effects.iter().find_map(connecting)?;
     Some((name.ballot(), name.count()))
 }
 
-// Whether a connection gets this ballot and number by its CONNECT.
+// Says whether a connection gets this ballot and number by its CONNECT.
 fn is_named(
     alloc: Global,
     node: &mut NodeCore,

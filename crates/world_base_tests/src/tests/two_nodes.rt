@@ -6,7 +6,7 @@ use super::handling::{
 use std::alloc::Global;
 use world_base::{Body, Command, Effect, Item, Message, NodeCore, Port};
 
-// The one message that is handed out, and to whom.
+// Returns the one message that is sent, and to whom.
 fn only(effects: &Effects) -> Option<(u8, &Message<Command>)> {
     match effects.as_slice() {
         [Effect::To(receiver, message)] => Some((*receiver, message)),
@@ -25,7 +25,7 @@ fn appends(effects: &Effects) -> bool {
     }
 }
 
-// The backup's one message tells that it holds one place.
+// The backup's one message says that it holds one place.
 fn holds(effects: &Effects) -> bool {
     match only(effects) {
         Some((1, message)) => matches!(&message.body, Body::Held(1, 1)),
@@ -41,7 +41,8 @@ fn commits(effects: &Effects) -> bool {
     }
 }
 
-// Brings the CONNECT to the primary: what it hands out, where that is its first place and no answer goes out yet.
+// Brings the CONNECT to the primary. Returns what it sends, if that is its first place and no
+// answer is sent yet.
 fn append(alloc: Global, primary: &mut NodeCore) -> Option<Effects> {
     if !take(alloc, primary, Item::Opened(Port(1), 0)).is_empty() {
         return None;
@@ -54,13 +55,14 @@ fn append(alloc: Global, primary: &mut NodeCore) -> Option<Effects> {
     }
 }
 
-// Gives the backup what the primary appended: what it hands out, where it holds it then.
+// Gives the backup what the primary appended. Returns what it sends, if it holds it then.
 fn hold(alloc: Global, backup: &mut NodeCore, appended: Effects) -> Option<Effects> {
     let held = give(alloc, backup, 2, appended);
     if holds(&held) { Some(held) } else { None }
 }
 
-// Tells the primary so: what it hands out, where that commits the place, and the answer goes out.
+// Gives the primary that acknowledgement. Returns what it sends, if that commits the place and the
+// answer is sent.
 fn commit(alloc: Global, primary: &mut NodeCore, held: Effects) -> Option<Effects> {
     let committed = give(alloc, primary, 1, held);
     if commits(&committed) && hands_over(alloc, primary, 1, ACCEPTED, true) {
@@ -70,19 +72,19 @@ fn commit(alloc: Global, primary: &mut NodeCore, held: Effects) -> Option<Effect
     }
 }
 
-// Whether the backup has nothing to say to that.
+// Says whether the backup has nothing to say to that.
 fn is_silent(alloc: Global, backup: &mut NodeCore, committed: Effects) -> bool {
     give(alloc, backup, 2, committed).is_empty()
 }
 
-// What the primary commits, where the backup holds what it appended.
+// Returns what the primary commits once the backup holds what it appended.
 fn agree(alloc: Global, primary: &mut NodeCore, backup: &mut NodeCore) -> Option<Effects> {
     let appended = append(alloc, primary)?;
     let held = hold(alloc, backup, appended)?;
     commit(alloc, primary, held)
 }
 
-// Whether the messages and bytes of a CONNECT are these.
+// Says whether the messages and bytes of a CONNECT are these.
 fn waits_for_both(alloc: Global, primary: &mut NodeCore, backup: &mut NodeCore) -> bool {
     let Some(committed) = agree(alloc, primary, backup) else {
         return false;
@@ -90,7 +92,8 @@ fn waits_for_both(alloc: Global, primary: &mut NodeCore, backup: &mut NodeCore) 
     is_silent(alloc, backup, committed) && primary.losses() == 0 && backup.losses() == 0
 }
 
-// The same with a fresh backup. Each node has an owner of its own, which has one way on which it drops it.
+// The same with a fresh backup. Each node has an owner of its own, which has one way on which it
+// drops it.
 fn waits_for_fresh(alloc: Global, primary: &mut NodeCore) -> bool {
     match node_of(alloc, 2, &[1, 2]) {
         Some(mut backup) => waits_for_both(alloc, primary, &mut backup),

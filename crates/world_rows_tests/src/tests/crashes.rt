@@ -2,8 +2,9 @@
 
 use crate::tests::row::{Deed, Row, Said, Table, fault_in};
 
-// The packets after the takeover, as MQTT 3.1.1 spells them. CONNECT (3.1): 13 bytes follow, the protocol's name, its
-// level 4, no flag, so that the session is kept, no keep alive, and the Client Identifier.
+// The packets after the takeover, as MQTT 3.1.1 spells them. CONNECT (3.1): 13 bytes follow, the
+// protocol's name, its level 4, no flag, so that the session is kept, no keep alive, and the Client
+// Identifier.
 const CONNECT_A: &[u8] = b"\x10\x0D\x00\x04MQTT\x04\x00\x00\x00\x00\x01a";
 
 const CONNECT_B: &[u8] = b"\x10\x0D\x00\x04MQTT\x04\x00\x00\x00\x00\x01b";
@@ -11,7 +12,8 @@ const CONNECT_B: &[u8] = b"\x10\x0D\x00\x04MQTT\x04\x00\x00\x00\x00\x01b";
 // CONNACK (3.2): Session Present, and accepted.
 const PRESENT: &[u8] = b"\x20\x02\x01\x00";
 
-// PUBLISH (3.3) sent again: DUP, QoS 2, no RETAIN. 8 bytes follow, the Topic Name, Packet Identifier 1 and the payload.
+// PUBLISH (3.3) sent again: DUP, QoS 2, no RETAIN. 8 bytes follow, the Topic Name, Packet
+// Identifier 1 and the payload.
 const PUBLISH_AGAIN: &[u8] = b"\x3C\x08\x00\x03t/1\x00\x01x";
 
 // What the subscriber is sent when it comes back: both.
@@ -24,11 +26,12 @@ const PUBREL: &[u8] = b"\x62\x02\x00\x01";
 
 const NOTHING: &[u8] = b"";
 
-// What is agreed while the primary holds a publication that its backup does not hold yet: both CONNECTs, and the
-// SUBSCRIBE between them.
+// What is agreed while the primary holds a publication that its backup does not hold yet: both
+// CONNECTs, and the SUBSCRIBE between them.
 const BEFORE: &[Said] = &[Said::Connect("b"), Said::Packet, Said::Connect("a")];
 
-// What is agreed at the end: the publication, the backup's ballot, both CONNECTs, and the publication sent again.
+// What is agreed at the end: the publication, the backup's ballot, both CONNECTs, and the
+// publication sent again.
 const AFTER: &[Said] = &[
     Said::Connect("b"),
     Said::Packet,
@@ -40,10 +43,10 @@ const AFTER: &[Said] = &[
     Said::Connect("b"),
 ];
 
-/// The events of the script `primary_crashes` of the folder `examples`, and idle ones among them, with all that waits
-/// on connections 3 and 4. The primary holds a publication that its backup holds too, and crashes before it says so.
-/// The backup takes over alone: the publisher sends its PUBLISH again, with DUP, and is answered, and the subscriber
-/// takes it in once.
+/// The events of the script `primary_crashes` of the folder `examples`, and idle ones among them,
+/// with all that waits on connections 3 and 4. The primary holds a publication that its backup
+/// holds too, and crashes before it answers. The backup takes over as sole member: the publisher
+/// sends its PUBLISH again, with DUP, and is answered, and the subscriber accepts it once.
 pub const CRASHED: &[Row] = &[
     Row::Does(Deed::Open("b", 1), 0, 0),
     Row::Does(Deed::Up(1), 1, 0),

@@ -1,4 +1,5 @@
-// A node cuts its log after a row of a table, each node after each row, and all other rows hold as ever.
+// A node cuts its log after a row of a table, each node after each row, and all other rows hold as
+// usual.
 
 use crate::tests::crashes::CRASHED;
 use crate::tests::row::{Row, is_right, opened};
@@ -12,8 +13,8 @@ fn is_cut_once(world: &mut World, node: u8) -> bool {
     world.step(&Event::Cut(node)).is_err()
 }
 
-// Whether each row holds where a node cuts its log after the row at this place, or after each row for the place after the
-// last one.
+// Says whether each row holds if a node cuts its log after the row at this place, or after each row
+// for the place after the last one.
 fn all_hold(alloc: Global, world: &mut World, rows: &[Row], at: usize, node: u8) -> bool {
     for (place, row) in rows.iter().enumerate() {
         if !is_right(alloc, world, row) {
@@ -33,7 +34,7 @@ fn hold_from_the_opening(alloc: Global, rows: &[Row], at: usize, node: u8) -> bo
     }
 }
 
-// The first place after which a cut of a node changes what a row says.
+// Returns the first place after which a cut of a node changes what a row says.
 fn changed_by(alloc: Global, rows: &[Row], node: u8) -> Option<usize> {
     for at in 0..rows.len().saturating_add(1) {
         if !hold_from_the_opening(alloc, rows, at, node) {
@@ -43,7 +44,8 @@ fn changed_by(alloc: Global, rows: &[Row], node: u8) -> Option<usize> {
     None
 }
 
-// A cut changes no message, no agreed command, no byte on a connection and no publication that is taken in.
+// A cut changes no message, no agreed command, no byte on a connection and no publication that is
+// accepted.
 #[test]
 fn cuts_change_nothing_else(rt: HostRuntime) {
     for node in [1, 2] {

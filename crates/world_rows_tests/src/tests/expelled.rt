@@ -21,8 +21,9 @@ const AGREED: &[Said] = &[
     Said::Packet,
 ];
 
-/// The events of the script `client_is_expelled` of the folder `examples`. The session of b ends while it is connected, and once more
-/// while it has none. What is published then is for nobody. It comes back to no session, and subscribes in its second one.
+/// The events of the script `client_is_expelled` of the folder `examples`. The session of b ends
+/// while it is connected, and once more while it has none. What is published then is sent to no
+/// client. When b comes back there is no session, and it subscribes in its second one.
 pub const EXPELLED: &[Row] = &[
     Row::Does(Deed::Open("b", 1), 0, 0),
     Row::Does(Deed::Up(1), 0, 1),
@@ -58,7 +59,7 @@ pub const EXPELLED: &[Row] = &[
     Row::Agrees(AGREED),
 ];
 
-// It is idle where there is no such client, where the node is unknown, a backup, or has crashed.
+// It is idle if there is no such client, or if the node is unknown, a backup, or has crashed.
 const IDLE: &[Row] = &[
     Row::Idle(Deed::Expel("c", 1)),
     Row::Idle(Deed::Expel("a", 0)),

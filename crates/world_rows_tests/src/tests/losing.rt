@@ -6,8 +6,8 @@ const CONNECT: &[u8] = b"\x10\x0D\x00\x04MQTT\x04\x00\x00\x00\x00\x01a";
 
 const PUBLISH: &[u8] = b"\x34\x08\x00\x03t/1\x00\x01x";
 
-// A client abandons its connection before it gets the CONNACK. What it published meanwhile is sent on the next
-// connection, where its session is found. Each end is closed once.
+// A client abandons its connection before it gets the CONNACK. What it published meanwhile is sent
+// on the next connection, where its session is found. Each end is closed once.
 const ABANDONED: &[Row] = &[
     Row::Idle(Deed::Abandon("a")),
     Row::Idle(Deed::Up(1)),

@@ -19,7 +19,7 @@ pub enum Deed {
     /// All bytes that wait on a connection go up, or down.
     Up(u64),
     Down(u64),
-    /// So many of them do.
+    /// This many of them do.
     UpSome(u64, u64),
     DownSome(u64, u64),
     Abandon(&'static str),
@@ -45,14 +45,14 @@ pub enum Said {
 
 /// What happens in a world, or is seen of it.
 pub enum Row {
-    /// This happens. Then so many messages were sent, and so many commands are agreed.
+    /// This happens. Then this many messages were sent, and this many commands are agreed.
     Does(Deed, u64, u64),
     /// This cannot happen.
     Idle(Deed),
     /// These bytes wait to go up on a connection, or down.
     HasUp(u64, &'static [u8]),
     HasDown(u64, &'static [u8]),
-    /// A client took in so many publications, the last of them in this session.
+    /// A client accepted this many publications, the last of them in this session.
     Took(&'static str, usize, u64),
     /// This ballot is active.
     Active(u64),
@@ -60,7 +60,8 @@ pub enum Row {
     Agrees(&'static [Said]),
 }
 
-/// A world of so many nodes, these members of ballot 1 with node 1 as primary, and what happens in it.
+/// A world of this many nodes, these members of ballot 1 with node 1 as primary, and what happens
+/// in it.
 pub struct Table {
     pub name: &'static str,
     pub nodes: u8,
@@ -68,8 +69,8 @@ pub struct Table {
     pub rows: &'static [Row],
 }
 
-/// A world of `nodes` nodes and clients `a` and `b`. These are the members of ballot 1, and node 1
-/// is its primary.
+/// Returns a world of `nodes` nodes and clients `a` and `b`. These are the members of ballot 1, and
+/// node 1 is its primary.
 pub fn opened(alloc: Global, nodes: u8, members: &[u8]) -> Option<World> {
     let config = config_of(alloc, members, 1)?;
     let mut clients = Vec::new(alloc);
@@ -79,7 +80,7 @@ pub fn opened(alloc: Global, nodes: u8, members: &[u8]) -> Option<World> {
     World::opening(alloc, nodes, config, clients.as_slice()).ok()
 }
 
-// A configuration.
+// Returns a configuration.
 fn config_of(alloc: Global, members: &[u8], primary: u8) -> Option<Config> {
     let members: Result<Members, Memory> = Members::from_slice(alloc, members);
     Some(Config {
@@ -88,8 +89,8 @@ fn config_of(alloc: Global, members: &[u8], primary: u8) -> Option<Config> {
     })
 }
 
-/// The first of these tables that has a row which does not hold, and the place of that row; the place after the last one
-/// where a step ran out of memory.
+/// Returns the first of these tables that has a row which does not hold, and the place of that row;
+/// the place after the last one if a step ran out of memory.
 pub fn fault_in(alloc: Global, tables: &[Table]) -> Option<(&'static str, usize)> {
     for table in tables {
         if let Some(at) = fault_of(alloc, table) {
@@ -119,7 +120,7 @@ fn first_fault(alloc: Global, world: &mut World, rows: &[Row]) -> Option<usize> 
     }
 }
 
-/// Whether a row holds of a world.
+/// Says whether a row holds for a world.
 pub fn is_right(alloc: Global, world: &mut World, row: &Row) -> bool {
     match row {
         Row::Does(deed, messages, agreed) => {
@@ -136,7 +137,7 @@ pub fn is_right(alloc: Global, world: &mut World, row: &Row) -> bool {
     }
 }
 
-// Whether these commands are agreed, in this order.
+// Says whether these commands are agreed, in this order.
 fn agrees_on(world: &World, list: &[Said]) -> bool {
     let (recorded, kept) = world.agreed();
     match list.get(..recorded.len()) {
@@ -145,7 +146,7 @@ fn agrees_on(world: &World, list: &[Said]) -> bool {
     }
 }
 
-// Whether these are the commands, in this order.
+// Says whether these are the commands, in this order.
 fn are_said(commands: &[Command], list: &[Said]) -> bool {
     for (command, said) in commands.iter().zip(list.iter()) {
         if !is_said(command, said) {
@@ -155,7 +156,7 @@ fn are_said(commands: &[Command], list: &[Said]) -> bool {
     commands.len() == list.len()
 }
 
-// Whether a command is this one.
+// Says whether a command is this one.
 fn is_said(command: &Command, said: &Said) -> bool {
     match (command, said) {
         (Command::Connect(_, client, false), Said::Connect(name)) => client.as_str() == *name,
@@ -166,19 +167,19 @@ fn is_said(command: &Command, said: &Said) -> bool {
     }
 }
 
-// Whether these bytes wait to go up on a connection.
+// Says whether these bytes wait to go up on a connection.
 fn has_up(world: &World, connection: u64, bytes: &[u8]) -> bool {
     let waiting = world.up(connection);
     waiting == bytes
 }
 
-// Whether they wait to go down.
+// Says whether they wait to go down.
 fn has_down(world: &World, connection: u64, bytes: &[u8]) -> bool {
     let waiting = world.down(connection);
     waiting == bytes
 }
 
-/// Whether a deed can be done.
+/// Says whether the event can happen.
 pub fn does(alloc: Global, world: &mut World, deed: &Deed) -> bool {
     match event_of(alloc, world, deed) {
         Some(event) => world.step(&event).is_ok(),
@@ -186,7 +187,7 @@ pub fn does(alloc: Global, world: &mut World, deed: &Deed) -> bool {
     }
 }
 
-// The event of a deed.
+// Returns the event for a row's entry.
 fn event_of(alloc: Global, world: &World, deed: &Deed) -> Option<Event> {
     match deed {
         Deed::Assign(members, primary) => {
@@ -205,7 +206,7 @@ fn event_of(alloc: Global, world: &World, deed: &Deed) -> Option<Event> {
     }
 }
 
-// The event of what a client does.
+// Returns the event of what a client does.
 fn call_of(alloc: Global, deed: &Deed) -> Option<Event> {
     match deed {
         Deed::Open(client, node) => Some(Event::Open(named(alloc, client)?, *node)),
@@ -221,12 +222,12 @@ fn call_of(alloc: Global, deed: &Deed) -> Option<Event> {
     }
 }
 
-/// A client's name.
+/// Returns a client's name.
 pub fn named(alloc: Global, client: &str) -> Option<ClientId> {
     ClientId::new(alloc, client).ok()
 }
 
-// A publication of `x` about `t/1`.
+// Returns a publication of `x` about `t/1`.
 fn publication(alloc: Global) -> Option<Publication> {
     Some(Publication {
         retain: false,
@@ -236,7 +237,7 @@ fn publication(alloc: Global) -> Option<Publication> {
     })
 }
 
-// Whether a client took in so many publications, the last of them in this session.
+// Says whether a client accepted this many publications, the last of them in this session.
 fn took(alloc: Global, world: &World, client: &str, count: usize, session: u64) -> bool {
     let Some(name) = named(alloc, client) else {
         return false;

@@ -4,8 +4,8 @@ use crate::tests::row::{Deed, Row, Said, Table, fault_in, is_right, opened};
 use std::alloc::Global;
 use world::World;
 
-// What a subscriber is sent when it comes back (MQTT 3.1.1): its session is present (3.2), and the publication again with
-// DUP (3.3).
+// What a subscriber is sent when it comes back (MQTT 3.1.1): its session is present (3.2), and the
+// publication again with DUP (3.3).
 const PRESENT_AND_PUBLISH: &[u8] = b"\x20\x02\x01\x00\x3C\x08\x00\x03t/1\x00\x01x";
 
 // PUBREC (3.5) of Packet Identifier 1, which answers the publisher.
@@ -13,7 +13,8 @@ const PUBREC: &[u8] = b"\x50\x02\x00\x01";
 
 const NOTHING: &[u8] = b"";
 
-// What is agreed at the end. The PUBREC of the subscriber, which the stale primary alone holds, is not.
+// What is agreed at the end. The PUBREC of the subscriber, which only the stale primary holds, is
+// not.
 const AFTER: &[Said] = &[
     Said::Connect("b"),
     Said::Packet,
@@ -23,9 +24,10 @@ const AFTER: &[Said] = &[
     Said::Connect("b"),
 ];
 
-/// The events of the script `stale_primary` of the folder `examples`, with what waits on connections. The subscriber's
-/// PUBREC comes to a primary that another member replaces, and is lost with it. No PUBREL goes down on any connection,
-/// and what the subscriber took in it takes in once.
+/// The events of the script `stale_primary` of the folder `examples`, with what waits on
+/// connections. The subscriber's PUBREC comes to a primary that another member replaces, and is
+/// lost with it. No PUBREL goes down on any connection, and the subscriber accepts each publication
+/// once.
 pub const STALE: &[Row] = &[
     Row::Does(Deed::Open("b", 1), 0, 0),
     Row::Does(Deed::Up(1), 1, 0),
@@ -81,7 +83,7 @@ fn a_stale_primary_is_not_heard(rt: HostRuntime) {
     assert_eq!(rt; fault_in(rt.alloc(), TABLES), None);
 }
 
-// Whether a PUBREL (MQTT 3.6) begins at some byte.
+// Says whether a PUBREL (MQTT 3.6) begins at some byte.
 fn has_pubrel(bytes: &[u8]) -> bool {
     bytes
         .iter()
@@ -89,12 +91,12 @@ fn has_pubrel(bytes: &[u8]) -> bool {
         .any(|(first, second)| (*first, *second) == (0x62, 0x02))
 }
 
-// Whether none waits to come down on a connection.
+// Says whether none waits to come down on a connection.
 fn is_free_of_pubrel(world: &World) -> bool {
     (1..4u64).all(|connection| !has_pubrel(world.down(connection)))
 }
 
-// Whether each row holds, and none waits after any of them.
+// Says whether each row holds, and none waits after any of them.
 fn stays_free(alloc: Global, world: &mut World) -> bool {
     for row in STALE {
         if !is_right(alloc, world, row) || !is_free_of_pubrel(world) {

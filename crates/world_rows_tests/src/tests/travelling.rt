@@ -10,8 +10,9 @@ const BEFORE: &[Said] = &[Said::Connect("a")];
 
 const AFTER: &[Said] = &[Said::Connect("a"), Said::Start(2), Said::Connect("a")];
 
-/// The events of the script `snapshot_travels` of the folder `examples`. A sole member cuts its log, and has nothing to
-/// cut then. Another member takes over, to which its snapshot comes, and finds the client's session in it.
+/// The events of the script `snapshot_travels` of the folder `examples`. A sole member cuts its
+/// log, and has nothing to cut then. Another member takes over, to which its snapshot comes, and
+/// finds the client's session in it.
 pub const TRAVELLED: &[Row] = &[
     Row::Does(Deed::Open("a", 1), 0, 0),
     Row::Does(Deed::Up(1), 0, 1),
@@ -41,7 +42,7 @@ pub const TRAVELLED: &[Row] = &[
     Row::Agrees(AFTER),
 ];
 
-// A cut is idle where the node is unknown, has applied nothing since its last cut, or has crashed.
+// A cut is idle if the node is unknown, has applied nothing since its last cut, or has crashed.
 const IDLE: &[Row] = &[
     Row::Idle(Deed::Cut(0)),
     Row::Idle(Deed::Cut(1)),

@@ -1,4 +1,5 @@
-// Ways out: after every event of the known courses, for members and a client, the end that is promised, or Idle.
+// Ways out: after every event of the known courses, for members and a client, the end that is
+// promised, or Idle.
 
 use crate::tests::crashes::CRASHED;
 use crate::tests::expelled::EXPELLED;
@@ -33,14 +34,15 @@ const CHANGED: &[Row] = &[
     Row::Does(Deed::Deliver(8), 10, 1),
 ];
 
-// A client has a session after the log that is fetched, once so many rows have come and before so many have.
+// A client has a session in the log that is fetched, after this many rows and until this many.
 struct Kept {
     client: &'static str,
     from: usize,
     until: usize,
 }
 
-// A course of events in a world of so many nodes, with these members of ballot 1. One of the active configuration always lives.
+// A course of events in a world of this many nodes, with these members of ballot 1. One of the
+// active configuration always lives.
 struct Course {
     name: &'static str,
     nodes: u8,
@@ -170,7 +172,7 @@ const LISTS: &[&[u8]] = &[
 
 const CLIENTS: &[&str] = &["a", "b", "z"];
 
-// The world after so many rows of a course.
+// Returns the world after this many rows of a course.
 fn played(alloc: Global, course: &Course, count: usize) -> Option<World> {
     let mut world = opened(alloc, course.nodes, course.members)?;
     for row in course.rows.get(..count)? {
@@ -181,7 +183,7 @@ fn played(alloc: Global, course: &Course, count: usize) -> Option<World> {
     Some(world)
 }
 
-// Whether a node has crashed in these rows.
+// Says whether a node has crashed in these rows.
 fn has_crashed(rows: &[Row], node: u8) -> bool {
     rows.iter().any(|row| is_crash(row, node))
 }
@@ -193,7 +195,7 @@ fn is_crash(row: &Row, node: u8) -> bool {
     }
 }
 
-// The ballot that is given last in these rows.
+// Returns the ballot that is given last in these rows.
 fn last_ballot(rows: &[Row]) -> u64 {
     let mut ballot: u64 = 1;
     for row in rows {
@@ -211,7 +213,8 @@ fn is_assign(row: &Row) -> bool {
     }
 }
 
-// Whether members may form the next ballot after these rows: they rise, and are nodes that live.
+// Says whether members may form the next ballot after these rows: they rise, and are nodes that
+// live.
 fn may_lead(course: &Course, rows: &[Row], members: &[u8]) -> bool {
     let mut last = 0;
     for member in members {
@@ -223,12 +226,13 @@ fn may_lead(course: &Course, rows: &[Row], members: &[u8]) -> bool {
     !members.is_empty()
 }
 
-// Whether a client has a session after so many rows.
+// Says whether a client has a session after this many rows.
 fn is_kept(course: &Course, count: usize, client: &str) -> bool {
     course.kept.iter().any(|kept| kept.client == client && kept.from <= count && count < kept.until)
 }
 
-// Whether a way out of the world after so many rows is told where there is one, and leads to its end, and Idle else.
+// Says whether a way out of the world after this many rows is returned, if there is one, and leads
+// to its end, and `Idle` is returned otherwise.
 fn is_told(alloc: Global, course: &Course, count: usize, members: &[u8], client: &str) -> bool {
     let Some(world) = played(alloc, course, count) else {
         return false;
@@ -252,7 +256,7 @@ fn is_told(alloc: Global, course: &Course, count: usize, members: &[u8], client:
     }
 }
 
-// Whether each of the events happens, and they end as they are to.
+// Says whether each of the events happens, and they end as they are to.
 fn comes_out(
     alloc: Global,
     before: &World,
@@ -272,7 +276,7 @@ fn comes_out(
         && is_back(alloc, &world, client)
 }
 
-// Whether a client is online with its session present.
+// Says whether a client is online with its session present.
 fn is_back(alloc: Global, world: &World, client: &str) -> bool {
     match named(alloc, client) {
         Some(name) => is_served(world, &name),
@@ -287,7 +291,7 @@ fn is_served(world: &World, client: &ClientId) -> bool {
     }
 }
 
-// Whether what is agreed in a world begins what is agreed in another.
+// Says whether what is agreed in a world begins what is agreed in another.
 fn begins(before: &World, after: &World) -> bool {
     let (first, second) = before.agreed();
     let (more, most) = after.agreed();
@@ -299,7 +303,7 @@ fn begins(before: &World, after: &World) -> bool {
             .all(|(one, other)| is_same(one, other))
 }
 
-// Whether two commands are of one kind, and say the same of a client, of a ballot.
+// Says whether two commands are of one kind, and say the same for a client, of a ballot.
 fn is_same(one: &Command, other: &Command) -> bool {
     match (one, other) {
         (Command::Connect(_, client, clean), Command::Connect(_, name, is_clean)) => {
@@ -315,7 +319,8 @@ fn is_same(one: &Command, other: &Command) -> bool {
     }
 }
 
-// The first of these rows after which something is not as it is to be: how many had come, for which members.
+// Returns the first of these rows after which something is not as it is to be: how many had come,
+// for which members.
 fn fault_in(alloc: Global, course: &Course) -> Option<(usize, &'static [u8])> {
     for count in 0..course.rows.len().saturating_add(1) {
         for members in LISTS {
@@ -332,8 +337,8 @@ fn fault_in(alloc: Global, course: &Course) -> Option<(usize, &'static [u8])> {
 // CONNACK 0 with session present (MQTT 3.2).
 const PRESENT: &[u8] = b"\x20\x02\x01\x00";
 
-// Whether the client that was answered comes back at node 2 alone after these deeds: before the last event its CONNACK waits, and
-// at the end three commands are agreed in ballot 2.
+// Says whether the client that was answered comes back at node 2 as sole member after these events:
+// before the last event its CONNACK waits, and at the end three commands are agreed in ballot 2.
 fn comes_back(alloc: Global, deeds: &[Deed]) -> Option<bool> {
     let mut world = answered(alloc, deeds)?;
     let way = world.escape(&[2], &named(alloc, "a")?).ok()?;
@@ -345,7 +350,7 @@ fn comes_back(alloc: Global, deeds: &[Deed]) -> Option<bool> {
     Some(way.len() == 10 && waits && comes && ends)
 }
 
-// The world where the client was answered, after these deeds.
+// Returns the world in which the client was answered, after these events.
 fn answered(alloc: Global, deeds: &[Deed]) -> Option<World> {
     let mut world = opened(alloc, 2, &[1, 2])?;
     for row in WAITS {
@@ -361,7 +366,7 @@ fn answered(alloc: Global, deeds: &[Deed]) -> Option<World> {
     Some(world)
 }
 
-// Whether there is no way out for these members and this client after these deeds.
+// Says whether there is no way out for these members and this client after these events.
 fn is_idle(alloc: Global, deeds: &[Deed], members: &[u8], client: &str) -> Option<bool> {
     let world = answered(alloc, deeds)?;
     match world.escape(members, &named(alloc, client)?) {
@@ -370,8 +375,8 @@ fn is_idle(alloc: Global, deeds: &[Deed], members: &[u8], client: &str) -> Optio
     }
 }
 
-// Whether a request for memory that is refused is told: no way is told for want of memory, or one that leads to its end, or a loss is
-// counted on it.
+// Says whether an allocation that fails is reported: no way is returned because memory ran out, or
+// a way that leads to its end, or a loss is counted on it.
 fn is_told_or_counted(alloc: Global) -> bool {
     let Some(mut world) = answered(alloc, &[]) else {
         return true;
@@ -388,7 +393,7 @@ fn is_told_or_counted(alloc: Global) -> bool {
     }
 }
 
-// Run with each allocation failing in turn.
+// Runs with each allocation failing in turn.
 #[test]
 fn a_way_out_without_memory(rt: HostRuntime) {
     assert!(rt; is_told_or_counted(rt.alloc()));

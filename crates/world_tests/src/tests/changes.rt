@@ -7,7 +7,8 @@ use world::{Event, World};
 // How often the configuration changes.
 const CHANGES: u64 = 200;
 
-// Delivers all messages from this one on in the order of sending, at most a hundred, with those that they lead to.
+// Delivers all messages from this one on in the order of sending, at most a hundred, with those
+// that they lead to.
 fn deliver_from(world: &mut World, first: u64) {
     for count in 0..100 {
         let number = first.saturating_add(count);
@@ -17,7 +18,7 @@ fn deliver_from(world: &mut World, first: u64) {
     }
 }
 
-// Whether members 1, 2 and 3 get a new ballot with this primary, and it becomes active.
+// Says whether members 1, 2 and 3 get a new ballot with this primary, and it becomes active.
 fn changes(alloc: Global, world: &mut World, primary: u8, ballot: u64) -> bool {
     let first = world.messages();
     let Some(config) = config_of(alloc, &[1, 2, 3], primary) else {
@@ -28,7 +29,7 @@ fn changes(alloc: Global, world: &mut World, primary: u8, ballot: u64) -> bool {
     assigned && world.active().0 == ballot && world.agreed_len() == ballot.saturating_sub(1)
 }
 
-// Whether the primary is node 2, 3, 1 in turn, and each of their ballots is active.
+// Says whether the primary is node 2, 3, 1 in turn, and each of their ballots is active.
 fn all_change(alloc: Global, world: &mut World) -> bool {
     for change in 0..CHANGES {
         let primary = (change.saturating_add(1) % 3) as u8 + 1;
@@ -39,7 +40,7 @@ fn all_change(alloc: Global, world: &mut World) -> bool {
     world.losses() == 0
 }
 
-// Whether all of it goes well in a world of three nodes.
+// Says whether all of it goes well in a world of three nodes.
 fn go_well(alloc: Global) -> bool {
     match opened(alloc, 3, &[1, 2, 3]) {
         Some(mut world) => all_change(alloc, &mut world),
@@ -53,7 +54,7 @@ fn configurations_change_many_times(rt: HostRuntime) {
     assert!(rt; go_well(rt.alloc()));
 }
 
-// Whether a run of events passes over the idle ones.
+// Says whether a run of events passes over the idle ones.
 fn passes_over(alloc: Global, world: &mut World) -> bool {
     let Some(config) = config_of(alloc, &[1, 2], 2) else {
         return false;

@@ -1,4 +1,4 @@
-// How a long run of events by a fixed rule goes on.
+// How a long run of events by a fixed rule continues.
 
 use crate::tests::opening::{config_of, named};
 use packet::{ClientId, Payload, QoS};
@@ -14,7 +14,7 @@ const TOPICS: [&str; 3] = ["t/1", "t/2", "u"];
 
 const FILTERS: [&str; 4] = ["t/#", "#", "t/1", "+"];
 
-// After so many events a node cuts its log, each in turn.
+// After this many events a node cuts its log, each in turn.
 const UNTIL_A_CUT: u64 = 61;
 
 /// How far the run has come.
@@ -41,7 +41,7 @@ pub struct Course {
 }
 
 impl Course {
-    /// The course of three nodes in ballot 1.
+    /// Returns the course of three nodes in ballot 1.
     pub fn new() -> Course {
         Course {
             state: 30,
@@ -77,7 +77,8 @@ impl Course {
         }
     }
 
-    // How many bytes are carried where so many wait: mostly all, else some, none or one too many.
+    // Returns how many bytes are carried if this many wait: mostly all, otherwise some, none or one
+    // too many.
     fn share(&mut self, waiting: &[u8]) -> u64 {
         let waiting = waiting.len() as u64;
         let number = self.draw();
@@ -88,7 +89,7 @@ impl Course {
         }
     }
 
-    // Whether many messages wait to come.
+    // Says whether many messages wait to come.
     fn is_behind(&self, world: &World) -> bool {
         self.next.saturating_add(64) < world.messages()
     }
@@ -114,7 +115,7 @@ fn cuts(world: &mut World, course: &mut Course) {
     }
 }
 
-/// Lets the next event of the rule happen or be idle. False where it ran out of memory.
+/// Lets the next event of the rule happen or be idle. False if it ran out of memory.
 pub fn goes_on(alloc: Global, world: &mut World, course: &mut Course) -> bool {
     let number = course.draw() % 128;
     if number < 32 || course.is_behind(world) {
@@ -193,7 +194,7 @@ fn gives(alloc: Global, world: &mut World, course: &mut Course) -> bool {
     true
 }
 
-// Those of the nodes that run whose bit is set.
+// Returns those of the running nodes whose bit is set.
 fn members_of(alloc: Global, runs: [bool; 3], bits: u64) -> Option<Vec<u8>> {
     let mut members = Vec::new(alloc);
     for at in 0..3u8 {
@@ -204,7 +205,7 @@ fn members_of(alloc: Global, runs: [bool; 3], bits: u64) -> Option<Vec<u8>> {
     Some(members)
 }
 
-// The primary of a ballot of these members: each in turn.
+// Returns the primary of a ballot of these members: each in turn.
 fn primary_of(ballot: u64, members: &[u8]) -> u8 {
     if members.is_empty() {
         return 0;
@@ -212,13 +213,14 @@ fn primary_of(ballot: u64, members: &[u8]) -> u8 {
     members[(ballot % members.len() as u64) as usize]
 }
 
-// The active primary.
+// Returns the active primary.
 fn active_primary(world: &World) -> u8 {
     let (ballot, members) = world.active();
     primary_of(ballot, members)
 }
 
-/// Whether the active primary crashes. It may where no ballot waits, and where another of its members runs.
+/// Says whether the active primary crashes. It may if no ballot waits and another of its members
+/// runs.
 pub fn primary_crashes(world: &mut World, course: &mut Course) -> bool {
     let node = active_primary(world);
     if node == 0 || node > 3 || !is_one_left(world, course, node) {
@@ -229,7 +231,7 @@ pub fn primary_crashes(world: &mut World, course: &mut Course) -> bool {
     crashed
 }
 
-// Whether no ballot waits, and a member of the active one beside this one runs.
+// Says whether no ballot waits, and a member of the active one other than this one runs.
 fn is_one_left(world: &World, course: &Course, node: u8) -> bool {
     let (ballot, members) = world.active();
     ballot == course.given
@@ -238,7 +240,7 @@ fn is_one_left(world: &World, course: &Course, node: u8) -> bool {
             .any(|member| *member != node && runs(course, *member))
 }
 
-// Whether a node runs.
+// Says whether a node runs.
 fn runs(course: &Course, node: u8) -> bool {
     matches!(
         course.runs.get((node as usize).saturating_sub(1)),
@@ -246,7 +248,7 @@ fn runs(course: &Course, node: u8) -> bool {
     )
 }
 
-// What a client does.
+// Returns what a client does.
 fn calls(alloc: Global, world: &mut World, course: &mut Course, number: u64) -> bool {
     let client = (course.draw() % 4) as usize;
     let Some(name) = named(alloc, CLIENTS[client]) else {
@@ -273,7 +275,7 @@ fn opens(world: &mut World, course: &mut Course, client: usize, name: ClientId, 
     }
 }
 
-// What a client says: mostly a publication.
+// Returns what a client says: mostly a publication.
 fn says(
     alloc: Global,
     world: &mut World,
@@ -290,7 +292,7 @@ fn says(
     true
 }
 
-// The event of what a client says, by a number of the rule.
+// Returns the event of what a client says, by a number of the rule.
 fn said(alloc: Global, number: u64, serial: u64, client: usize, name: ClientId) -> Option<Event> {
     match number % 16 {
         0..=3 => Some(Event::Subscribe(name, filter(alloc, number)?, qos(number / 64))),
@@ -312,7 +314,7 @@ fn qos(number: u64) -> QoS {
     }
 }
 
-// A publication that carries who made it, and its number.
+// Returns a publication that carries who made it, and its number.
 fn publication(alloc: Global, number: u64, serial: u64, client: usize) -> Option<Publication> {
     let payload = [
         (client % 4) as u8,

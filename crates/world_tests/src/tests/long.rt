@@ -8,10 +8,11 @@ use world::{Accepted, World};
 
 const EVENTS: u32 = 20_000;
 
-// After so many events the active primary crashes as soon as it may, and after twice as many the next one.
+// After this many events the active primary crashes as soon as it may, and after twice as many the
+// next one.
 const UNTIL_A_CRASH: u32 = 8_000;
 
-// Whether all events come, two primaries crash, and nothing is lost.
+// Says whether all events come, two primaries crash, and nothing is lost.
 fn all_come(alloc: Global, world: &mut World, course: &mut Course) -> bool {
     let mut crashed = 0;
     for count in 0..EVENTS {
@@ -24,8 +25,9 @@ fn all_come(alloc: Global, world: &mut World, course: &mut Course) -> bool {
     crashed == 2 && world.losses() == 0 && course.only_grows
 }
 
-// Whether a client took in publications at QoS 2 all in one session, each once: those of each publisher in the
-// order in which it made them. What was retained comes again with each subscription (MQTT 3.3.1.3).
+// Says whether a client accepted publications at QoS 2 all in one session, each once: those of each
+// publisher in the order in which it made them. What was retained comes again with each
+// subscription (MQTT 3.3.1.3).
 fn took_each_once(alloc: Global, world: &World, client: &str) -> bool {
     let Some(name) = named(alloc, client) else {
         return false;
@@ -43,7 +45,8 @@ fn took_each_once(alloc: Global, world: &World, client: &str) -> bool {
     count > 100
 }
 
-// Whether a publication that was taken in is newer than the ones before it of the same publisher.
+// Says whether a publication that was accepted is newer than the ones before it of the same
+// publisher.
 fn is_new(accepted: &Accepted, last: &mut [Option<u64>; 4], count: &mut u32) -> bool {
     if accepted.retain || accepted.qos != QoS::ExactlyOnce {
         return true;
@@ -61,14 +64,14 @@ fn is_new(accepted: &Accepted, last: &mut [Option<u64>; 4], count: &mut u32) -> 
     is_newer && accepted.session == 1
 }
 
-// Whether each client did.
+// Says whether each client did.
 fn all_took_each_once(alloc: Global, world: &World) -> bool {
     CLIENTS
         .iter()
         .all(|client| took_each_once(alloc, world, client))
 }
 
-// Whether it all goes well, with many takeovers and many cuts.
+// Says whether it all goes well, with many takeovers and many cuts.
 fn goes_well(alloc: Global, world: &mut World) -> bool {
     let mut course = Course::new();
     all_come(alloc, world, &mut course)
@@ -85,8 +88,9 @@ fn goes_well_from_the_opening(alloc: Global) -> bool {
     }
 }
 
-// Each client takes in each publication at QoS 2 once, whatever comes late, again or never, while two of three
-// nodes crash, other configurations take over and logs are cut. The agreed list never becomes shorter, and nothing is lost.
+// Each client accepts each publication at QoS 2 once, whatever comes late, again or never, while
+// two of three nodes crash, other configurations take over and logs are cut. The agreed list never
+// becomes shorter, and nothing is lost.
 #[test]
 fn whatever_happens_each_is_taken_in_once(rt: HostRuntime) {
     assert!(rt; goes_well_from_the_opening(rt.alloc()));

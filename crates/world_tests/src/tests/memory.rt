@@ -1,6 +1,6 @@
-// Memory that is refused, in the events of the script `answer_waits_for_the_backup` of the folder `examples`, and in a cut
-// of the primary's log after them. Run with each allocation failing in turn: a step that runs out of memory is counted,
-// and else all comes as ever.
+// Memory that is refused, in the events of the script `answer_waits_for_the_backup` of the folder
+// `examples`, and in a cut of the primary's log after them. Run with each allocation failing in
+// turn: a step that runs out of memory is counted, and otherwise all comes as usual.
 
 use crate::tests::opening::{named, opened};
 use std::alloc::Global;
@@ -9,7 +9,8 @@ use world::{Event, World};
 // How many messages were sent and commands are agreed after each event.
 const WANTED: &[(u64, u64)] = &[(0, 0), (1, 0), (2, 1), (3, 1), (3, 1), (3, 1)];
 
-// A CONNECT of 15 bytes goes up, and a CONNACK of 4 comes down once the backup holds it.
+// Returns these events: a CONNECT of 15 bytes goes up, and a CONNACK of 4 bytes comes down once the
+// backup holds it.
 fn events(alloc: Global) -> Option<Vec<Event>> {
     let mut events = Vec::new(alloc);
     events.push(Event::Open(named(alloc, "a")?, 1)).ok()?;
@@ -21,7 +22,8 @@ fn events(alloc: Global) -> Option<Vec<Event>> {
     Some(events)
 }
 
-// Lets an event happen: whether it does and leads here, and whether the agreed list did not become shorter.
+// Lets an event happen: whether it does and leads here, and whether the agreed list did not become
+// shorter.
 fn goes_by(world: &mut World, event: &Event, wanted: &(u64, u64)) -> (bool, bool) {
     let before = world.agreed_len();
     let happened = world.step(event).is_ok();
@@ -30,7 +32,7 @@ fn goes_by(world: &mut World, event: &Event, wanted: &(u64, u64)) -> (bool, bool
     (happened && leads_here, before <= agreed)
 }
 
-// Whether all comes as ever or a loss is counted; the agreed list never becomes shorter.
+// Says whether all comes as usual or a loss is counted; the agreed list never becomes shorter.
 fn is_whole_or_counted(world: &mut World, events: &[Event]) -> bool {
     let mut is_whole = true;
     let mut only_grows = true;
@@ -46,7 +48,7 @@ fn is_whole_or_counted(world: &mut World, events: &[Event]) -> bool {
         }
 }
 
-// Whether the client took in nothing, and was accepted if nothing was lost.
+// Says whether the client accepted nothing, and was accepted if nothing was lost.
 fn took_nothing(alloc: Global, world: &World) -> bool {
     let Some(name) = named(alloc, "a") else {
         return true;
@@ -66,7 +68,7 @@ fn is_well(alloc: Global, world: &mut World) -> bool {
     }
 }
 
-// Without memory for a world, or for the events, nothing is asked of it.
+// If memory runs out for a world, or for the events, nothing is asked of it.
 fn is_well_from_the_opening(alloc: Global) -> bool {
     match opened(alloc, 2, &[1, 2]) {
         Some(mut world) => is_well(alloc, &mut world),

@@ -4,8 +4,8 @@ use packet::ClientId;
 use std::alloc::Global;
 use world::{Config, Members, Memory, World};
 
-/// A world of `nodes` nodes and clients `a` and `b`. These are the members of ballot 1, and node 1
-/// is its primary.
+/// Returns a world of `nodes` nodes and clients `a` and `b`. These are the members of ballot 1, and
+/// node 1 is its primary.
 pub fn opened(alloc: Global, nodes: u8, members: &[u8]) -> Option<World> {
     opened_for(alloc, nodes, members, &["a", "b"])
 }
@@ -20,7 +20,7 @@ pub fn opened_for(alloc: Global, nodes: u8, members: &[u8], names: &[&str]) -> O
     World::opening(alloc, nodes, config, clients.as_slice()).ok()
 }
 
-/// A configuration.
+/// Returns a configuration.
 pub fn config_of(alloc: Global, members: &[u8], primary: u8) -> Option<Config> {
     let members: Result<Members, Memory> = Members::from_slice(alloc, members);
     Some(Config {
@@ -29,7 +29,7 @@ pub fn config_of(alloc: Global, members: &[u8], primary: u8) -> Option<Config> {
     })
 }
 
-/// A client's name.
+/// Returns a client's name.
 pub fn named(alloc: Global, client: &str) -> Option<ClientId> {
     ClientId::new(alloc, client).ok()
 }

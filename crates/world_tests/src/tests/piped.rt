@@ -1,4 +1,5 @@
-// A client with its pipes: what goes in at one end of a pipe and comes out at the other, as MQTT 3.1.1 spells it.
+// A client with its pipes: what goes in at one end of a pipe and comes out at the other, as MQTT
+// 3.1.1 spells it.
 
 mod row;
 
@@ -48,8 +49,8 @@ const A_PUBLICATION_GOES_UP: &[Row<'static>] = &[
     Kept(0),
 ];
 
-// It is sent a publication at QoS 2, to the handshake's end. SUBACK and PUBLISH come in pieces that do not end where
-// they end.
+// It is sent a publication at QoS 2, to the handshake's end. SUBACK and PUBLISH come in pieces that
+// end elsewhere than the packets.
 const A_PUBLICATION_COMES_DOWN: &[Row<'static>] = &[
     Open(0, 1),
     Up(0, CONNECT),
@@ -66,8 +67,8 @@ const A_PUBLICATION_COMES_DOWN: &[Row<'static>] = &[
     Up(0, UNSUBSCRIBE),
 ];
 
-// A connection is lost while a PUBLISH waits on it, which still comes, in two pieces. A second connection leads to
-// another node, and the PUBLISH goes out again on it.
+// A connection is lost while a PUBLISH waits on it, which still comes, in two pieces. A second
+// connection leads to another node, and the PUBLISH is sent again on it.
 const A_SECOND_CONNECTION_LEADS_ELSEWHERE: &[Row<'static>] = &[
     Open(0, 1),
     Up(0, CONNECT),

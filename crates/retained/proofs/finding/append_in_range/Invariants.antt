@@ -1,4 +1,4 @@
--- The matching topics so far stand behind the entries that were there.
+-- The matching topics so far come after the entries that were there.
 use Rattle.std.proofs.Common.{◌≡◌, ◌++◌, take, length}
 use Rattle.retained.specs.Retained.{matching_entries}
 use Rattle.retained.proofs.finding.append_in_range.Given as goal

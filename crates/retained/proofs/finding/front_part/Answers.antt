@@ -1,4 +1,4 @@
--- What stands in front of a `/` that is found.
+-- What is in front of a `/` that is found.
 use Rattle.std.proofs.Common.{◌∷◌, [], Some}
 use Rattle.std.proofs.lemmas.Str.Pattern.{split_text_parts}
 use Rattle.retained.proofs.finding.front_part.Goals as goal

@@ -1,4 +1,5 @@
--- A command that is none of the client's comes next in the list: its connection may be over, and nothing else happens.
+-- A command that is not one of the client's comes next in the list: its connection may end, and
+-- nothing else happens.
 use Rattle.std.proofs.Common.{◌≡◌, ℕ, Bool, true, false, if◌then◌else◌, List, [], ◌∷◌, ◌++◌, Option, Some, None, refl, ap, sym, ◌∙◌, subst, inl, inr, ◌⊎◌}
 use Rattle.std.proofs.lemmas.List.{append-nil}
 use Rattle.std.proofs.lemmas.Bool.{cases_Bool}

@@ -34,7 +34,7 @@ two_answered levels.AtMostOnce e = refl
 two_answered levels.AtLeastOnce e = refl
 two_answered levels.ExactlyOnce e = e
 
--- what the new publication is as an item, where it is sent and where it is not
+-- what the new publication is as an item, if it is sent and if it is not
 sent_item : (a : Bool) (n id : ℕ) (p : Publication) → (a ≡ false → is_two p.qos ≡ false)
     → items_of_own ((if a then Own.Sent n p id else Own.Done n p) ∷ []) ≡ (if is_two p.qos then Item.Sent n id ∷ [] else [])
 sent_item true n id p none = refl
@@ -73,7 +73,7 @@ forward_one n id p = forward_publishes false n id p []
 
 -- ---- the event
 
--- the keeper with this publication behind the others
+-- the keeper with this publication after the others
 abbrev pub with_own : Own → Keeper → Keeper
 with_own o keeper = record keeper { own = keeper.own ++ o ∷ [] }
 

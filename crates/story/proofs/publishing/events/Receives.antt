@@ -24,7 +24,7 @@ use Rattle.story.proofs.publishing.Online.{handles_online}
 use Rattle.story.proofs.publishing.Confirms.{confirms}
 use Rattle.story.proofs.publishing.Calls.{leaves_all}
 
--- it holds of one that is among them
+-- it holds for one that is among them
 pub each_at : {A : Type 0} (P : A → Type 0) (n : ℕ) (xs : List A) (x : A) → slice_get xs n ≡ Some x → Each P xs → P x
 each_at P n [] x e h = cc
 each_at P zero (y ∷ xs) x e h = let same : y ≡ x = cc in subst P same h.0

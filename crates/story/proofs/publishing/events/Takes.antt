@@ -35,7 +35,7 @@ current_or_not (Some y) x = by (cases_Bool (same_connection y x))
     by (inl e) = inl (ap (λ z. Some z) (same_name y x e))
     by (inr e) = inr (λ f. let same : y ≡ x = cc in both_ways (same_connection y x) e (ap (λ z. same_connection z x) same ∙ same_itself x))
 
--- each packet behind the first is a Packet
+-- each packet after the first is a Packet
 packet_behind : (x : ConnectionName) (n : ℕ) (packet : Packet) → commands.Packet x packet ≡ command_of x (suc n) packet
 packet_behind x n (packets.Connect q) = refl
 packet_behind x n _ = refl

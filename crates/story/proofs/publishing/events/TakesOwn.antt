@@ -1,4 +1,5 @@
--- The list takes a packet of the client's current connection: what is given, and the three ways in which it goes on.
+-- The list takes a packet of the client's current connection: what is given, and the three ways in
+-- which it continues.
 use Rattle.std.proofs.Common.{◌≡◌, ℕ, suc, Bool, true, false, ◌&&◌, List, [], ◌∷◌, ◌++◌, drop, Option, Some, refl, ap, ap₂, sym, ◌∙◌, subst, inl, inr}
 use Rattle.std.specs.Prelude.{slice_get}
 use Rattle.lists.specs.Lists.{has_id}
@@ -28,7 +29,7 @@ use Rattle.story.proofs.publishing.Elsewhere.{NoneSent}
 use Rattle.story.proofs.publishing.AtPlaces.{come_more}
 use Rattle.story.proofs.publishing.Counted.{goes_counted}
 
--- what is given where the connection is the client's current one
+-- what is sent if the connection is the client's current one
 pub record OnCurrent (limits : Limits) (past : Past) (keeper : Keeper) (connections : List Connection) (i : ℕ) (κ : Connection) (w : Written) : Type 0 where
   pub whole : HasShape limits (story_by past connections keeper)
   pub shape : ConnectionInShape limits past keeper.client κ
@@ -39,7 +40,7 @@ pub record OnCurrent (limits : Limits) (past : Past) (keeper : Keeper) (connecti
   pub after : last_confirmed (counted_at i connections) ≡ Some (taken_more κ)
   pub live : session_of past keeper.client ≡ Some false
 
--- the story's handshake behind a place
+-- the story's handshake after a place
 abbrev pub behind_place : Limits → Past → Keeper → List Connection → ℕ → Place → Handshake ℕ
 behind_place limits past keeper connections i place = as_publisher limits (story_by (place ∷ past) (counted_at i connections) keeper)
 

@@ -85,7 +85,7 @@ takes_own limits past keeper connections i κ (packets.Subscribe q) number o =
 
 -- ---- the event
 
--- an unconfirmed connection has nothing to be taken behind its CONNECT
+-- an unconfirmed connection has nothing to be taken after its CONNECT
 confirmed_there : (limits : Limits) (past : Past) (c : Client) (κ : Connection) (n : ℕ) (w : Written) → ConnectionInShape limits past c κ → slice_get κ.written (suc n) ≡ Some w → κ.confirmed ≡ true
 confirmed_there limits past c κ n w shape next = by (cases_Bool κ.confirmed)
   where

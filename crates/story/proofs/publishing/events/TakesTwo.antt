@@ -54,7 +54,7 @@ carries_it past i connections κ w mark apart stands next counted =
     same_counted (at_packet κ.name packets.Pingreq mark ∷ past) i connections κ.name (count_of κ.name past) (counted_here κ.name (at_packet κ.name packets.Pingreq mark) past (same_itself κ.name))
     ∙ ap₂ number_at counted (connection_at i connections κ apart stands) ∙ ap number_of next
 
--- behind an acceptance
+-- after an acceptance
 accepted_by : (b : Bool) (id k : ℕ) (h : Handshake ℕ) (l : Link ℕ) → b ≡ false → (accepting id k b h l).accepted ≡ h.accepted ++ k ∷ []
 accepted_by true id k h l e = absurd (both_ways true e refl)
 accepted_by false id k h l e = refl
@@ -63,7 +63,7 @@ received_then : (b : Bool) (id k : ℕ) (h : Handshake ℕ) (l : Link ℕ) (j : 
 received_then true id k h l j e = absurd (both_ways true e refl)
 received_then false id k h l j e = refl
 
--- and behind another try
+-- and after another try
 accepted_again : (b : Bool) (id k : ℕ) (h : Handshake ℕ) (l : Link ℕ) → b ≡ true → (accepting id k b h l).accepted ≡ h.accepted
 accepted_again true id k h l e = refl
 accepted_again false id k h l e = absurd (both_ways false refl e)

@@ -1,4 +1,4 @@
--- Identifiers of which some are gone stay distinct.
+-- Identifiers of which some are removed stay distinct.
 use Rattle.std.proofs.Common.{◌≡◌, ℕ, Bool, true, false, not, ◌&&◌, ◌==◌, if◌then◌else◌, List, [], ◌∷◌, ◌++◌, map, filter}
 use Rattle.lists.specs.Lists.{has_id, IsDistinct}
 use Rattle.client_base.specs.session_base.Publication.{is_acknowledged}
@@ -8,7 +8,7 @@ use Rattle.client_base.specs.declared.request.Request.{Request}
 use Rattle.client_base.specs.Handled.{at_puback, at_pubrec, at_pubcomp}
 use Rattle.client_base.specs.State.{id_of_request}
 
--- the first ones are among the second ones, in their order
+-- the first ones are among the second ones, in order
 pub data IsFewer : List ℕ → List ℕ → Type 0 where
   none : IsFewer [] []
   keeps : {x : ℕ} {xs ys : List ℕ} → IsFewer xs ys → IsFewer (x ∷ xs) (x ∷ ys)

@@ -1,4 +1,5 @@
--- Each event keeps how many packets of a connection stand in the list: as many as are taken, of those that are written.
+-- Each event keeps how many packets of a connection are in the list: as many as are taken, of those
+-- that are written.
 use Rattle.std.proofs.Common.{◌≡◌, ◌≤◌, ℕ, zero, suc, Bool, true, false, if◌then◌else◌, List, [], ◌∷◌, length, Some, refl, ap, sym, ◌∙◌, subst, arith}
 use Rattle.std.specs.Prelude.{slice_get}
 use Rattle.std.proofs.lemmas.List.{length-append}
@@ -40,7 +41,7 @@ each_stays place past connections e rows = both connections (none_named (is_pack
     both [] n r = tt
     both (κ ∷ cs) n r = (counts_stay place past κ n.0 r.0, both cs n.1 r.1)
 
--- one that stands in a list stands within its length
+-- one that is in a list is within its length
 stands_within : {A : Type 0} (n : ℕ) (xs : List A) (x : A) → slice_get xs n ≡ Some x → suc n ≤ length xs
 stands_within n [] x e = cc
 stands_within zero (y ∷ xs) x e = omega arith

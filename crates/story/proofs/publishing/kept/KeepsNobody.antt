@@ -1,4 +1,4 @@
--- Each event keeps it so that nobody else is on one of the client's connections.
+-- Each event keeps it true that no other client is on one of the client's connections.
 use Rattle.std.proofs.Common.{◌≡◌, ℕ, zero, suc, Bool, true, false, not, ◌||◌, if◌then◌else◌, List, [], ◌∷◌, Option, Some, None, refl, ap, sym, ◌∙◌, subst, arith, inl, inr, ◌⊎◌}
 use Rattle.std.specs.Prelude.{slice_get}
 use Rattle.std.proofs.lemmas.Bool.{both_ways, cases_Bool}
@@ -29,7 +29,7 @@ use Rattle.story.proofs.publishing.Last.{each_there}
 
 -- ---- a place
 
--- it opens one of the client's connections for the client alone
+-- it opens one of the client's connections only for the client
 abbrev pub OpensOwn : Client → List Connection → Place → Type 0
 OpensOwn c connections place =
     (d : Client) (opened : ConnectionName × Bool) → accepts place.command place.mark d ≡ Some opened → any_named (same_connection opened.0) connections ≡ true → same_client d c ≡ true
@@ -89,7 +89,7 @@ pub written_named : (more : List Written) (connections : List Connection) (test 
 written_named more [] test = refl
 written_named more (κ ∷ connections) test = refl
 
--- a new one is nobody's
+-- a new one has no client
 pub nobody_opened : (past : Past) (c : Client) (connections : List Connection) (κ : Connection) → count_of κ.name past ≡ 0 → NobodyElse past c connections → NobodyElse past c (κ ∷ connections)
 nobody_opened past c connections κ none nobody d x current named = by (cases_Bool (same_connection x κ.name))
   where

@@ -1,5 +1,6 @@
--- The two rows of the shape that the publisher's side needs beside the others are kept by each event: no more is handled
--- than was put, and each PUBLISH of QoS 2 that is written has its number.
+-- The two rows of the shape that the publisher's side needs in addition to the others are kept by
+-- each event: no more is handled than was put, and each PUBLISH of QoS 2 that is written has its
+-- number.
 use Rattle.std.proofs.Common.{◌≡◌, ◌≤◌, ◌+◌, ℕ, zero, suc, Bool, true, false, if◌then◌else◌, List, [], ◌∷◌, length, Some, refl, ap, sym, ◌∙◌, subst, arith}
 use Rattle.std.specs.Prelude.{slice_get}
 use Rattle.std.proofs.lemmas.List.{length-append}
@@ -66,7 +67,7 @@ rows_written limits past [] more later rows = tt
 rows_written limits past (κ ∷ connections) more later rows =
     (rows_grown limits past κ (writes more κ) κ.handled (record { name = refl; taken = refl; handled = refl; more = more; written = refl; later = later }) rows.0.handled_within rows.0, rows.1)
 
--- one that stands in a list stands within its length
+-- one that is in a list is within its length
 stands_within : {A : Type 0} (n : ℕ) (xs : List A) (x : A) → slice_get xs n ≡ Some x → suc n ≤ length xs
 stands_within n [] x e = cc
 stands_within zero (y ∷ xs) x e = omega arith

@@ -1,4 +1,4 @@
--- One more publication behind the others, and all of them sent: identifiers, numbers and releases.
+-- One more publication after the others, and all of them sent: identifiers, numbers and releases.
 use Rattle.std.proofs.Common.{◌≡◌, ◌+◌, ℕ, suc, Bool, true, false, ◌||◌, ◌==◌, if◌then◌else◌, List, [], ◌∷◌, ◌++◌, length, refl, ap, subst, arith}
 use Rattle.std.proofs.lemmas.Bool.{both_ways}
 use Rattle.handshake.specs.Items.{Item, has_released}

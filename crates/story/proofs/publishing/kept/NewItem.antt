@@ -1,4 +1,4 @@
--- A client's publications with one more behind them, as items of a handshake.
+-- A client's publications with one more after them, as items of a handshake.
 use Rattle.std.proofs.Common.{◌≡◌, ℕ, Bool, true, false, if◌then◌else◌, List, [], ◌∷◌, ◌++◌, map, refl, ap}
 use Rattle.std.proofs.lemmas.Bool.{both_ways}
 use Rattle.client_base.specs.session_base.Identifiers.{least_free}
@@ -14,7 +14,7 @@ use Rattle.story.specs.Inside.Shape.{none_unsent}
 use Rattle.story.proofs.publishing.Starting.{NoneWaits}
 use Rattle.story.proofs.publishing.Unsent.{not_busy}
 
--- the items behind another publication
+-- the items after another publication
 pub items_more : (own more : List Own) → items_of_own (own ++ more) ≡ items_of_own own ++ items_of_own more
 items_more [] more = refl
 items_more (Own.Unsent k p id ∷ own) more = by (is_two p.qos) (items_more own more)

@@ -43,9 +43,9 @@ same_numbers connections later (place ∷ past) same =
     below : (x : ConnectionName) (j : ℕ) → j < count_of x past → j < count_of x (place ∷ past)
     below x j less = let more = counted_still x place past in omega (arith, less, more)
 
--- ---- what an event makes of the connections
+-- ---- what an event does to the connections
 
--- what stands in front of more stays
+-- what is in front of more stays
 pub within_more : (ws more : List Written) (j : ℕ) → j < length ws → slice_get (ws ++ more) j ≡ slice_get ws j
 within_more [] more j h = absurd (omega (arith, h))
 within_more (w ∷ ws) more zero h = refl

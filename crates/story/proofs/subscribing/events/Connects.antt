@@ -43,7 +43,7 @@ pub record IsOpening (limits : Limits) (s : Story) (i : ℕ) (κ : Connection) (
 
 -- ---- accepted
 
--- the link where the sender left
+-- the link if the sender left
 parted_run : (h : Handshake Publication) (v : View) (b : List Backward) → h.link ≡ link_as v b → (k : Handshake Publication) × (Run h k) × (k.items ≡ h.items) × (k.accepted ≡ h.accepted) × (k.received ≡ h.received) × (k.link ≡ link_as (parted v) [])
 parted_run h None b e = (with_items h.items (Link.Behind []) h, goes_on stays parts, refl, refl, refl, refl)
 parted_run h (Some (f, true)) b e = (with_items h.items (Link.Ahead f) h, goes_on stays (sender_leaves f b e), refl, refl, refl, refl)
@@ -54,7 +54,7 @@ parted_sent : (rows : List (ℕ × Publication)) (v : View) → link_as (parted 
 parted_sent rows None = sym (sent_behind rows [])
 parted_sent rows (Some (f, b)) = sym (sent_ahead rows f)
 
--- the entries behind it
+-- the entries after it
 started_as : (limits : Limits) (s : Story) (y : ConnectionName) → HasShape limits s
     → items_of (entries_of limits (at_accepted y s.keeper.client ∷ s.past) s.keeper.client)
     ≡ items_of (started (window_at limits (at_accepted y s.keeper.client ∷ s.past)) (length s.past) (Some y) (entries_of limits s.past s.keeper.client ++ []))

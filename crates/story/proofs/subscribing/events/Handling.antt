@@ -1,4 +1,5 @@
--- The client handles the next packet of its connection: what is of the handshake is taken in, all else leaves it as it was.
+-- The client handles the next packet of its connection: a packet of the handshake is taken, any
+-- other leaves it as it was.
 use Rattle.std.proofs.Common.{◌≡◌, ℕ, zero, suc, Bool, true, false, if◌then◌else◌, List, [], ◌∷◌, ◌++◌, drop, Option, Some, refl, ap, ap₂, sym, ◌∙◌}
 use Rattle.std.specs.Prelude.{slice_get}
 use Rattle.std.proofs.lemmas.List.{append-nil}
@@ -34,7 +35,7 @@ forward_first (packets.Publish p) more = refl
 forward_first (packets.Pubrel id) more = refl
 forward_first _ more = refl
 
--- the next packet and those behind it
+-- the next packet and those after it
 dropped : (n : ℕ) (xs : List Packet) (x : Packet) → slice_get xs n ≡ Some x → drop n xs ≡ x ∷ drop (suc n) xs
 dropped n [] x e = cc
 dropped zero (y ∷ xs) x e = let h : y ≡ x = cc in ap (λ z. z ∷ xs) h
@@ -50,7 +51,7 @@ comes_first limits past κ packet e =
 abbrev pub link_with : Bool → List (Forward Publication) → List Backward → Link Publication
 link_with current f b = if current then Link.Joined f b else Link.Ahead f
 
--- the side behind one more handled packet: what is written, accepted and kept of it
+-- the side after one more handled packet: what is written, accepted and kept of it
 pub record Handles (κ : Connection) (keeper : Keeper) (side : Side) (more : List Written) (accepted : List Publication) (received : ℕ → Bool) : Type 0 where
   pub client : side.keeper.client ≡ keeper.client
   pub name : side.connection.name ≡ κ.name
@@ -65,7 +66,7 @@ pub record Handles (κ : Connection) (keeper : Keeper) (side : Side) (more : Lis
 pub held_first : (keeper : Keeper) (κ : Connection) (others : List Connection) (n : ℕ) → keeper.is_open ≡ true → κ.taken ≡ suc n → held keeper (κ ∷ others) ≡ Some κ
 held_first keeper κ others n on taken = rw (on, taken) refl
 
--- the link behind it
+-- the link after it
 pub link_after : (limits : Limits) (s : Story) (κ : Connection) (others : List Connection) (n : ℕ) (side : Side) (more : List Written) (accepted : List Publication) (received : ℕ → Bool)
     → ConnectionInShape limits s.past s.keeper.client κ → κ.taken ≡ suc n → Handles κ s.keeper side more accepted received
     → (as_subscriber limits (with_side s others side)).link

@@ -1,4 +1,5 @@
--- The list takes the CONNECT of one of the client's connections: what its connection shows behind it.
+-- The list takes the CONNECT of one of the client's connections: what its connection shows after
+-- it.
 use Rattle.std.proofs.Common.{◌≡◌, ◌≤◌, ℕ, zero, suc, Bool, true, false, if◌then◌else◌, List, [], ◌∷◌, ◌++◌, length, drop, Option, Some, None, refl, ap, ap₂, sym, ◌∙◌, subst, ◌⊎◌, inl, inr, arith}
 use Rattle.std.specs.Prelude.{slice_get}
 use Rattle.std.proofs.lemmas.List.{append-nil}

@@ -79,7 +79,7 @@ pub connect_ends : (y : ConnectionName) (d : Client) (clean : Bool) (mark : Mark
 connect_ends y d clean mark None h = refl
 connect_ends y d clean mark (Some x) h = h x refl
 
--- and is accepted for its own client alone
+-- and is accepted only for its own client
 pub not_accepted : (y : ConnectionName) (d c : Client) (clean : Bool) (mark : Mark) → same_client d c ≡ false → accepts (commands.Connect y d clean) mark c ≡ None
 not_accepted y d c clean Mark.Accepted e = rw e refl
 not_accepted y d c clean _ e = refl

@@ -37,7 +37,7 @@ pub current_named : (current : Option ConnectionName) (connections : List Connec
 current_named None connections x l e = absurd (cc)
 current_named (Some y) connections x l e = let f : y ≡ x = cc in subst (λ (z : ConnectionName). any_named (same_connection z) connections ≡ true) f l.0
 
--- nobody else is served on one of them
+-- no other client is served on one of them
 pub none_else : (limits : Limits) (s : Story) → HasShape limits s → (x : ConnectionName) → any_named (same_connection x) s.connections ≡ true → NoneElse s.past x s.keeper.client
 none_else limits s shape x h d e = sym (same_is d s.keeper.client (shape.nobody_else d x e h))
 
@@ -48,7 +48,7 @@ not_ended limits s shape y fresh x e = named_not y x s.connections fresh (curren
 
 -- ---- a packet
 
--- of nobody, or of another client
+-- of no client, or of another client
 pub other_packet : (limits : Limits) (s : Story) → HasShape limits s → IsSteady limits → (y : ConnectionName) (packet : Packet) → any_named (λ z. same_connection y z) s.connections ≡ false
     → (owner : Option Client) → owner_of s.past y ≡ owner → IsPlain limits s (at_packet y packet (packet_mark_of limits s.past packet owner))
 other_packet limits s shape steady y packet fresh None e =

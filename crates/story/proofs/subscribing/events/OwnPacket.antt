@@ -1,4 +1,4 @@
--- The list takes a packet of one of the client's connections, behind its CONNECT.
+-- The list takes a packet of one of the client's connections, after its CONNECT.
 use Rattle.std.proofs.Common.{◌≡◌, ℕ, suc, Bool, true, false, if◌then◌else◌, List, [], ◌∷◌, length, Option, Some, None, refl, ap, sym, ◌∙◌, subst, ◌⊎◌, inl, inr}
 use Rattle.std.specs.Prelude.{slice_get}
 use Rattle.std.proofs.lemmas.Bool.{both_ways, cases_Bool}
@@ -60,7 +60,7 @@ own_packet limits s i κ w packets.Pingreq o good e =
     (λ x h. both_none limits (at_packet κ.name packets.Pingreq (Mark.Handled c)) s.past x c (skips x κ.name packets.Pingresp [] (λ f. refl)) refl) (λ b. refl)
 own_packet limits s i κ w packet o good e = own_parts limits s i κ w packet (Mark.Leaves s.keeper.client) o refl refl refl (λ x h. refl)
 
--- where no client is found, none passes the test
+-- if no client is found, none passes the test
 none_found : (test : Client → Bool) (ds : List Client) (c : Client) → first_client test ds ≡ None → IsNamed c ds → test c ≡ true → ⊥
 none_found test [] c e n t = n
 none_found test (d ∷ ds) c e n t = by (cases_Bool (test d)) n (λ f m. none_found test ds c f m t)

@@ -87,7 +87,7 @@ next_confirmed limits s κ others present i e = by (not present && s.keeper.was_
         handles_other limits s κ others i.n (packets.Connack (connacks.Accepted present)) (side s.keeper) (resent s.keeper) i.shape i.first i.is_open i.taken i.next (λ f. refl) (none_resent s.keeper)
         (record { client = refl; name = refl; taken = refl; handled = refl; written = refl; accepted_is = sym (append-nil κ.accepted); received_is = λ id. refl; stays_open = i.is_open })
 
--- it holds of the one that is there
+-- it holds for the one that is there
 each_at : (P : Packet → Type 0) (xs : List Packet) (n : ℕ) (x : Packet) → Each P xs → slice_get xs n ≡ Some x → P x
 each_at P [] n x h e = absurd (cc)
 each_at P (y ∷ xs) zero x h e = let f : y ≡ x = cc in subst P f h.0

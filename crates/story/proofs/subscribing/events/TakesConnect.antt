@@ -1,4 +1,4 @@
--- The CONNECT of one of the client's connections, by what becomes of it.
+-- The CONNECT of one of the client's connections, by what happens to it.
 use Rattle.std.proofs.Common.{◌≡◌, ℕ, Bool, true, false, ◌||◌, nat_lt, if◌then◌else◌, [], ◌∷◌, length, Option, Some, None, is_some, refl, ap, sym, ◌∙◌, ◌⊎◌, inl, inr, arith}
 use Rattle.std.proofs.lemmas.Bool.{both_ways}
 use Rattle.packet.specs.RefusalCode.TheVariants as refusals
@@ -33,7 +33,7 @@ use Rattle.story.proofs.subscribing.places.Publishes.{none_handed, skips}
 use Rattle.story.proofs.subscribing.places.Quiet.{current_same, no_entries}
 use Rattle.story.proofs.subscribing.places.Accepted.{served_counted}
 
--- the place of one that is turned away
+-- the place of a Connect that is refused because no session is left
 abbrev pub at_full : ConnectionName → Client → Place
 at_full y c = at_connect y c false Mark.Full
 
@@ -46,7 +46,7 @@ full_ends : (y : ConnectionName) (c : Client) (current : Option ConnectionName) 
 full_ends y c None e = refl
 full_ends y c (Some x) e = absurd (cc)
 
--- turned away, on a connection that the client does not hold
+-- refused so, on a connection that the client does not hold
 full_stale : (limits : Limits) (s : Story) (i : ℕ) (κ : Connection) (w : Written) → IsOpening limits s i κ w → IsStale s.keeper s.connections i → current_connection s.past s.keeper.client ≡ None
     → GoesTo (as_subscriber limits s) (as_subscriber limits (placed s (at_full κ.name s.keeper.client) (counted_at i s.connections)))
 full_stale limits s i κ w o stale none =
@@ -86,7 +86,7 @@ full_fresh limits s i κ w o fresh session none =
       };
     }
 
--- by what becomes of it
+-- by what happens to it
 pub takes_connect : (limits : Limits) (s : Story) (i : ℕ) (κ : Connection) (w : Written) → IsOpening limits s i κ w
     → GoesTo (as_subscriber limits s)
     (as_subscriber limits (placed s (at_connect κ.name s.keeper.client false (connect_mark limits s.past s.keeper.client (owner_of s.past κ.name))) (counted_at i s.connections)))

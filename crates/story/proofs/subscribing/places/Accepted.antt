@@ -1,4 +1,5 @@
--- What the place of an accepted Connect makes of its client's connection and entries, and what it sends.
+-- What the place of an accepted Connect does to its client's connection and entries, and what it
+-- sends.
 use Rattle.std.proofs.Common.{◌≡◌, ◌≤◌, ℕ, suc, Bool, true, false, not, if◌then◌else◌, List, [], ◌∷◌, ◌++◌, length, map, Option, Some, None, refl, ap, sym, ◌∙◌, subst, ◌⊎◌, inl, inr, arith}
 use Rattle.std.proofs.lemmas.List.{append-nil}
 use Rattle.std.proofs.lemmas.Bool.{both_ways}
@@ -51,7 +52,7 @@ abbrev name_of : ConnectionName → Option (ConnectionName × Bool) → Connecti
 name_of x (Some a) = a.0
 name_of x None = x
 
--- a session that is not clean goes on, or none was there
+-- a session that is not clean continues, or none was there
 in_accepted : (o : Option (ConnectionName × Bool)) (y : ConnectionName) (expelled over : Bool) (session : Option Bool) (w n : ℕ) (current : Option ConnectionName) (es : List Entry)
     → o ≡ Some (y, false) → current ≡ Some y → ((session ≡ None) × (es ≡ [])) ⊎ (session ≡ Some false)
     → in_session (newest_session o expelled over session) (is_beginning o session) [] (started w n current es) ≡ start_all w n [] es
@@ -64,7 +65,7 @@ in_accepted (Some (z, false)) y expelled over (Some true) w n (Some x) es e f (i
 in_accepted (Some (z, false)) y expelled over (Some false) w n (Some x) es e f h = refl
 in_accepted None y expelled over session w n current es e f h = absurd (cc)
 
--- its entries go on, and what may starts
+-- its entries continue, and what may starts
 pub accepted_entries : (limits : Limits) (past : Past) (y : ConnectionName) (c : Client) → (session_of past c ≡ None) ⊎ (session_of past c ≡ Some false)
     → entries_of limits (at_accepted y c ∷ past) c ≡ start_all (window_at limits (at_accepted y c ∷ past)) (length past) [] (entries_of limits past c)
 unfolding entries_of session_of

@@ -1,4 +1,4 @@
--- What an answer of the client makes of its entries, and what its place sends.
+-- What an answer of the client does to its entries, and what its place sends.
 use Rattle.std.proofs.Common.{◌≡◌, ℕ, suc, Bool, true, false, not, ◌&&◌, ◌||◌, ◌==◌, if◌then◌else◌, List, [], ◌∷◌, ◌++◌, map, None, refl, ap, sym, ◌∙◌, ◌⊎◌, inl, inr}
 use Rattle.std.proofs.lemmas.Bool.{both_ways, cases_Bool}
 use Rattle.packet.specs.declared.qos.QoS.{QoS}
@@ -103,7 +103,7 @@ now_released n i (Entry.Released made p id start release ∷ es) e = by (release
     by false h = h
 now_released n i (Entry.Finished made p id start release finish ∷ es) e = now_released n i es (skipped i (is_two p.qos) (Item.Finished p) (items_of es) (λ e. e) e)
 
--- identifiers behind others
+-- identifiers after others
 pub has_behind : (i : ℕ) (xs ys : List ℕ) → has_id i ys ≡ true → has_id i (xs ++ ys) ≡ true
 has_behind i [] ys h = h
 has_behind i (x ∷ xs) ys h = or_right (i == x) (has_id i (xs ++ ys)) (has_behind i xs ys h)

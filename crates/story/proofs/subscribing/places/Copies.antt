@@ -24,7 +24,7 @@ none_of : (x : ConnectionName) (f : Client → List Output) (c : Client) (ds : L
 none_of x f c [] h a = refl
 none_of x f c (d ∷ ds) h a = sends_append x (f d) (flat_map f ds) ∙ ap₂ (λ u v. u ++ v) (h d (above_not c d a.0)) (none_of x f c ds h a.1)
 
--- those of one, where the others are sent nothing
+-- those of one, if the others are sent nothing
 those_of : (x : ConnectionName) (f : Client → List Output) (c : Client) (ds : List Client) → ((d : Client) → (c ≡ d → ⊥) → sends_to x (f d) ≡ []) → Rising ds → IsNamed c ds
     → sends_to x (flat_map f ds) ≡ sends_to x (f c)
 those_of x f c [] h r n = absurd n
@@ -40,7 +40,7 @@ those_of x f c (d ∷ ds) h r (inr n) =
     not_above c d (b ∷ ds) e a (inl g) = above_not d b a.0 (sym e ∙ g)
     not_above c d (b ∷ ds) e a (inr n) = not_above c d ds e a.1 n
 
--- where no other client is served on the connection
+-- if no other client is served on the connection
 abbrev pub NoneElse : Past → ConnectionName → Client → Type 0
 NoneElse past x c = (d : Client) → current_connection past d ≡ Some x → c ≡ d
 
@@ -52,7 +52,7 @@ else_where past x c d none n = by (cases_Bool (any_connection (same_connection x
     by (inl e) = absurd (n (none d (is_that x (current_connection past d) e)))
     by (inr e) = e
 
--- nobody is served on it
+-- no client is served on it
 none_served : (limits : Limits) (place : Place) (past : Past) (x : ConnectionName) (ds : List Client) → ((d : Client) → IsElsewhere x past d) → sends_to x (flat_map (deliveries_to limits place past) ds) ≡ []
 none_served limits place past x [] h = refl
 none_served limits place past x (d ∷ ds) h =

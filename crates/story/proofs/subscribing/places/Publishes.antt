@@ -46,7 +46,7 @@ skips x y packet more none = by (same_connection x y)
     by true = forward_first packet (sends_to x more) ∙ none (forward_of (sends_to x more))
     by false = refl
 
--- an acknowledgement is none
+-- an acknowledgement is no PUBLISH
 pub acknowledged_none : (x y : ConnectionName) (d : Delivery) → forward_of (sends_to x (acknowledged y d)) ≡ []
 acknowledged_none x y deliveries.AtMostOnce = refl
 acknowledged_none x y (deliveries.AtLeastOnce dup id) = skips x y (packets.Puback id) [] (λ f. refl)

@@ -1,4 +1,4 @@
--- The rows of the clients so far stand behind those that were there.
+-- The rows of the clients so far come after those that were there.
 use Rattle.std.proofs.Common.{◌≡◌, ◌++◌, take, length, ℕ, List, Some}
 use Rattle.std.specs.Map.{keys_of}
 use Rattle.std.specs.List.Sorted.{IsStrictlySortedBy}

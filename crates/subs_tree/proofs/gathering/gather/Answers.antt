@@ -1,4 +1,4 @@
--- None is left: all were told.
+-- None is left: all were added.
 use Rattle.std.proofs.Common.{rules, ◌≡◌, ◌∙◌, [], ap, sym, subst, ℕ, List}
 use Rattle.std.specs.BTreeMap.{BTreeMap}
 use Rattle.subs_base.specs.packet.declared.qos.QoS.{QoS}

@@ -1,4 +1,4 @@
--- Once those that are left are told, all are.
+-- Once those that are left are added, all are.
 use Rattle.std.proofs.Common.{◌≡◌}
 use Rattle.std.specs.Map.{keys_of}
 use Rattle.std.specs.List.Sorted.{IsStrictlySortedBy}

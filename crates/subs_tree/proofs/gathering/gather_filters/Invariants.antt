@@ -1,4 +1,4 @@
--- Once those that are left are told, all are.
+-- Once those that are left are added, all are.
 use Rattle.std.proofs.Common.{◌≡◌}
 use Rattle.subs_tree.specs.Gathered.{gathered, groups_of, filters_told}
 use Rattle.subs_tree.proofs.gathering.gather_filters.Given as goal

@@ -1,4 +1,4 @@
--- The node of the number has nothing behind the level.
+-- The node of the number has nothing after the level.
 use Rattle.std.proofs.Common.{sym, None}
 use Rattle.subs_tree.proofs.ChangedSlot.{wrote, linked}
 use Rattle.slab.specs.Slab.{with_value}

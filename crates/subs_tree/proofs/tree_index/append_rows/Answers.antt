@@ -1,4 +1,4 @@
--- Where one is left for whom there is no memory, somebody was found.
+-- If one is left for which there is no memory, some client was found.
 use Rattle.std.proofs.Common.{rules, ◌≡◌, ◌∷◌, ◌++◌, ◌∙◌, ap, sym, List, ℕ}
 use Rattle.subs_base.specs.packet.declared.qos.QoS.{QoS}
 use Rattle.subs_tree.proofs.ContentOfTree.{anyhow}

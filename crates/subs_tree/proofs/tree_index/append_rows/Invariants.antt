@@ -1,4 +1,4 @@
--- The rows so far stand behind those that were there.
+-- The rows so far come after those that were there.
 use Rattle.std.proofs.Common.{◌≡◌, ◌++◌, take, length}
 use Rattle.subs_tree.proofs.tree_index.append_rows.Given as goal
 

@@ -1,4 +1,4 @@
--- The wildcards of what is left are in place where those of the whole text are.
+-- The wildcards of what is left are in place if those of the whole text are.
 use Rattle.std.proofs.Common.{◌≡◌, length}
 use Rattle.topics.specs.Text.{levels, levels_of, has_wildcards_in_place}
 use Rattle.topics.proofs.filter.has_wildcards_in_place.Given as goal

@@ -1,4 +1,4 @@
--- What is left matches where the whole texts do.
+-- What is left matches if the whole texts do.
 use Rattle.std.proofs.Common.{length, ◌≤◌}
 use Rattle.topics.specs.Inside.{IsLeft}
 use Rattle.topics.proofs.matching.behind_front.Given as goal

@@ -1,4 +1,4 @@
--- What is left of both texts matches where the whole texts do.
+-- What is left of both texts matches if the whole texts do.
 use Rattle.std.proofs.Common.{length}
 use Rattle.topics.specs.Inside.{IsLeft, IsApart}
 use Rattle.topics.proofs.matching.matches_levels.Given as goal

@@ -1,4 +1,5 @@
-// Rows of what a client with its pipes does, and what is seen of it. The server's part is played by hand.
+// Rows of what a client with its pipes does, and what is seen of it. The server's part is played by
+// hand.
 
 use packet::{ClientId, Payload, QoS};
 use std::alloc::Global;
@@ -10,19 +11,20 @@ use world::world_pipes::{ClientError, PipedClient, Port, Sending};
 pub enum Row<'a> {
     /// It opens a connection to this node, by this port.
     Open(usize, u64),
-    /// There are so many connections.
+    /// There are this many connections.
     Count(usize),
     /// A connection leads to this node, by this port.
     Leads(usize, usize, u64),
     /// These bytes wait to go up on a connection, and go.
     Up(usize, &'a [u8]),
-    /// These wait, and so many of them go.
+    /// These bytes wait, and this many of them go up.
     UpSome(usize, &'a [u8], usize),
-    /// The server sends these bytes on the newest connection, and they come, so many of them first.
+    /// The server sends these bytes on the newest connection, and they come, this many of them
+    /// first.
     Down(&'a [u8], usize),
     /// It sends these, which wait there.
     Sent(&'a [u8]),
-    /// So many bytes wait to come, and end the connection.
+    /// This many bytes wait to come, and end the connection.
     Violates(usize),
     /// It publishes `x` on `t/1` at QoS 2.
     Publish,
@@ -40,13 +42,14 @@ pub enum Row<'a> {
     Connected,
     /// It holds the newest connection, or none.
     IsOpen(bool),
-    /// It keeps so many publications until they are acknowledged.
+    /// It keeps this many publications until they are acknowledged.
     Kept(usize),
-    /// It took in so many publications.
+    /// It accepted this many publications.
     Accepted(usize),
 }
 
-/// The first row that does not hold of client `a`. Where there is no memory for the client, it is the first row.
+/// Returns the first row that does not hold for client `a`. If there is no memory for the client,
+/// it is the first row.
 pub fn fault_of(alloc: Global, rows: &[Row<'_>]) -> Option<usize> {
     match ClientId::new(alloc, "a") {
         Ok(client) => {
@@ -82,7 +85,7 @@ fn is_right(alloc: Global, client: &mut PipedClient, row: Row<'_>) -> bool {
     }
 }
 
-// Whether these bytes wait to go up on a connection, and so many of them go.
+// Says whether these bytes wait to go up on a connection, and this many of them go.
 fn goes_up(client: &mut PipedClient, at: usize, bytes: &[u8], count: usize) -> bool {
     if at >= client.len() || client.up(at) != bytes || count > client.up(at).len() {
         return false;
@@ -94,7 +97,7 @@ fn goes_up(client: &mut PipedClient, at: usize, bytes: &[u8], count: usize) -> b
     }
 }
 
-// Whether the server can send these bytes on the newest connection, after what waits there.
+// Says whether the server can send these bytes on the newest connection, after what waits there.
 fn is_sent(alloc: Global, client: &mut PipedClient, bytes: &[u8]) -> bool {
     if client.len() == 0 {
         return false;
@@ -107,7 +110,7 @@ fn is_sent(alloc: Global, client: &mut PipedClient, bytes: &[u8]) -> bool {
     is_room
 }
 
-// Whether these bytes are sent and come, so many of them first.
+// Says whether these bytes are sent and come, this many of them first.
 fn comes_down(alloc: Global, client: &mut PipedClient, bytes: &[u8], first: usize) -> bool {
     first <= bytes.len()
         && is_sent(alloc, client, bytes)
@@ -115,7 +118,7 @@ fn comes_down(alloc: Global, client: &mut PipedClient, bytes: &[u8], first: usiz
         && hears(client, bytes.len() - first)
 }
 
-// Whether so many bytes come on the connection that the client holds.
+// Says whether this many bytes come on the connection that the client holds.
 fn hears(client: &mut PipedClient, count: usize) -> bool {
     if client.len() == 0 || !client.is_open() || count > client.down(client.len() - 1).len() {
         return false;
@@ -123,7 +126,7 @@ fn hears(client: &mut PipedClient, count: usize) -> bool {
     client.hear(count).is_ok()
 }
 
-// Whether so many bytes wait to come, and are against the protocol.
+// Says whether this many bytes wait to come, and are against the protocol.
 fn violates(client: &mut PipedClient, count: usize) -> bool {
     if client.len() == 0 || !client.is_open() || count != client.down(client.len() - 1).len() {
         return false;

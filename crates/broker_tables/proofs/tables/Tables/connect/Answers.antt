@@ -1,4 +1,4 @@
--- On somebody's connection it is a violation, and on a full broker it is turned away.
+-- On a client's current connection it is a violation, and a full broker refuses it.
 use Rattle.std.proofs.Common.{◌∙◌, ◌++◌, ap, sym}
 use Rattle.broker_tables.proofs.Connects.{further_by, full_of, not_there}
 use Rattle.broker_tables.proofs.tables.Tables.connect.Goals as goal

@@ -1,4 +1,4 @@
--- The client's session goes, and its connection is nobody's.
+-- The client's session is removed, and its connection has no client.
 use Rattle.std.proofs.Common.{◌≡◌, ◌∙◌, [], ◌++◌, ap, sym}
 use Rattle.std.proofs.lemmas.List.{append-nil}
 use Rattle.broker_model.specs.Answers.{closed}

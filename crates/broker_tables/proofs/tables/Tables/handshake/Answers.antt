@@ -1,4 +1,4 @@
--- The sender's session is the one that is served on the connection, and it alone changes.
+-- The sender's session is the one that is served on the connection, and only it changes.
 use Rattle.std.proofs.Common.{rules, ◌≡◌, ◌∙◌, ap, sym, refl, Some, ◌++◌}
 use Rattle.std.specs.Prelude.{map}
 use Rattle.std.specs.Option.{option_copied_mut}

@@ -1,4 +1,4 @@
--- A packet on nobody's connection does nothing.
+-- A packet on a connection without a client does nothing.
 use Rattle.std.proofs.Common.{◌∙◌, ◌++◌, ap, sym}
 use Rattle.std.proofs.lemmas.List.{append-nil}
 use Rattle.broker_tables.proofs.Packets.{nobodys_of}

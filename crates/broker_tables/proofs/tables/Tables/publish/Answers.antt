@@ -1,4 +1,4 @@
--- By what becomes of the publication: another try, a refused one, a taken one.
+-- By what happens to the publication: another try, a refused one, a taken one.
 use Rattle.std.proofs.Common.{◌≡◌, ◌∙◌, ◌++◌, ap, sym, subst, ℕ, List, true, false}
 use Rattle.std.proofs.lemmas.List.{append_assoc}
 use Rattle.broker_model.specs.session_base.declared.publication.Publication.{Publication}

@@ -1,4 +1,4 @@
--- The client's session goes on, and the map of connections follows.
+-- The client's session continues, and the map of connections follows.
 use Rattle.std.proofs.Common.{◌∙◌, ◌++◌, ap, sym, true, false, [], ◌∷◌}
 use Rattle.std.proofs.lemmas.List.{append_assoc}
 use Rattle.std.specs.Prelude.{map}

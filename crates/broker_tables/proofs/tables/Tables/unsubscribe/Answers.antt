@@ -1,4 +1,4 @@
--- The sender's session gives its filters up, and so does the index.
+-- The filters are removed from the sender's session, and from the index.
 use Rattle.std.proofs.Common.{rules, ◌≡◌, ◌∙◌, ◌++◌, ap, sym, refl, Some}
 use Rattle.std.specs.Option.{option_copied_mut}
 use Rattle.std.specs.BTreeMap.{is_at}

@@ -1,4 +1,4 @@
--- What stands at the client of the list is its map's entries.
+-- What is at the client of the list is its map's entries.
 use Rattle.subs_base.proofs.EmptyMapGoes.{lent_at}
 use Rattle.subs_base.proofs.list_index.ListIndex.filters_of.Goals as goal
 

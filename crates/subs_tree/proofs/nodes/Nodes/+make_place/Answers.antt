@@ -1,4 +1,4 @@
--- The levels so far and one more lead to the child, from where the call goes on.
+-- The levels so far and one more lead to the child, from which the call continues.
 use Rattle.std.proofs.Common.{rules, ◌≡◌, [], ◌∷◌, ◌++◌, ◌∙◌, sym, ap, false}
 use Rattle.std.proofs.lemmas.List.{append_assoc}
 use Rattle.topics.specs.Text.{Levels, levels_of}

@@ -1,4 +1,4 @@
--- The new node stands behind its level, or was taken out again.
+-- The new node comes after its level, or was taken out again.
 use Rattle.subs_tree.specs.Inside.{shape_of}
 use Rattle.subs_tree.specs.Standing.{root_of}
 use Rattle.subs_tree.proofs.ChildIsMade.{made, unmade}

@@ -1,4 +1,4 @@
--- The client's row is gone, whether it was the only one or one of several.
+-- The client's row is removed, whether it was the only one or one of several.
 use Rattle.std.proofs.Common.{◌≡◌, ◌∙◌, sym, ap, subst, true, false, None, is_some, bytes_eq}
 use Rattle.subs_tree.specs.declared.rows.Rows.{Rows}
 use Rattle.subs_tree.specs.declared.rows.Rows.TheVariants.{Empty, One, Many}

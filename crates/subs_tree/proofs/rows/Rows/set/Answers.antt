@@ -1,4 +1,4 @@
--- The client has its row, whether nobody, it alone, another or several had one.
+-- The client has its row, whether no client, only this one, another one or several had one.
 use Rattle.std.proofs.Common.{◌≡◌, ◌∙◌, ℕ, List, sym, ap, subst, true, false, cond, Some, None, bytes_eq}
 use Rattle.subs_base.proofs.ContentAfter.{on_ok}
 use Rattle.subs_tree.specs.declared.rows.Rows.{Rows}

@@ -1,4 +1,4 @@
--- The row came to both, or was taken back where the tree had no memory for it.
+-- The row was put into both, or was removed again if the tree had no memory for it.
 use Rattle.std.proofs.Common.{◌≡◌, ◌∙◌, sym, ap, Some, None}
 use Rattle.topics.specs.Text.{levels}
 use Rattle.subs_base.specs.Content.{Content, with_row, without_row}
