@@ -7,8 +7,8 @@ use Rattle.whole.specs.Losses.{Thinned}
 use Rattle.whole.specs.Losses.Thinned.{none, keeps, loses}
 use Rattle.whole.specs.Sending.{message_to_followed}
 use Rattle.agreement.specs.World.{messages, outputs}
-use Rattle.lists.specs.Lists.{In}
-use Rattle.lists.specs.Lists.In.{here, there}
+use Rattle.whole.specs.lists.Lists.{In}
+use Rattle.whole.specs.lists.Lists.In.{here, there}
 
 -- messages and outputs of effects that are joined
 pub messages-append : {C O : Type 0} (xs ys : List (Effect C O)) → messages (xs ++ ys) ≡ messages xs ++ messages ys

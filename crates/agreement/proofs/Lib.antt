@@ -10,6 +10,6 @@ pub mod Orders
 pub mod Runs
 pub mod Serving
 pub mod Starts
-pub use Rattle.whole.proofs as of_whole
 pub use Rattle.whole.proofs.of_ballot_base as of_ballot_base
-pub use Rattle.lists.proofs as of_lists
+pub use Rattle.whole.proofs.of_lists as of_lists
+pub use Rattle.whole.proofs as of_whole

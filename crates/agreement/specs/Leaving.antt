@@ -1,8 +1,8 @@
 -- Leaving.antt: what left a group, and in which order.
 use Rattle.std.specs.Prelude.{ℕ, ◌<◌, ◌≤◌, ◌≡◌, ◌⊎◌, List, length, slice_get, Some}
 use Rattle.std.specs.List.{flat_map}
-use Rattle.machine.specs.Machine.{Rules}
-use Rattle.lists.specs.Lists.{In}
+use Rattle.whole.specs.machine.Machine.{Rules}
+use Rattle.whole.specs.lists.Lists.{In}
 use Rattle.whole.specs.Applying.{outputs_between}
 use Rattle.agreement.specs.Past.{Moment, WasActive}
 use Rattle.agreement.specs.World.{World, outputs}

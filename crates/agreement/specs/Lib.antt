@@ -10,6 +10,7 @@ pub mod Proposals
 pub mod Replays
 pub mod Steps
 pub mod World
-pub use Rattle.whole.specs as whole
 pub use Rattle.whole.specs.ballot_base as ballot_base
-pub use Rattle.lists.specs as lists
+pub use Rattle.whole.specs.lists as lists
+pub use Rattle.whole.specs.machine as machine
+pub use Rattle.whole.specs as whole

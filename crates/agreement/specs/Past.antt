@@ -1,8 +1,8 @@
 -- Past.antt: the moments of a group from its opening on, and what its members have acknowledged
 -- (told) in each ballot.
 use Rattle.std.specs.Prelude.{ℕ, true, false, ◌+◌, ◌≤◌, ◌≡◌, ◌⊎◌, List, [], ◌∷◌, length, slice_get, take, Some}
-use Rattle.lists.specs.Lists.{In, IsPrefixOf}
-use Rattle.machine.specs.Machine.{Rules}
+use Rattle.whole.specs.lists.Lists.{In, IsPrefixOf}
+use Rattle.whole.specs.machine.Machine.{Rules}
 use Rattle.whole.specs.Messages.Body.{Held, Installed}
 use Rattle.whole.specs.Applying.{applied_to}
 use Rattle.whole.specs.Config.{Config}

@@ -1,8 +1,8 @@
 -- Proposals.antt: what was proposed to nodes, in order, what of it they took, and what logs keep of
 -- that order.
 use Rattle.std.specs.Prelude.{ℕ, Bool, true, false, ◌≡◌, List, [], ◌∷◌, ◌++◌, length, filter, slice_get, Some, nat_lt, ◌==◌, if◌then◌else◌}
-use Rattle.machine.specs.Machine.{Rules}
-use Rattle.lists.specs.Lists.{In}
+use Rattle.whole.specs.machine.Machine.{Rules}
+use Rattle.whole.specs.lists.Lists.{In}
 use Rattle.whole.specs.Config.{Config}
 use Rattle.whole.specs.Protocol.{Input}
 use Rattle.whole.specs.Protocol.Input.{Receives, Proposes, Ticks}

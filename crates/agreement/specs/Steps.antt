@@ -1,7 +1,7 @@
 -- Steps.antt: what may happen in a group: a node takes its step, perhaps with losses, or stops; its
 -- master answers an Assign, or receives an Activate. Messages of the master may be lost, too.
 use Rattle.std.specs.Prelude.{ℕ, ◌+◌, ◌≡◌, false, List, [], slice_get, Some, ◌∷◌, ◌++◌, Option, None}
-use Rattle.machine.specs.Machine.{Rules}
+use Rattle.whole.specs.machine.Machine.{Rules}
 use Rattle.whole.specs.Config.{Config}
 use Rattle.whole.specs.Messages.Body.{Activate}
 use Rattle.whole.specs.Messages.{Effect}
@@ -10,7 +10,7 @@ use Rattle.whole.specs.Protocol.{Input, replica_step}
 use Rattle.whole.specs.Protocol.Input.{Receives, Proposes, Ticks}
 use Rattle.whole.specs.Replica.{ReplicaState}
 use Rattle.agreement.specs.World.{World, moved}
-use Rattle.lists.specs.Lists.{In}
+use Rattle.whole.specs.lists.Lists.{In}
 use Rattle.agreement.specs.MasterState.{MasterState, assigned, activated, MasterOutcome, AssignRefusal, refusal, master_behind}
 use Rattle.whole.specs.Sending.{master}
 

@@ -1,7 +1,7 @@
 -- World.antt: nodes, all messages that they ever sent, the outputs that left, and how they open.
 use Rattle.std.specs.Prelude.{Option, Some, None, ℕ, zero, suc, Bool, ◌+◌, List, [], ◌∷◌, ◌++◌, slice_set, ◌&&◌, nat_le}
 use Rattle.std.specs.List.{list_all}
-use Rattle.machine.specs.Machine.{Rules}
+use Rattle.whole.specs.machine.Machine.{Rules}
 use Rattle.whole.specs.LawfulConfig.{is_lawful}
 use Rattle.whole.specs.Config.{Config}
 use Rattle.whole.specs.Messages.{Message, Effect}

@@ -13,7 +13,7 @@ ghost use Rattle.agreement.specs.Laws.{
   TakenStandAtOnce,
 };
 
-use machine::Machine;
+use whole::machine::Machine;
 
 /// At each moment of a group there is an agreed list: the longest that is chosen in a ballot that
 /// was active.

@@ -12,3 +12,4 @@ pub use Rattle.ballot_base.proofs.ChangeRows
 pub use Rattle.ballot_base.proofs.MessageRows
 pub use Rattle.ballot_base.proofs.StepRows
 pub use Rattle.ballot_base.proofs.ThinnedEffects
+pub use Rattle.ballot_base.proofs.of_lists as of_lists

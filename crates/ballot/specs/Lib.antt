@@ -22,6 +22,7 @@ pub use Rattle.ballot_base.specs.declared.message.Message
 pub use Rattle.ballot_base.specs.declared.status.Progress
 pub use Rattle.ballot_base.specs.declared.status.Role
 pub use Rattle.ballot_base.specs.declared.status.Status
-pub use Rattle.machine.specs.Machine
+pub use Rattle.ballot_base.specs.machine.Machine
+pub use Rattle.ballot_base.specs as ballot_base
 pub use Rattle.ballot_base.specs.lists as lists
-pub use Rattle.machine.specs as machine
+pub use Rattle.ballot_base.specs.machine as machine

@@ -5,7 +5,9 @@
 mod error;
 mod replica;
 
-pub use ballot_base::{Body, Config, Effect, Log, Members, Message, Role, Status, copy_log};
+pub use ballot_base::machine::{Halted, Machine, Memory, ThawFault};
+pub use ballot_base::{
+    Body, Config, Effect, Log, Members, Message, Role, Status, copy_log, machine,
+};
 pub use error::{OpeningError, ProposeError};
-pub use machine::{Halted, Machine, Memory, ThawFault};
 pub use replica::{MOST_PLACES, Replica};

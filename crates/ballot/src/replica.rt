@@ -11,11 +11,11 @@ ghost use Rattle.ballot_base.specs.Replica.{is_active, opening, status_of};
 ghost use Rattle.ballot_base.specs.Serving.{added, commit_at, most_places, proposed};
 
 use crate::error::{OpeningError, ProposeError};
+use ballot_base::machine::{Halted, Machine};
 use ballot_base::{
     Config, Effect, Log, Members, Progress, Role, Status, apply_places, least_held,
     progress_of_others, send_appends, send_commits,
 };
-use machine::{Halted, Machine};
 use std::alloc::Global;
 use std::marker::Model;
 

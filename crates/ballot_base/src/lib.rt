@@ -17,6 +17,7 @@ pub use config::{Config, Members};
 pub use copying::copy_log;
 pub use following::{forget, least_held, least_raised, others_of, progress_of_others, raise};
 pub use log::Log;
+pub use machine;
 pub use message::{Body, Effect, Message};
 pub use sending::{
     MASTER, send, send_appends, send_behind, send_commits, send_installs, send_joins, send_state,

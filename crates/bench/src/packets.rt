@@ -1,11 +1,11 @@
 // Bytes a second through `encode` and `decode`, for small and for large PUBLISH packets.
 
-ghost use Rattle.packet.specs.Spelling.{IsListed};
+ghost use Rattle.cutter.specs.packet.Spelling.{IsListed};
 
 use crate::publications::{encode_all, publication};
 use anyhow::{Result, bail};
 use bench_base::nanos_each;
-use packet::{Packet, Step, decode};
+use cutter::packet::{Packet, Step, decode};
 use std::alloc::Global;
 use std::time::CpuClock;
 

@@ -1,11 +1,11 @@
 // The PUBLISH packets that the benchmarks of packets and of streams go through (MQTT 3.3).
 
-ghost use Rattle.packet.specs.Spelling.{IsListed};
+ghost use Rattle.cutter.specs.packet.Spelling.{IsListed};
 
 use anyhow::Result;
-use packet::{Delivery, Packet, Payload, Publish, encode};
+use cutter::packet::{Delivery, Packet, Payload, Publish, encode};
+use cutter::topics::TopicName;
 use std::alloc::Global;
-use topics::TopicName;
 
 /// Appends this many equal packets at QoS 0, whose topic has 13 bytes.
 pub fn append(alloc: Global, count: u32, payload_len: usize, out: &mut Vec<u8>) -> Result<()> {

@@ -3,10 +3,10 @@ use denote.Param.Send.{IsSend, sendable}
 use Rattle.broker.specs.contracts.broker_machine.BrokerMachine as BrokerMachine
 use Rattle.broker_tables.proofs.client_row.ClientRow.TheSendSync.{the_send as row_send}
 use Rattle.packet.proofs.client_id.ClientId.TheSendSync.{the_send as client_send}
-use Rattle.broker_base.proofs.of_retained.retained_store.RetainedStore.TheSendSync.{the_send as store_send}
+use Rattle.broker_tables.proofs.of_retained.retained_store.RetainedStore.TheSendSync.{the_send as store_send}
 use Rattle.std.proofs.Crossing.{crosses}
 use Rattle.std.proofs.MapsCrossing as maps
-use Rattle.broker_tables.proofs.of_subs_tree.tree_index.TreeIndex.TheSendSync.{the_send as tree_send}
+use Rattle.broker_tables.proofs.of_subs.tree_index.TreeIndex.TheSendSync.{the_send as tree_send}
 
 ruleset owning = (sendable, crosses, maps.crosses)
 

@@ -5,20 +5,20 @@ use Rattle.std.specs.Map.{update, update_all}
 use Rattle.std.specs.List.Sorted.{IsStrictlySortedBy}
 use Rattle.std.specs.Cmp.Lexicographic.{bytes_decides}
 use Rattle.packet.specs.declared.qos.QoS.{QoS}
-use Rattle.session_form.specs.session_base.Subscriptions.{HeldFilter}
-use Rattle.session_form.specs.session_base.KeepingLaws.{AreFiltersApart}
-use Rattle.broker_base.specs.broker_model.Place.{Client, same_client}
-use Rattle.broker_base.specs.ClientSession.{ClientSession}
-use Rattle.broker_base.specs.State.{Sessions, session_in}
-use Rattle.broker_base.specs.StateLaws.{AllSound, AreByClient}
-use Rattle.broker_base.proofs.ClientsInOrder.{same_is}
-use Rattle.broker_base.proofs.SessionsStayByClient.{ComesBefore}
+use Rattle.session_base.specs.Subscriptions.{HeldFilter}
+use Rattle.session_base.specs.KeepingLaws.{AreFiltersApart}
+use Rattle.broker_tables.specs.broker_spec.Place.{Client, same_client}
+use Rattle.broker_tables.specs.broker_base.ClientSession.{ClientSession}
+use Rattle.broker_tables.specs.broker_base.State.{Sessions, session_in}
+use Rattle.broker_tables.specs.broker_base.StateLaws.{AllSound, AreByClient}
+use Rattle.broker_tables.proofs.of_broker_base.ClientsInOrder.{same_is}
+use Rattle.broker_tables.proofs.of_broker_base.SessionsStayByClient.{ComesBefore}
 use Rattle.broker_tables.specs.subs_base.Content.{Content, no_subscriptions, with_filters}
-use Rattle.broker_form.specs.broker_rows.Indexed.{qos_at, subscribed_in, content_in}
-use Rattle.broker_form.proofs.of_broker_rows.ConnectSteps.{no_session}
-use Rattle.broker_form.proofs.of_broker_rows.publications.GreatestGranted.{none_held}
-use Rattle.broker_form.proofs.of_broker_rows.maps.FiltersHeld.{bytes_back}
-use Rattle.broker_form.proofs.of_broker_rows.maps.ContentOfStart.{same_bytes}
+use Rattle.broker_tables.specs.broker_rows.Indexed.{qos_at, subscribed_in, content_in}
+use Rattle.broker_tables.proofs.of_broker_rows.ConnectSteps.{no_session}
+use Rattle.broker_tables.proofs.of_broker_rows.publications.GreatestGranted.{none_held}
+use Rattle.broker_tables.proofs.of_broker_rows.maps.FiltersHeld.{bytes_back}
+use Rattle.broker_tables.proofs.of_broker_rows.maps.ContentOfStart.{same_bytes}
 use Rattle.broker.specs.Inside.{all_held, last_held}
 
 -- the first of two that is there

@@ -2,15 +2,15 @@
 -- connection's owner.
 use Rattle.std.proofs.Common.{◌≡◌, Bool, true, false, not, ◌&&◌, Option, Some, None, [], ◌∷◌, ◌++◌, refl, sym, ap, ◌∙◌, if◌then◌else◌}
 use Rattle.std.specs.Prelude.{option_map, is_some}
-use Rattle.broker_base.specs.broker_model.Connection.{ConnectionName, same_connection}
-use Rattle.broker_base.specs.broker_model.Place.{Client}
-use Rattle.broker_base.specs.broker_model.Past.{any_connection}
-use Rattle.broker_base.specs.ClientSession.{ClientSession}
-use Rattle.broker_base.specs.State.{Sessions, owner_in}
-use Rattle.broker_base.proofs.ConnectionsOfSessions.{same_turned}
-use Rattle.broker_form.specs.broker_rows.Owners.{owners_in, owned_by}
-use Rattle.broker_form.proofs.of_broker_rows.OwnersRow.{on_is}
-use Rattle.session_form.specs.Counted.{last_of}
+use Rattle.broker_tables.specs.broker_spec.Connection.{ConnectionName, same_connection}
+use Rattle.broker_tables.specs.broker_spec.Place.{Client}
+use Rattle.broker_tables.specs.broker_spec.Past.{any_connection}
+use Rattle.broker_tables.specs.broker_base.ClientSession.{ClientSession}
+use Rattle.broker_tables.specs.broker_base.State.{Sessions, owner_in}
+use Rattle.broker_tables.proofs.of_broker_base.ConnectionsOfSessions.{same_turned}
+use Rattle.broker_tables.specs.broker_rows.Owners.{owners_in, owned_by}
+use Rattle.broker_tables.proofs.of_broker_rows.OwnersRow.{on_is}
+use Rattle.session_base.specs.Counted.{last_of}
 use Rattle.broker_form.specs.Form.{is_behind, is_taken, row_follows}
 
 abbrev Row : Type 0

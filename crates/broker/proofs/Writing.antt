@@ -1,11 +1,11 @@
 -- Writing.antt: what is in the state of a broker can be written.
 use Rattle.std.proofs.Common.{◌∷◌, []}
 use Rattle.std.specs.List.{AllByRecursion}
-use Rattle.broker_base.specs.retained.Retained.{RetainedTopics}
-use Rattle.session_form.proofs.Writable.{has_length}
-use Rattle.broker_base.specs.broker_model.Commands.{usual_limits}
-use Rattle.broker_base.specs.State.{Sessions, State}
-use Rattle.broker_base.specs.StateLaws.{AllSound}
+use Rattle.broker_tables.specs.retained.Retained.{RetainedTopics}
+use Rattle.session_base.proofs.Writable.{has_length}
+use Rattle.broker_tables.specs.broker_spec.Commands.{usual_limits}
+use Rattle.broker_tables.specs.broker_base.State.{Sessions, State}
+use Rattle.broker_tables.specs.broker_base.StateLaws.{AllSound}
 use Rattle.broker_form.specs.InRange.{IsBrokerState, IsRetained, IsSession, as_publication}
 use Rattle.broker_form.proofs.RowsAgain.{has_form}
 use Rattle.broker.specs.Inside.{AreRows, ArePayloads}

@@ -3,13 +3,13 @@ use Rattle.std.specs.Prelude.{◌≡◌, ℕ, ◌<◌, length, List, [], ◌∷�
 use Rattle.std.specs.Map.{update_all}
 use Rattle.std.specs.List.{AllByRecursion}
 use Rattle.packet.specs.declared.qos.QoS.{QoS}
-use Rattle.broker_base.specs.retained.Retained.{RetainedTopics}
-use Rattle.session_form.specs.session_base.Subscriptions.{HeldFilter}
+use Rattle.broker_tables.specs.retained.Retained.{RetainedTopics}
+use Rattle.session_base.specs.Subscriptions.{HeldFilter}
 use Rattle.broker_tables.specs.subs_base.Content.{Content, with_filters}
-use Rattle.session_form.specs.FormLaws.{HasForm}
-use Rattle.broker_base.specs.broker_model.Connection.{ConnectionName}
-use Rattle.broker_base.specs.State.{Sessions, State}
-use Rattle.broker_form.specs.broker_rows.Owners.{owners_in}
+use Rattle.session_base.specs.FormLaws.{HasForm}
+use Rattle.broker_tables.specs.broker_spec.Connection.{ConnectionName}
+use Rattle.broker_tables.specs.broker_base.State.{Sessions, State}
+use Rattle.broker_tables.specs.broker_rows.Owners.{owners_in}
 use Rattle.broker_tables.specs.Tables.{owners_at}
 use Rattle.broker.specs.declared.rows.Rows.{Rows}
 

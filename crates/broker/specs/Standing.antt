@@ -1,13 +1,13 @@
 -- What a command does to a broker, and which list of commands its state corresponds to.
 use Rattle.std.specs.Prelude.{◌≡◌, ℕ, List, [], ◌∷◌, ◌++◌, Some}
 use Rattle.broker_tables.specs.machine.Machine.{Rules}
-use Rattle.broker_base.specs.broker_model.Answers.{answers_of}
-use Rattle.broker_base.specs.broker_model.Commands.{past_of, limits_from, usual_limits}
-use Rattle.broker_base.specs.broker_model.declared.command.Command.{Command}
-use Rattle.broker_base.specs.broker_model.declared.command.Command.TheVariants.{Start}
-use Rattle.broker_base.specs.broker_model.declared.command.Output.{Output}
-use Rattle.broker_base.specs.State.{State, state_of, empty_state}
-use Rattle.broker_base.specs.Step.{step}
+use Rattle.broker_tables.specs.broker_spec.Answers.{answers_of}
+use Rattle.broker_tables.specs.broker_spec.Commands.{past_of, limits_from, usual_limits}
+use Rattle.broker_tables.specs.broker_spec.declared.command.Command.{Command}
+use Rattle.broker_tables.specs.broker_spec.declared.command.Command.TheVariants.{Start}
+use Rattle.broker_tables.specs.broker_spec.declared.command.Output.{Output}
+use Rattle.broker_tables.specs.broker_base.State.{State, state_of, empty_state}
+use Rattle.broker_tables.specs.broker_base.Step.{step}
 use Rattle.broker_form.specs.Form.{frozen, frozen_before, thawed}
 use Rattle.broker_form.specs.FormLaws.{IsUsualState}
 

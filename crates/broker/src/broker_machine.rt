@@ -2,14 +2,14 @@
 
 use crate::freezing::freeze_tables;
 use crate::thawing::thawed_tables;
-use broker_base::broker_model::{Command, Output};
 use broker_form::thawed_is_in_range;
 use broker_tables::Tables;
+use broker_tables::broker_spec::{Command, Output};
 use broker_tables::machine::{Halted, Machine, Memory, ThawFault};
-use packet_base::Stop;
+use packet::packet_base::Stop;
+use packet::topics::MalformedKind;
 use std::alloc::Global;
 use std::marker::Model;
-use topics::MalformedKind;
 
 /// A broker after some list of commands. Its value in contracts is its state: the window, the
 /// sessions by client, and what is retained.
@@ -19,7 +19,7 @@ pub struct BrokerMachine {
 }
 
 impl Model for BrokerMachine {
-    ghost use Rattle.broker_base.specs.State.{State};
+    ghost use Rattle.broker_tables.specs.broker_base.State.{State};
     ghost use Rattle.broker_form.specs.FormLaws.{IsUsualState};
     ghost use Rattle.broker_tables.specs.Tables.{IsTied, state_in};
 
@@ -33,7 +33,7 @@ impl Model for BrokerMachine {
 // It begins empty, and does a command as the step of a state with the limits of this broker says.
 // It is frozen to form 2, and thawed from form 1 too.
 impl Machine for BrokerMachine {
-    ghost use Rattle.broker_base.specs.broker_model.Logged.{IsBrokerCommand};
+    ghost use Rattle.broker_tables.specs.broker_spec.Logged.{IsBrokerCommand};
     ghost use Rattle.broker_form.specs.FormLaws.{IsUsualState};
     ghost use Rattle.broker_form.proofs.Thawing.{frozen_is_thawed};
     ghost use Rattle.broker.specs.Standing.{broker_rules};

@@ -2,21 +2,21 @@
 
 ghost use Rattle.std.specs.Prelude.{◌≡◌, ◌<◌, ◌++◌, length, OnErr, OnOk};
 ghost use Rattle.std.specs.List.{flat_map, AllByRecursion};
-ghost use Rattle.session_form.specs.FormLaws.{HasForm};
-ghost use Rattle.broker_base.specs.broker_model.Commands.{usual_limits};
+ghost use Rattle.session_base.specs.FormLaws.{HasForm};
+ghost use Rattle.broker_tables.specs.broker_spec.Commands.{usual_limits};
 ghost use Rattle.broker_form.specs.InRange.{IsBrokerState};
 ghost use Rattle.broker_form.specs.Form.{connection_bytes, frozen, retained_bytes, row_bytes, wide_number};
 ghost use Rattle.broker_tables.specs.Tables.{state_in};
 ghost use Rattle.broker.specs.Inside.{AreRows, ArePayloads};
 
-use broker_base::broker_model::ConnectionId;
-use broker_base::retained::{RetainedPublication, RetainedStore};
+use broker_tables::broker_spec::ConnectionId;
+use broker_tables::retained::{RetainedPublication, RetainedStore};
 use broker_tables::{ClientRow, Tables};
 use packet::ClientId;
-use session_form::{write_number, write_payload, write_text};
+use packet::topics::TopicName;
+use session_base::{write_number, write_payload, write_text};
 use std::alloc::AllocError;
 use std::collections::BTreeMap;
-use topics::TopicName;
 
 // The number of the form.
 const FORM: u8 = 2;

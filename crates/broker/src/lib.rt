@@ -10,4 +10,6 @@ mod rows;
 mod thawing;
 
 pub use broker_machine::BrokerMachine;
+pub use broker_tables::{broker_spec, machine};
 pub use laws::broker_stands_for;
+pub use packet;

@@ -3,20 +3,19 @@
 
 ghost use Rattle.std.specs.Prelude.{◌≡◌, true, Ok, IfOk};
 ghost use Rattle.packet.specs.ClientId.{is_client};
-ghost use Rattle.packet_base.specs.Outcome.{Gives, Reads};
-ghost use Rattle.session_form.specs.Counted.{keep};
+ghost use Rattle.packet.specs.packet_base.Outcome.{Gives, Reads};
+ghost use Rattle.session_base.specs.Counted.{keep};
 ghost use Rattle.broker_form.specs.Form.{client_at, connection_at, head_at, name_at, retainable, retained_at, row_at, size_at, wide_number_at};
 
-use broker_base::broker_model::{ConnectionId, Window};
-use broker_base::retained::RetainedPublication;
 use broker_tables::ClientRow;
+use broker_tables::broker_spec::{ConnectionId, Window};
+use broker_tables::retained::RetainedPublication;
 use broker_tables::session::Session;
+use packet::packet_base::{Reader, Stop};
+use packet::topics::{MalformedKind, TopicName};
 use packet::{ClientId, Payload};
-use packet_base::{Reader, Stop};
-use session_form::session_base::Publication;
-use session_form::{body_length, keep, read_flag, read_long_number, read_qos};
+use session_base::{Publication, body_length, keep, read_flag, read_long_number, read_qos};
 use std::alloc::Global;
-use topics::{MalformedKind, TopicName};
 
 /// The most bytes of a body, this broker's own limit.
 const LONGEST_BODY: usize = 1_048_572;

@@ -1,21 +1,21 @@
 // The sessions of a frozen broker, with the map of their connections.
 
 ghost use Rattle.std.specs.Prelude.{◌≡◌, false, true, [], ◌∷◌, ◌++◌, IfOk, OnOk};
-ghost use Rattle.packet_base.specs.Outcome.{Reads};
-ghost use Rattle.packet_base.specs.Reading.{number_at};
-ghost use Rattle.session_form.specs.Counted.{counted_at, items_behind, last_of, Adds};
-ghost use Rattle.broker_base.specs.broker_model.Connection.{ConnectionName};
-ghost use Rattle.broker_form.specs.broker_rows.Owners.{owned_by};
+ghost use Rattle.packet.specs.packet_base.Outcome.{Reads};
+ghost use Rattle.packet.specs.packet_base.Reading.{number_at};
+ghost use Rattle.session_base.specs.Counted.{counted_at, items_behind, last_of, Adds};
+ghost use Rattle.broker_tables.specs.broker_spec.Connection.{ConnectionName};
+ghost use Rattle.broker_tables.specs.broker_rows.Owners.{owned_by};
 ghost use Rattle.broker_form.specs.Form.{is_behind, is_taken, row_at, row_follows};
 ghost use Rattle.broker_tables.specs.Tables.{owners_at};
 ghost use Rattle.broker.specs.Inside.{AreOwned};
 
 use crate::reading::{OUT_OF_MEMORY, read_row};
-use broker_base::broker_model::{ConnectionId, Window};
+use broker_tables::broker_spec::{ConnectionId, Window};
 use broker_tables::{ClientRow, MAX_SESSIONS};
 use packet::ClientId;
-use packet_base::{Reader, Stop};
-use session_form::keep;
+use packet::packet_base::{Reader, Stop};
+use session_base::keep;
 use std::alloc::{AllocError, Global};
 use std::collections::BTreeMap;
 
@@ -30,7 +30,7 @@ pub(crate) struct Rows {
 impl Rows {
     // Reads as many sessions as their count says: the clients rise, and no connection is used
     // twice.
-    #[tactic(auto, unfolding(session_form::specs::Counted::counted_at))]
+    #[tactic(auto, unfolding(session_base::specs::Counted::counted_at))]
     pub(crate) fn read(alloc: Global, window: Window, reader: &mut Reader) -> Result<Rows, Stop>
         ensures exact { Reads (λ rows. rows.sessions.entries) result reader.new
             (counted_at number_at row_follows (row_at window) 4096 reader.old) }

@@ -4,30 +4,30 @@ ghost use Rattle.std.specs.Prelude.{◌≡◌, ◌<◌, ◌≤◌, [], length, I
 ghost use Rattle.std.specs.BTreeMap.{get};
 ghost use Rattle.std.specs.Cmp.Lexicographic.{slice_cmp};
 ghost use Rattle.std.specs.Ordering.{nat_cmp};
-ghost use Rattle.packet_base.specs.Outcome.{Gives, Reads};
-ghost use Rattle.packet_base.specs.Reading.{number_at};
-ghost use Rattle.session_form.specs.Counted.{counted_at, items_behind, last_of, Adds};
+ghost use Rattle.packet.specs.packet_base.Outcome.{Gives, Reads};
+ghost use Rattle.packet.specs.packet_base.Reading.{number_at};
+ghost use Rattle.session_base.specs.Counted.{counted_at, items_behind, last_of, Adds};
 ghost use Rattle.broker_tables.specs.subs_base.Content.{no_subscriptions};
 ghost use Rattle.broker_tables.specs.subs_base.ListIndex.{content_of};
 ghost use Rattle.broker_form.specs.Form.{broker_at, is_behind, retained_at, topic_follows};
 ghost use Rattle.broker_tables.specs.Tables.{IsTied, state_in};
-ghost use Rattle.broker_base.specs.retained.Retained.{IsRising};
+ghost use Rattle.broker_tables.specs.retained.Retained.{IsRising};
 ghost use Rattle.broker.specs.Inside.{AreOwned, state_read, all_held, last_held};
 
 use crate::reading::{OUT_OF_MEMORY, read_head, read_topic};
 use crate::rows::Rows;
-use broker_base::broker_model::Window;
-use broker_base::retained::{RetainedPublication, RetainedStore};
 use broker_form::thawed_is_in_range;
+use broker_tables::broker_spec::Window;
+use broker_tables::retained::{RetainedPublication, RetainedStore};
 use broker_tables::session::Session;
 use broker_tables::subs::{ListIndex, SubIndex, TreeIndex};
 use broker_tables::{ClientRow, Tables};
+use packet::packet_base::{Reader, Stop};
+use packet::topics::{Filter, TopicName};
 use packet::{ClientId, QoS};
-use packet_base::{Reader, Stop};
-use session_form::keep;
+use session_base::keep;
 use std::alloc::{AllocError, Global};
 use std::collections::BTreeMap;
-use topics::{Filter, TopicName};
 
 /// The most topics with a retained publication.
 const MAX_TOPICS: usize = 16_384;
@@ -68,7 +68,7 @@ fn read_broker(alloc: Global, bytes: &[u8]) -> Result<(Window, Rows, RetainedSto
 // ---- what is retained
 
 // Reads as many topics as their count says, in rising order.
-#[tactic(auto, unfolding(session_form::specs::Counted::counted_at))]
+#[tactic(auto, unfolding(session_base::specs::Counted::counted_at))]
 fn read_retained(alloc: Global, reader: &mut Reader) -> Result<RetainedStore, Stop>
     ensures { Reads (λ x. x) result reader.new
         (counted_at number_at topic_follows retained_at 16384 reader.old) }

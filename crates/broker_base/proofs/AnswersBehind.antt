@@ -2,24 +2,24 @@
 use Rattle.std.proofs.Common.{◌≡◌, ℕ, ◌<◌, suc, Bool, false, ◌==◌, Option, Some, None, List, [], ◌∷◌, ◌++◌, length, map, refl, ap, ap₂, ◌∙◌, sym, arith}
 use Rattle.session_base.specs.packet.declared.packet.Packet.{Packet}
 use Rattle.session_base.specs.Sending.{fill_sends}
-use Rattle.broker_model.specs.Connection.{ConnectionName}
-use Rattle.broker_model.specs.Place.{Client, Mark, Place, Past, Limits}
-use Rattle.broker_model.specs.Past.{accepts, ends_any, current_connection, session_of}
-use Rattle.broker_model.specs.Subscriptions.{subscriptions_of}
-use Rattle.broker_model.specs.Received.{received_of}
-use Rattle.broker_model.specs.Entries.{Entry, copies_at, queued}
-use Rattle.broker_model.specs.Readings.{waiting_of, busy_ids}
-use Rattle.broker_model.specs.Times.{answered_by, started, window_at, entries_of}
-use Rattle.broker_model.specs.Sends.{all_started}
+use Rattle.broker_spec.specs.Connection.{ConnectionName}
+use Rattle.broker_spec.specs.Place.{Client, Mark, Place, Past, Limits}
+use Rattle.broker_spec.specs.Past.{accepts, ends_any, current_connection, session_of}
+use Rattle.broker_spec.specs.Subscriptions.{subscriptions_of}
+use Rattle.broker_spec.specs.Received.{received_of}
+use Rattle.broker_spec.specs.Entries.{Entry, copies_at, queued}
+use Rattle.broker_spec.specs.Readings.{waiting_of, busy_ids}
+use Rattle.broker_spec.specs.Times.{answered_by, started, window_at, entries_of}
+use Rattle.broker_spec.specs.Sends.{all_started}
 use Rattle.broker_base.specs.ClientSession.{ClientSession, flights_below, client_session}
 use Rattle.broker_base.proofs.flights.FillingAlways.{answered_flights}
 use Rattle.broker_base.specs.StepAnswers.{while_connected}
-use Rattle.broker_model.specs.declared.command.Command.{Command}
-use Rattle.broker_model.specs.declared.command.Output.TheVariants.{Send}
+use Rattle.broker_spec.specs.declared.command.Command.{Command}
+use Rattle.broker_spec.specs.declared.command.Output.TheVariants.{Send}
 use Rattle.session_base.proofs.CountedIdentifiers.{count}
-use Rattle.broker_model.proofs.SoundEntries.{Sound}
+use Rattle.broker_spec.proofs.SoundEntries.{Sound}
 use Rattle.broker_base.proofs.flights.IdentifiersInFlight.{append_none, same_ids}
-use Rattle.broker_model.proofs.EntriesStartedBefore.{StartedBefore, before_below, before_answered}
+use Rattle.broker_spec.proofs.EntriesStartedBefore.{StartedBefore, before_below, before_answered}
 use Rattle.broker_base.proofs.flights.SendsOfStarts.{starts_sent}
 use Rattle.broker_base.proofs.QueueAfter.{sound_entries, sound_answered, flights_answered, waiting_answered}
 use Rattle.broker_base.proofs.KeptAfter.{kept_with}

@@ -1,18 +1,18 @@
 -- The answers that the state gives at a place are those that the past gives.
 use Rattle.std.proofs.Common.{◌≡◌, ℕ, Bool, not, Option, Some, None, ◌∷◌, ◌++◌, refl, ap, ap₂, ◌∙◌, sym}
 use Rattle.std.specs.Prelude.{option_map}
-use Rattle.broker_model.specs.Connection.{ConnectionName}
-use Rattle.broker_model.specs.Place.{Client, Mark, Place, Past, Limits, only_if}
-use Rattle.broker_model.specs.Past.{session_of, is_beginning, begins_session}
-use Rattle.broker_model.specs.Times.{window_at}
-use Rattle.broker_model.specs.Answers.{closed, welcome, connect_answers, answers_by, answers_at}
+use Rattle.broker_spec.specs.Connection.{ConnectionName}
+use Rattle.broker_spec.specs.Place.{Client, Mark, Place, Past, Limits, only_if}
+use Rattle.broker_spec.specs.Past.{session_of, is_beginning, begins_session}
+use Rattle.broker_spec.specs.Times.{window_at}
+use Rattle.broker_spec.specs.Answers.{closed, welcome, connect_answers, answers_by, answers_at}
 use Rattle.broker_base.specs.ClientSession.{ClientSession, client_session}
 use Rattle.broker_base.specs.State.{state_of}
 use Rattle.broker_base.specs.Step.{IsWindow}
 use Rattle.broker_base.specs.StepAnswers.{connection_of, connect_answers_in, answers_by_state}
-use Rattle.broker_model.specs.declared.command.Command.{Command}
-use Rattle.broker_model.specs.declared.command.Command.TheVariants as commands
-use Rattle.broker_model.proofs.ClientsInOrder.{same_self}
+use Rattle.broker_spec.specs.declared.command.Command.{Command}
+use Rattle.broker_spec.specs.declared.command.Command.TheVariants as commands
+use Rattle.broker_spec.proofs.ClientsInOrder.{same_self}
 use Rattle.broker_base.proofs.SessionsAfter.{at, session_is}
 use Rattle.broker_base.proofs.ComingBack.{closed_is, resumed_is}
 use Rattle.broker_base.proofs.KeptAfter.{kept_now}

@@ -3,20 +3,20 @@ use Rattle.std.proofs.Common.{◌≡◌, ℕ, Bool, true, false, ◌||◌, if◌
 use Rattle.session_base.specs.Subscriptions.{HeldFilter}
 use Rattle.session_base.specs.packet.declared.packet.Packet.TheVariants as packets
 use Rattle.session_base.specs.Sending.{fill_sends, resend}
-use Rattle.broker_model.specs.Connection.{ConnectionName}
-use Rattle.broker_model.specs.Place.{Client, Place, Past, Limits}
-use Rattle.broker_model.specs.Past.{accepts, expels, ends_any, current_connection, session_of, newest_session, newest_connection, is_beginning, in_session}
-use Rattle.broker_model.specs.Subscriptions.{subscriptions_of}
-use Rattle.broker_model.specs.Received.{received_of}
-use Rattle.broker_model.specs.Entries.{Entry, copies_at, queued}
-use Rattle.broker_model.specs.Readings.{waiting_of}
-use Rattle.broker_model.specs.Times.{answered_by, start_all, started, window_at, entries_of}
-use Rattle.broker_model.specs.Sends.{resent}
-use Rattle.broker_model.specs.Answers.{closed}
+use Rattle.broker_spec.specs.Connection.{ConnectionName}
+use Rattle.broker_spec.specs.Place.{Client, Place, Past, Limits}
+use Rattle.broker_spec.specs.Past.{accepts, expels, ends_any, current_connection, session_of, newest_session, newest_connection, is_beginning, in_session}
+use Rattle.broker_spec.specs.Subscriptions.{subscriptions_of}
+use Rattle.broker_spec.specs.Received.{received_of}
+use Rattle.broker_spec.specs.Entries.{Entry, copies_at, queued}
+use Rattle.broker_spec.specs.Readings.{waiting_of}
+use Rattle.broker_spec.specs.Times.{answered_by, start_all, started, window_at, entries_of}
+use Rattle.broker_spec.specs.Sends.{resent}
+use Rattle.broker_spec.specs.Answers.{closed}
 use Rattle.broker_base.specs.ClientSession.{flights_below, client_session}
 use Rattle.broker_base.specs.StepAnswers.{connection_of, resumed}
-use Rattle.broker_model.specs.declared.command.Output.TheVariants.{Send}
-use Rattle.broker_model.proofs.SoundEntries.{Sound}
+use Rattle.broker_spec.specs.declared.command.Output.TheVariants.{Send}
+use Rattle.broker_spec.proofs.SoundEntries.{Sound}
 use Rattle.broker_base.proofs.flights.IdentifiersInFlight.{append_none}
 use Rattle.broker_base.proofs.flights.SendsOfStarts.{resent_is}
 use Rattle.broker_base.proofs.QueueAfter.{sound_entries}

@@ -3,21 +3,21 @@ use Rattle.std.proofs.Common.{◌≡◌, ℕ, Bool, true, false, ◌||◌, if◌
 use Rattle.std.specs.declared.cmp.Ordering.{Ordering}
 use Rattle.std.specs.declared.cmp.Ordering.TheVariants.{Less, Equal, Greater}
 use Rattle.std.specs.Ordering.{is_eq, match_ordering}
-use Rattle.broker_model.specs.retained.Retained.{RetainedTopics}
-use Rattle.broker_model.specs.Connection.{ConnectionName, same_connection}
-use Rattle.broker_model.specs.Place.{Client, by_bytes, same_client, Mark, Place, Limits, only_if}
-use Rattle.broker_model.specs.Past.{accepts, any_connection}
+use Rattle.broker_spec.specs.retained.Retained.{RetainedTopics}
+use Rattle.broker_spec.specs.Connection.{ConnectionName, same_connection}
+use Rattle.broker_spec.specs.Place.{Client, by_bytes, same_client, Mark, Place, Limits, only_if}
+use Rattle.broker_spec.specs.Past.{accepts, any_connection}
 use Rattle.broker_base.specs.ClientSession.{ClientSession}
 use Rattle.broker_base.specs.SessionStep.{kept_anew, kept_resumed, kept_connected}
 use Rattle.broker_base.specs.State.{Sessions, State, keyed, session_in, put_session, owner_in}
 use Rattle.broker_base.specs.Decisions.{connect_mark_in, mark_in}
 use Rattle.broker_base.specs.Step.{session_after, sessions_left, sessions_with}
 use Rattle.broker_base.specs.StateLaws.{AreByClient, IsNobodys, AreApart}
-use Rattle.broker_model.specs.declared.command.Command.{Command}
-use Rattle.broker_model.specs.declared.command.Command.TheVariants as commands
+use Rattle.broker_spec.specs.declared.command.Command.{Command}
+use Rattle.broker_spec.specs.declared.command.Command.TheVariants as commands
 use Rattle.std.specs.List.Sorted.{IsStrictlySortedBy}
 use Rattle.broker_base.proofs.SessionsStayByClient.{ComesBefore, before_more, before_left, put_first}
-use Rattle.broker_model.proofs.ClientsInOrder.{equal_is}
+use Rattle.broker_spec.proofs.ClientsInOrder.{equal_is}
 use Rattle.broker_base.proofs.ConnectionsOfSessions.{same_turned, nobodys_left, nobodys_put, OnOld, old_after, apart_keyed}
 use Rattle.broker_base.proofs.NoneOpensApart.{NoneOpens, nobodys_kept, apart_left}
 

@@ -3,21 +3,21 @@ use Rattle.std.proofs.Common.{◌≡◌, ℕ, ◌≤◌, Bool, false, ◌⊎◌,
 use Rattle.session_base.specs.declared.publication.Publication.{Publication}
 use Rattle.session_base.specs.Queue.{ids_of}
 use Rattle.session_base.specs.Sending.{copies_sent}
-use Rattle.broker_model.specs.Connection.{ConnectionName}
-use Rattle.broker_model.specs.Place.{Client, Place, Past, Limits}
-use Rattle.broker_model.specs.Past.{accepts, ends_any, current_connection, session_of}
-use Rattle.broker_model.specs.Subscriptions.{subscriptions_of}
-use Rattle.broker_model.specs.Received.{received_of}
-use Rattle.broker_model.specs.Retained.{retained_publications}
-use Rattle.broker_model.specs.Entries.{Entry, copies_at, queued}
-use Rattle.broker_model.specs.Readings.{made_at, waiting_of, busy_ids}
-use Rattle.broker_model.specs.Times.{answered_by, start_all, started, window_at, entries_of}
-use Rattle.broker_model.specs.Sends.{handed, handed_to, deliveries_to}
+use Rattle.broker_spec.specs.Connection.{ConnectionName}
+use Rattle.broker_spec.specs.Place.{Client, Place, Past, Limits}
+use Rattle.broker_spec.specs.Past.{accepts, ends_any, current_connection, session_of}
+use Rattle.broker_spec.specs.Subscriptions.{subscriptions_of}
+use Rattle.broker_spec.specs.Received.{received_of}
+use Rattle.broker_spec.specs.Retained.{retained_publications}
+use Rattle.broker_spec.specs.Entries.{Entry, copies_at, queued}
+use Rattle.broker_spec.specs.Readings.{made_at, waiting_of, busy_ids}
+use Rattle.broker_spec.specs.Times.{answered_by, start_all, started, window_at, entries_of}
+use Rattle.broker_spec.specs.Sends.{handed, handed_to, deliveries_to}
 use Rattle.broker_base.specs.ClientSession.{flights_below, queue_of, client_session}
 use Rattle.broker_base.specs.StepAnswers.{copies_to}
-use Rattle.broker_model.specs.declared.command.Output.TheVariants.{Send}
+use Rattle.broker_spec.specs.declared.command.Output.TheVariants.{Send}
 use Rattle.session_base.proofs.CountedIdentifiers.{count, SameIds, same_length}
-use Rattle.broker_model.proofs.SoundEntries.{Sound}
+use Rattle.broker_spec.proofs.SoundEntries.{Sound}
 use Rattle.broker_base.proofs.flights.IdentifiersInFlight.{append_none, same_ids}
 use Rattle.broker_base.proofs.flights.SendsOfCopies.{Quiet, handed_is}
 use Rattle.broker_base.proofs.flights.EntriesOfPlaces.{busy_from, busy_from_is, made_here}

@@ -4,18 +4,18 @@ use Rattle.std.specs.Prelude.{option_map, is_some}
 use Rattle.session_base.specs.packet.declared.packet.Packet.{Packet}
 use Rattle.session_base.specs.packet.declared.packet.Packet.TheVariants as packets
 use Rattle.session_base.specs.Publication.{publication_of}
-use Rattle.broker_model.specs.Connection.{ConnectionName, same_connection}
-use Rattle.broker_model.specs.Place.{Client, Mark, Past, Limits}
-use Rattle.broker_model.specs.Past.{any_connection, current_connection, session_of}
-use Rattle.broker_model.specs.Owner.{named, first_client}
-use Rattle.broker_model.specs.Subscriptions.{subscriptions_of}
-use Rattle.broker_model.specs.Retained.{retained_publications}
-use Rattle.broker_model.specs.Marks.{grants, packet_mark, packet_mark_of, connect_mark, mark_of}
+use Rattle.broker_spec.specs.Connection.{ConnectionName, same_connection}
+use Rattle.broker_spec.specs.Place.{Client, Mark, Past, Limits}
+use Rattle.broker_spec.specs.Past.{any_connection, current_connection, session_of}
+use Rattle.broker_spec.specs.Owner.{named, first_client}
+use Rattle.broker_spec.specs.Subscriptions.{subscriptions_of}
+use Rattle.broker_spec.specs.Retained.{retained_publications}
+use Rattle.broker_spec.specs.Marks.{grants, packet_mark, packet_mark_of, connect_mark, mark_of}
 use Rattle.broker_base.specs.ClientSession.{client_session}
 use Rattle.broker_base.specs.State.{keyed, table, owner_in, state_of}
 use Rattle.broker_base.specs.Decisions.{owned_mark, packet_mark_in, connect_mark_in, mark_in}
-use Rattle.broker_model.specs.declared.command.Command.{Command}
-use Rattle.broker_model.specs.declared.command.Command.TheVariants as commands
+use Rattle.broker_spec.specs.declared.command.Command.{Command}
+use Rattle.broker_spec.specs.declared.command.Command.TheVariants as commands
 use Rattle.broker_base.proofs.KeptAfter.{kept_now}
 use Rattle.broker_base.proofs.SessionsAfter.{session_is}
 use Rattle.broker_base.proofs.RoomStands.{room_is, refuses_is, again_is}

@@ -2,25 +2,25 @@
 -- not shrink.
 use Rattle.std.proofs.Common.{ℕ, ◌≤◌, suc, Bool, true, false, not, ◌&&◌, ◌||◌, if◌then◌else◌, Option, Some, None, List, [], ◌∷◌, length, filter, arith}
 use Rattle.session_base.specs.packet.declared.packet.Packet.TheVariants as packets
-use Rattle.broker_model.specs.retained.Retained.{RetainedTopics}
+use Rattle.broker_spec.specs.retained.Retained.{RetainedTopics}
 use Rattle.session_base.specs.lists.Lists.{IsDistinct}
 use Rattle.session_base.specs.declared.publication.Publication.{Publication}
 use Rattle.session_base.specs.Publication.{is_answered}
 use Rattle.session_base.specs.Queue.{Flight, Queue, ids_of, awaits_puback, awaits_pubcomp, on_puback, on_pubrec, on_pubcomp, enqueue, filled, copies_left}
 use Rattle.session_base.proofs.FillsOfQueues.{fill_within}
 use Rattle.session_base.proofs.IdentifiersStayApart.{pubrec_length}
-use Rattle.broker_model.specs.Connection.{ConnectionName}
-use Rattle.broker_model.specs.Place.{Client, same_client, Mark, Place, Limits, only_if}
-use Rattle.broker_model.specs.Past.{accepts, ends_any, expels}
-use Rattle.broker_model.specs.Commands.{is_start}
+use Rattle.broker_spec.specs.Connection.{ConnectionName}
+use Rattle.broker_spec.specs.Place.{Client, same_client, Mark, Place, Limits, only_if}
+use Rattle.broker_spec.specs.Past.{accepts, ends_any, expels}
+use Rattle.broker_spec.specs.Commands.{is_start}
 use Rattle.broker_base.specs.ClientSession.{ClientSession}
 use Rattle.broker_base.specs.SessionStep.{copies_with, filled_on, answered_queue, copied_queue, kept_on, kept_anew, kept_resumed, kept_connected, kept_by, kept_after}
 use Rattle.broker_base.specs.State.{Sessions, State}
 use Rattle.broker_base.specs.Decisions.{place_in}
 use Rattle.broker_base.specs.Step.{touches, session_after, window_after, step}
 use Rattle.broker_base.specs.StateLaws.{IsSoundSession, FitsWindow, AllSound, AllInWindow}
-use Rattle.broker_model.specs.declared.command.Command.{Command}
-use Rattle.broker_model.specs.declared.command.Command.TheVariants as commands
+use Rattle.broker_spec.specs.declared.command.Command.{Command}
+use Rattle.broker_spec.specs.declared.command.Command.TheVariants as commands
 use Rattle.broker_base.proofs.RowsKeep.{If, AllRows, all_left, all_with}
 
 -- ---- a queue

@@ -2,21 +2,21 @@
 use Rattle.std.proofs.Common.{◌≡◌, ℕ, zero, suc, Bool, true, false, not, ◌&&◌, ◌||◌, if◌then◌else◌, Option, Some, None, List, [], ◌∷◌, ◌++◌, length, map, refl, ap, ◌∙◌}
 use Rattle.std.specs.Prelude.{option_map}
 use Rattle.session_base.specs.Subscriptions.{HeldFilter}
-use Rattle.broker_model.specs.retained.Retained.{RetainedTopics}
+use Rattle.broker_spec.specs.retained.Retained.{RetainedTopics}
 use Rattle.session_base.specs.declared.publication.Publication.{Publication}
-use Rattle.broker_model.specs.Connection.{ConnectionName}
-use Rattle.broker_model.specs.Place.{Client, Place, Past, Limits, only_if}
-use Rattle.broker_model.specs.Past.{accepts, expels, ends_any, newest_connection, current_connection, newest_session, session_of, is_beginning, in_session}
-use Rattle.broker_model.specs.Subscriptions.{subscribed, subscriptions_of}
-use Rattle.broker_model.specs.Received.{received_by, received_of}
-use Rattle.broker_model.specs.Retained.{retained_publications}
-use Rattle.broker_model.specs.Entries.{Entry, queued}
-use Rattle.broker_model.specs.Readings.{released_below}
-use Rattle.broker_model.specs.Times.{answered_by, started, window_at, entries_of}
+use Rattle.broker_spec.specs.Connection.{ConnectionName}
+use Rattle.broker_spec.specs.Place.{Client, Place, Past, Limits, only_if}
+use Rattle.broker_spec.specs.Past.{accepts, expels, ends_any, newest_connection, current_connection, newest_session, session_of, is_beginning, in_session}
+use Rattle.broker_spec.specs.Subscriptions.{subscribed, subscriptions_of}
+use Rattle.broker_spec.specs.Received.{received_by, received_of}
+use Rattle.broker_spec.specs.Retained.{retained_publications}
+use Rattle.broker_spec.specs.Entries.{Entry, queued}
+use Rattle.broker_spec.specs.Readings.{released_below}
+use Rattle.broker_spec.specs.Times.{answered_by, started, window_at, entries_of}
 use Rattle.broker_base.specs.ClientSession.{ClientSession, released_flight, queue_of, client_session}
 use Rattle.broker_base.specs.SessionStep.{copies_with, kept_anew}
 use Rattle.broker_base.proofs.flights.FillingAlways.{filled_kept, filled_by, filled_after}
-use Rattle.broker_model.proofs.SoundEntries.{Sound}
+use Rattle.broker_spec.proofs.SoundEntries.{Sound}
 use Rattle.broker_base.proofs.flights.IdentifiersInFlight.{append_none}
 use Rattle.broker_base.proofs.QueueAfter.{sound_entries, queue_after, copies_are}
 

@@ -1,9 +1,9 @@
 -- If none of the sessions opens a connection, a connection stays that of one session at most.
 use Rattle.std.proofs.Common.{◌≡◌, ℕ, Some, None, [], ◌∷◌, ◌∙◌, sym}
-use Rattle.broker_model.specs.retained.Retained.{RetainedTopics}
-use Rattle.broker_model.specs.Connection.{ConnectionName}
-use Rattle.broker_model.specs.Place.{Place}
-use Rattle.broker_model.specs.Past.{accepts}
+use Rattle.broker_spec.specs.retained.Retained.{RetainedTopics}
+use Rattle.broker_spec.specs.Connection.{ConnectionName}
+use Rattle.broker_spec.specs.Place.{Place}
+use Rattle.broker_spec.specs.Past.{accepts}
 use Rattle.broker_base.specs.State.{Sessions}
 use Rattle.broker_base.specs.Step.{session_after, sessions_left}
 use Rattle.broker_base.specs.StateLaws.{IsNobodys, AreApart}

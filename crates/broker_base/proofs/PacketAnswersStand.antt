@@ -6,21 +6,21 @@ use Rattle.session_base.specs.packet.declared.packet.Packet.TheVariants as packe
 use Rattle.session_base.specs.packet.declared.publish.Publish.{Publish}
 use Rattle.session_base.specs.Queue.{on_puback, on_pubcomp}
 use Rattle.session_base.specs.Sending.{fill_sends}
-use Rattle.broker_model.specs.Connection.{ConnectionName, same_connection}
-use Rattle.broker_model.specs.Place.{Client, Mark, Place, Past, Limits}
-use Rattle.broker_model.specs.Past.{any_connection, current_connection, session_of}
-use Rattle.broker_model.specs.Owner.{named}
-use Rattle.broker_model.specs.Retained.{retained_publications}
-use Rattle.broker_model.specs.Times.{at_pubrec, window_at, entries_of}
-use Rattle.broker_model.specs.Sends.{deliveries_to}
-use Rattle.broker_model.specs.Answers.{acknowledged, codes_of, handled, packet_answers}
+use Rattle.broker_spec.specs.Connection.{ConnectionName, same_connection}
+use Rattle.broker_spec.specs.Place.{Client, Mark, Place, Past, Limits}
+use Rattle.broker_spec.specs.Past.{any_connection, current_connection, session_of}
+use Rattle.broker_spec.specs.Owner.{named}
+use Rattle.broker_spec.specs.Retained.{retained_publications}
+use Rattle.broker_spec.specs.Times.{at_pubrec, window_at, entries_of}
+use Rattle.broker_spec.specs.Sends.{deliveries_to}
+use Rattle.broker_spec.specs.Answers.{acknowledged, codes_of, handled, packet_answers}
 use Rattle.broker_base.specs.ClientSession.{ClientSession, client_session}
 use Rattle.broker_base.specs.State.{keyed, table, state_of}
 use Rattle.broker_base.specs.Step.{IsWindow}
 use Rattle.broker_base.specs.StepAnswers.{copies_answered, copies_to, while_connected, handled_of, handled_in, packet_answers_in}
-use Rattle.broker_model.specs.declared.command.Command.TheVariants as commands
-use Rattle.broker_model.specs.declared.command.Output.TheVariants.{Send}
-use Rattle.broker_model.proofs.ClientsInOrder.{same_self}
+use Rattle.broker_spec.specs.declared.command.Command.TheVariants as commands
+use Rattle.broker_spec.specs.declared.command.Output.TheVariants.{Send}
+use Rattle.broker_spec.proofs.ClientsInOrder.{same_self}
 use Rattle.broker_base.proofs.SessionsAfter.{at, session_is}
 use Rattle.broker_base.proofs.UntouchedStays.{same_window}
 use Rattle.broker_base.proofs.CopiesOfSessions.{deliveries_are}

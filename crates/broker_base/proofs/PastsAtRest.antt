@@ -6,19 +6,19 @@ use Rattle.session_base.specs.lists.Lists.{IsDistinct}
 use Rattle.session_base.specs.Laws.{IsQuietQueue}
 use Rattle.session_base.specs.Queue.{ids_of}
 use Rattle.session_base.proofs.IdentifiersStayApart.{distinct, pubrec_length}
-use Rattle.broker_model.specs.Connection.{ConnectionName}
-use Rattle.broker_model.specs.Place.{Client, Place, Past, Limits, only_if}
-use Rattle.broker_model.specs.Past.{ends, expels, ends_any, current_connection, session_of}
-use Rattle.broker_model.specs.Subscriptions.{subscriptions_of}
-use Rattle.broker_model.specs.Received.{received_of}
-use Rattle.broker_model.specs.Retained.{retained_publications}
-use Rattle.broker_model.specs.Entries.{Entry}
-use Rattle.broker_model.specs.Readings.{waiting_of}
-use Rattle.broker_model.specs.Times.{window_at, entries_of}
+use Rattle.broker_spec.specs.Connection.{ConnectionName}
+use Rattle.broker_spec.specs.Place.{Client, Place, Past, Limits, only_if}
+use Rattle.broker_spec.specs.Past.{ends, expels, ends_any, current_connection, session_of}
+use Rattle.broker_spec.specs.Subscriptions.{subscriptions_of}
+use Rattle.broker_spec.specs.Received.{received_of}
+use Rattle.broker_spec.specs.Retained.{retained_publications}
+use Rattle.broker_spec.specs.Entries.{Entry}
+use Rattle.broker_spec.specs.Readings.{waiting_of}
+use Rattle.broker_spec.specs.Times.{window_at, entries_of}
 use Rattle.broker_base.specs.ClientSession.{flights_below, client_session}
 use Rattle.broker_base.specs.SessionStep.{kept_after}
 use Rattle.broker_base.specs.Step.{IsWindow}
-use Rattle.broker_model.proofs.SoundEntries.{Sound}
+use Rattle.broker_spec.proofs.SoundEntries.{Sound}
 use Rattle.broker_base.proofs.flights.IdentifiersInFlight.{same_ids}
 use Rattle.broker_base.proofs.QueueAfter.{sound_entries}
 use Rattle.broker_base.proofs.KeptAfter.{kept_with, filled_step}

@@ -3,24 +3,24 @@ use Rattle.std.proofs.Common.{◌≡◌, ℕ, zero, suc, Bool, true, false, ◌=
 use Rattle.session_base.specs.packet.declared.packet.Packet.TheVariants as packets
 use Rattle.session_base.specs.declared.publication.Publication.{Publication}
 use Rattle.session_base.specs.Queue.{Flight, awaited, on_puback, on_pubcomp}
-use Rattle.broker_model.specs.Connection.{ConnectionName}
-use Rattle.broker_model.specs.Place.{Client, same_client, Mark, Past, Limits}
-use Rattle.broker_model.specs.Past.{current_connection, session_of, begins, in_session}
-use Rattle.broker_model.specs.Subscriptions.{subscriptions_of}
-use Rattle.broker_model.specs.Retained.{retained_publications}
-use Rattle.broker_model.specs.Entries.{Entry, copies_by, copies_at, queued}
-use Rattle.broker_model.specs.Readings.{released_at, released_below, waiting_of}
-use Rattle.broker_model.specs.Times.{answered_by, started, window_at, entries_of}
+use Rattle.broker_spec.specs.Connection.{ConnectionName}
+use Rattle.broker_spec.specs.Place.{Client, same_client, Mark, Past, Limits}
+use Rattle.broker_spec.specs.Past.{current_connection, session_of, begins, in_session}
+use Rattle.broker_spec.specs.Subscriptions.{subscriptions_of}
+use Rattle.broker_spec.specs.Retained.{retained_publications}
+use Rattle.broker_spec.specs.Entries.{Entry, copies_by, copies_at, queued}
+use Rattle.broker_spec.specs.Readings.{released_at, released_below, waiting_of}
+use Rattle.broker_spec.specs.Times.{answered_by, started, window_at, entries_of}
 use Rattle.broker_base.specs.ClientSession.{sent_flights, released_flight, flights_below, queue_of}
 use Rattle.broker_base.specs.SessionStep.{copies_with, filled_on}
 use Rattle.broker_base.proofs.flights.FillingAlways.{answered_flights}
-use Rattle.broker_model.specs.declared.command.Command.{Command}
-use Rattle.broker_model.specs.declared.command.Command.TheVariants as commands
-use Rattle.broker_model.proofs.SoundEntries.{Sound, sound_none}
-use Rattle.broker_model.proofs.AnswersStaySound.{sound_more, sound_puback, sound_pubrec, sound_pubcomp}
-use Rattle.broker_model.proofs.SoundStarts.{sound_new, sound_started}
+use Rattle.broker_spec.specs.declared.command.Command.{Command}
+use Rattle.broker_spec.specs.declared.command.Command.TheVariants as commands
+use Rattle.broker_spec.proofs.SoundEntries.{Sound, sound_none}
+use Rattle.broker_spec.proofs.AnswersStaySound.{sound_more, sound_puback, sound_pubrec, sound_pubcomp}
+use Rattle.broker_spec.proofs.SoundStarts.{sound_new, sound_started}
 use Rattle.broker_base.proofs.flights.AnswersInFlight.{flights_puback, flights_pubcomp}
-use Rattle.broker_model.proofs.WaitingStays.{waiting_puback, waiting_pubrec, waiting_pubcomp}
+use Rattle.broker_spec.proofs.WaitingStays.{waiting_puback, waiting_pubrec, waiting_pubcomp}
 use Rattle.broker_base.proofs.flights.PubrecInFlight.{flights_pubrec}
 use Rattle.broker_base.proofs.flights.ReleasesInFlight.{flights_more}
 use Rattle.broker_base.proofs.flights.StartsInFlight.{queue_started}

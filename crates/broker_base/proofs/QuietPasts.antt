@@ -5,16 +5,16 @@ use Rattle.std.proofs.lemmas.List.{length-map}
 use Rattle.session_base.specs.declared.publication.Publication.{Publication}
 use Rattle.session_base.specs.Identifiers.{least_free}
 use Rattle.session_base.specs.Queue.{Flight, ids_of, fill}
-use Rattle.broker_model.specs.Connection.{ConnectionName}
-use Rattle.broker_model.specs.Place.{Client, Place, Past, Limits, only_if}
-use Rattle.broker_model.specs.Past.{accepts, any_connection, ends, expels, ends_any, newest_connection, current_connection, newest_session, session_of, is_beginning, begins, in_session}
-use Rattle.broker_model.specs.Entries.{Entry, copies_at, queued}
-use Rattle.broker_model.specs.Readings.{waiting_of, busy_ids}
-use Rattle.broker_model.specs.Times.{answered_by, start_all, started, window_at, entries_of}
+use Rattle.broker_spec.specs.Connection.{ConnectionName}
+use Rattle.broker_spec.specs.Place.{Client, Place, Past, Limits, only_if}
+use Rattle.broker_spec.specs.Past.{accepts, any_connection, ends, expels, ends_any, newest_connection, current_connection, newest_session, session_of, is_beginning, begins, in_session}
+use Rattle.broker_spec.specs.Entries.{Entry, copies_at, queued}
+use Rattle.broker_spec.specs.Readings.{waiting_of, busy_ids}
+use Rattle.broker_spec.specs.Times.{answered_by, start_all, started, window_at, entries_of}
 use Rattle.broker_base.specs.ClientSession.{flights_below}
 use Rattle.session_base.proofs.CountedIdentifiers.{same_length}
-use Rattle.broker_model.proofs.SoundEntries.{InOrder, Sound}
-use Rattle.broker_model.proofs.SoundStarts.{order_waits, sound_new}
+use Rattle.broker_spec.proofs.SoundEntries.{InOrder, Sound}
+use Rattle.broker_spec.proofs.SoundStarts.{order_waits, sound_new}
 use Rattle.broker_base.proofs.flights.IdentifiersInFlight.{same_ids}
 use Rattle.broker_base.proofs.flights.SendsOfCopies.{Quiet, fill_full}
 use Rattle.broker_base.proofs.QueueAfter.{sound_entries, sound_answered}

@@ -7,21 +7,21 @@ use Rattle.session_base.specs.packet.declared.delivery.Delivery.{Delivery}
 use Rattle.session_base.specs.packet.declared.delivery.Delivery.TheVariants as deliveries
 use Rattle.session_base.specs.declared.publication.Publication.{Publication}
 use Rattle.session_base.specs.Queue.{Flight, ids_of, room}
-use Rattle.broker_model.specs.Place.{Client, Past, Limits}
-use Rattle.broker_model.specs.Past.{session_of}
-use Rattle.broker_model.specs.Owner.{named}
-use Rattle.broker_model.specs.Subscriptions.{effective_qos}
-use Rattle.broker_model.specs.Received.{is_repeat}
-use Rattle.broker_model.specs.Retained.{is_retained_over}
-use Rattle.broker_model.specs.Entries.{Entry, is_unfinished}
-use Rattle.broker_model.specs.Readings.{waiting_of, busy_ids}
-use Rattle.broker_model.specs.Times.{entries_of, room_of}
-use Rattle.broker_model.specs.Marks.{is_queued_at, lacks_room, is_refused}
+use Rattle.broker_spec.specs.Place.{Client, Past, Limits}
+use Rattle.broker_spec.specs.Past.{session_of}
+use Rattle.broker_spec.specs.Owner.{named}
+use Rattle.broker_spec.specs.Subscriptions.{effective_qos}
+use Rattle.broker_spec.specs.Received.{is_repeat}
+use Rattle.broker_spec.specs.Retained.{is_retained_over}
+use Rattle.broker_spec.specs.Entries.{Entry, is_unfinished}
+use Rattle.broker_spec.specs.Readings.{waiting_of, busy_ids}
+use Rattle.broker_spec.specs.Times.{entries_of, room_of}
+use Rattle.broker_spec.specs.Marks.{is_queued_at, lacks_room, is_refused}
 use Rattle.broker_base.specs.ClientSession.{flights_below, queue_of, client_session}
 use Rattle.broker_base.specs.State.{keyed, table, state_of}
 use Rattle.broker_base.specs.Decisions.{has_no_room_for, refuses, is_again}
 use Rattle.session_base.proofs.CountedIdentifiers.{same_length}
-use Rattle.broker_model.proofs.SoundEntries.{Sound}
+use Rattle.broker_spec.proofs.SoundEntries.{Sound}
 use Rattle.broker_base.proofs.flights.IdentifiersInFlight.{same_ids}
 use Rattle.broker_base.proofs.KeptAfter.{kept_now}
 use Rattle.broker_base.proofs.QueueAfter.{sound_entries}

@@ -1,23 +1,23 @@
 -- After a place the sessions are those that its past says.
 use Rattle.std.proofs.Common.{◌≡◌, ℕ, Bool, ◌⊎◌, inl, inr, Option, Some, None, List, [], ◌∷◌, length, refl, ap, ap₂, ◌∙◌, sym}
-use Rattle.broker_model.specs.retained.Retained.{RetainedTopics}
-use Rattle.broker_model.specs.Connection.{ConnectionName}
-use Rattle.broker_model.specs.Place.{Client, Mark, Place, Past, Limits, only_if}
-use Rattle.broker_model.specs.Past.{accepts, current_connection, session_of}
-use Rattle.broker_model.specs.Subscriptions.{subscriptions_of}
-use Rattle.broker_model.specs.Received.{received_of}
-use Rattle.broker_model.specs.Owner.{insert_client, named_by, named}
-use Rattle.broker_model.specs.Retained.{retained_publications}
-use Rattle.broker_model.specs.Times.{window_at, entries_of}
+use Rattle.broker_spec.specs.retained.Retained.{RetainedTopics}
+use Rattle.broker_spec.specs.Connection.{ConnectionName}
+use Rattle.broker_spec.specs.Place.{Client, Mark, Place, Past, Limits, only_if}
+use Rattle.broker_spec.specs.Past.{accepts, current_connection, session_of}
+use Rattle.broker_spec.specs.Subscriptions.{subscriptions_of}
+use Rattle.broker_spec.specs.Received.{received_of}
+use Rattle.broker_spec.specs.Owner.{insert_client, named_by, named}
+use Rattle.broker_spec.specs.Retained.{retained_publications}
+use Rattle.broker_spec.specs.Times.{window_at, entries_of}
 use Rattle.broker_base.specs.ClientSession.{ClientSession, client_session}
 use Rattle.broker_base.specs.SessionStep.{kept_connected, kept_by, kept_after}
 use Rattle.broker_base.specs.State.{Sessions, keyed, table, session_in, put_session}
 use Rattle.broker_base.specs.Step.{sessions_left, sessions_with, IsWindow}
-use Rattle.broker_model.specs.declared.command.Command.{Command}
-use Rattle.broker_model.specs.declared.command.Command.TheVariants as commands
+use Rattle.broker_spec.specs.declared.command.Command.{Command}
+use Rattle.broker_spec.specs.declared.command.Command.TheVariants as commands
 use Rattle.broker_base.proofs.KeptAfter.{kept_with}
 use Rattle.broker_base.proofs.PastsAtRest.{kept_step}
-use Rattle.broker_model.proofs.ClientsInOrder.{IsNamed, same_self, rising_named, session_is_named}
+use Rattle.broker_spec.proofs.ClientsInOrder.{IsNamed, same_self, rising_named, session_is_named}
 use Rattle.broker_base.proofs.SessionsInOrder.{session_found, put_is}
 use Rattle.broker_base.proofs.OthersStay.{left_with, left_is}
 

@@ -3,11 +3,11 @@ use Rattle.std.proofs.Common.{◌≡◌, Bool, true, false, ◌⊎◌, inl, inr,
 use Rattle.std.specs.declared.cmp.Ordering.{Ordering}
 use Rattle.std.specs.declared.cmp.Ordering.TheVariants.{Less, Equal, Greater}
 use Rattle.std.specs.Ordering.{is_eq, match_ordering}
-use Rattle.broker_model.specs.Place.{Client, by_bytes, same_client}
-use Rattle.broker_model.specs.Owner.{insert_client, named}
+use Rattle.broker_spec.specs.Place.{Client, by_bytes, same_client}
+use Rattle.broker_spec.specs.Owner.{insert_client, named}
 use Rattle.broker_base.specs.ClientSession.{ClientSession}
 use Rattle.broker_base.specs.State.{keyed, table, session_in, put_session}
-use Rattle.broker_model.proofs.ClientsInOrder.{same_self, equal_is, same_is, less_turned, IsAbove, Rising, above_more, IsNamed}
+use Rattle.broker_spec.proofs.ClientsInOrder.{same_self, equal_is, same_is, less_turned, IsAbove, Rising, above_more, IsNamed}
 
 -- ---- in the table
 

@@ -12,9 +12,9 @@ use Rattle.session_base.specs.Subscriptions.{HeldFilter, with_subscription, with
 use Rattle.session_base.specs.KeepingLaws.{AreFiltersApart}
 use Rattle.session_base.proofs.FiltersApart.{filters_stay_apart}
 use Rattle.session_base.proofs.ReceivedRise.{received_rise}
-use Rattle.broker_model.specs.Subscriptions.{as_held, granted_of, subscribed}
-use Rattle.broker_model.specs.Received.{receives, received_by}
-use Rattle.broker_model.specs.retained.Retained.{RetainedTopics}
+use Rattle.broker_spec.specs.Subscriptions.{as_held, granted_of, subscribed}
+use Rattle.broker_spec.specs.Received.{receives, received_by}
+use Rattle.broker_spec.specs.retained.Retained.{RetainedTopics}
 use Rattle.session_base.specs.declared.publication.Publication.{Publication}
 use Rattle.session_base.specs.Publication.{is_answered}
 use Rattle.session_base.specs.lists.Lists.{IsDistinct}
@@ -23,17 +23,17 @@ use Rattle.session_base.specs.Queue.{Flight, Queue, ids_of, on_puback, on_pubrec
 use Rattle.session_base.proofs.IdentifiersOfFills.{fill_apart}
 use Rattle.session_base.proofs.IdentifiersStayApart.{answers_keep_apart}
 use Rattle.session_base.proofs.OrderInFlight.{released_first}
-use Rattle.broker_model.specs.Connection.{ConnectionName}
-use Rattle.broker_model.specs.Place.{Client, same_client, Mark, Place, Limits, only_if}
-use Rattle.broker_model.specs.Past.{accepts, expels, ends_any}
+use Rattle.broker_spec.specs.Connection.{ConnectionName}
+use Rattle.broker_spec.specs.Place.{Client, same_client, Mark, Place, Limits, only_if}
+use Rattle.broker_spec.specs.Past.{accepts, expels, ends_any}
 use Rattle.broker_base.specs.ClientSession.{ClientSession}
 use Rattle.broker_base.specs.SessionStep.{copies_with, filled_on, answered_queue, copied_queue, kept_on, kept_anew, kept_resumed, kept_connected, kept_by, kept_after}
 use Rattle.broker_base.specs.State.{State}
 use Rattle.broker_base.specs.Decisions.{place_in}
 use Rattle.broker_base.specs.Step.{touches, session_after, window_after, step}
 use Rattle.broker_base.specs.StateLaws.{IsSoundSession, AllSound}
-use Rattle.broker_model.specs.declared.command.Command.{Command}
-use Rattle.broker_model.specs.declared.command.Command.TheVariants as commands
+use Rattle.broker_spec.specs.declared.command.Command.{Command}
+use Rattle.broker_spec.specs.declared.command.Command.TheVariants as commands
 use Rattle.broker_base.proofs.RowsKeep.{If, all_left, all_with}
 
 -- ---- a queue

@@ -1,12 +1,12 @@
 -- A step keeps a state sound and its queues quiet, and so the state of every list of commands is.
 use Rattle.std.proofs.Common.{ℕ, List, [], ◌∷◌, refl}
 use Rattle.std.specs.List.Sorted.{IsStrictlySortedBy}
-use Rattle.broker_model.specs.Place.{Limits}
+use Rattle.broker_spec.specs.Place.{Limits}
 use Rattle.broker_base.specs.State.{State, empty_state}
 use Rattle.broker_base.specs.Decisions.{place_in, mark_in}
 use Rattle.broker_base.specs.Step.{window_after, step, state_from}
 use Rattle.broker_base.specs.StateLaws.{AllQuiet, IsSound, StaysSound, StaysQuiet, StaysInWindow, ListsAreSound}
-use Rattle.broker_model.specs.declared.command.Command.{Command}
+use Rattle.broker_spec.specs.declared.command.Command.{Command}
 use Rattle.broker_base.proofs.FlightsStayInWindow as flights
 use Rattle.broker_base.proofs.QueuesStayQuiet as queues
 use Rattle.broker_base.proofs.SessionsStaySound.{sessions_stay_sound}

@@ -1,21 +1,21 @@
 -- The step of the state that a past corresponds to; and so, command by command, of every list.
 use Rattle.std.proofs.Common.{◌≡◌, ℕ, Bool, true, false, if◌then◌else◌, Option, Some, None, List, [], ◌∷◌, length, refl, ap, ap₂, ◌∙◌, sym}
-use Rattle.broker_model.specs.Place.{Mark, Place, Past, Limits}
-use Rattle.broker_model.specs.Past.{current_connection, session_of}
-use Rattle.broker_model.specs.Owner.{named}
-use Rattle.broker_model.specs.Subscriptions.{subscriptions_of}
-use Rattle.broker_model.specs.Received.{received_of}
-use Rattle.broker_model.specs.Retained.{retained_publications}
-use Rattle.broker_model.specs.Times.{window_at, entries_of}
-use Rattle.broker_model.specs.Commands.{place_of, past_from, is_start, limits_from, usual_limits}
-use Rattle.broker_model.specs.Answers.{answers_at, answers_of, answers_from}
+use Rattle.broker_spec.specs.Place.{Mark, Place, Past, Limits}
+use Rattle.broker_spec.specs.Past.{current_connection, session_of}
+use Rattle.broker_spec.specs.Owner.{named}
+use Rattle.broker_spec.specs.Subscriptions.{subscriptions_of}
+use Rattle.broker_spec.specs.Received.{received_of}
+use Rattle.broker_spec.specs.Retained.{retained_publications}
+use Rattle.broker_spec.specs.Times.{window_at, entries_of}
+use Rattle.broker_spec.specs.Commands.{place_of, past_from, is_start, limits_from, usual_limits}
+use Rattle.broker_spec.specs.Answers.{answers_at, answers_of, answers_from}
 use Rattle.broker_base.specs.ClientSession.{ClientSession, client_session}
 use Rattle.broker_base.specs.SessionStep.{kept_after}
 use Rattle.broker_base.specs.State.{State, empty_state, state_of}
 use Rattle.broker_base.specs.Step.{touches, step, step_at, state_from, steps_from, IsWindow}
 use Rattle.broker_base.specs.StepLaws.{OthersStay, NoneBegins, StepStandsFor, ListStandsFor, UsualListStandsFor, GrowingListStandsFor}
-use Rattle.broker_model.specs.declared.command.Command.{Command}
-use Rattle.broker_model.specs.declared.command.Output.{Output}
+use Rattle.broker_spec.specs.declared.command.Command.{Command}
+use Rattle.broker_spec.specs.declared.command.Output.{Output}
 use Rattle.broker_base.proofs.KeptAfter.{kept_with, kept_now, filled_step}
 use Rattle.broker_base.proofs.flights.FillingAlways.{filled_by}
 use Rattle.broker_base.proofs.PastsAtRest.{kept_step}

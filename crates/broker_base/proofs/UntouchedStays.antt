@@ -3,24 +3,24 @@ use Rattle.std.proofs.Common.{◌≡◌, ℕ, Bool, true, false, not, ◌&&◌, 
 use Rattle.std.proofs.lemmas.Bool.{or_parts}
 use Rattle.session_base.specs.Subscriptions.{HeldFilter, granted_qos}
 use Rattle.session_base.specs.packet.declared.packet.Packet.TheVariants as packets
-use Rattle.broker_model.specs.retained.Retained.{RetainedTopics}
+use Rattle.broker_spec.specs.retained.Retained.{RetainedTopics}
 use Rattle.session_base.specs.Queue.{Queue}
-use Rattle.broker_model.specs.Connection.{ConnectionName}
-use Rattle.broker_model.specs.Place.{Client, same_client, Mark, Place, Past, Limits, only_if}
-use Rattle.broker_model.specs.Past.{accepts, any_connection, ends, expels, ends_any}
+use Rattle.broker_spec.specs.Connection.{ConnectionName}
+use Rattle.broker_spec.specs.Place.{Client, same_client, Mark, Place, Past, Limits, only_if}
+use Rattle.broker_spec.specs.Past.{accepts, any_connection, ends, expels, ends_any}
 use Rattle.session_base.specs.Publication.{publication_of, lower_qos}
 use Rattle.session_base.specs.packet.declared.qos.QoS.{QoS}
 use Rattle.std.specs.Prelude.{option_map, is_some}
-use Rattle.broker_model.specs.Subscriptions.{subscribed}
-use Rattle.broker_model.specs.Received.{received_by}
-use Rattle.broker_model.specs.Entries.{copy_of}
-use Rattle.broker_model.specs.Times.{window_at}
-use Rattle.broker_model.specs.Commands.{is_start}
+use Rattle.broker_spec.specs.Subscriptions.{subscribed}
+use Rattle.broker_spec.specs.Received.{received_by}
+use Rattle.broker_spec.specs.Entries.{copy_of}
+use Rattle.broker_spec.specs.Times.{window_at}
+use Rattle.broker_spec.specs.Commands.{is_start}
 use Rattle.broker_base.specs.ClientSession.{ClientSession}
 use Rattle.broker_base.specs.SessionStep.{copies_with, answered_queue, copied_queue, kept_by, kept_after}
 use Rattle.broker_base.specs.Step.{is_about, IsWindow}
-use Rattle.broker_model.specs.declared.command.Command.{Command}
-use Rattle.broker_model.specs.declared.command.Command.TheVariants as commands
+use Rattle.broker_spec.specs.declared.command.Command.{Command}
+use Rattle.broker_spec.specs.declared.command.Command.TheVariants as commands
 use Rattle.broker_base.proofs.flights.IdentifiersInFlight.{append_none}
 
 if_no : {A : Type 0} (b : Bool) (x y : A) → b ≡ false → (if b then x else y) ≡ y

@@ -5,18 +5,18 @@ use Rattle.session_base.specs.packet.declared.delivery.Delivery.{Delivery}
 use Rattle.session_base.specs.packet.declared.delivery.Delivery.TheVariants as deliveries
 use Rattle.session_base.specs.packet.declared.packet.Packet.{Packet}
 use Rattle.session_base.specs.packet.declared.packet.Packet.TheVariants as packets
-use Rattle.broker_model.specs.retained.Retained.{RetainedTopics, is_empty, publication_on}
+use Rattle.broker_spec.specs.retained.Retained.{RetainedTopics, is_empty, publication_on}
 use Rattle.session_base.specs.declared.publication.Publication.{Publication}
 use Rattle.session_base.specs.Publication.{publication_of, lower_qos}
 use Rattle.session_base.specs.lists.Lists.{has_id}
 use Rattle.session_base.specs.Queue.{room}
-use Rattle.broker_model.specs.Place.{Client, Mark, Place, Limits}
+use Rattle.broker_spec.specs.Place.{Client, Mark, Place, Limits}
 use Rattle.session_base.specs.Subscriptions.{granted_qos}
-use Rattle.broker_model.specs.Marks.{is_queued_at, grants}
+use Rattle.broker_spec.specs.Marks.{is_queued_at, grants}
 use Rattle.broker_base.specs.ClientSession.{ClientSession}
 use Rattle.broker_base.specs.State.{State, session_in, owner_in}
-use Rattle.broker_model.specs.declared.command.Command.{Command}
-use Rattle.broker_model.specs.declared.command.Command.TheVariants as commands
+use Rattle.broker_spec.specs.declared.command.Command.{Command}
+use Rattle.broker_spec.specs.declared.command.Command.TheVariants as commands
 
 -- whether a session would have to queue the publication but is full
 abbrev pub has_no_room_for : Limits → Publication → Client × ClientSession → Bool

@@ -2,21 +2,21 @@
 -- 4.6).
 use Rattle.std.specs.Prelude.{ℕ, Bool, not, ◌&&◌, ◌||◌, if◌then◌else◌, List, [], Option, Some, None, option_map}
 use Rattle.session_base.specs.packet.declared.packet.Packet.TheVariants as packets
-use Rattle.broker_model.specs.retained.Retained.{RetainedTopics}
+use Rattle.broker_spec.specs.retained.Retained.{RetainedTopics}
 use Rattle.session_base.specs.declared.publication.Publication.{Publication}
 use Rattle.session_base.specs.Publication.{publication_of, lower_qos}
 use Rattle.session_base.specs.Subscriptions.{HeldFilter, granted_qos}
 use Rattle.session_base.specs.Session.{empty_session}
 use Rattle.session_base.specs.Queue.{Flight, Queue, on_puback, on_pubrec, on_pubcomp, fill, filled, copies_left, copies_waiting}
-use Rattle.broker_model.specs.Connection.{ConnectionName}
-use Rattle.broker_model.specs.Place.{Client, same_client, Mark, Place, only_if}
-use Rattle.broker_model.specs.Past.{accepts, expels, ends_any}
-use Rattle.broker_model.specs.Subscriptions.{granted_of, subscribed}
-use Rattle.broker_model.specs.Received.{received_by}
-use Rattle.broker_model.specs.Entries.{copy_of, copies_for_all}
+use Rattle.broker_spec.specs.Connection.{ConnectionName}
+use Rattle.broker_spec.specs.Place.{Client, same_client, Mark, Place, only_if}
+use Rattle.broker_spec.specs.Past.{accepts, expels, ends_any}
+use Rattle.broker_spec.specs.Subscriptions.{granted_of, subscribed}
+use Rattle.broker_spec.specs.Received.{received_by}
+use Rattle.broker_spec.specs.Entries.{copy_of, copies_for_all}
 use Rattle.broker_base.specs.ClientSession.{ClientSession}
-use Rattle.broker_model.specs.declared.command.Command.{Command}
-use Rattle.broker_model.specs.declared.command.Command.TheVariants as commands
+use Rattle.broker_spec.specs.declared.command.Command.{Command}
+use Rattle.broker_spec.specs.declared.command.Command.TheVariants as commands
 
 -- the copies that a command makes for a session with these subscriptions
 abbrev pub copies_with : Command → Mark → RetainedTopics → Client → List HeldFilter → List Publication

@@ -2,13 +2,13 @@
 use Rattle.std.specs.Prelude.{ℕ, if◌then◌else◌, List, [], ◌∷◌, Option, Some, None}
 use Rattle.std.specs.BTreeMap.{insert_entry, is_at}
 use Rattle.std.specs.Map.{lookup}
-use Rattle.broker_model.specs.retained.Retained.{RetainedTopics}
-use Rattle.broker_model.specs.Connection.{ConnectionName, same_connection}
-use Rattle.broker_model.specs.Place.{Client, by_bytes, Past, Limits}
-use Rattle.broker_model.specs.Past.{any_connection}
-use Rattle.broker_model.specs.Owner.{named}
-use Rattle.broker_model.specs.Retained.{retained_publications}
-use Rattle.broker_model.specs.Times.{window_at}
+use Rattle.broker_spec.specs.retained.Retained.{RetainedTopics}
+use Rattle.broker_spec.specs.Connection.{ConnectionName, same_connection}
+use Rattle.broker_spec.specs.Place.{Client, by_bytes, Past, Limits}
+use Rattle.broker_spec.specs.Past.{any_connection}
+use Rattle.broker_spec.specs.Owner.{named}
+use Rattle.broker_spec.specs.Retained.{retained_publications}
+use Rattle.broker_spec.specs.Times.{window_at}
 use Rattle.broker_base.specs.ClientSession.{ClientSession, client_session}
 
 -- the sessions, ordered by the bytes of their clients, each client once

@@ -10,13 +10,13 @@ use Rattle.session_base.specs.lists.Lists.{IsDistinct}
 use Rattle.session_base.specs.Laws.{IsQuietQueue}
 use Rattle.session_base.specs.OrderLaws.{IsReleasedFirst}
 use Rattle.session_base.specs.KeepingLaws.{AreFiltersApart}
-use Rattle.broker_model.specs.Connection.{ConnectionName, same_connection}
-use Rattle.broker_model.specs.Place.{by_bytes, Limits}
-use Rattle.broker_model.specs.Past.{any_connection}
+use Rattle.broker_spec.specs.Connection.{ConnectionName, same_connection}
+use Rattle.broker_spec.specs.Place.{by_bytes, Limits}
+use Rattle.broker_spec.specs.Past.{any_connection}
 use Rattle.broker_base.specs.ClientSession.{ClientSession}
 use Rattle.broker_base.specs.State.{Sessions, State, empty_state}
 use Rattle.broker_base.specs.Step.{step, state_from}
-use Rattle.broker_model.specs.declared.command.Command.{Command}
+use Rattle.broker_spec.specs.declared.command.Command.{Command}
 
 -- ---- one session
 

@@ -2,20 +2,20 @@
 -- 4.3, 4.4).
 use Rattle.std.specs.Prelude.{◌≡◌, ℕ, Bool, false, ◌||◌, if◌then◌else◌, List, [], ◌∷◌, Option, Some, is_some}
 use Rattle.session_base.specs.packet.declared.packet.Packet.TheVariants as packets
-use Rattle.broker_model.specs.retained.Retained.{RetainedTopics}
-use Rattle.broker_model.specs.Place.{Client, same_client, Mark, Place, Past, Limits}
-use Rattle.broker_model.specs.Past.{ends_any}
+use Rattle.broker_spec.specs.retained.Retained.{RetainedTopics}
+use Rattle.broker_spec.specs.Place.{Client, same_client, Mark, Place, Past, Limits}
+use Rattle.broker_spec.specs.Past.{ends_any}
 use Rattle.session_base.specs.Subscriptions.{HeldFilter, granted_qos}
-use Rattle.broker_model.specs.Retained.{retained_by}
-use Rattle.broker_model.specs.Commands.{is_start}
+use Rattle.broker_spec.specs.Retained.{retained_by}
+use Rattle.broker_spec.specs.Commands.{is_start}
 use Rattle.broker_base.specs.ClientSession.{ClientSession}
 use Rattle.broker_base.specs.SessionStep.{kept_after, kept_connected}
 use Rattle.broker_base.specs.State.{Sessions, State, keyed, session_in, put_session}
 use Rattle.broker_base.specs.Decisions.{place_in}
 use Rattle.broker_base.specs.StepAnswers.{answers_by_state}
-use Rattle.broker_model.specs.declared.command.Command.{Command}
-use Rattle.broker_model.specs.declared.command.Command.TheVariants as commands
-use Rattle.broker_model.specs.declared.command.Output.{Output}
+use Rattle.broker_spec.specs.declared.command.Command.{Command}
+use Rattle.broker_spec.specs.declared.command.Command.TheVariants as commands
+use Rattle.broker_spec.specs.declared.command.Output.{Output}
 
 -- Whether a command concerns this client's session with these subscriptions, apart from the end of
 -- its connection: its client sent it, or it is a taken publication that matches one of them.

@@ -3,20 +3,20 @@
 use Rattle.std.specs.Prelude.{ℕ, Bool, not, ◌||◌, if◌then◌else◌, List, [], ◌∷◌, ◌++◌, map, flat_map, Option, Some, None, option_map}
 use Rattle.session_base.specs.packet.declared.packet.Packet.{Packet}
 use Rattle.session_base.specs.packet.declared.packet.Packet.TheVariants as packets
-use Rattle.broker_model.specs.retained.Retained.{RetainedTopics}
+use Rattle.broker_spec.specs.retained.Retained.{RetainedTopics}
 use Rattle.session_base.specs.Queue.{on_puback, on_pubrec, on_pubcomp}
 use Rattle.session_base.specs.Sending.{fill_sends, resend, pubrec_sends, copies_sent}
-use Rattle.broker_model.specs.Connection.{ConnectionName}
-use Rattle.broker_model.specs.Place.{Client, Mark, Place}
-use Rattle.broker_model.specs.Past.{begins_session}
-use Rattle.broker_model.specs.Answers.{closed, welcome, turned_away, acknowledged, codes_of}
+use Rattle.broker_spec.specs.Connection.{ConnectionName}
+use Rattle.broker_spec.specs.Place.{Client, Mark, Place}
+use Rattle.broker_spec.specs.Past.{begins_session}
+use Rattle.broker_spec.specs.Answers.{closed, welcome, turned_away, acknowledged, codes_of}
 use Rattle.broker_base.specs.ClientSession.{ClientSession}
 use Rattle.broker_base.specs.SessionStep.{copies_with}
 use Rattle.broker_base.specs.State.{State, session_in}
-use Rattle.broker_model.specs.declared.command.Command.{Command}
-use Rattle.broker_model.specs.declared.command.Command.TheVariants as commands
-use Rattle.broker_model.specs.declared.command.Output.{Output}
-use Rattle.broker_model.specs.declared.command.Output.TheVariants.{Send, Close}
+use Rattle.broker_spec.specs.declared.command.Command.{Command}
+use Rattle.broker_spec.specs.declared.command.Command.TheVariants as commands
+use Rattle.broker_spec.specs.declared.command.Output.{Output}
+use Rattle.broker_spec.specs.declared.command.Output.TheVariants.{Send, Close}
 
 -- packets to a client that is connected
 abbrev pub sent_on : Option ConnectionName → List Packet → List Output

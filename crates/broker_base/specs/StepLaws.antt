@@ -1,19 +1,19 @@
 -- Laws of the step: one command at a time, it gives what the definitions say for the whole list of
 -- commands.
 use Rattle.std.specs.Prelude.{◌≡◌, ℕ, false, List, [], ◌∷◌, Some, None}
-use Rattle.broker_model.specs.Place.{Client, Place, Past, Limits}
-use Rattle.broker_model.specs.Past.{accepts}
-use Rattle.broker_model.specs.Retained.{retained_publications}
-use Rattle.broker_model.specs.Times.{window_at}
-use Rattle.broker_model.specs.Marks.{mark_of}
-use Rattle.broker_model.specs.Commands.{place_of, past_of, limits_from, usual_limits}
-use Rattle.broker_model.specs.Answers.{answers_of, answers_from}
+use Rattle.broker_spec.specs.Place.{Client, Place, Past, Limits}
+use Rattle.broker_spec.specs.Past.{accepts}
+use Rattle.broker_spec.specs.Retained.{retained_publications}
+use Rattle.broker_spec.specs.Times.{window_at}
+use Rattle.broker_spec.specs.Marks.{mark_of}
+use Rattle.broker_spec.specs.Commands.{place_of, past_of, limits_from, usual_limits}
+use Rattle.broker_spec.specs.Answers.{answers_of, answers_from}
 use Rattle.broker_base.specs.ClientSession.{ClientSession, client_session}
 use Rattle.broker_base.specs.SessionStep.{kept_after}
 use Rattle.broker_base.specs.State.{empty_state, state_of, session_in}
 use Rattle.broker_base.specs.Decisions.{mark_in}
 use Rattle.broker_base.specs.Step.{touches, step, state_from, steps_from, IsWindow}
-use Rattle.broker_model.specs.declared.command.Command.{Command}
+use Rattle.broker_spec.specs.declared.command.Command.{Command}
 
 -- after one more place, whatever its mark, each client's session is the step of what it was before
 abbrev pub StepsEachSession : Type 0

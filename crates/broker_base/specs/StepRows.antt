@@ -6,16 +6,16 @@ use Rattle.session_base.specs.packet.declared.packet.Packet.TheVariants as packe
 use Rattle.session_base.specs.declared.publication.Publication.{Publication}
 use Rattle.session_base.specs.declared.awaits.Awaits.TheVariants as waits_for
 use Rattle.session_base.specs.Queue.{Queue}
-use Rattle.broker_model.specs.Place.{Limits}
-use Rattle.broker_model.specs.Commands.{usual_limits}
+use Rattle.broker_spec.specs.Place.{Limits}
+use Rattle.broker_spec.specs.Commands.{usual_limits}
 use Rattle.broker_base.specs.State.{State, empty_state}
 use Rattle.broker_base.specs.Step.{step, state_from, steps_from}
-use Rattle.broker_model.specs.RowWords.{nth, b, connect, gets, sends, connack, publish, unsubscribe, numbers, delivered, small}
-use Rattle.broker_model.specs.MoreRows.{held_two, publishes_xyz, makes_room, routed, seventy}
-use Rattle.broker_model.specs.declared.command.Command.{Command}
-use Rattle.broker_model.specs.declared.command.Command.TheVariants as commands
-use Rattle.broker_model.specs.declared.command.Output.{Output}
-use Rattle.broker_model.specs.declared.command.Output.TheVariants.{Close}
+use Rattle.broker_spec.specs.RowWords.{nth, b, connect, gets, sends, connack, publish, unsubscribe, numbers, delivered, small}
+use Rattle.broker_spec.specs.MoreRows.{held_two, publishes_xyz, makes_room, routed, seventy}
+use Rattle.broker_spec.specs.declared.command.Command.{Command}
+use Rattle.broker_spec.specs.declared.command.Command.TheVariants as commands
+use Rattle.broker_spec.specs.declared.command.Output.{Output}
+use Rattle.broker_spec.specs.declared.command.Output.TheVariants.{Close}
 
 -- the steps from the empty state, whose window is this one at first and the later one from a Start
 -- on, give these answers to the next commands

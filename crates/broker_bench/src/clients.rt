@@ -1,16 +1,16 @@
 // A broker with its clients, each of which answers at once what it gets.
 
 use anyhow::{Result, anyhow};
-use broker::BrokerMachine;
-use broker_model::{Command, ConnectionId, Output, SizedPacket};
-use machine::Machine;
-use packet::{
+use std::alloc::Global;
+use std::collections::VecDeque;
+use world_base::broker::BrokerMachine;
+use world_base::broker_spec::{Command, ConnectionId, Output, SizedPacket};
+use world_base::machine::Machine;
+use world_base::packet::{
     ClientId, Delivery, Packet, PacketId, PacketList, Payload, Publish, QoS, Subscribe,
     Subscription,
 };
-use std::alloc::Global;
-use std::collections::VecDeque;
-use topics::{Filter, TopicName};
+use world_base::topics::{Filter, TopicName};
 
 /// How many bytes a publication carries.
 const PAYLOAD: [u8; 64] = [7; 64];

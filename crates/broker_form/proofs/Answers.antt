@@ -19,18 +19,18 @@ use Rattle.packet.specs.declared.packet.Packet.TheVariants as packets
 use Rattle.packet.specs.declared.subscribe.Subscription.{Subscription}
 use Rattle.packet.specs.declared.subscribe.Subscribe.{Subscribe}
 use Rattle.packet.specs.declared.suback.SubackCode.{SubackCode}
-use Rattle.broker_model.specs.retained.Retained.{RetainedTopics}
+use Rattle.broker_spec.specs.retained.Retained.{RetainedTopics}
 use Rattle.session_base.specs.Queue.{room, on_puback, on_pubrec, on_pubcomp}
 use Rattle.session_base.specs.Subscriptions.{HeldFilter, with_subscription}
-use Rattle.broker_model.specs.Connection.{ConnectionName}
-use Rattle.broker_model.specs.Place.{Client, by_bytes, Place, Limits}
-use Rattle.broker_model.specs.Subscriptions.{as_held}
-use Rattle.broker_model.specs.Marks.{is_one_too_many, entries_for, grants}
-use Rattle.broker_model.specs.Answers.{acknowledged, codes_of}
-use Rattle.broker_model.specs.Logged.{IsBrokerCommand}
-use Rattle.broker_model.proofs.ClientsInOrder.{equal_is}
-use Rattle.broker_model.specs.declared.command.Output.{Output}
-use Rattle.broker_model.specs.declared.command.Output.TheVariants.{Send}
+use Rattle.broker_spec.specs.Connection.{ConnectionName}
+use Rattle.broker_spec.specs.Place.{Client, by_bytes, Place, Limits}
+use Rattle.broker_spec.specs.Subscriptions.{as_held}
+use Rattle.broker_spec.specs.Marks.{is_one_too_many, entries_for, grants}
+use Rattle.broker_spec.specs.Answers.{acknowledged, codes_of}
+use Rattle.broker_spec.specs.Logged.{IsBrokerCommand}
+use Rattle.broker_spec.proofs.ClientsInOrder.{equal_is}
+use Rattle.broker_spec.specs.declared.command.Output.{Output}
+use Rattle.broker_spec.specs.declared.command.Output.TheVariants.{Send}
 use Rattle.broker_base.specs.ClientSession.{ClientSession}
 use Rattle.broker_base.specs.SessionStep.{copies_with}
 use Rattle.broker_base.specs.State.{Sessions, session_in}

@@ -4,17 +4,17 @@ use Rattle.std.specs.Prelude.{is_some, is_none}
 use Rattle.std.specs.List.{AllByRecursion, list_any}
 use Rattle.packet.specs.declared.packet.Packet.TheVariants as packets
 use Rattle.packet.specs.declared.publish.Publish.{Publish}
-use Rattle.broker_model.specs.retained.declared.retained_publication.RetainedPublication.{RetainedPublication}
-use Rattle.broker_model.specs.retained.Retained.{RetainedTopics, IsRising, is_empty, publication_on, after_put}
+use Rattle.broker_spec.specs.retained.declared.retained_publication.RetainedPublication.{RetainedPublication}
+use Rattle.broker_spec.specs.retained.Retained.{RetainedTopics, IsRising, is_empty, publication_on, after_put}
 use Rattle.session_base.specs.declared.publication.Publication.{Publication}
 use Rattle.session_base.specs.Publication.{publication_of}
-use Rattle.broker_model.specs.Connection.{ConnectionName}
-use Rattle.broker_model.specs.Place.{Client, same_client, Mark, Place, Limits, only_if}
-use Rattle.broker_model.specs.Past.{ends_any}
-use Rattle.broker_model.specs.Retained.{retains, retained_by}
-use Rattle.broker_model.proofs.ClientsInOrder.{equal_is}
-use Rattle.broker_model.specs.declared.command.Command.{Command}
-use Rattle.broker_model.specs.declared.command.Command.TheVariants as commands
+use Rattle.broker_spec.specs.Connection.{ConnectionName}
+use Rattle.broker_spec.specs.Place.{Client, same_client, Mark, Place, Limits, only_if}
+use Rattle.broker_spec.specs.Past.{ends_any}
+use Rattle.broker_spec.specs.Retained.{retains, retained_by}
+use Rattle.broker_spec.proofs.ClientsInOrder.{equal_is}
+use Rattle.broker_spec.specs.declared.command.Command.{Command}
+use Rattle.broker_spec.specs.declared.command.Command.TheVariants as commands
 use Rattle.broker_base.specs.ClientSession.{ClientSession}
 use Rattle.broker_base.specs.SessionStep.{kept_connected, kept_by}
 use Rattle.broker_base.specs.State.{Sessions, State, keyed, session_in, owner_in, put_session}
@@ -22,7 +22,7 @@ use Rattle.broker_base.specs.StateLaws.{AreByClient}
 use Rattle.broker_base.specs.Decisions.{is_one_topic_over, has_no_room_for, refuses, is_again, packet_mark_in, connect_mark_in, place_in}
 use Rattle.broker_base.specs.Step.{session_after, sessions_left, sessions_with, window_after, step}
 use Rattle.broker_base.proofs.SessionsStayByClient.{left_by_client}
-use Rattle.session_form.specs.InRange.{CanBeSent}
+use Rattle.session_base.specs.InRange.{CanBeSent}
 use Rattle.broker_form.specs.InRange.{IsRetained}
 use Rattle.broker_form.proofs.Publications.{made, marked}
 use Rattle.lists.proofs.Tables.{put_one_more, put_known, put_rises, without_rises, without_fewer, all_put, all_without}

@@ -8,13 +8,13 @@ use Rattle.packet.specs.declared.packet.Packet.TheVariants as packets
 use Rattle.session_base.specs.Publication.{publication_of}
 use Rattle.session_base.specs.Queue.{room}
 use Rattle.session_base.specs.Sending.{fill_sends, resend}
-use Rattle.broker_model.specs.Connection.{ConnectionName}
-use Rattle.broker_model.specs.Place.{Client, Mark, Place, Limits}
-use Rattle.broker_model.specs.Answers.{closed, acknowledged}
-use Rattle.broker_model.specs.Logged.{IsBrokerCommand}
-use Rattle.broker_model.specs.Commands.{usual_limits}
-use Rattle.broker_model.specs.declared.command.Command.{Command}
-use Rattle.broker_model.specs.declared.command.Command.TheVariants as commands
+use Rattle.broker_spec.specs.Connection.{ConnectionName}
+use Rattle.broker_spec.specs.Place.{Client, Mark, Place, Limits}
+use Rattle.broker_spec.specs.Answers.{closed, acknowledged}
+use Rattle.broker_spec.specs.Logged.{IsBrokerCommand}
+use Rattle.broker_spec.specs.Commands.{usual_limits}
+use Rattle.broker_spec.specs.declared.command.Command.{Command}
+use Rattle.broker_spec.specs.declared.command.Command.TheVariants as commands
 use Rattle.broker_base.specs.ClientSession.{ClientSession}
 use Rattle.broker_base.specs.State.{State, empty_state, session_in, owner_in}
 use Rattle.broker_base.specs.Decisions.{refuses, is_again, owned_mark, packet_mark_in, mark_in}

@@ -17,20 +17,20 @@ use Rattle.packet.specs.declared.delivery.Delivery.TheVariants as deliveries
 use Rattle.packet.specs.Delivery.{FitsDelivery, delivery_qos}
 use Rattle.packet.specs.declared.packet.Packet.TheVariants as packets
 use Rattle.packet.specs.declared.qos.QoS.{QoS}
-use Rattle.broker_model.specs.retained.declared.retained_publication.RetainedPublication.{RetainedPublication}
-use Rattle.broker_model.specs.retained.Retained.{RetainedTopics, matching_entries}
+use Rattle.broker_spec.specs.retained.declared.retained_publication.RetainedPublication.{RetainedPublication}
+use Rattle.broker_spec.specs.retained.Retained.{RetainedTopics, matching_entries}
 use Rattle.session_base.specs.Publication.{publication_of, lower_qos}
 use Rattle.session_base.specs.Identifiers.{with_id}
 use Rattle.session_base.specs.Subscriptions.{HeldFilter, with_subscription, with_subscriptions, without_filter, without_filters, granted_qos}
-use Rattle.broker_model.specs.Place.{Client, same_client, Mark}
-use Rattle.broker_model.specs.Subscriptions.{as_held, granted_of, subscribed}
-use Rattle.broker_model.specs.Received.{receives, received_by}
-use Rattle.broker_model.specs.Entries.{copy_of, retained_copy, copies_for, copies_for_all}
-use Rattle.broker_model.specs.Logged.{IsBrokerCommand}
-use Rattle.broker_model.specs.declared.command.Command.{Command}
-use Rattle.broker_model.specs.declared.command.Command.TheVariants as commands
+use Rattle.broker_spec.specs.Place.{Client, same_client, Mark}
+use Rattle.broker_spec.specs.Subscriptions.{as_held, granted_of, subscribed}
+use Rattle.broker_spec.specs.Received.{receives, received_by}
+use Rattle.broker_spec.specs.Entries.{copy_of, retained_copy, copies_for, copies_for_all}
+use Rattle.broker_spec.specs.Logged.{IsBrokerCommand}
+use Rattle.broker_spec.specs.declared.command.Command.{Command}
+use Rattle.broker_spec.specs.declared.command.Command.TheVariants as commands
 use Rattle.broker_base.specs.SessionStep.{copies_with}
-use Rattle.session_form.specs.InRange.{CanBeSent, IsHeld}
+use Rattle.session_base.specs.InRange.{CanBeSent, IsHeld}
 use Rattle.broker_form.specs.InRange.{IsRetained}
 use Rattle.broker_form.proofs.Publications.{marked, lower, lower_asked, carried}
 use Rattle.broker_form.proofs.Queues.{all_append, all_filter}

@@ -4,14 +4,14 @@ use Rattle.std.specs.Prelude.{bytes_eq}
 use Rattle.std.proofs.lemmas.List.{length-append}
 use Rattle.std.proofs.lemmas.List.Elements.{filter-append}
 use Rattle.packet.specs.declared.subscribe.Subscription.{Subscription}
-use Rattle.broker_model.specs.retained.Retained.{RetainedTopics}
+use Rattle.broker_spec.specs.retained.Retained.{RetainedTopics}
 use Rattle.session_base.specs.declared.publication.Publication.{Publication}
 use Rattle.session_base.specs.Publication.{is_answered}
 use Rattle.session_base.specs.Subscriptions.{HeldFilter, is_held, with_subscription, with_subscriptions, without_filter, without_filters}
-use Rattle.broker_model.specs.Place.{Limits}
-use Rattle.broker_model.specs.Subscriptions.{as_held, granted_of}
-use Rattle.broker_model.specs.Entries.{queued, copies_for, copies_for_all}
-use Rattle.broker_model.specs.Marks.{is_one_too_many, entries_for, grants}
+use Rattle.broker_spec.specs.Place.{Limits}
+use Rattle.broker_spec.specs.Subscriptions.{as_held, granted_of}
+use Rattle.broker_spec.specs.Entries.{queued, copies_for, copies_for_all}
+use Rattle.broker_spec.specs.Marks.{is_one_too_many, entries_for, grants}
 use Rattle.broker_form.proofs.Queues.{fewer}
 
 -- ---- entries

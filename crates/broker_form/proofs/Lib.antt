@@ -15,4 +15,4 @@ pub mod Windows
 pub mod Thawing
 pub mod ThawedAgain
 pub mod UsualStates
-pub use Rattle.broker_rows.proofs as of_broker_rows
+pub use Rattle.broker_spec.proofs as of_broker_spec

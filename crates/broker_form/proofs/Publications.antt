@@ -11,7 +11,7 @@ use Rattle.packet.specs.declared.delivery.Delivery.{Delivery}
 use Rattle.packet.specs.declared.delivery.Delivery.TheVariants as deliveries
 use Rattle.session_base.specs.declared.publication.Publication.{Publication}
 use Rattle.session_base.specs.Publication.{publish_of, publication_of, lower_qos}
-use Rattle.session_form.specs.InRange.{CanBeSent}
+use Rattle.session_base.specs.InRange.{CanBeSent}
 
 -- the publication with these parts
 abbrev pub made : Bool → QoS → List ℕ → List ℕ → Publication

@@ -10,9 +10,9 @@ use Rattle.session_base.specs.declared.publication.Publication.{Publication}
 use Rattle.session_base.specs.Publication.{is_answered}
 use Rattle.session_base.specs.Queue.{Flight, Queue, ids_of, awaited, is_released, awaits_puback, awaits_pubrec, awaits_pubcomp, started_flight, on_puback, on_pubrec, on_pubcomp, released_with, enqueue, fill, filled, copies_left, copies_waiting}
 use Rattle.session_base.proofs.IdentifiersStayApart.{pubrec_length}
-use Rattle.broker_model.proofs.LeastFree.{least-in-reach}
-use Rattle.broker_model.specs.Entries.{queued}
-use Rattle.session_form.specs.InRange.{CanBeSent, IsWaiting, IsInFlight, IsQueue}
+use Rattle.broker_spec.proofs.LeastFree.{least-in-reach}
+use Rattle.broker_spec.specs.Entries.{queued}
+use Rattle.session_base.specs.InRange.{CanBeSent, IsWaiting, IsInFlight, IsQueue}
 use Rattle.broker_form.proofs.Publications.{made}
 
 -- ---- lists

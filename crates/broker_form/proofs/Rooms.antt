@@ -7,19 +7,19 @@ use Rattle.packet.specs.declared.packet.Packet.TheVariants as packets
 use Rattle.packet.specs.declared.publish.Publish.{Publish}
 use Rattle.packet.specs.declared.subscribe.Subscribe.{Subscribe}
 use Rattle.packet.specs.declared.qos.QoS.{QoS}
-use Rattle.broker_model.specs.retained.Retained.{RetainedTopics}
+use Rattle.broker_spec.specs.retained.Retained.{RetainedTopics}
 use Rattle.session_base.specs.declared.publication.Publication.{Publication}
 use Rattle.session_base.specs.Publication.{publication_of, is_answered, lower_qos}
 use Rattle.session_base.specs.Queue.{Queue, room}
 use Rattle.session_base.specs.Subscriptions.{HeldFilter, with_subscriptions, without_filters, granted_qos}
-use Rattle.broker_model.specs.Connection.{ConnectionName}
-use Rattle.broker_model.specs.Place.{Client, same_client, Mark, Place, Limits}
-use Rattle.broker_model.specs.Subscriptions.{as_held, granted_of, subscribed}
-use Rattle.broker_model.specs.Entries.{copy_of, queued, copies_for_all}
-use Rattle.broker_model.specs.Marks.{is_queued_at, grants}
-use Rattle.broker_model.proofs.ClientsInOrder.{same_is}
-use Rattle.broker_model.specs.declared.command.Command.{Command}
-use Rattle.broker_model.specs.declared.command.Command.TheVariants as commands
+use Rattle.broker_spec.specs.Connection.{ConnectionName}
+use Rattle.broker_spec.specs.Place.{Client, same_client, Mark, Place, Limits}
+use Rattle.broker_spec.specs.Subscriptions.{as_held, granted_of, subscribed}
+use Rattle.broker_spec.specs.Entries.{copy_of, queued, copies_for_all}
+use Rattle.broker_spec.specs.Marks.{is_queued_at, grants}
+use Rattle.broker_spec.proofs.ClientsInOrder.{same_is}
+use Rattle.broker_spec.specs.declared.command.Command.{Command}
+use Rattle.broker_spec.specs.declared.command.Command.TheVariants as commands
 use Rattle.broker_base.specs.ClientSession.{ClientSession}
 use Rattle.broker_base.specs.SessionStep.{copies_with}
 use Rattle.broker_base.specs.State.{Sessions, State, session_in, owner_in}

@@ -8,15 +8,15 @@ use Rattle.packet_base.proofs.FieldsAgain.{front_again, text_again, topic_again}
 use Rattle.packet.specs.ClientId.{is_client}
 use Rattle.packet.specs.QoS.{qos_number}
 use Rattle.packet.proofs.Clients.{client_parts, client_short}
-use Rattle.broker_model.specs.retained.declared.retained_publication.RetainedPublication.{RetainedPublication}
-use Rattle.session_form.specs.Form.{long_number, flag_at, state_bytes}
-use Rattle.session_form.specs.FormLaws.{HasForm}
-use Rattle.session_form.proofs.Counted.{IsReadAgain}
-use Rattle.session_form.proofs.Fields.{flag_again, qos_again, long_again, size_of}
-use Rattle.session_form.proofs.FormAgain.{frozen_is_read}
-use Rattle.broker_model.specs.Commands.{usual_limits}
-use Rattle.broker_model.specs.Connection.{ConnectionName, is_connection_name}
-use Rattle.broker_model.specs.Place.{Client}
+use Rattle.broker_spec.specs.retained.declared.retained_publication.RetainedPublication.{RetainedPublication}
+use Rattle.session_base.specs.Form.{long_number, flag_at, state_bytes}
+use Rattle.session_base.specs.FormLaws.{HasForm}
+use Rattle.session_base.proofs.Counted.{IsReadAgain}
+use Rattle.session_base.proofs.Fields.{flag_again, qos_again, long_again, size_of}
+use Rattle.session_base.proofs.FormAgain.{frozen_is_read}
+use Rattle.broker_spec.specs.Commands.{usual_limits}
+use Rattle.broker_spec.specs.Connection.{ConnectionName, is_connection_name}
+use Rattle.broker_spec.specs.Place.{Client}
 use Rattle.broker_base.specs.ClientSession.{ClientSession}
 use Rattle.broker_base.specs.StateLaws.{IsSoundSession, FitsWindow}
 use Rattle.broker_form.specs.InRange.{IsNamed, IsRetained, IsSession, as_publication}

@@ -9,12 +9,12 @@ use Rattle.std.specs.Map.{keys_of}
 use Rattle.std.specs.List.{AllByRecursion}
 use Rattle.std.specs.List.Sorted.{IsStrictlySortedBy}
 use Rattle.std.proofs.lemmas.Cmp.{nat_list_cmp_total}
-use Rattle.session_form.specs.Counted.{last_of}
-use Rattle.session_form.proofs.Counted.{AllFollow}
-use Rattle.session_form.proofs.Follows.{last_is}
-use Rattle.broker_model.specs.Connection.{ConnectionName, same_connection}
-use Rattle.broker_model.specs.Place.{Client, by_bytes}
-use Rattle.broker_model.specs.Past.{any_connection}
+use Rattle.session_base.specs.Counted.{last_of}
+use Rattle.session_base.proofs.Counted.{AllFollow}
+use Rattle.session_base.proofs.Follows.{last_is}
+use Rattle.broker_spec.specs.Connection.{ConnectionName, same_connection}
+use Rattle.broker_spec.specs.Place.{Client, by_bytes}
+use Rattle.broker_spec.specs.Past.{any_connection}
 use Rattle.broker_base.specs.ClientSession.{ClientSession}
 use Rattle.broker_base.specs.State.{Sessions, owner_in}
 use Rattle.broker_base.specs.StateLaws.{IsNobodys, AreApart, AreByClient}

@@ -13,8 +13,8 @@ use Rattle.session_base.specs.declared.awaits.Awaits.TheVariants as waits_for
 use Rattle.session_base.specs.Publication.{publish_of, is_answered}
 use Rattle.session_base.specs.Queue.{Flight, Queue, started_flight, awaits_pubcomp, enqueue, filled}
 use Rattle.session_base.specs.Sending.{fill_sends, resend, pubrec_sends, copies_sent}
-use Rattle.broker_model.specs.Entries.{queued}
-use Rattle.session_form.specs.InRange.{CanBeSent, IsWaiting, IsInFlight, IsQueue}
+use Rattle.broker_spec.specs.Entries.{queued}
+use Rattle.session_base.specs.InRange.{CanBeSent, IsWaiting, IsInFlight, IsQueue}
 use Rattle.broker_form.proofs.Publications.{spelled, spelled_once}
 use Rattle.broker_form.proofs.Queues.{all_append, free_is_id, started_in_range, fill_in_range, enqueued_in_range}
 

@@ -4,23 +4,23 @@ use Rattle.std.specs.Prelude.{IsTrue}
 use Rattle.std.specs.List.{AllByRecursion}
 use Rattle.packet.specs.declared.packet.Packet.TheVariants as packets
 use Rattle.packet.specs.ClientId.{is_client}
-use Rattle.broker_model.specs.retained.Retained.{RetainedTopics}
+use Rattle.broker_spec.specs.retained.Retained.{RetainedTopics}
 use Rattle.lists.specs.Lists.{IsDistinct}
 use Rattle.session_base.specs.declared.publication.Publication.{Publication}
 use Rattle.session_base.specs.Queue.{Queue, ids_of, on_puback, on_pubcomp}
-use Rattle.broker_model.specs.Connection.{ConnectionName, IsConnectionName}
-use Rattle.broker_model.specs.Place.{Client, same_client, Mark, Place, Limits, only_if}
-use Rattle.broker_model.specs.Past.{accepts, expels, ends_any}
-use Rattle.broker_model.specs.Subscriptions.{subscribed}
-use Rattle.broker_model.specs.Entries.{queued}
-use Rattle.broker_model.specs.Logged.{IsBrokerCommand}
-use Rattle.broker_model.specs.declared.command.Command.{Command}
-use Rattle.broker_model.specs.declared.command.Command.TheVariants as commands
+use Rattle.broker_spec.specs.Connection.{ConnectionName, IsConnectionName}
+use Rattle.broker_spec.specs.Place.{Client, same_client, Mark, Place, Limits, only_if}
+use Rattle.broker_spec.specs.Past.{accepts, expels, ends_any}
+use Rattle.broker_spec.specs.Subscriptions.{subscribed}
+use Rattle.broker_spec.specs.Entries.{queued}
+use Rattle.broker_spec.specs.Logged.{IsBrokerCommand}
+use Rattle.broker_spec.specs.declared.command.Command.{Command}
+use Rattle.broker_spec.specs.declared.command.Command.TheVariants as commands
 use Rattle.broker_base.specs.ClientSession.{ClientSession}
 use Rattle.broker_base.specs.SessionStep.{copies_with, filled_on, answered_queue, copied_queue, kept_on, kept_anew, kept_resumed, kept_connected, kept_by, kept_after}
 use Rattle.broker_base.specs.Step.{touches, session_after}
 use Rattle.broker_base.specs.StateLaws.{IsSoundSession}
-use Rattle.session_form.specs.InRange.{CanBeSent, IsQueue}
+use Rattle.session_base.specs.InRange.{CanBeSent, IsQueue}
 use Rattle.broker_form.specs.InRange.{IsRetained, IsNamed, IsSession}
 use Rattle.broker_form.proofs.Queues.{wider, fill_in_range, puback_in_range, pubrec_in_range, pubcomp_in_range, copies_in_range, waiting_in_range}
 use Rattle.broker_form.proofs.Filters.{filters_in_range, received_in_range, copies_can_be_sent}

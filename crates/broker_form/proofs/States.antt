@@ -6,14 +6,14 @@ use Rattle.std.specs.Ordering.{is_eq}
 use Rattle.std.specs.List.{AllByRecursion}
 use Rattle.packet.specs.declared.packet.Packet.TheVariants as packets
 use Rattle.packet.specs.declared.publish.Publish.{Publish}
-use Rattle.broker_model.specs.retained.Retained.{RetainedTopics}
+use Rattle.broker_spec.specs.retained.Retained.{RetainedTopics}
 use Rattle.session_base.specs.Publication.{publication_of}
-use Rattle.broker_model.specs.Connection.{ConnectionName}
-use Rattle.broker_model.specs.Place.{Client, by_bytes, Mark, Place, Limits}
-use Rattle.broker_model.specs.Logged.{IsBrokerCommand}
-use Rattle.broker_model.proofs.ClientsInOrder.{equal_is}
-use Rattle.broker_model.specs.declared.command.Command.{Command}
-use Rattle.broker_model.specs.declared.command.Command.TheVariants as commands
+use Rattle.broker_spec.specs.Connection.{ConnectionName}
+use Rattle.broker_spec.specs.Place.{Client, by_bytes, Mark, Place, Limits}
+use Rattle.broker_spec.specs.Logged.{IsBrokerCommand}
+use Rattle.broker_spec.proofs.ClientsInOrder.{equal_is}
+use Rattle.broker_spec.specs.declared.command.Command.{Command}
+use Rattle.broker_spec.specs.declared.command.Command.TheVariants as commands
 use Rattle.broker_base.specs.ClientSession.{ClientSession}
 use Rattle.broker_base.specs.SessionStep.{kept_connected}
 use Rattle.broker_base.specs.State.{Sessions, keyed, session_in}
@@ -21,7 +21,7 @@ use Rattle.broker_base.specs.StateLaws.{AllSound}
 use Rattle.broker_base.specs.Decisions.{place_in, mark_in}
 use Rattle.broker_base.specs.Step.{session_after, sessions_left, sessions_with, window_after}
 use Rattle.broker_base.proofs.StatesStaySound.{stays_sound}
-use Rattle.session_form.specs.InRange.{CanBeSent}
+use Rattle.session_base.specs.InRange.{CanBeSent}
 use Rattle.broker_form.specs.InRange.{IsRetained, IsSession}
 use Rattle.broker_form.specs.RangeLaws.{StaysInRange}
 use Rattle.broker_form.proofs.Publications.{carried}

@@ -10,14 +10,14 @@ use Rattle.packet_base.specs.topics.Text.{is_topic}
 use Rattle.packet_base.proofs.Steps.{then_if, seq_if, check_if}
 use Rattle.packet_base.proofs.FieldsFound.{IsBytes, Splits, Splits-then, Splits-all, byte_found, front_found, text_found, topic_found, ended_found}
 use Rattle.packet.specs.ClientId.{is_client}
-use Rattle.broker_model.specs.retained.declared.retained_publication.RetainedPublication.{RetainedPublication}
-use Rattle.session_form.specs.Counted.{counted, counted_at}
-use Rattle.session_form.specs.Form.{long_number, long_number_at, flag_at, qos_at, state_bytes, state_at}
-use Rattle.session_form.proofs.Found.{weaker}
-use Rattle.session_form.proofs.Spelled.{IsSpelled, flag_byte, qos_byte, flag_spelled, qos_spelled, long_spelled, payload_spelled, number_spelled, counted_spelled, state_spelled}
-use Rattle.broker_model.specs.Connection.{ConnectionName, is_connection_name}
-use Rattle.broker_model.specs.Place.{Client}
-use Rattle.broker_model.specs.Window.{is_window_size}
+use Rattle.broker_spec.specs.retained.declared.retained_publication.RetainedPublication.{RetainedPublication}
+use Rattle.session_base.specs.Counted.{counted, counted_at}
+use Rattle.session_base.specs.Form.{long_number, long_number_at, flag_at, qos_at, state_bytes, state_at}
+use Rattle.session_base.proofs.Found.{weaker}
+use Rattle.session_base.proofs.Spelled.{IsSpelled, flag_byte, qos_byte, flag_spelled, qos_spelled, long_spelled, payload_spelled, number_spelled, counted_spelled, state_spelled}
+use Rattle.broker_spec.specs.Connection.{ConnectionName, is_connection_name}
+use Rattle.broker_spec.specs.Place.{Client}
+use Rattle.broker_spec.specs.Window.{is_window_size}
 use Rattle.broker_base.specs.ClientSession.{ClientSession}
 use Rattle.broker_base.specs.State.{State}
 use Rattle.broker_form.specs.Form.{wide_number, connection_bytes, row_bytes, retained_bytes, content_bytes, frozen, frozen_before, wide_number_at, name_at, connection_at, client_at, row_at, is_retainable, retainable, retained_at, row_follows, topic_follows, size_at, head_at, content_at, broker_at, found}

@@ -12,19 +12,19 @@ use Rattle.packet_base.proofs.FieldsFound.{IsBytes, Splits, text_found, topic_fo
 use Rattle.packet_base.specs.topics.Text.{is_topic}
 use Rattle.packet.specs.ClientId.{is_client}
 use Rattle.packet.specs.Spelling.{longest_body}
-use Rattle.broker_model.specs.retained.declared.retained_publication.RetainedPublication.{RetainedPublication}
-use Rattle.broker_model.specs.retained.Retained.{RetainedTopics}
-use Rattle.session_form.specs.Counted.{counted, counted_at}
-use Rattle.session_form.specs.Form.{flag_at, qos_at, long_number_at, body_length, state_at}
-use Rattle.session_form.specs.FormLaws.{HasForm, FitsIn}
-use Rattle.session_form.proofs.Counted.{AllFollow, IsReadAgain, counted_again}
-use Rattle.session_form.proofs.Found.{IsFound, AreRead, counted_found}
-use Rattle.session_form.proofs.FieldsFound.{a_byte, a_number, a_flag, a_front, a_long_number, a_qos, sent_of}
-use Rattle.session_form.proofs.FormFound.{read_has_form}
-use Rattle.broker_model.specs.Commands.{usual_limits}
-use Rattle.broker_model.specs.Connection.{ConnectionName, is_connection_name}
-use Rattle.broker_model.specs.Place.{Client}
-use Rattle.broker_model.specs.Window.{is_window_size, IsWindowSize}
+use Rattle.broker_spec.specs.retained.declared.retained_publication.RetainedPublication.{RetainedPublication}
+use Rattle.broker_spec.specs.retained.Retained.{RetainedTopics}
+use Rattle.session_base.specs.Counted.{counted, counted_at}
+use Rattle.session_base.specs.Form.{flag_at, qos_at, long_number_at, body_length, state_at}
+use Rattle.session_base.specs.FormLaws.{HasForm, FitsIn}
+use Rattle.session_base.proofs.Counted.{AllFollow, IsReadAgain, counted_again}
+use Rattle.session_base.proofs.Found.{IsFound, AreRead, counted_found}
+use Rattle.session_base.proofs.FieldsFound.{a_byte, a_number, a_flag, a_front, a_long_number, a_qos, sent_of}
+use Rattle.session_base.proofs.FormFound.{read_has_form}
+use Rattle.broker_spec.specs.Commands.{usual_limits}
+use Rattle.broker_spec.specs.Connection.{ConnectionName, is_connection_name}
+use Rattle.broker_spec.specs.Place.{Client}
+use Rattle.broker_spec.specs.Window.{is_window_size, IsWindowSize}
 use Rattle.broker_base.specs.ClientSession.{ClientSession}
 use Rattle.broker_base.specs.State.{Sessions, State}
 use Rattle.broker_base.specs.StateLaws.{IsSoundSession, FitsWindow, AllSound, AllInWindow}

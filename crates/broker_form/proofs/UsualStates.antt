@@ -1,11 +1,11 @@
 -- UsualStates.antt: a broker that begins is a usual one, and stays it.
 use Rattle.std.proofs.Common.{◌<◌, ◌^◌, arith, rules, refl}
 use Rattle.std.specs.List.Sorted.{IsStrictlySortedBy}
-use Rattle.broker_model.specs.Commands.{usual_limits}
-use Rattle.broker_model.specs.Logged.{IsBrokerCommand}
-use Rattle.broker_model.specs.Window.{IsWindowSize}
-use Rattle.broker_model.specs.declared.command.Command.{Command}
-use Rattle.broker_model.specs.declared.command.Command.TheVariants as commands
+use Rattle.broker_spec.specs.Commands.{usual_limits}
+use Rattle.broker_spec.specs.Logged.{IsBrokerCommand}
+use Rattle.broker_spec.specs.Window.{IsWindowSize}
+use Rattle.broker_spec.specs.declared.command.Command.{Command}
+use Rattle.broker_spec.specs.declared.command.Command.TheVariants as commands
 use Rattle.broker_base.specs.State.{State, empty_state}
 use Rattle.broker_base.specs.Step.{step, window_after}
 use Rattle.broker_form.specs.FormLaws.{IsUsualState}

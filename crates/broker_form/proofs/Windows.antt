@@ -1,7 +1,7 @@
 -- Windows.antt: no window is over 64.
 use Rattle.std.proofs.Common.{◌≡◌, ℕ, ◌≤◌, Bool, true, false, ◌||◌, ◌==◌, refl, arith}
 use Rattle.std.proofs.lemmas.Bool.{eqb-true}
-use Rattle.broker_model.specs.Window.{IsWindowSize}
+use Rattle.broker_spec.specs.Window.{IsWindowSize}
 
 pub no_more : (n : ℕ) → IsWindowSize n → n ≤ 64
 no_more n h = by (n == 16) (n == 64) refl refl h

@@ -9,12 +9,12 @@ use Rattle.packet_base.specs.Reading.{◌>>=◌, ◌>>◌, byte_at, front_at, nu
 use Rattle.packet.specs.ClientId.{is_client}
 use Rattle.packet.specs.QoS.{qos_number}
 use Rattle.packet.specs.Spelling.{longest_body}
-use Rattle.broker_model.specs.retained.declared.retained_publication.RetainedPublication.{RetainedPublication}
-use Rattle.session_form.specs.Counted.{keep, last_of, counted, counted_at}
-use Rattle.session_form.specs.Form.{long_number, long_number_at, flag_at, qos_at, body_length, state_bytes, state_at}
-use Rattle.broker_model.specs.Connection.{ConnectionName, is_connection_name}
-use Rattle.broker_model.specs.Place.{Client, by_bytes}
-use Rattle.broker_model.specs.Window.{is_window_size}
+use Rattle.broker_spec.specs.retained.declared.retained_publication.RetainedPublication.{RetainedPublication}
+use Rattle.session_base.specs.Counted.{keep, last_of, counted, counted_at}
+use Rattle.session_base.specs.Form.{long_number, long_number_at, flag_at, qos_at, body_length, state_bytes, state_at}
+use Rattle.broker_spec.specs.Connection.{ConnectionName, is_connection_name}
+use Rattle.broker_spec.specs.Place.{Client, by_bytes}
+use Rattle.broker_spec.specs.Window.{is_window_size}
 use Rattle.broker_base.specs.ClientSession.{ClientSession}
 use Rattle.broker_base.specs.State.{Sessions, State, owner_in}
 use Rattle.broker_form.specs.InRange.{as_publication}

@@ -1,9 +1,9 @@
 -- A frozen broker is thawed as that broker; what is thawed is in its ranges, and is frozen to the
 -- same bytes.
 use Rattle.std.specs.Prelude.{◌≡◌, ℕ, ◌⊎◌, List, Some, IfOk}
-use Rattle.session_form.specs.FormLaws.{AreBytes}
-use Rattle.broker_model.specs.Commands.{usual_limits}
-use Rattle.broker_model.specs.Window.{IsWindowSize}
+use Rattle.session_base.specs.FormLaws.{AreBytes}
+use Rattle.broker_spec.specs.Commands.{usual_limits}
+use Rattle.broker_spec.specs.Window.{IsWindowSize}
 use Rattle.broker_base.specs.State.{State}
 use Rattle.broker_base.specs.StateLaws.{AllInWindow}
 use Rattle.broker_form.specs.InRange.{IsBrokerState}

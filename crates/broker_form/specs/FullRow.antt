@@ -3,7 +3,7 @@
 -- retained publications.
 use Rattle.std.specs.Prelude.{◌≡◌, ℕ, false, List, [], ◌∷◌, ◌++◌, Some, codes}
 use Rattle.packet.specs.declared.qos.QoS.TheVariants as levels
-use Rattle.session_form.specs.FormRows.{full_session, full_session_by_hand}
+use Rattle.session_base.specs.FormRows.{full_session, full_session_by_hand}
 use Rattle.broker_base.specs.State.{State}
 use Rattle.broker_form.specs.Form.{frozen, frozen_before}
 

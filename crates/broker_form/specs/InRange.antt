@@ -4,12 +4,12 @@ use Rattle.std.specs.Prelude.{ℕ, ◌≤◌, IsTrue, true, List, length, Option
 use Rattle.std.specs.List.{AllByRecursion}
 use Rattle.packet_base.specs.Spelling.{IsId}
 use Rattle.packet.specs.ClientId.{is_client}
-use Rattle.broker_model.specs.retained.declared.retained_publication.RetainedPublication.{RetainedPublication}
-use Rattle.broker_model.specs.retained.Retained.{IsRising}
-use Rattle.session_form.specs.InRange.{CanBeSent, IsHeld, IsQueue}
+use Rattle.broker_spec.specs.retained.declared.retained_publication.RetainedPublication.{RetainedPublication}
+use Rattle.broker_spec.specs.retained.Retained.{IsRising}
+use Rattle.session_base.specs.InRange.{CanBeSent, IsHeld, IsQueue}
 use Rattle.session_base.specs.declared.publication.Publication.{Publication}
-use Rattle.broker_model.specs.Connection.{ConnectionName, IsConnectionName}
-use Rattle.broker_model.specs.Place.{Client, Limits}
+use Rattle.broker_spec.specs.Connection.{ConnectionName, IsConnectionName}
+use Rattle.broker_spec.specs.Place.{Client, Limits}
 use Rattle.broker_base.specs.ClientSession.{ClientSession}
 use Rattle.broker_base.specs.State.{State}
 use Rattle.broker_base.specs.StateLaws.{IsSound}

@@ -4,4 +4,4 @@ pub mod Form
 pub mod FormLaws
 pub mod FormRows
 pub mod FullRow
-pub use Rattle.broker_rows.specs as broker_rows
+pub use Rattle.broker_spec.specs as broker_spec

@@ -1,7 +1,7 @@
 -- A command on a connection without a client leaves every row, except an accepted Connect.
 use Rattle.std.proofs.Common.{◌≡◌, ℕ, Bool, true, false, ◌||◌, nat_lt, if◌then◌else◌, List, [], ◌∷◌, length, Some, None, refl, ap, ap₂, ◌∙◌, sym, subst}
 use Rattle.std.specs.Prelude.{is_some}
-use Rattle.broker_model.specs.session_base.Subscriptions.{HeldFilter}
+use Rattle.broker_spec.specs.session_base.Subscriptions.{HeldFilter}
 use Rattle.subs.specs.packet.declared.packet.Packet.TheVariants as packets
 use Rattle.broker_base.specs.Connection.{ConnectionName, same_connection}
 use Rattle.broker_base.specs.Place.{Client, Mark, Limits}

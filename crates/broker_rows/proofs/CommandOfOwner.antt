@@ -1,6 +1,6 @@
 -- A command of a connection's owner, except a taken PUBLISH, leaves every row but the owner's.
 use Rattle.std.proofs.Common.{◌≡◌, ℕ, false, Some, refl, ◌∙◌}
-use Rattle.broker_model.specs.retained.Retained.{RetainedTopics}
+use Rattle.broker_spec.specs.retained.Retained.{RetainedTopics}
 use Rattle.broker_base.specs.Connection.{ConnectionName}
 use Rattle.broker_base.specs.Place.{Client, Mark, Place, Limits}
 use Rattle.broker_base.specs.ClientSession.{ClientSession}

@@ -6,7 +6,7 @@ use Rattle.std.specs.declared.cmp.Ordering.{Ordering}
 use Rattle.std.specs.declared.cmp.Ordering.TheVariants.{Less, Equal, Greater}
 use Rattle.std.specs.List.Sorted.{IsStrictlySortedBy}
 use Rattle.std.specs.Ordering.{is_eq, match_ordering}
-use Rattle.broker_model.specs.session_base.Sending.{fill_sends, resend}
+use Rattle.broker_spec.specs.session_base.Sending.{fill_sends, resend}
 use Rattle.broker_base.specs.Connection.{ConnectionName}
 use Rattle.broker_base.specs.Place.{Client, by_bytes, Mark, Limits}
 use Rattle.broker_base.specs.Past.{begins_session}

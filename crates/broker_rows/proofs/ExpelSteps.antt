@@ -2,7 +2,7 @@
 use Rattle.std.proofs.Common.{◌≡◌, ℕ, Bool, true, false, not, ◌&&◌, ◌||◌, if◌then◌else◌, List, [], ◌∷◌, Option, Some, None, refl, ap, ap₂, ◌∙◌, sym, subst, inl, inr, ◌⊎◌}
 use Rattle.std.specs.List.Sorted.{IsStrictlySortedBy}
 use Rattle.std.specs.Ordering.{is_eq}
-use Rattle.broker_model.specs.retained.Retained.{RetainedTopics}
+use Rattle.broker_spec.specs.retained.Retained.{RetainedTopics}
 use Rattle.broker_base.specs.Connection.{ConnectionName}
 use Rattle.broker_base.specs.Place.{Client, same_client, Mark, Place, only_if}
 use Rattle.broker_base.specs.Past.{any_connection, ends, expels, ends_any}

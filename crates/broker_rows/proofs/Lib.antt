@@ -20,4 +20,6 @@ pub mod publications
 pub use Rattle.broker_rows.proofs.publications.GrantedBySessions
 pub use Rattle.broker_rows.proofs.publications.OneChanged
 pub use Rattle.broker_rows.proofs.publications.PublishSteps
-pub use Rattle.subs.proofs.of_subs_tree as of_subs_tree
+pub use Rattle.broker_base.proofs as of_broker_base
+pub use Rattle.broker_spec.proofs.of_retained as of_retained
+pub use Rattle.subs.proofs as of_subs

@@ -1,11 +1,11 @@
 -- A command of a connection's owner, except a taken PUBLISH, concerns only that connection and
 -- client.
 use Rattle.std.proofs.Common.{◌≡◌, Bool, true, false, ◌&&◌, ◌||◌, if◌then◌else◌, List, Option, Some, None, refl, ap, ap₂, ◌∙◌, sym, subst}
-use Rattle.broker_model.specs.session_base.Subscriptions.{HeldFilter}
+use Rattle.broker_spec.specs.session_base.Subscriptions.{HeldFilter}
 use Rattle.subs.specs.packet.declared.publish.Publish.{Publish}
 use Rattle.subs.specs.packet.declared.packet.Packet.{Packet}
 use Rattle.subs.specs.packet.declared.packet.Packet.TheVariants as packets
-use Rattle.broker_model.specs.session_base.Publication.{publication_of}
+use Rattle.broker_spec.specs.session_base.Publication.{publication_of}
 use Rattle.broker_base.specs.Connection.{ConnectionName, same_connection}
 use Rattle.broker_base.specs.Place.{Client, same_client, Mark, Limits}
 use Rattle.broker_base.specs.Past.{any_connection, is_leaving, ends, expels}

@@ -10,7 +10,7 @@ use Rattle.broker_base.specs.ClientSession.{ClientSession}
 use Rattle.broker_base.specs.State.{Sessions, session_in, owner_in}
 use Rattle.broker_base.proofs.SessionsStayByClient.{ComesBefore}
 use Rattle.broker_base.specs.StateLaws.{AreByClient, IsNobodys, AreApart}
-use Rattle.broker_model.proofs.ClientsInOrder.{same_self, less_turned}
+use Rattle.broker_spec.proofs.ClientsInOrder.{same_self, less_turned}
 use Rattle.broker_rows.specs.Touched.{Untouched, TouchesOnly, IsOnes}
 
 -- ---- connections

@@ -4,8 +4,8 @@ use Rattle.std.proofs.Common.{◌≡◌, ℕ, if◌then◌else◌, [], ◌∷◌
 use Rattle.std.specs.Prelude.{map}
 use Rattle.subs.specs.packet.declared.packet.Packet.{Packet}
 use Rattle.subs.specs.packet.declared.packet.Packet.TheVariants as packets
-use Rattle.broker_model.specs.session_base.Publication.{publication_of}
-use Rattle.broker_model.specs.session_base.Sending.{copies_sent}
+use Rattle.broker_spec.specs.session_base.Publication.{publication_of}
+use Rattle.broker_spec.specs.session_base.Sending.{copies_sent}
 use Rattle.broker_base.specs.Connection.{ConnectionName}
 use Rattle.broker_base.specs.Place.{Client, Mark, Place}
 use Rattle.broker_base.specs.Subscriptions.{granted_of}

@@ -1,9 +1,9 @@
 -- Where a command ends a session's connection, a clean session goes, and another stays without a connection.
 use Rattle.std.proofs.Common.{◌≡◌, ℕ, Bool, true, false, not, ◌&&◌, ◌||◌, if◌then◌else◌, List, [], Some, None, refl, ap, ap₂, ◌∙◌}
 use Rattle.subs.specs.packet.declared.packet.Packet.TheVariants as packets
-use Rattle.broker_model.specs.retained.Retained.{RetainedTopics}
-use Rattle.broker_model.specs.session_base.Subscriptions.{HeldFilter}
-use Rattle.broker_model.specs.session_base.Queue.{Queue}
+use Rattle.broker_spec.specs.retained.Retained.{RetainedTopics}
+use Rattle.broker_spec.specs.session_base.Subscriptions.{HeldFilter}
+use Rattle.broker_spec.specs.session_base.Queue.{Queue}
 use Rattle.broker_base.specs.Place.{Client, Mark, Place, only_if}
 use Rattle.broker_base.specs.Past.{accepts, ends_any, expels}
 use Rattle.broker_base.specs.Subscriptions.{subscribed}

@@ -1,7 +1,7 @@
 -- A Start leaves off every session: a clean one was connected, and goes.
 use Rattle.std.proofs.Common.{◌≡◌, ℕ, Bool, true, false, ◌||◌, if◌then◌else◌, Option, Some, None, [], ◌∷◌, refl, ap, ap₂, ◌∙◌}
 use Rattle.std.specs.Prelude.{is_some}
-use Rattle.broker_model.specs.retained.Retained.{RetainedTopics}
+use Rattle.broker_spec.specs.retained.Retained.{RetainedTopics}
 use Rattle.broker_base.specs.Connection.{ConnectionName}
 use Rattle.broker_base.specs.Place.{Client, Mark, Place}
 use Rattle.broker_base.specs.Past.{ends_any}

@@ -3,7 +3,7 @@
 -- 4.4).
 use Rattle.std.specs.Prelude.{◌≡◌, ℕ, Bool, true, false, ◌||◌, nat_lt, length, [], ◌∷◌, ◌++◌, map, Some, None, is_some, option_map}
 use Rattle.std.specs.BTreeMap.{insert_entry}
-use Rattle.broker_model.specs.session_base.Sending.{fill_sends, resend}
+use Rattle.broker_spec.specs.session_base.Sending.{fill_sends, resend}
 use Rattle.broker_base.specs.Connection.{ConnectionName}
 use Rattle.broker_base.specs.Place.{Client, by_bytes, Limits}
 use Rattle.broker_base.specs.Past.{begins_session}

@@ -3,12 +3,12 @@
 use Rattle.std.specs.Prelude.{◌≡◌, ℕ, ◌-◌, Bool, true, false, not, ◌||◌, nat_lt, if◌then◌else◌, List, [], ◌∷◌, ◌++◌, length}
 use Rattle.subs.specs.packet.declared.packet.Packet.{Packet}
 use Rattle.subs.specs.packet.declared.subscribe.Subscription.{Subscription}
-use Rattle.broker_model.specs.retained.Retained.{RetainedTopics}
-use Rattle.broker_model.specs.session_base.declared.publication.Publication.{Publication}
-use Rattle.broker_model.specs.session_base.Publication.{is_answered}
-use Rattle.broker_model.specs.session_base.Session.{SessionState}
-use Rattle.broker_model.specs.session_base.Queue.{Queue, room, copies_left}
-use Rattle.broker_model.specs.session_base.Sending.{copies_sent}
+use Rattle.broker_spec.specs.retained.Retained.{RetainedTopics}
+use Rattle.broker_spec.specs.session_base.declared.publication.Publication.{Publication}
+use Rattle.broker_spec.specs.session_base.Publication.{is_answered}
+use Rattle.broker_spec.specs.session_base.Session.{SessionState}
+use Rattle.broker_spec.specs.session_base.Queue.{Queue, room, copies_left}
+use Rattle.broker_spec.specs.session_base.Sending.{copies_sent}
 use Rattle.broker_base.specs.Place.{Limits}
 use Rattle.broker_base.specs.Subscriptions.{granted_of}
 use Rattle.broker_base.specs.Entries.{copies_for, copies_for_all, queued}

@@ -3,8 +3,8 @@
 use Rattle.std.specs.Prelude.{◌≡◌, ℕ, Bool, if◌then◌else◌, List, Some}
 use Rattle.std.specs.BTreeMap.{insert_entry}
 use Rattle.subs.specs.packet.declared.delivery.Delivery.{Delivery}
-use Rattle.broker_model.specs.session_base.declared.publication.Publication.{Publication}
-use Rattle.broker_model.specs.session_base.Subscriptions.{HeldFilter, with_subscriptions, without_filters}
+use Rattle.broker_spec.specs.session_base.declared.publication.Publication.{Publication}
+use Rattle.broker_spec.specs.session_base.Subscriptions.{HeldFilter, with_subscriptions, without_filters}
 use Rattle.subs.specs.Content.{no_subscriptions, without_client}
 use Rattle.subs.specs.Granted.{Row}
 use Rattle.broker_base.specs.Connection.{ConnectionName}

@@ -2,7 +2,7 @@
 use Rattle.std.specs.Prelude.{ℕ, if◌then◌else◌, List, [], ◌∷◌, filter, bytes_eq, Option, Some, None}
 use Rattle.std.specs.Map.{keys_of}
 use Rattle.subs.specs.packet.declared.qos.QoS.{QoS}
-use Rattle.broker_model.specs.session_base.Subscriptions.{HeldFilter}
+use Rattle.broker_spec.specs.session_base.Subscriptions.{HeldFilter}
 use Rattle.broker_base.specs.Place.{Client}
 use Rattle.broker_base.specs.ClientSession.{ClientSession}
 use Rattle.broker_base.specs.State.{Sessions, session_in}

@@ -15,4 +15,6 @@ pub mod OwnerLaws
 pub mod IndexLaws
 pub mod PublicationLaws
 pub use Rattle.broker_base.specs as broker_base
+pub use Rattle.broker_spec.specs as broker_spec
+pub use Rattle.broker_spec.specs.retained as retained
 pub use Rattle.subs.specs.subs_base as subs_base

@@ -3,7 +3,7 @@
 use Rattle.std.specs.Prelude.{◌≡◌, ℕ, List, Some, None}
 use Rattle.std.specs.BTreeMap.{insert_entry}
 use Rattle.subs.specs.packet.declared.delivery.Delivery.{Delivery}
-use Rattle.broker_model.specs.session_base.declared.publication.Publication.{Publication}
+use Rattle.broker_spec.specs.session_base.declared.publication.Publication.{Publication}
 use Rattle.subs.specs.Granted.{Row}
 use Rattle.broker_base.specs.Connection.{ConnectionName}
 use Rattle.broker_base.specs.Place.{Client, by_bytes}

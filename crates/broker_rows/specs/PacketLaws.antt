@@ -6,12 +6,12 @@ use Rattle.subs.specs.packet.declared.subscribe.Subscribe.{Subscribe}
 use Rattle.subs.specs.packet.declared.publish.Publish.{Publish}
 use Rattle.subs.specs.packet.declared.packet.Packet.{Packet}
 use Rattle.subs.specs.packet.declared.packet.Packet.TheVariants as packets
-use Rattle.broker_model.specs.retained.Retained.{RetainedTopics}
-use Rattle.broker_model.specs.session_base.Identifiers.{without_id}
-use Rattle.broker_model.specs.session_base.Session.{SessionState, with_filters, with_received, with_queue, with_flights}
-use Rattle.broker_model.specs.session_base.Subscriptions.{with_subscriptions, without_filters}
-use Rattle.broker_model.specs.session_base.Queue.{room, on_puback, on_pubrec, on_pubcomp, filled, copies_left}
-use Rattle.broker_model.specs.session_base.Sending.{copies_sent}
+use Rattle.broker_spec.specs.retained.Retained.{RetainedTopics}
+use Rattle.broker_spec.specs.session_base.Identifiers.{without_id}
+use Rattle.broker_spec.specs.session_base.Session.{SessionState, with_filters, with_received, with_queue, with_flights}
+use Rattle.broker_spec.specs.session_base.Subscriptions.{with_subscriptions, without_filters}
+use Rattle.broker_spec.specs.session_base.Queue.{room, on_puback, on_pubrec, on_pubcomp, filled, copies_left}
+use Rattle.broker_spec.specs.session_base.Sending.{copies_sent}
 use Rattle.broker_base.specs.Connection.{ConnectionName}
 use Rattle.broker_base.specs.Place.{Client, Mark, Limits}
 use Rattle.broker_base.specs.Subscriptions.{as_held, granted_of}

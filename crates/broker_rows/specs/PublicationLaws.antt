@@ -2,9 +2,9 @@
 use Rattle.std.specs.Prelude.{◌≡◌, ℕ, List, flat_map}
 use Rattle.std.specs.List.{list_any}
 use Rattle.subs.specs.packet.declared.publish.Publish.{Publish}
-use Rattle.broker_model.specs.retained.Retained.{RetainedTopics}
-use Rattle.broker_model.specs.session_base.declared.publication.Publication.{Publication}
-use Rattle.broker_model.specs.session_base.Publication.{publication_of}
+use Rattle.broker_spec.specs.retained.Retained.{RetainedTopics}
+use Rattle.broker_spec.specs.session_base.declared.publication.Publication.{Publication}
+use Rattle.broker_spec.specs.session_base.Publication.{publication_of}
 use Rattle.subs.specs.Content.{Content}
 use Rattle.subs.specs.Granted.{Row, IsGranted}
 use Rattle.broker_base.specs.Connection.{ConnectionName}

@@ -4,13 +4,13 @@ use Rattle.std.specs.Prelude.{ℕ, Bool, false, ◌&&◌, ◌==◌, List, [], �
 use Rattle.std.specs.List.{fold}
 use Rattle.subs.specs.packet.declared.qos.QoS.{QoS}
 use Rattle.subs.specs.packet.declared.delivery.Delivery.{Delivery}
-use Rattle.broker_model.specs.session_base.declared.publication.Publication.{Publication}
-use Rattle.broker_model.specs.session_base.Publication.{is_answered, lower_qos}
-use Rattle.broker_model.specs.session_base.Queue.{room}
-use Rattle.broker_model.specs.session_base.Session.{with_received, with_queue}
-use Rattle.broker_model.specs.session_base.Sending.{copies_sent}
+use Rattle.broker_spec.specs.session_base.declared.publication.Publication.{Publication}
+use Rattle.broker_spec.specs.session_base.Publication.{is_answered, lower_qos}
+use Rattle.broker_spec.specs.session_base.Queue.{room}
+use Rattle.broker_spec.specs.session_base.Session.{with_received, with_queue}
+use Rattle.broker_spec.specs.session_base.Sending.{copies_sent}
 use Rattle.broker_base.specs.Place.{Client, Limits}
-use Rattle.broker_model.specs.session_base.Subscriptions.{granted_qos}
+use Rattle.broker_spec.specs.session_base.Subscriptions.{granted_qos}
 use Rattle.broker_base.specs.Entries.{copy_of}
 use Rattle.broker_base.specs.Received.{receives}
 use Rattle.broker_base.specs.SessionStep.{copied_queue}

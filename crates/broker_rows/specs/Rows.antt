@@ -6,10 +6,10 @@ use Rattle.subs.specs.packet.declared.qos.QoS.{QoS}
 use Rattle.subs.specs.packet.declared.qos.QoS.TheVariants as levels
 use Rattle.subs.specs.packet.declared.delivery.Delivery.{Delivery}
 use Rattle.subs.specs.packet.declared.delivery.Delivery.TheVariants as deliveries
-use Rattle.broker_model.specs.session_base.declared.publication.Publication.{Publication}
-use Rattle.broker_model.specs.session_base.declared.awaits.Awaits.TheVariants as waits_for
-use Rattle.broker_model.specs.session_base.Subscriptions.{HeldFilter}
-use Rattle.broker_model.specs.session_base.Queue.{Queue, empty_queue}
+use Rattle.broker_spec.specs.session_base.declared.publication.Publication.{Publication}
+use Rattle.broker_spec.specs.session_base.declared.awaits.Awaits.TheVariants as waits_for
+use Rattle.broker_spec.specs.session_base.Subscriptions.{HeldFilter}
+use Rattle.broker_spec.specs.session_base.Queue.{Queue, empty_queue}
 use Rattle.broker_base.specs.Connection.{ConnectionName}
 use Rattle.broker_base.specs.Place.{Client}
 use Rattle.broker_base.specs.ClientSession.{ClientSession}

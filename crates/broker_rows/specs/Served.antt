@@ -1,7 +1,7 @@
 -- A client that is served on a connection, and what a step leaves of its session (MQTT 3.1.2.4,
 -- 4.1).
 use Rattle.std.specs.Prelude.{◌≡◌, if◌then◌else◌, Option, Some, None}
-use Rattle.broker_model.specs.session_base.Session.{SessionState}
+use Rattle.broker_spec.specs.session_base.Session.{SessionState}
 use Rattle.broker_base.specs.Connection.{ConnectionName}
 use Rattle.broker_base.specs.Place.{Client}
 use Rattle.broker_base.specs.ClientSession.{ClientSession}

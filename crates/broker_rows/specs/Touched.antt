@@ -8,8 +8,8 @@ use Rattle.broker_base.specs.Past.{any_connection}
 use Rattle.broker_base.specs.ClientSession.{ClientSession}
 use Rattle.broker_base.specs.State.{Sessions}
 use Rattle.broker_base.specs.Step.{touches}
-use Rattle.broker_model.specs.declared.command.Command.{Command}
-use Rattle.broker_model.specs.declared.command.Command.TheVariants as commands
+use Rattle.broker_spec.specs.declared.command.Command.{Command}
+use Rattle.broker_spec.specs.declared.command.Command.TheVariants as commands
 
 -- the place touches none of these
 abbrev pub Untouched : Place → Sessions → Type 0

@@ -11,6 +11,8 @@ mod packet_laws;
 mod publish_laws;
 mod rows;
 
+pub use broker_spec;
+pub use broker_spec::retained;
 pub use connect_laws::{connect_steps, full_connect_steps, insertion_writes, start_steps};
 pub use copy_laws::{copies_in_parts, subscribes_in_turn};
 pub use expel_laws::expel_steps;

@@ -4,12 +4,12 @@ use Rattle.std.specs.Prelude.{map, not, ◌&&◌, option_map, is_some}
 use Rattle.std.specs.BTreeMap.{insert_entry}
 use Rattle.broker_rows.specs.subs_base.Content.{without_client}
 use Rattle.broker_rows.specs.subs_base.ListIndex.{content_of}
-use Rattle.broker_model.specs.Connection.{ConnectionName}
-use Rattle.broker_model.specs.Place.{Client, by_bytes}
-use Rattle.broker_model.specs.Answers.{closed, welcome, turned_away}
-use Rattle.broker_model.specs.Commands.{usual_limits}
-use Rattle.broker_model.specs.declared.command.Command.TheVariants as commands
-use Rattle.broker_model.specs.declared.command.Output.TheVariants as outputs
+use Rattle.broker_rows.specs.broker_spec.Connection.{ConnectionName}
+use Rattle.broker_rows.specs.broker_spec.Place.{Client, by_bytes}
+use Rattle.broker_rows.specs.broker_spec.Answers.{closed, welcome, turned_away}
+use Rattle.broker_rows.specs.broker_spec.Commands.{usual_limits}
+use Rattle.broker_rows.specs.broker_spec.declared.command.Command.TheVariants as commands
+use Rattle.broker_rows.specs.broker_spec.declared.command.Output.TheVariants as outputs
 use Rattle.broker_rows.specs.broker_base.ClientSession.{ClientSession}
 use Rattle.broker_rows.specs.broker_base.SessionStep.{kept_anew, kept_resumed}
 use Rattle.broker_rows.specs.broker_base.State.{session_in, owner_in}

@@ -3,17 +3,17 @@ use Rattle.std.proofs.Common.{◌≡◌, ◌∙◌, ap, sym, Some, ◌∷◌, Li
 use Rattle.std.specs.Prelude.{map}
 use Rattle.std.specs.BTreeMap.{is_at}
 use Rattle.std.specs.Map.{lookup, set_value}
-use Rattle.packet.specs.declared.subscribe.Subscribe.{Subscribe}
-use Rattle.packet.specs.declared.packet.Packet.TheVariants as packets
-use Rattle.broker_model.specs.session_base.Session.{SessionState}
+use Rattle.session.specs.packet.declared.subscribe.Subscribe.{Subscribe}
+use Rattle.session.specs.packet.declared.packet.Packet.TheVariants as packets
+use Rattle.session.specs.session_base.Session.{SessionState}
 use Rattle.broker_rows.specs.subs_base.ListIndex.{content_of}
-use Rattle.broker_model.specs.Connection.{ConnectionName}
-use Rattle.broker_model.specs.Place.{Client, by_bytes}
-use Rattle.broker_model.specs.Answers.{codes_of}
-use Rattle.broker_model.specs.Commands.{usual_limits}
-use Rattle.broker_model.specs.Subscriptions.{as_held, granted_of}
-use Rattle.broker_model.specs.declared.command.Command.TheVariants as commands
-use Rattle.broker_model.specs.declared.command.Output.TheVariants as outputs
+use Rattle.broker_rows.specs.broker_spec.Connection.{ConnectionName}
+use Rattle.broker_rows.specs.broker_spec.Place.{Client, by_bytes}
+use Rattle.broker_rows.specs.broker_spec.Answers.{codes_of}
+use Rattle.broker_rows.specs.broker_spec.Commands.{usual_limits}
+use Rattle.broker_rows.specs.broker_spec.Subscriptions.{as_held, granted_of}
+use Rattle.broker_rows.specs.broker_spec.declared.command.Command.TheVariants as commands
+use Rattle.broker_rows.specs.broker_spec.declared.command.Output.TheVariants as outputs
 use Rattle.broker_rows.specs.broker_base.ClientSession.{ClientSession}
 use Rattle.broker_rows.specs.broker_base.State.{session_in}
 use Rattle.broker_rows.specs.Served.{IsServed, with_session, holding}

@@ -13,4 +13,7 @@ pub mod Grantings
 pub mod Packets
 pub mod InPairs
 pub mod Commands
-pub use Rattle.broker_rows.proofs.of_subs_tree as of_subs_tree
+pub use Rattle.broker_rows.proofs.of_broker_base as of_broker_base
+pub use Rattle.broker_rows.proofs as of_broker_rows
+pub use Rattle.broker_rows.proofs.of_retained as of_retained
+pub use Rattle.broker_rows.proofs.of_subs as of_subs

@@ -1,12 +1,12 @@
 -- Copies that find room one after another.
 use native.Mathlib.Omega.{arith}
 use Rattle.std.proofs.Common.{◌≡◌, ◌≤◌, ◌+◌, ◌-◌, ◌==◌, ◌&&◌, if◌then◌else◌, ℕ, zero, suc, Bool, true, false, List, [], ◌∷◌, ◌++◌, length, refl, ap, sym, ◌∙◌, append_assoc}
-use Rattle.packet.specs.declared.packet.Packet.{Packet}
-use Rattle.broker_model.specs.session_base.declared.publication.Publication.{Publication}
-use Rattle.broker_model.specs.session_base.Publication.{is_answered}
-use Rattle.broker_model.specs.session_base.Queue.{Queue, copies_left, room}
-use Rattle.broker_model.specs.session_base.Sending.{copies_sent}
-use Rattle.broker_model.specs.Entries.{queued}
+use Rattle.session.specs.packet.declared.packet.Packet.{Packet}
+use Rattle.session.specs.session_base.declared.publication.Publication.{Publication}
+use Rattle.session.specs.session_base.Publication.{is_answered}
+use Rattle.session.specs.session_base.Queue.{Queue, copies_left, room}
+use Rattle.session.specs.session_base.Sending.{copies_sent}
+use Rattle.broker_rows.specs.broker_spec.Entries.{queued}
 use Rattle.broker_rows.proofs.publications.CopiesInParts.{copies_join, copies_take_room}
 
 -- if a copy would be queued and the queue is not full, there is room

@@ -1,9 +1,9 @@
 -- Which Connect continues with a session, and what its client is sent (MQTT 3.1.2.4, 4.4).
 use Rattle.std.specs.Prelude.{ℕ, Bool, false, not, ◌&&◌, List, [], ◌++◌, Option, Some, None, ◌≡◌}
-use Rattle.packet.specs.declared.packet.Packet.{Packet}
-use Rattle.broker_model.specs.session_base.Sending.{fill_sends, resend}
-use Rattle.broker_model.specs.Connection.{ConnectionName}
-use Rattle.broker_model.specs.Place.{Client}
+use Rattle.session.specs.packet.declared.packet.Packet.{Packet}
+use Rattle.session.specs.session_base.Sending.{fill_sends, resend}
+use Rattle.broker_rows.specs.broker_spec.Connection.{ConnectionName}
+use Rattle.broker_rows.specs.broker_spec.Place.{Client}
 use Rattle.broker_rows.specs.broker_base.StepAnswers.{connection_of}
 use Rattle.broker_rows.specs.Owners.{with_owner, without_owner}
 use Rattle.broker_tables.specs.declared.tables.Tables.{Tables}

@@ -1,15 +1,15 @@
 -- Definitions of private calls: the steps of handshakes, and copies of publications.
 use Rattle.std.specs.Prelude.{◌≡◌, ℕ, Bool, true, false, List, [], ◌∷◌}
-use Rattle.packet.specs.declared.qos.QoS.{QoS}
-use Rattle.packet.specs.declared.packet.Packet.{Packet}
-use Rattle.packet.specs.declared.packet.Packet.TheVariants as packets
-use Rattle.broker_model.specs.session_base.declared.publication.Publication.{Publication}
-use Rattle.broker_model.specs.session_base.Publication.{lower_qos}
-use Rattle.broker_model.specs.session_base.Session.{SessionState}
+use Rattle.session.specs.packet.declared.qos.QoS.{QoS}
+use Rattle.session.specs.packet.declared.packet.Packet.{Packet}
+use Rattle.session.specs.packet.declared.packet.Packet.TheVariants as packets
+use Rattle.session.specs.session_base.declared.publication.Publication.{Publication}
+use Rattle.session.specs.session_base.Publication.{lower_qos}
+use Rattle.session.specs.session_base.Session.{SessionState}
 use Rattle.broker_rows.specs.subs_base.ListIndex.{content_of}
 use Rattle.broker_tables.specs.declared.tables.Tables.{Tables}
-use Rattle.broker_model.specs.session_base.Queue.{on_puback, on_pubrec, on_pubcomp}
-use Rattle.broker_model.specs.session_base.Sending.{fill_sends, pubrec_sends}
+use Rattle.session.specs.session_base.Queue.{on_puback, on_pubrec, on_pubcomp}
+use Rattle.session.specs.session_base.Sending.{fill_sends, pubrec_sends}
 
 -- whether a packet is a step of a handshake
 abbrev pub is_handshake : Packet → Bool

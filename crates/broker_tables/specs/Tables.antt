@@ -5,11 +5,11 @@ use Rattle.std.specs.Ordering.{nat_cmp, ordering_then}
 use Rattle.std.specs.BTreeMap.{is_at}
 use Rattle.std.specs.Map.{lookup}
 use Rattle.broker_rows.specs.subs_base.ListIndex.{content_of}
-use Rattle.broker_model.specs.Connection.{ConnectionName}
-use Rattle.broker_model.specs.Place.{Client}
-use Rattle.broker_model.specs.Commands.{usual_limits}
-use Rattle.broker_model.specs.declared.command.Command.{Command}
-use Rattle.broker_model.specs.declared.command.Output.{Output}
+use Rattle.broker_rows.specs.broker_spec.Connection.{ConnectionName}
+use Rattle.broker_rows.specs.broker_spec.Place.{Client}
+use Rattle.broker_rows.specs.broker_spec.Commands.{usual_limits}
+use Rattle.broker_rows.specs.broker_spec.declared.command.Command.{Command}
+use Rattle.broker_rows.specs.broker_spec.declared.command.Output.{Output}
 use Rattle.broker_rows.specs.broker_base.State.{State}
 use Rattle.broker_rows.specs.broker_base.StateLaws.{IsSound}
 use Rattle.broker_rows.specs.broker_base.Step.{step}

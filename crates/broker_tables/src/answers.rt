@@ -2,7 +2,7 @@
 // its sender's session, and answers it.
 
 ghost use Rattle.std.specs.Prelude.{◌≡◌, ◌++◌, OnOk, Some, true};
-ghost use Rattle.broker_model.specs.declared.command.Command.TheVariants as commands;
+ghost use Rattle.broker_rows.specs.broker_spec.declared.command.Command.TheVariants as commands;
 ghost use Rattle.broker_rows.specs.PacketLaws.{handled_state};
 ghost use Rattle.broker_rows.specs.Owners.{owners_in};
 ghost use Rattle.broker_tables.specs.Inside.{is_handshake, handshake_sends};
@@ -10,10 +10,10 @@ ghost use Rattle.broker_tables.specs.Tables.{IsInStep, IsTied, state_in, stepped
 
 use crate::sending::send_all;
 use crate::tables::Tables;
-use broker_model::{ConnectionId, Output, Window};
+use broker_rows::broker_spec::{ConnectionId, Output, Window};
 use machine::Halted;
-use packet::{ClientId, Packet};
 use session::Session;
+use session::packet::{ClientId, Packet};
 
 impl Tables {
     /// Does a step of a handshake of the client that is served on this connection.

@@ -4,7 +4,7 @@ ghost use Rattle.std.specs.Prelude.{◌≡◌, ◌++◌, OnOk};
 ghost use Rattle.broker_tables.specs.Tables.{IsInStep, IsTied, state_in, stepped};
 
 use crate::tables::Tables;
-use broker_model::{Command, Output};
+use broker_rows::broker_spec::{Command, Output};
 use machine::Halted;
 
 impl Tables {

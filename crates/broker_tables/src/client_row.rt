@@ -3,7 +3,7 @@
 ghost use Rattle.std.specs.Prelude.{◌≡◌};
 ghost use Rattle.broker_rows.specs.broker_base.SessionStep.{kept_anew};
 
-use broker_model::ConnectionId;
+use broker_rows::broker_spec::ConnectionId;
 use session::Session;
 use std::alloc::Global;
 use std::marker::Model;

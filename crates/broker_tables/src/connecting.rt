@@ -1,11 +1,11 @@
 // Connect: a client opens a connection (MQTT 3.1).
 
 ghost use Rattle.std.specs.Prelude.{◌≡◌, ◌++◌, [], ◌∷◌, true, false, Some, None, OnOk, IsSome, map};
-ghost use Rattle.broker_model.specs.Answers.{turned_away, closed, welcome};
-ghost use Rattle.broker_model.specs.Connection.{ConnectionName};
-ghost use Rattle.broker_model.specs.Commands.{usual_limits};
-ghost use Rattle.broker_model.specs.declared.command.Command.TheVariants as commands;
-ghost use Rattle.broker_model.specs.declared.command.Output.TheVariants as outputs;
+ghost use Rattle.broker_rows.specs.broker_spec.Answers.{turned_away, closed, welcome};
+ghost use Rattle.broker_rows.specs.broker_spec.Connection.{ConnectionName};
+ghost use Rattle.broker_rows.specs.broker_spec.Commands.{usual_limits};
+ghost use Rattle.broker_rows.specs.broker_spec.declared.command.Command.TheVariants as commands;
+ghost use Rattle.broker_rows.specs.broker_spec.declared.command.Output.TheVariants as outputs;
 ghost use Rattle.broker_rows.specs.broker_base.SessionStep.{kept_resumed};
 ghost use Rattle.broker_rows.specs.broker_base.State.{session_in};
 ghost use Rattle.broker_rows.specs.broker_base.StepAnswers.{connection_of};
@@ -21,10 +21,10 @@ use crate::client_row::ClientRow;
 use crate::limits::MAX_SESSIONS;
 use crate::sending::send_all;
 use crate::tables::Tables;
-use broker_model::{ConnectionId, Output, Window};
+use broker_rows::broker_spec::{ConnectionId, Output, Window};
 use broker_rows::subs::SubIndex;
 use machine::Halted;
-use packet::{ClientId, Connack, Packet, RefusalCode};
+use session::packet::{ClientId, Connack, Packet, RefusalCode};
 use std::collections::BTreeMap;
 
 // What a Connect does on a connection that is no client's current one.

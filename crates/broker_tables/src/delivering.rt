@@ -1,25 +1,25 @@
 // Putting copies of publications into sessions (MQTT 3.3.5, 4.6).
 
 ghost use Rattle.std.specs.Prelude.{◌≡◌, ◌≤◌, ◌++◌, [], ◌∷◌, true, false, Some, OnOk, IfOk};
-ghost use Rattle.packet.specs.declared.packet.Packet.TheVariants as packets;
-ghost use Rattle.broker_model.specs.session_base.Publication.{publish_of, lower_qos, publication_of, is_answered};
-ghost use Rattle.packet.specs.declared.qos.QoS.TheVariants as levels;
-ghost use Rattle.broker_model.specs.session_base.Queue.{copies_left, room};
-ghost use Rattle.broker_model.specs.session_base.Sending.{copies_sent};
-ghost use Rattle.broker_model.specs.session_base.Session.{with_queue};
+ghost use Rattle.session.specs.packet.declared.packet.Packet.TheVariants as packets;
+ghost use Rattle.session.specs.session_base.Publication.{publish_of, lower_qos, publication_of, is_answered};
+ghost use Rattle.session.specs.packet.declared.qos.QoS.TheVariants as levels;
+ghost use Rattle.session.specs.session_base.Queue.{copies_left, room};
+ghost use Rattle.session.specs.session_base.Sending.{copies_sent};
+ghost use Rattle.session.specs.session_base.Session.{with_queue};
 ghost use Rattle.broker_rows.specs.broker_base.SessionStep.{copied_queue};
 ghost use Rattle.broker_rows.specs.broker_base.StepAnswers.{sent_on};
-ghost use Rattle.broker_model.specs.Commands.{usual_limits};
+ghost use Rattle.broker_rows.specs.broker_spec.Commands.{usual_limits};
 ghost use Rattle.broker_rows.specs.Published.{delivered_on, is_full_at};
 ghost use Rattle.broker_tables.specs.Inside.{lowered};
 
 use crate::client_row::ClientRow;
 use crate::sending::send_all;
-use broker_model::session_base::Publication;
-use broker_model::{Output, Window};
+use broker_rows::broker_spec::{Output, Window};
 use machine::Halted;
-use packet::{Delivery, Packet, Publish, QoS};
 use session::Session;
+use session::packet::{Delivery, Packet, Publish, QoS};
+use session::session_base::Publication;
 use std::alloc::AllocError;
 
 /// Returns what a PUBLISH carries.

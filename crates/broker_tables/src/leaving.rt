@@ -2,12 +2,12 @@
 // 4.8).
 
 ghost use Rattle.std.specs.Prelude.{◌≡◌, ◌++◌, [], ◌∷◌, OnOk};
-ghost use Rattle.broker_model.specs.declared.command.Command.TheVariants as commands;
-ghost use Rattle.broker_model.specs.declared.command.Output.TheVariants as outputs;
+ghost use Rattle.broker_rows.specs.broker_spec.declared.command.Command.TheVariants as commands;
+ghost use Rattle.broker_rows.specs.broker_spec.declared.command.Output.TheVariants as outputs;
 ghost use Rattle.broker_tables.specs.Tables.{IsInStep, IsTied, state_in, stepped};
 
 use crate::tables::Tables;
-use broker_model::{ConnectionId, Output};
+use broker_rows::broker_spec::{ConnectionId, Output};
 use broker_rows::subs::SubIndex;
 use machine::Halted;
 

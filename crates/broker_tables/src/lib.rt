@@ -18,7 +18,7 @@ mod subscribing;
 mod tables;
 mod unsubscribing;
 
-pub use broker_rows::subs;
+pub use broker_rows::{broker_spec, retained, subs};
 pub use client_row::ClientRow;
 pub use limits::{MAX_SESSIONS, MAX_SUBSCRIPTIONS};
 pub use machine;

@@ -2,15 +2,15 @@
 
 ghost use Rattle.std.specs.Prelude.{◌≡◌, ◌++◌, false, Some, OnOk, IfOk, IfSome};
 ghost use Rattle.std.specs.List.{list_any};
-ghost use Rattle.packet.specs.declared.packet.Packet.TheVariants as packets;
-ghost use Rattle.broker_model.specs.declared.command.Command.TheVariants as commands;
+ghost use Rattle.session.specs.packet.declared.packet.Packet.TheVariants as packets;
+ghost use Rattle.broker_rows.specs.broker_spec.declared.command.Command.TheVariants as commands;
 ghost use Rattle.broker_rows.specs.Owners.{owners_in};
 ghost use Rattle.broker_rows.specs.PublishLaws.{is_refused_in, HaveRoomInTurn};
 ghost use Rattle.broker_tables.specs.Tables.{IsInStep, IsTied, state_in, stepped};
 ghost use Rattle.broker_tables.specs.Inside.{HasOthersOf};
-ghost use Rattle.broker_model.specs.Answers.{acknowledged};
-ghost use Rattle.broker_model.specs.Commands.{usual_limits};
-ghost use Rattle.broker_model.specs.Retained.{retains};
+ghost use Rattle.broker_rows.specs.broker_spec.Answers.{acknowledged};
+ghost use Rattle.broker_rows.specs.broker_spec.Commands.{usual_limits};
+ghost use Rattle.broker_rows.specs.broker_spec.Retained.{retains};
 ghost use Rattle.broker_rows.specs.broker_base.Decisions.{is_again, is_one_topic_over};
 ghost use Rattle.broker_rows.specs.broker_base.State.{session_in};
 ghost use Rattle.broker_rows.specs.Published.{is_full_at, all_delivered, answered_in_turn, changed, copy_answered, delivered_on, granted_rows, received_on};
@@ -18,15 +18,15 @@ ghost use Rattle.broker_rows.specs.Published.{is_full_at, all_delivered, answere
 use crate::client_row::ClientRow;
 use crate::delivering::{deliver, lower, publication_of};
 use crate::tables::Tables;
-use broker_model::retained::{RetainedPublication, RetainedStore};
-use broker_model::session_base::Publication;
-use broker_model::{ConnectionId, Output, Window};
+use broker_rows::broker_spec::{ConnectionId, Output, Window};
+use broker_rows::retained::{RetainedPublication, RetainedStore};
 use broker_rows::subs::SubIndex;
 use machine::Halted;
-use packet::{ClientId, Delivery, Packet, Publish, QoS};
+use session::packet::{ClientId, Delivery, Packet, Publish, QoS};
+use session::session_base::Publication;
+use session::topics::TopicName;
 use std::alloc::AllocError;
 use std::collections::BTreeMap;
-use topics::TopicName;
 
 impl Tables {
     /// Does a PUBLISH of the client that is served on this connection: a repeat is answered once

@@ -1,20 +1,20 @@
 // What a subscriber is sent of the retained publications (MQTT 3.3.1.3, 3.8.4).
 
 ghost use Rattle.std.specs.Prelude.{◌≡◌, ◌≤◌, ◌++◌, length, OnOk, IfOk};
-ghost use Rattle.broker_model.specs.session_base.Queue.{copies_left, room};
-ghost use Rattle.broker_model.specs.session_base.Sending.{copies_sent};
-ghost use Rattle.broker_model.specs.session_base.Session.{with_queue};
-ghost use Rattle.broker_model.specs.Entries.{copies_for, queued, retained_copy};
+ghost use Rattle.session.specs.session_base.Queue.{copies_left, room};
+ghost use Rattle.session.specs.session_base.Sending.{copies_sent};
+ghost use Rattle.session.specs.session_base.Session.{with_queue};
+ghost use Rattle.broker_rows.specs.broker_spec.Entries.{copies_for, queued, retained_copy};
 
 use crate::delivering::{lower, take_copy};
-use broker_model::Window;
-use broker_model::retained::{RetainedPublication, RetainedStore};
-use broker_model::session_base::Publication;
+use broker_rows::broker_spec::Window;
+use broker_rows::retained::{RetainedPublication, RetainedStore};
 use machine::Halted;
-use packet::{Packet, QoS, Subscription};
 use session::Session;
+use session::packet::{Packet, QoS, Subscription};
+use session::session_base::Publication;
+use session::topics::TopicName;
 use std::alloc::{AllocError, Global};
-use topics::TopicName;
 
 // Returns a copy of a retained publication, with RETAIN 1, at the lower of its QoS and the one that
 // is asked for.

@@ -1,11 +1,11 @@
 // Packets as outputs.
 
 ghost use Rattle.std.specs.Prelude.{◌≡◌, ◌++◌, OnOk, map};
-ghost use Rattle.broker_model.specs.declared.command.Output.TheVariants as outputs;
+ghost use Rattle.broker_rows.specs.broker_spec.declared.command.Output.TheVariants as outputs;
 
-use broker_model::{ConnectionId, Output};
+use broker_rows::broker_spec::{ConnectionId, Output};
 use machine::Halted;
-use packet::Packet;
+use session::packet::Packet;
 
 /// Appends the sending of packets on a connection, in order.
 pub(crate) fn send_all(

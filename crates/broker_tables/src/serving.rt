@@ -1,15 +1,15 @@
 // Packets, and the clients that are served on the connections on which they come.
 
 ghost use Rattle.std.specs.Prelude.{◌≡◌, ◌++◌, Some, IfOk, OnOk};
-ghost use Rattle.broker_model.specs.declared.command.Command.TheVariants as commands;
+ghost use Rattle.broker_rows.specs.broker_spec.declared.command.Command.TheVariants as commands;
 ghost use Rattle.broker_rows.specs.Owners.{owners_in};
 ghost use Rattle.broker_tables.specs.Inside.{is_handshake, is_violation};
 ghost use Rattle.broker_tables.specs.Tables.{IsInStep, IsTied, state_in, stepped};
 
 use crate::tables::Tables;
-use broker_model::{ConnectionId, Output};
+use broker_rows::broker_spec::{ConnectionId, Output};
 use machine::Halted;
-use packet::{ClientId, Packet};
+use session::packet::{ClientId, Packet};
 use std::alloc::AllocError;
 
 impl Tables {

@@ -2,7 +2,7 @@
 
 ghost use Rattle.std.specs.Prelude.{◌≡◌, Some, None, if◌then◌else◌};
 ghost use Rattle.broker_rows.specs.subs_base.ListIndex.{content_of};
-ghost use Rattle.broker_model.specs.declared.command.Command.TheVariants as commands;
+ghost use Rattle.broker_rows.specs.broker_spec.declared.command.Command.TheVariants as commands;
 ghost use Rattle.broker_rows.specs.Indexed.{all_dropped, clean_clients};
 ghost use Rattle.broker_rows.specs.ConnectLaws.{all_left_off};
 ghost use Rattle.broker_rows.specs.Served.{left_off};
@@ -10,9 +10,9 @@ ghost use Rattle.broker_tables.specs.Tables.{IsInStep, IsTied, state_in, stepped
 
 use crate::client_row::ClientRow;
 use crate::tables::Tables;
-use broker_model::Window;
+use broker_rows::broker_spec::Window;
 use broker_rows::subs::{SubIndex, TreeIndex};
-use packet::ClientId;
+use session::packet::ClientId;
 use std::collections::BTreeMap;
 
 impl Tables {

@@ -1,13 +1,13 @@
 // SUBSCRIBE: a client subscribes (MQTT 3.8).
 
 ghost use Rattle.std.specs.Prelude.{◌≡◌, ◌++◌, Some, OnOk, IfOk, map};
-ghost use Rattle.packet.specs.declared.packet.Packet.TheVariants as packets;
+ghost use Rattle.session.specs.packet.declared.packet.Packet.TheVariants as packets;
 ghost use Rattle.broker_rows.specs.subs_base.ListIndex.{content_of};
-ghost use Rattle.broker_model.specs.Answers.{codes_of};
-ghost use Rattle.broker_model.specs.Commands.{usual_limits};
-ghost use Rattle.broker_model.specs.Marks.{is_one_too_many};
-ghost use Rattle.broker_model.specs.Subscriptions.{as_held, granted_of};
-ghost use Rattle.broker_model.specs.declared.command.Command.TheVariants as commands;
+ghost use Rattle.broker_rows.specs.broker_spec.Answers.{codes_of};
+ghost use Rattle.broker_rows.specs.broker_spec.Commands.{usual_limits};
+ghost use Rattle.broker_rows.specs.broker_spec.Marks.{is_one_too_many};
+ghost use Rattle.broker_rows.specs.broker_spec.Subscriptions.{as_held, granted_of};
+ghost use Rattle.broker_rows.specs.broker_spec.declared.command.Command.TheVariants as commands;
 ghost use Rattle.broker_rows.specs.CopyLaws.{is_granted_in, subscribed_by, sent_by, granted_in_turn, subscribed_in_turn, sent_in_turn};
 ghost use Rattle.broker_rows.specs.Indexed.{all_set};
 ghost use Rattle.broker_rows.specs.Owners.{owners_in};
@@ -17,12 +17,12 @@ use crate::limits::MAX_SUBSCRIPTIONS;
 use crate::retained_copies::{copies_for, queued, take_copies};
 use crate::sending::send_all;
 use crate::tables::Tables;
-use broker_model::retained::RetainedStore;
-use broker_model::{ConnectionId, Output, Window};
+use broker_rows::broker_spec::{ConnectionId, Output, Window};
+use broker_rows::retained::RetainedStore;
 use broker_rows::subs::{SubIndex, TreeIndex};
 use machine::Halted;
-use packet::{ClientId, Packet, PacketList, Suback, SubackCode, Subscribe, Subscription};
 use session::Session;
+use session::packet::{ClientId, Packet, PacketList, Suback, SubackCode, Subscribe, Subscription};
 use std::alloc::{AllocError, Global};
 
 impl Tables {

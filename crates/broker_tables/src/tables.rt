@@ -5,10 +5,10 @@ ghost use Rattle.broker_rows.specs.broker_base.State.{empty_state};
 ghost use Rattle.broker_tables.specs.Tables.{IsTied, state_in};
 
 use crate::client_row::ClientRow;
-use broker_model::retained::RetainedStore;
-use broker_model::{ConnectionId, Window};
+use broker_rows::broker_spec::{ConnectionId, Window};
+use broker_rows::retained::RetainedStore;
 use broker_rows::subs::{SubIndex, TreeIndex};
-use packet::ClientId;
+use session::packet::ClientId;
 use std::alloc::Global;
 use std::collections::BTreeMap;
 

@@ -5,7 +5,7 @@ use crate::tests::forms::Step;
 use crate::tests::queues::{Part, other_part};
 use crate::tests::{forms, windows};
 use broker::BrokerMachine;
-use machine::Machine;
+use broker::machine::Machine;
 use std::alloc::Global;
 
 /// The broker with which a story begins.

@@ -17,5 +17,10 @@ pub use Rattle.client_base.specs.Written
 pub use Rattle.client_base.specs.Handled
 pub use Rattle.client_base.specs.Called
 pub use Rattle.client_base.specs.History
+pub use Rattle.client_base.specs as client_base
 pub use Rattle.cutter.specs as cutter
-pub use Rattle.packet.specs as packet
+pub use Rattle.client_base.specs.lists as lists
+pub use Rattle.cutter.specs.packet as packet
+pub use Rattle.cutter.specs.packet_base as packet_base
+pub use Rattle.client_base.specs.session_base as session_base
+pub use Rattle.cutter.specs.topics as topics

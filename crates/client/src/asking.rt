@@ -1,8 +1,8 @@
 // Requests of a client (MQTT 3.8, 3.10).
 
 ghost use Rattle.std.specs.Prelude.{◌≡◌, [], ◌∷◌, IfOk, OnOk, OnErr, IsErrOf};
-ghost use Rattle.packet.specs.Spelling.{AppendsSpelling};
-ghost use Rattle.packet.specs.declared.packet.Packet.TheVariants as packets;
+ghost use Rattle.cutter.specs.packet.Spelling.{AppendsSpelling};
+ghost use Rattle.cutter.specs.packet.declared.packet.Packet.TheVariants as packets;
 ghost use Rattle.client_base.specs.Steps.{Call, keeper_step};
 ghost use Rattle.client.specs.Core.{Does};
 ghost use Rattle.client.specs.Inside.Ids.{RequestId};
@@ -10,9 +10,9 @@ ghost use Rattle.client.specs.Inside.Ids.{RequestId};
 use crate::client_core::ClientCore;
 use crate::writing::write;
 use client_base::{ClientError, Request, Stage};
-use packet::{Packet, PacketId, PacketList, QoS, Subscribe, Subscription, Unsubscribe};
+use cutter::packet::{Packet, PacketId, PacketList, QoS, Subscribe, Subscription, Unsubscribe};
+use cutter::topics::Filter;
 use std::alloc::Global;
-use topics::Filter;
 
 impl ClientCore {
     /// Subscribes to a filter, at most at this QoS. `NotActive` comes exactly if the client is

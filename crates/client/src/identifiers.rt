@@ -2,16 +2,16 @@
 
 ghost use Rattle.std.specs.Prelude.{◌≡◌, ◌==◌, filter, not, IfSome, IsSome, IsTrue, ◌↔◌};
 ghost use Rattle.std.specs.List.{list_any};
-ghost use Rattle.session_base.specs.lists.Lists.{has_id};
+ghost use Rattle.client_base.specs.lists.Lists.{has_id};
 ghost use Rattle.client_base.specs.State.{id_of_request, used_ids};
 ghost use Rattle.client_base.specs.Answered.{awaits_puback, awaits_pubrec, is_subscribe, is_unsubscribe};
-ghost use Rattle.session_base.specs.Identifiers.{without_id};
+ghost use Rattle.client_base.specs.session_base.Identifiers.{without_id};
 ghost use Rattle.client_base.specs.Calls.{next_id, has_free_id};
 
 use crate::client_core::ClientCore;
+use client_base::session_base::fill_takes_what_waits;
 use client_base::{KeptPublication, Request};
-use packet::{PacketId, QoS};
-use session_base::fill_takes_what_waits;
+use cutter::packet::{PacketId, QoS};
 
 impl ClientCore {
     // Returns the least identifier that no publication and no request has.

@@ -1,10 +1,10 @@
 // Publications of a client (MQTT 3.3, 4.3).
 
 ghost use Rattle.std.specs.Prelude.{◌≡◌, false, true, IfOk};
-ghost use Rattle.packet.specs.declared.delivery.Delivery.TheVariants as deliveries;
-ghost use Rattle.packet.specs.declared.packet.Packet.TheVariants as packets;
-ghost use Rattle.packet.specs.declared.qos.QoS.TheVariants as levels;
-ghost use Rattle.session_base.specs.Publication.{is_answered};
+ghost use Rattle.cutter.specs.packet.declared.delivery.Delivery.TheVariants as deliveries;
+ghost use Rattle.cutter.specs.packet.declared.packet.Packet.TheVariants as packets;
+ghost use Rattle.cutter.specs.packet.declared.qos.QoS.TheVariants as levels;
+ghost use Rattle.client_base.specs.session_base.Publication.{is_answered};
 ghost use Rattle.client_base.specs.State.{publish_kept};
 ghost use Rattle.client_base.specs.Calls.{is_over_limit};
 ghost use Rattle.client_base.specs.Steps.{Call, keeper_step};
@@ -14,11 +14,11 @@ ghost use Rattle.client.specs.Inside.Turns.{keeping, sending};
 
 use crate::client_core::ClientCore;
 use crate::writing::{publish_again, write, write_publish};
+use client_base::session_base::Publication;
 use client_base::{ClientError, KeptPublication, Stage};
-use packet::{Delivery, Packet, PacketId, Payload, Publish, QoS};
-use session_base::Publication;
+use cutter::packet::{Delivery, Packet, PacketId, Payload, Publish, QoS};
+use cutter::topics::TopicName;
 use std::alloc::AllocError;
-use topics::TopicName;
 
 /// The most publications that are kept.
 const WINDOW: usize = 64;

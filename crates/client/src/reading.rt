@@ -8,7 +8,7 @@ ghost use Rattle.client.specs.Inside.Turns.{Tries, ReadsOne, TakesIn, TakesNext,
 use crate::client_core::ClientCore;
 use client_base::{ClientError, Stage};
 use cutter::CutError;
-use packet::{Connack, DecodeFault, Packet};
+use cutter::packet::{Connack, DecodeFault, Packet};
 
 impl ClientCore {
     /// Takes the next bytes from the server, in pieces of any size, and handles each whole packet.

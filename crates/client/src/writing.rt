@@ -1,14 +1,14 @@
 // Packets that a client writes.
 
 ghost use Rattle.std.specs.Prelude.{◌≡◌, false, map, IfOk, OnOk, OnErr, IsErrOf};
-ghost use Rattle.packet.specs.Spelling.{IsListed, AppendsSpelling};
-ghost use Rattle.packet.specs.declared.packet.Packet.TheVariants as packets;
-ghost use Rattle.session_base.specs.Publication.{delivery_at};
+ghost use Rattle.cutter.specs.packet.Spelling.{IsListed, AppendsSpelling};
+ghost use Rattle.cutter.specs.packet.declared.packet.Packet.TheVariants as packets;
+ghost use Rattle.client_base.specs.session_base.Publication.{delivery_at};
 ghost use Rattle.client_base.specs.State.{publish_kept};
 ghost use Rattle.client.specs.Core.{AppendsAll};
 
 use client_base::{ClientError, KeptPublication};
-use packet::{ClientId, Connect, Delivery, Packet, PacketId, Publish, QoS, encode};
+use cutter::packet::{ClientId, Connect, Delivery, Packet, PacketId, Publish, QoS, encode};
 use std::alloc::AllocError;
 
 // Appends a packet to what is written. The callers ensure that it is not over the size limit.

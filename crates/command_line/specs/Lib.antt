@@ -2,3 +2,5 @@ pub mod Program
 pub mod Jobs
 pub mod Tables
 pub mod Inside
+pub use Rattle.packet.specs as packet
+pub use Rattle.packet.specs.topics as topics

@@ -42,7 +42,7 @@ module _ {T : Type 0} where
   abbrev pub HandsSo : (T → List ℕ → Handed → T → Type 0) → Flow → T → List ℕ → T → Type 0
   HandsSo hands flows.Open before bytes behind = hands before bytes answers.Open behind
   HandsSo hands flows.Closed before bytes behind = hands before bytes answers.Closed behind
-  HandsSo hands flows.Late before bytes behind = HandsAny hands before bytes behind
+  HandsSo hands flows.Blocked before bytes behind = HandsAny hands before bytes behind
   HandsSo hands flows.Stopped before bytes behind = HandsAny hands before bytes behind
   HandsSo hands flows.Fault before bytes behind = HandsAny hands before bytes behind
 
@@ -51,7 +51,7 @@ module _ {T : Type 0} where
 abbrev pub RestsSo : Flow → List ℕ → Type 0
 RestsSo flows.Open rest = rest ≡ []
 RestsSo flows.Closed rest = rest ≡ []
-RestsSo flows.Late rest = 0 < length rest
+RestsSo flows.Blocked rest = 0 < length rest
 RestsSo flows.Stopped rest = Unit {0}
 RestsSo flows.Fault rest = 0 < length rest
 

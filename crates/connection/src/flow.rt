@@ -20,7 +20,7 @@ pub enum Flow {
     /// All was written, and nothing more comes.
     Closed,
     /// The device was full, and something is left.
-    Late,
+    Blocked,
     /// The device takes nothing more, and no call failed; or memory ran out.
     Stopped,
     /// A call of the device failed.
@@ -45,7 +45,7 @@ pub fn write_out<R: Wait, T: Tap, O: Outlet<T>, W: Write>(
 {
     match left.write(device) {
         Wrote::Whole => {}
-        Wrote::Full => return Flow::Late,
+        Wrote::Full => return Flow::Blocked,
         Wrote::Stopped => return Flow::Stopped,
         Wrote::Fault => return Flow::Fault,
     }
@@ -57,7 +57,7 @@ pub fn write_out<R: Wait, T: Tap, O: Outlet<T>, W: Write>(
             Handed::Open => Flow::Open,
             Handed::Closed => Flow::Closed,
         },
-        Wrote::Full => Flow::Late,
+        Wrote::Full => Flow::Blocked,
         Wrote::Stopped => Flow::Stopped,
         Wrote::Fault => Flow::Fault,
     }

@@ -1,4 +1,7 @@
 pub mod OneWay
 pub mod Taking
 pub mod EveryStream
+pub mod PacketsComeOut
+mod Spelled
 pub use Rattle.packet.proofs as of_packet
+pub use Rattle.packet.proofs.of_packet_base as of_packet_base

@@ -1,4 +1,7 @@
 pub mod Stream
 pub mod Laws
 pub mod Numbers
+pub mod Pipe
 pub use Rattle.packet.specs as packet
+pub use Rattle.packet.specs.packet_base as packet_base
+pub use Rattle.packet.specs.topics as topics

@@ -3,9 +3,16 @@
 
 mod cutting;
 mod error;
+mod holding;
 mod laws;
+mod pipes_laws;
 
 pub use cutting::Cutter;
 pub use error::CutError;
+pub use holding::Piece;
 pub use laws::{every_stream_is_cut, no_packet_is_left, one_cut, packets_of_the_stream};
+pub use machine;
+pub use machine::Memory;
 pub use packet;
+pub use packet::{packet_base, topics};
+pub use pipes_laws::pipes_are_in_order;

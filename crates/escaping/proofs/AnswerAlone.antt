@@ -4,36 +4,36 @@ use Rattle.std.proofs.Common.{◌≡◌, ◌<◌, ◌≤◌, ℕ, zero, suc, Boo
 use Rattle.std.specs.Prelude.{nat_lt}
 use Rattle.std.specs.List.{find, fold}
 use Rattle.std.proofs.lemmas.Bool.{and_parts}
-use Rattle.lists.specs.Lists.{IsPrefixOf}
-use Rattle.lists.proofs.Beginnings.{prefix_then}
-use Rattle.packet.specs.RefusalCode.{RefusalCode}
-use Rattle.packet.specs.Spelling.{spelling}
-use Rattle.packet.specs.Stop.{Stop}
-use Rattle.packet.specs.Stop.TheVariants as stops
-use Rattle.packet.specs.declared.connack.Connack.TheVariants as connacks
-use Rattle.packet.specs.declared.connect.Connect.{Connect}
-use Rattle.packet.specs.declared.packet.Packet.{Packet}
-use Rattle.packet.specs.declared.packet.Packet.TheVariants as packets
-use Rattle.packet.specs.Verdict.{verdict}
-use Rattle.ballot.specs.Effect.{Effect}
-use Rattle.ballot.specs.Effect.TheVariants.{Out}
-use Rattle.ballot.specs.Logs.{places}
-use Rattle.ballot.specs.Serving.{most_places, proposed}
-use Rattle.model.specs.broker_base.Command.{Command}
-use Rattle.model.specs.broker_base.Command.TheVariants as commands
-use Rattle.model.specs.broker_base.Connection.{ConnectionName}
-use Rattle.model.specs.broker_base.Output.{Output}
-use Rattle.model.specs.broker_base.Output.TheVariants as outputs
-use Rattle.group_model.specs.world_base.declared.Connection.{Connection}
-use Rattle.group_model.specs.world_base.declared.item.Item.TheVariants.{Bytes}
-use Rattle.group_model.specs.world_base.declared.Port.{Port}
-use Rattle.group_model.specs.world_base.Connections.{asked, changed, closed, holding, is_at, is_first, is_open_at, is_open_named, is_over, is_proposed, left_with, most_pending}
-use Rattle.group_model.specs.world_base.Core.{CoreState, Turn, rules, serves}
-use Rattle.group_model.specs.world_base.Handing.{listed_at}
-use Rattle.group_model.specs.world_base.Reading.{begins, changes, loses, open_at, reads, reads_all, reads_next, reads_of, refused, says, unread_of}
-use Rattle.group_model.specs.world_base.Step.{node_step}
-use Rattle.group_model.specs.world_base.Turns.{has_room, moved, proposes, quiet, repeated, served}
-use Rattle.group_model.proofs.of_node_model.Views.{found_passes}
+use Rattle.packet_world.specs.lists.Lists.{IsPrefixOf}
+use Rattle.packet_world.proofs.of_lists.Beginnings.{prefix_then}
+use Rattle.packet_world.specs.packet.RefusalCode.{RefusalCode}
+use Rattle.packet_world.specs.packet.Spelling.{spelling}
+use Rattle.packet_world.specs.packet.Stop.{Stop}
+use Rattle.packet_world.specs.packet.Stop.TheVariants as stops
+use Rattle.packet_world.specs.packet.declared.connack.Connack.TheVariants as connacks
+use Rattle.packet_world.specs.packet.declared.connect.Connect.{Connect}
+use Rattle.packet_world.specs.packet.declared.packet.Packet.{Packet}
+use Rattle.packet_world.specs.packet.declared.packet.Packet.TheVariants as packets
+use Rattle.packet_world.specs.packet.Verdict.{verdict}
+use Rattle.node_moves.specs.ballot.Effect.{Effect}
+use Rattle.node_moves.specs.ballot.Effect.TheVariants.{Out}
+use Rattle.node_moves.specs.ballot.Logs.{places}
+use Rattle.node_moves.specs.ballot.Serving.{most_places, proposed}
+use Rattle.packet_world.specs.broker_base.Command.{Command}
+use Rattle.packet_world.specs.broker_base.Command.TheVariants as commands
+use Rattle.packet_world.specs.broker_base.Connection.{ConnectionName}
+use Rattle.packet_world.specs.broker_base.Output.{Output}
+use Rattle.packet_world.specs.broker_base.Output.TheVariants as outputs
+use Rattle.node_moves.specs.world_base.declared.Connection.{Connection}
+use Rattle.node_moves.specs.world_base.declared.item.Item.TheVariants.{Bytes}
+use Rattle.node_moves.specs.world_base.declared.Port.{Port}
+use Rattle.node_moves.specs.world_base.Connections.{asked, changed, closed, holding, is_at, is_first, is_open_at, is_open_named, is_over, is_proposed, left_with, most_pending}
+use Rattle.node_moves.specs.world_base.Core.{CoreState, Turn, rules, serves}
+use Rattle.node_moves.specs.world_base.Handing.{listed_at}
+use Rattle.node_moves.specs.world_base.Reading.{begins, changes, loses, open_at, reads, reads_all, reads_next, reads_of, refused, says, unread_of}
+use Rattle.node_moves.specs.world_base.Step.{node_step}
+use Rattle.node_moves.specs.world_base.Turns.{has_room, moved, proposes, quiet, repeated, served}
+use Rattle.node_moves.proofs.Views.{found_passes}
 use Rattle.escaping.specs.Answering.{AnswerAloneIsPutOut, PutsOutFirst}
 use Rattle.escaping.specs.Asking.{asked_now, proposal_at}
 use Rattle.escaping.proofs.AnswerPutOut.{FrontOf, Keeps, closed_keeps, first_put, found_both, front_acted, front_changed, front_delivered, front_proposed}

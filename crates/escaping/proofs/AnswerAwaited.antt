@@ -3,17 +3,17 @@ use Rattle.std.proofs.Common.{◌≡◌, ℕ, Bool, true, false, if◌then◌els
 use Rattle.std.specs.Prelude.{◌&&◌, ◌||◌, ◌==◌}
 use Rattle.std.specs.List.{find, list_any}
 use Rattle.std.proofs.lemmas.Bool.{and_parts, and_right, eq-eqb, or_parts}
-use Rattle.ballot.specs.Replica.{is_active}
-use Rattle.model.specs.broker_base.Connection.{ConnectionName, same_connection}
-use Rattle.group_model.specs.world_base.declared.Connection.{Connection}
-use Rattle.group_model.specs.world_base.declared.item.Item.TheVariants.{Peer}
-use Rattle.group_model.specs.world_base.declared.Port.{Port}
-use Rattle.group_model.specs.world_base.Connections.{changed, closed, fresh, handed, is_at, is_listed, is_open_at, is_open_named, is_over}
-use Rattle.group_model.specs.world_base.Core.{CoreState, Turn, serves}
-use Rattle.group_model.specs.world_base.Failing.{loses_all_failed}
-use Rattle.group_model.specs.world_base.Handing.{hands_over, left_by, listed_at}
-use Rattle.group_model.specs.world_base.Step.{node_step, settled}
-use Rattle.group_model.proofs.of_node_model.Views.{found_passes}
+use Rattle.node_moves.specs.ballot.Replica.{is_active}
+use Rattle.packet_world.specs.broker_base.Connection.{ConnectionName, same_connection}
+use Rattle.node_moves.specs.world_base.declared.Connection.{Connection}
+use Rattle.node_moves.specs.world_base.declared.item.Item.TheVariants.{Peer}
+use Rattle.node_moves.specs.world_base.declared.Port.{Port}
+use Rattle.node_moves.specs.world_base.Connections.{changed, closed, fresh, handed, is_at, is_listed, is_open_at, is_open_named, is_over}
+use Rattle.node_moves.specs.world_base.Core.{CoreState, Turn, serves}
+use Rattle.node_moves.specs.world_base.Failing.{loses_all_failed}
+use Rattle.node_moves.specs.world_base.Handing.{hands_over, left_by, listed_at}
+use Rattle.node_moves.specs.world_base.Step.{node_step, settled}
+use Rattle.node_moves.proofs.Views.{found_passes}
 use Rattle.escaping.specs.Delivery.{heard_by}
 use Rattle.escaping.specs.Asking.{asked_now, proposal_at}
 use Rattle.escaping.specs.Opening.{first_name}

@@ -3,29 +3,29 @@ use Rattle.std.proofs.Common.{◌≡◌, ◌<◌, ◌≤◌, ◌+◌, ℕ, zero,
 use Rattle.std.specs.Prelude.{◌==◌, nat_le}
 use Rattle.std.specs.List.{find, fold}
 use Rattle.std.proofs.lemmas.Bool.{both_ways, le-leb, ne_eqb}
-use Rattle.lists.specs.Lists.{IsPrefixOf}
-use Rattle.lists.proofs.Beginnings.{prefix_length, prefix_same, prefix_then}
-use Rattle.packet.specs.declared.packet.Packet.{Packet}
-use Rattle.packet.specs.Spelling.{spelling}
-use Rattle.ballot.specs.Effect.{Effect}
-use Rattle.ballot.specs.Effect.TheVariants.{To, Out}
-use Rattle.ballot.specs.Protocol.Input.{Receives}
-use Rattle.ballot.specs.Serving.{proposed}
-use Rattle.model.specs.broker_base.Command.{Command}
-use Rattle.model.specs.broker_base.Command.TheVariants as commands
-use Rattle.model.specs.broker_base.Connection.{ConnectionName}
-use Rattle.model.specs.broker_base.Output.{Output}
-use Rattle.model.specs.broker_base.Output.TheVariants as outputs
-use Rattle.group_model.specs.world_base.declared.Connection.{Connection}
-use Rattle.group_model.specs.world_base.declared.item.Item.TheVariants.{Peer}
-use Rattle.group_model.specs.world_base.declared.Port.{Port}
-use Rattle.group_model.specs.world_base.Connections.{changed, closed, failing, has_failed, is_at, is_listed, is_open_named, is_over, most_pending, put_out, putting}
-use Rattle.group_model.specs.world_base.Core.{CoreState, Turn, rules, serves}
-use Rattle.group_model.specs.world_base.Failing.{closes_failed, loses_all_failed, loses_failed, loses_if}
-use Rattle.group_model.specs.world_base.Handing.{listed_at}
-use Rattle.group_model.specs.world_base.Step.{node_step, settled}
-use Rattle.group_model.specs.world_base.Turns.{changes_named, drives, moved, proposes, quiet, repeated, served, served_by}
-use Rattle.group_model.proofs.of_node_model.Views.{found_passes}
+use Rattle.packet_world.specs.lists.Lists.{IsPrefixOf}
+use Rattle.packet_world.proofs.of_lists.Beginnings.{prefix_length, prefix_same, prefix_then}
+use Rattle.packet_world.specs.packet.declared.packet.Packet.{Packet}
+use Rattle.packet_world.specs.packet.Spelling.{spelling}
+use Rattle.node_moves.specs.ballot.Effect.{Effect}
+use Rattle.node_moves.specs.ballot.Effect.TheVariants.{To, Out}
+use Rattle.node_moves.specs.ballot.Protocol.Input.{Receives}
+use Rattle.node_moves.specs.ballot.Serving.{proposed}
+use Rattle.packet_world.specs.broker_base.Command.{Command}
+use Rattle.packet_world.specs.broker_base.Command.TheVariants as commands
+use Rattle.packet_world.specs.broker_base.Connection.{ConnectionName}
+use Rattle.packet_world.specs.broker_base.Output.{Output}
+use Rattle.packet_world.specs.broker_base.Output.TheVariants as outputs
+use Rattle.node_moves.specs.world_base.declared.Connection.{Connection}
+use Rattle.node_moves.specs.world_base.declared.item.Item.TheVariants.{Peer}
+use Rattle.node_moves.specs.world_base.declared.Port.{Port}
+use Rattle.node_moves.specs.world_base.Connections.{changed, closed, failing, has_failed, is_at, is_listed, is_open_named, is_over, most_pending, put_out, putting}
+use Rattle.node_moves.specs.world_base.Core.{CoreState, Turn, rules, serves}
+use Rattle.node_moves.specs.world_base.Failing.{closes_failed, loses_all_failed, loses_failed, loses_if}
+use Rattle.node_moves.specs.world_base.Handing.{listed_at}
+use Rattle.node_moves.specs.world_base.Step.{node_step, settled}
+use Rattle.node_moves.specs.world_base.Turns.{changes_named, drives, moved, proposes, quiet, repeated, served, served_by}
+use Rattle.node_moves.proofs.Views.{found_passes}
 use Rattle.escaping.specs.Answering.{AnswerIsPutOut, PutsOutFirst}
 use Rattle.escaping.specs.Delivery.{heard_by}
 use Rattle.escaping.proofs.OneDelivery.{with_replica}

@@ -1,29 +1,29 @@
 -- A client whose session was kept is welcomed back after the start of a ballot.
 use Rattle.std.proofs.Common.{◌≡◌, ℕ, Bool, true, false, ◌||◌, if◌then◌else◌, not, List, [], ◌∷◌, ◌++◌, length, map, Option, Some, None, refl, ap, ◌∙◌}
 use Rattle.std.specs.Prelude.{◌==◌, flat_map, is_some, nat_lt}
-use Rattle.lists.specs.Lists.{Each}
-use Rattle.lists.proofs.OfEach.{each_append}
-use Rattle.packet.specs.declared.packet.Packet.TheVariants as packets
-use Rattle.model.specs.broker_base.Answers.{answers_of, closed, connect_answers, welcome}
-use Rattle.ballot.specs.Machine.{replay}
-use Rattle.model.specs.broker_base.Command.{Command}
-use Rattle.model.specs.broker_base.Command.TheVariants as commands
-use Rattle.model.specs.broker_base.Commands.{past_of, place_of, usual_limits}
-use Rattle.model.specs.broker_base.Connection.{ConnectionName, same_connection}
-use Rattle.model.specs.broker_base.Entries.{Entry}
-use Rattle.model.specs.broker_base.Marks.{connect_mark, mark_of}
-use Rattle.model.specs.broker_base.Output.{Output}
-use Rattle.model.specs.broker_base.Output.TheVariants.{Send}
-use Rattle.model.specs.broker_base.Owner.{clients, first_client, owner_of}
-use Rattle.model.specs.broker_base.Past.{any_connection, begins_session, current_connection, ends, ends_any, is_beginning, newest_connection, newest_session, session_of}
-use Rattle.model.specs.broker_base.Place.{Client, Limits, Mark, Past, Place, only_if, same_client}
-use Rattle.model.specs.broker_base.Readings.{released_below}
-use Rattle.model.specs.broker_base.Sends.{all_started, publish, resent, sent_again, sent_first}
-use Rattle.model.specs.broker_base.Times.{entries_of}
-use Rattle.model.proofs.of_broker_base.ClientsInOrder.{same_self}
-use Rattle.group_model.specs.world_base.Core.{rules}
-use Rattle.model.proofs.Answers.{past_push}
-use Rattle.model.proofs.BrokerRules.{gives_answers}
+use Rattle.packet_world.specs.lists.Lists.{Each}
+use Rattle.packet_world.proofs.of_lists.OfEach.{each_append}
+use Rattle.packet_world.specs.packet.declared.packet.Packet.TheVariants as packets
+use Rattle.packet_world.specs.broker_base.Answers.{answers_of, closed, connect_answers, welcome}
+use Rattle.node_moves.specs.ballot.Machine.{replay}
+use Rattle.packet_world.specs.broker_base.Command.{Command}
+use Rattle.packet_world.specs.broker_base.Command.TheVariants as commands
+use Rattle.packet_world.specs.broker_base.Commands.{past_of, place_of, usual_limits}
+use Rattle.packet_world.specs.broker_base.Connection.{ConnectionName, same_connection}
+use Rattle.packet_world.specs.broker_base.Entries.{Entry}
+use Rattle.packet_world.specs.broker_base.Marks.{connect_mark, mark_of}
+use Rattle.packet_world.specs.broker_base.Output.{Output}
+use Rattle.packet_world.specs.broker_base.Output.TheVariants.{Send}
+use Rattle.packet_world.specs.broker_base.Owner.{clients, first_client, owner_of}
+use Rattle.packet_world.specs.broker_base.Past.{any_connection, begins_session, current_connection, ends, ends_any, is_beginning, newest_connection, newest_session, session_of}
+use Rattle.packet_world.specs.broker_base.Place.{Client, Limits, Mark, Past, Place, only_if, same_client}
+use Rattle.packet_world.specs.broker_base.Readings.{released_below}
+use Rattle.packet_world.specs.broker_base.Sends.{all_started, publish, resent, sent_again, sent_first}
+use Rattle.packet_world.specs.broker_base.Times.{entries_of}
+use Rattle.packet_world.proofs.of_broker_base.ClientsInOrder.{same_self}
+use Rattle.node_moves.specs.world_base.Core.{rules}
+use Rattle.packet_world.proofs.Answers.{past_push}
+use Rattle.packet_world.proofs.BrokerRules.{gives_answers}
 use Rattle.escaping.specs.Welcome.{IsSentTo, KeptSessionsAreWelcomed}
 
 -- ---- after the start of a ballot

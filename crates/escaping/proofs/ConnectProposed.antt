@@ -4,33 +4,33 @@ use Rattle.std.specs.Prelude.{◌&&◌, nat_lt}
 use Rattle.std.specs.List.{find, fold}
 use Rattle.std.proofs.lemmas.Bool.{and_parts, cases_lt}
 use Rattle.std.proofs.lemmas.List.{append-nil}
-use Rattle.packet.specs.Stop.{Stop}
-use Rattle.packet.specs.Stop.TheVariants as stops
-use Rattle.packet.specs.declared.connect.Connect.{Connect}
-use Rattle.packet.specs.declared.packet.Packet.TheVariants as packets
-use Rattle.packet.specs.Verdict.{verdict}
-use Rattle.ballot.specs.Effect.{Effect}
-use Rattle.ballot.specs.Logs.{places, pushed}
-use Rattle.ballot.specs.Replica.{CountedReplica, ReplicaState, is_active}
-use Rattle.ballot.specs.Sending.{Outcome, message_to_followed, sent_first}
-use Rattle.ballot.specs.Body.TheVariants.{Append}
-use Rattle.ballot.specs.Serving.{added, least, most_places, proposed}
-use Rattle.ballot.proofs.StepRows.{added-is, commit_at-goes, commit_at-stays}
-use Rattle.group_model.specs.snapshots.World.{outputs}
-use Rattle.model.specs.broker_base.Command.{Command}
-use Rattle.model.specs.broker_base.Command.TheVariants as commands
-use Rattle.model.specs.broker_base.Output.{Output}
-use Rattle.model.specs.broker_base.State.{State}
-use Rattle.group_model.specs.world_base.declared.Connection.{Connection}
-use Rattle.group_model.specs.world_base.declared.item.Item.TheVariants.{Bytes}
-use Rattle.group_model.specs.world_base.declared.Port.{Port}
-use Rattle.group_model.specs.world_base.Connections.{asked, changed, closed, has_failed, holding, is_at, is_first, is_listed, is_open_at, is_over, left_with}
-use Rattle.group_model.specs.world_base.Core.{CoreState, Turn, rules, serves}
-use Rattle.group_model.specs.world_base.Failing.{loses_all_failed}
-use Rattle.group_model.specs.world_base.Reading.{changes, open_at, reads, reads_all, reads_next, reads_of, unread_of}
-use Rattle.group_model.specs.world_base.Step.{node_step, settled}
-use Rattle.group_model.specs.world_base.Turns.{has_room, is_message, proposes, quiet, repeated, served, then_also}
-use Rattle.group_model.proofs.of_node_model.Views.{each_kept}
+use Rattle.packet_world.specs.packet.Stop.{Stop}
+use Rattle.packet_world.specs.packet.Stop.TheVariants as stops
+use Rattle.packet_world.specs.packet.declared.connect.Connect.{Connect}
+use Rattle.packet_world.specs.packet.declared.packet.Packet.TheVariants as packets
+use Rattle.packet_world.specs.packet.Verdict.{verdict}
+use Rattle.node_moves.specs.ballot.Effect.{Effect}
+use Rattle.node_moves.specs.ballot.Logs.{places, pushed}
+use Rattle.node_moves.specs.ballot.Replica.{CountedReplica, ReplicaState, is_active}
+use Rattle.node_moves.specs.ballot.Sending.{Outcome, message_to_followed, sent_first}
+use Rattle.node_moves.specs.ballot.Body.TheVariants.{Append}
+use Rattle.node_moves.specs.ballot.Serving.{added, least, most_places, proposed}
+use Rattle.node_moves.proofs.of_ballot.StepRows.{added-is, commit_at-goes, commit_at-stays}
+use Rattle.packet_world.specs.snapshots.World.{outputs}
+use Rattle.packet_world.specs.broker_base.Command.{Command}
+use Rattle.packet_world.specs.broker_base.Command.TheVariants as commands
+use Rattle.packet_world.specs.broker_base.Output.{Output}
+use Rattle.packet_world.specs.broker_base.State.{State}
+use Rattle.node_moves.specs.world_base.declared.Connection.{Connection}
+use Rattle.node_moves.specs.world_base.declared.item.Item.TheVariants.{Bytes}
+use Rattle.node_moves.specs.world_base.declared.Port.{Port}
+use Rattle.node_moves.specs.world_base.Connections.{asked, changed, closed, has_failed, holding, is_at, is_first, is_listed, is_open_at, is_over, left_with}
+use Rattle.node_moves.specs.world_base.Core.{CoreState, Turn, rules, serves}
+use Rattle.node_moves.specs.world_base.Failing.{loses_all_failed}
+use Rattle.node_moves.specs.world_base.Reading.{changes, open_at, reads, reads_all, reads_next, reads_of, unread_of}
+use Rattle.node_moves.specs.world_base.Step.{node_step, settled}
+use Rattle.node_moves.specs.world_base.Turns.{has_room, is_message, proposes, quiet, repeated, served, then_also}
+use Rattle.node_moves.proofs.Views.{each_kept}
 use Rattle.escaping.specs.Asking.{ConnectIsProposed, asked_now, proposal_at, with_asked}
 use Rattle.escaping.specs.Delivery.{IsCalm}
 use Rattle.escaping.proofs.OneDelivery.{calm_finds, none_lost, none_served, only_messages, with_replica}

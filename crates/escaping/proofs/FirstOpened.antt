@@ -4,15 +4,15 @@ use Rattle.std.specs.Prelude.{◌&&◌, nat_le, nat_lt}
 use Rattle.std.specs.List.{list_any}
 use Rattle.std.proofs.lemmas.Bool.{le-leb, lt-ltb, ne_eqb}
 use Rattle.std.proofs.lemmas.List.Elements.{filter-append}
-use Rattle.lists.proofs.OfEach.{each_append}
-use Rattle.model.specs.broker_base.Connection.{ConnectionName, is_connection_name}
-use Rattle.group_model.specs.world_base.declared.Connection.{Connection}
-use Rattle.group_model.specs.world_base.declared.Port.{Port}
-use Rattle.group_model.specs.world_base.Connections.{closed, fresh, has_failed, is_at, is_listed}
-use Rattle.group_model.specs.world_base.Core.{CoreState, Turn, serves}
-use Rattle.group_model.specs.world_base.Failing.{loses_all_failed}
-use Rattle.group_model.specs.world_base.Step.{next_name, opens, settled}
-use Rattle.group_model.specs.world_base.Turns.{quiet}
+use Rattle.packet_world.proofs.of_lists.OfEach.{each_append}
+use Rattle.packet_world.specs.broker_base.Connection.{ConnectionName, is_connection_name}
+use Rattle.node_moves.specs.world_base.declared.Connection.{Connection}
+use Rattle.node_moves.specs.world_base.declared.Port.{Port}
+use Rattle.node_moves.specs.world_base.Connections.{closed, fresh, has_failed, is_at, is_listed}
+use Rattle.node_moves.specs.world_base.Core.{CoreState, Turn, serves}
+use Rattle.node_moves.specs.world_base.Failing.{loses_all_failed}
+use Rattle.node_moves.specs.world_base.Step.{next_name, opens, settled}
+use Rattle.node_moves.specs.world_base.Turns.{quiet}
 use Rattle.escaping.specs.Opening.{FirstIsOpened, first_name, with_first}
 use Rattle.escaping.proofs.OneDelivery.{calm_finds, none_lost}
 

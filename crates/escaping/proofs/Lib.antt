@@ -5,5 +5,6 @@ pub mod AnswerPutOut
 pub mod AnswerAlone
 pub mod ComesBack
 pub mod AnswerAwaited
-pub use Rattle.group_model.proofs as of_group_model
-pub use Rattle.model.proofs.of_broker_base as of_broker_base
+pub use Rattle.node_moves.proofs.of_ballot as of_ballot
+pub use Rattle.packet_world.proofs.of_broker_base as of_broker_base
+pub use Rattle.node_moves.proofs as of_node_moves

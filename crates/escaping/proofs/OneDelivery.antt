@@ -3,25 +3,25 @@ use Rattle.std.proofs.Common.{◌≡◌, ◌⊎◌, inl, inr, ℕ, zero, suc, Bo
 use Rattle.std.specs.Prelude.{◌&&◌}
 use Rattle.std.specs.List.{find, fold}
 use Rattle.std.proofs.lemmas.List.{append-nil}
-use Rattle.lists.specs.Lists.{Each}
-use Rattle.ballot.specs.Effect.{Effect}
-use Rattle.ballot.specs.Effect.TheVariants.{To, Out}
-use Rattle.ballot.specs.Message.{Message}
-use Rattle.ballot.specs.Protocol.Input.{Receives}
-use Rattle.ballot.specs.Replica.{CountedReplica, ReplicaState, is_active}
-use Rattle.ballot.specs.Sending.{Outcome}
-use Rattle.group_model.specs.snapshots.World.{outputs}
-use Rattle.model.specs.broker_base.Command.{Command}
-use Rattle.model.specs.broker_base.Output.{Output}
-use Rattle.model.specs.broker_base.State.{State}
-use Rattle.group_model.specs.world_base.declared.Connection.{Connection}
-use Rattle.group_model.specs.world_base.declared.item.Item.TheVariants.{Peer}
-use Rattle.group_model.specs.world_base.Connections.{has_failed}
-use Rattle.group_model.specs.world_base.Core.{CoreState, Turn, serves}
-use Rattle.group_model.specs.world_base.Failing.{closes_failed, loses_all_failed, loses_failed, loses_if}
-use Rattle.group_model.specs.world_base.Step.{node_step, settled}
-use Rattle.group_model.specs.world_base.Turns.{drives, is_message, moved, proposes, quiet, repeated, served, then_also}
-use Rattle.group_model.proofs.of_node_model.LossesTold.{each_loss_is_told}
+use Rattle.packet_world.specs.lists.Lists.{Each}
+use Rattle.node_moves.specs.ballot.Effect.{Effect}
+use Rattle.node_moves.specs.ballot.Effect.TheVariants.{To, Out}
+use Rattle.node_moves.specs.ballot.Message.{Message}
+use Rattle.node_moves.specs.ballot.Protocol.Input.{Receives}
+use Rattle.node_moves.specs.ballot.Replica.{CountedReplica, ReplicaState, is_active}
+use Rattle.node_moves.specs.ballot.Sending.{Outcome}
+use Rattle.packet_world.specs.snapshots.World.{outputs}
+use Rattle.packet_world.specs.broker_base.Command.{Command}
+use Rattle.packet_world.specs.broker_base.Output.{Output}
+use Rattle.packet_world.specs.broker_base.State.{State}
+use Rattle.node_moves.specs.world_base.declared.Connection.{Connection}
+use Rattle.node_moves.specs.world_base.declared.item.Item.TheVariants.{Peer}
+use Rattle.node_moves.specs.world_base.Connections.{has_failed}
+use Rattle.node_moves.specs.world_base.Core.{CoreState, Turn, serves}
+use Rattle.node_moves.specs.world_base.Failing.{closes_failed, loses_all_failed, loses_failed, loses_if}
+use Rattle.node_moves.specs.world_base.Step.{node_step, settled}
+use Rattle.node_moves.specs.world_base.Turns.{drives, is_message, moved, proposes, quiet, repeated, served, then_also}
+use Rattle.node_moves.proofs.LossesTold.{each_loss_is_told}
 use Rattle.escaping.specs.Delivery.{AStepIsADelivery, IsCalm, heard_by}
 
 -- ---- effects that give nothing

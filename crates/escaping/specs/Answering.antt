@@ -2,29 +2,29 @@
 -- CONNECT.
 use Rattle.std.specs.Prelude.{◌≡◌, ◌<◌, ◌≤◌, ℕ, false, List, [], ◌∷◌, ◌++◌, length, map, Some, true, Ok}
 use Rattle.std.specs.List.{find}
-use Rattle.lists.specs.Lists.{IsPrefixOf}
-use Rattle.packet.specs.declared.connect.Connect.{Connect}
-use Rattle.packet.specs.declared.packet.Packet.{Packet}
-use Rattle.packet.specs.declared.packet.Packet.TheVariants as packets
-use Rattle.packet.specs.Spelling.{spelling}
-use Rattle.packet.specs.Verdict.{verdict}
-use Rattle.ballot.specs.Effect.{Effect}
-use Rattle.ballot.specs.Effect.TheVariants.{Out}
-use Rattle.ballot.specs.Message.{Message}
-use Rattle.model.specs.broker_base.Command.{Command}
-use Rattle.model.specs.broker_base.Command.TheVariants as commands
-use Rattle.model.specs.broker_base.Connection.{ConnectionName}
-use Rattle.model.specs.broker_base.Output.{Output}
-use Rattle.model.specs.broker_base.Output.TheVariants.{Send}
-use Rattle.group_model.specs.world_base.declared.Connection.{Connection}
-use Rattle.group_model.specs.world_base.declared.item.Item.TheVariants.{Bytes, Peer}
-use Rattle.group_model.specs.world_base.declared.Port.{Port}
-use Rattle.group_model.specs.world_base.Connections.{is_first, is_open_named, most_pending}
-use Rattle.group_model.specs.world_base.Core.{CoreState}
-use Rattle.group_model.specs.world_base.Handing.{listed_at}
-use Rattle.group_model.specs.world_base.Reading.{open_at}
-use Rattle.group_model.specs.world_base.Step.{node_step}
-use Rattle.group_model.specs.world_base.Turns.{has_room}
+use Rattle.packet_world.specs.lists.Lists.{IsPrefixOf}
+use Rattle.packet_world.specs.packet.declared.connect.Connect.{Connect}
+use Rattle.packet_world.specs.packet.declared.packet.Packet.{Packet}
+use Rattle.packet_world.specs.packet.declared.packet.Packet.TheVariants as packets
+use Rattle.packet_world.specs.packet.Spelling.{spelling}
+use Rattle.packet_world.specs.packet.Verdict.{verdict}
+use Rattle.node_moves.specs.ballot.Effect.{Effect}
+use Rattle.node_moves.specs.ballot.Effect.TheVariants.{Out}
+use Rattle.node_moves.specs.ballot.Message.{Message}
+use Rattle.packet_world.specs.broker_base.Command.{Command}
+use Rattle.packet_world.specs.broker_base.Command.TheVariants as commands
+use Rattle.packet_world.specs.broker_base.Connection.{ConnectionName}
+use Rattle.packet_world.specs.broker_base.Output.{Output}
+use Rattle.packet_world.specs.broker_base.Output.TheVariants.{Send}
+use Rattle.node_moves.specs.world_base.declared.Connection.{Connection}
+use Rattle.node_moves.specs.world_base.declared.item.Item.TheVariants.{Bytes, Peer}
+use Rattle.node_moves.specs.world_base.declared.Port.{Port}
+use Rattle.node_moves.specs.world_base.Connections.{is_first, is_open_named, most_pending}
+use Rattle.node_moves.specs.world_base.Core.{CoreState}
+use Rattle.node_moves.specs.world_base.Handing.{listed_at}
+use Rattle.node_moves.specs.world_base.Reading.{open_at}
+use Rattle.node_moves.specs.world_base.Step.{node_step}
+use Rattle.node_moves.specs.world_base.Turns.{has_room}
 use Rattle.escaping.specs.Asking.{proposal_at}
 use Rattle.escaping.specs.Delivery.{heard_by}
 

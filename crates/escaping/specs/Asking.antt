@@ -1,24 +1,24 @@
 -- The CONNECT of a new connection at the new primary: it is read and proposed.
 use Rattle.std.specs.Prelude.{◌≡◌, ℕ, true, List, [], filter, Some, Ok}
-use Rattle.packet.specs.declared.connect.Connect.{Connect}
-use Rattle.packet.specs.declared.packet.Packet.TheVariants as packets
-use Rattle.packet.specs.Verdict.{verdict}
-use Rattle.ballot.specs.Sending.{Outcome}
-use Rattle.ballot.specs.Serving.{proposed}
-use Rattle.group_model.specs.snapshots.World.{outputs}
-use Rattle.model.specs.broker_base.Command.{Command}
-use Rattle.model.specs.broker_base.Command.TheVariants as commands
-use Rattle.model.specs.broker_base.Output.{Output}
-use Rattle.model.specs.broker_base.State.{State}
-use Rattle.group_model.specs.world_base.declared.Connection.{Connection}
-use Rattle.group_model.specs.world_base.declared.Stage.TheVariants.{Proposed}
-use Rattle.group_model.specs.world_base.declared.item.Item.TheVariants.{Bytes}
-use Rattle.group_model.specs.world_base.declared.Port.{Port}
-use Rattle.group_model.specs.world_base.Connections.{changed, is_first, is_listed, is_open_at}
-use Rattle.group_model.specs.world_base.Core.{CoreState, rules}
-use Rattle.group_model.specs.world_base.Reading.{open_at}
-use Rattle.group_model.specs.world_base.Step.{node_step}
-use Rattle.group_model.specs.world_base.Turns.{has_room}
+use Rattle.packet_world.specs.packet.declared.connect.Connect.{Connect}
+use Rattle.packet_world.specs.packet.declared.packet.Packet.TheVariants as packets
+use Rattle.packet_world.specs.packet.Verdict.{verdict}
+use Rattle.node_moves.specs.ballot.Sending.{Outcome}
+use Rattle.node_moves.specs.ballot.Serving.{proposed}
+use Rattle.packet_world.specs.snapshots.World.{outputs}
+use Rattle.packet_world.specs.broker_base.Command.{Command}
+use Rattle.packet_world.specs.broker_base.Command.TheVariants as commands
+use Rattle.packet_world.specs.broker_base.Output.{Output}
+use Rattle.packet_world.specs.broker_base.State.{State}
+use Rattle.node_moves.specs.world_base.declared.Connection.{Connection}
+use Rattle.node_moves.specs.world_base.declared.Stage.TheVariants.{Proposed}
+use Rattle.node_moves.specs.world_base.declared.item.Item.TheVariants.{Bytes}
+use Rattle.node_moves.specs.world_base.declared.Port.{Port}
+use Rattle.node_moves.specs.world_base.Connections.{changed, is_first, is_listed, is_open_at}
+use Rattle.node_moves.specs.world_base.Core.{CoreState, rules}
+use Rattle.node_moves.specs.world_base.Reading.{open_at}
+use Rattle.node_moves.specs.world_base.Step.{node_step}
+use Rattle.node_moves.specs.world_base.Turns.{has_room}
 use Rattle.escaping.specs.Delivery.{IsCalm}
 
 -- the connection whose CONNECT became whole at this time

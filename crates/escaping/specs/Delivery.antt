@@ -1,19 +1,19 @@
 -- One step of a node on a message for which its replica has no output.
 use Rattle.std.specs.Prelude.{◌≡◌, ◌⊎◌, false, []}
-use Rattle.lists.specs.Lists.{Each}
-use Rattle.ballot.specs.Message.{Message}
-use Rattle.ballot.specs.Protocol.{received}
-use Rattle.ballot.specs.Replica.{is_active}
-use Rattle.ballot.specs.Sending.{Outcome}
-use Rattle.group_model.specs.snapshots.World.{outputs}
-use Rattle.model.specs.broker_base.Command.{Command}
-use Rattle.model.specs.broker_base.Output.{Output}
-use Rattle.model.specs.broker_base.State.{State}
-use Rattle.group_model.specs.world_base.declared.Connection.{Connection}
-use Rattle.group_model.specs.world_base.declared.item.Item.TheVariants.{Peer}
-use Rattle.group_model.specs.world_base.Connections.{has_failed}
-use Rattle.group_model.specs.world_base.Core.{CoreState, Turn, rules}
-use Rattle.group_model.specs.world_base.Step.{node_step}
+use Rattle.packet_world.specs.lists.Lists.{Each}
+use Rattle.node_moves.specs.ballot.Message.{Message}
+use Rattle.node_moves.specs.ballot.Protocol.{received}
+use Rattle.node_moves.specs.ballot.Replica.{is_active}
+use Rattle.node_moves.specs.ballot.Sending.{Outcome}
+use Rattle.packet_world.specs.snapshots.World.{outputs}
+use Rattle.packet_world.specs.broker_base.Command.{Command}
+use Rattle.packet_world.specs.broker_base.Output.{Output}
+use Rattle.packet_world.specs.broker_base.State.{State}
+use Rattle.node_moves.specs.world_base.declared.Connection.{Connection}
+use Rattle.node_moves.specs.world_base.declared.item.Item.TheVariants.{Peer}
+use Rattle.node_moves.specs.world_base.Connections.{has_failed}
+use Rattle.node_moves.specs.world_base.Core.{CoreState, Turn, rules}
+use Rattle.node_moves.specs.world_base.Step.{node_step}
 
 -- what a message does to the node's replica
 abbrev pub heard_by : CoreState → Message Command → Outcome State Command Output

@@ -4,6 +4,8 @@ pub mod Delivery
 pub mod Opening
 pub mod Waiting
 pub mod Welcome
-pub use Rattle.group_model.specs as group_model
-pub use Rattle.model.specs.broker_base as broker_base
-pub use Rattle.packet.specs as packet
+pub use Rattle.node_moves.specs.ballot as ballot
+pub use Rattle.packet_world.specs.broker_base as broker_base
+pub use Rattle.node_moves.specs as node_moves
+pub use Rattle.packet_world.specs.packet as packet
+pub use Rattle.node_moves.specs.world_base as world_base

@@ -1,13 +1,13 @@
 -- The first connection that a new primary opens in its ballot.
 use Rattle.std.specs.Prelude.{◌≡◌, ◌<◌, ◌≤◌, ◌^◌, ℕ, true, false, [], ◌∷◌, ◌++◌, filter}
 use Rattle.std.specs.List.{list_any}
-use Rattle.model.specs.broker_base.Connection.{ConnectionName}
-use Rattle.group_model.specs.world_base.declared.item.Item.TheVariants.{Opened}
-use Rattle.group_model.specs.world_base.declared.Port.{Port}
-use Rattle.group_model.specs.world_base.Connections.{fresh, is_at, is_listed}
-use Rattle.group_model.specs.world_base.Core.{CoreState, serves}
-use Rattle.group_model.specs.world_base.Step.{node_step}
-use Rattle.group_model.specs.world_base.Turns.{quiet}
+use Rattle.packet_world.specs.broker_base.Connection.{ConnectionName}
+use Rattle.node_moves.specs.world_base.declared.item.Item.TheVariants.{Opened}
+use Rattle.node_moves.specs.world_base.declared.Port.{Port}
+use Rattle.node_moves.specs.world_base.Connections.{fresh, is_at, is_listed}
+use Rattle.node_moves.specs.world_base.Core.{CoreState, serves}
+use Rattle.node_moves.specs.world_base.Step.{node_step}
+use Rattle.node_moves.specs.world_base.Turns.{quiet}
 use Rattle.escaping.specs.Delivery.{IsCalm}
 
 -- the first name of the ballot that the node joined

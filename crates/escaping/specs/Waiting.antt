@@ -2,20 +2,20 @@
 -- bytes are handed over.
 use Rattle.std.specs.Prelude.{◌≡◌, ℕ, true, false, [], None, Some}
 use Rattle.std.specs.List.{find, list_any}
-use Rattle.packet.specs.declared.connect.Connect.{Connect}
-use Rattle.ballot.specs.Message.{Message}
-use Rattle.ballot.specs.Replica.{is_active}
-use Rattle.model.specs.broker_base.Command.{Command}
-use Rattle.model.specs.broker_base.Connection.{ConnectionName}
-use Rattle.group_model.specs.snapshots.World.{outputs}
-use Rattle.group_model.specs.world_base.declared.Connection.{Connection}
-use Rattle.group_model.specs.world_base.declared.item.Item.TheVariants.{Peer}
-use Rattle.group_model.specs.world_base.declared.Port.{Port}
-use Rattle.group_model.specs.world_base.Connections.{is_at, is_first, is_open_named}
-use Rattle.group_model.specs.world_base.Core.{CoreState}
-use Rattle.group_model.specs.world_base.Handing.{hands_over, listed_at}
-use Rattle.group_model.specs.world_base.Reading.{open_at}
-use Rattle.group_model.specs.world_base.Step.{node_step}
+use Rattle.packet_world.specs.packet.declared.connect.Connect.{Connect}
+use Rattle.node_moves.specs.ballot.Message.{Message}
+use Rattle.node_moves.specs.ballot.Replica.{is_active}
+use Rattle.packet_world.specs.broker_base.Command.{Command}
+use Rattle.packet_world.specs.broker_base.Connection.{ConnectionName}
+use Rattle.packet_world.specs.snapshots.World.{outputs}
+use Rattle.node_moves.specs.world_base.declared.Connection.{Connection}
+use Rattle.node_moves.specs.world_base.declared.item.Item.TheVariants.{Peer}
+use Rattle.node_moves.specs.world_base.declared.Port.{Port}
+use Rattle.node_moves.specs.world_base.Connections.{is_at, is_first, is_open_named}
+use Rattle.node_moves.specs.world_base.Core.{CoreState}
+use Rattle.node_moves.specs.world_base.Handing.{hands_over, listed_at}
+use Rattle.node_moves.specs.world_base.Reading.{open_at}
+use Rattle.node_moves.specs.world_base.Step.{node_step}
 use Rattle.escaping.specs.Asking.{with_asked}
 use Rattle.escaping.specs.Delivery.{IsCalm, heard_by}
 use Rattle.escaping.specs.Opening.{first_name, with_first}

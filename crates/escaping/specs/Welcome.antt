@@ -1,18 +1,18 @@
 -- A client whose session was kept is answered with session present after the start of a ballot, and
 -- its connection is not closed (MQTT 3.1.2.4, 3.2.2.2).
 use Rattle.std.specs.Prelude.{◌≡◌, ℕ, true, false, List, [], ◌∷◌, ◌++◌, Some}
-use Rattle.lists.specs.Lists.{Each}
-use Rattle.ballot.specs.Machine.{replay}
-use Rattle.model.specs.broker_base.Answers.{welcome}
-use Rattle.model.specs.broker_base.Command.{Command}
-use Rattle.model.specs.broker_base.Command.TheVariants as commands
-use Rattle.model.specs.broker_base.Commands.{past_of, usual_limits}
-use Rattle.model.specs.broker_base.Connection.{ConnectionName}
-use Rattle.model.specs.broker_base.Output.{Output}
-use Rattle.model.specs.broker_base.Output.TheVariants.{Send, Close}
-use Rattle.model.specs.broker_base.Past.{session_of}
-use Rattle.model.specs.broker_base.Place.{Client}
-use Rattle.group_model.specs.world_base.Core.{rules}
+use Rattle.packet_world.specs.lists.Lists.{Each}
+use Rattle.node_moves.specs.ballot.Machine.{replay}
+use Rattle.packet_world.specs.broker_base.Answers.{welcome}
+use Rattle.packet_world.specs.broker_base.Command.{Command}
+use Rattle.packet_world.specs.broker_base.Command.TheVariants as commands
+use Rattle.packet_world.specs.broker_base.Commands.{past_of, usual_limits}
+use Rattle.packet_world.specs.broker_base.Connection.{ConnectionName}
+use Rattle.packet_world.specs.broker_base.Output.{Output}
+use Rattle.packet_world.specs.broker_base.Output.TheVariants.{Send, Close}
+use Rattle.packet_world.specs.broker_base.Past.{session_of}
+use Rattle.packet_world.specs.broker_base.Place.{Client}
+use Rattle.node_moves.specs.world_base.Core.{rules}
 
 -- an output that is a packet for this connection
 abbrev pub IsSentTo : ConnectionName → Output → Type 0

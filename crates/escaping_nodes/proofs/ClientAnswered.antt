@@ -3,16 +3,16 @@ use Rattle.std.proofs.Common.{◌≡◌, ◌⊎◌, inl, inr, ◌<◌, ◌≤◌
 use Rattle.std.specs.Prelude.{nat_lt, slice_get, slice_set, ◌&&◌}
 use Rattle.std.specs.List.{find}
 use Rattle.std.proofs.lemmas.Bool.{and_from, cases_eq, lt-ltb}
-use Rattle.lists.proofs.Places.{get_set, get_set_other}
-use Rattle.ballot.specs.Effect.{Effect}
-use Rattle.ballot.specs.Logs.{places}
-use Rattle.ballot.specs.Machine.{replay}
-use Rattle.ballot.specs.Message.{Message}
-use Rattle.ballot.specs.Protocol.{received, replica_step}
-use Rattle.ballot.specs.Protocol.Input.{Proposes}
-use Rattle.ballot.specs.Replica.{CountedReplica, ReplicaState, is_active}
-use Rattle.ballot.specs.Sending.{Outcome}
-use Rattle.ballot.specs.Serving.{most_places}
+use Rattle.ways_out.proofs.of_lists.Places.{get_set, get_set_other}
+use Rattle.escaping.specs.ballot.Effect.{Effect}
+use Rattle.escaping.specs.ballot.Logs.{places}
+use Rattle.escaping.specs.ballot.Machine.{replay}
+use Rattle.escaping.specs.ballot.Message.{Message}
+use Rattle.escaping.specs.ballot.Protocol.{received, replica_step}
+use Rattle.escaping.specs.ballot.Protocol.Input.{Proposes}
+use Rattle.escaping.specs.ballot.Replica.{CountedReplica, ReplicaState, is_active}
+use Rattle.escaping.specs.ballot.Sending.{Outcome}
+use Rattle.escaping.specs.ballot.Serving.{most_places}
 use Rattle.escaping.specs.packet.declared.connect.Connect.{Connect}
 use Rattle.escaping.specs.packet.Spelling.{spelling}
 use Rattle.escaping.specs.broker_base.Command.{Command}
@@ -20,29 +20,29 @@ use Rattle.escaping.specs.broker_base.Command.TheVariants as commands
 use Rattle.escaping.specs.broker_base.Connection.{ConnectionName}
 use Rattle.escaping.specs.broker_base.Output.{Output}
 use Rattle.escaping.specs.broker_base.Output.TheVariants.{Send}
-use Rattle.ballot.specs.Effect.TheVariants.{Out}
+use Rattle.escaping.specs.ballot.Effect.TheVariants.{Out}
 use Rattle.escaping.specs.broker_base.State.{State}
-use Rattle.ballot.specs.Config.{Config}
+use Rattle.escaping.specs.ballot.Config.{Config}
 use Rattle.escaping.specs.Answering.{PutsOutFirst}
 use Rattle.escaping.specs.Asking.{proposal_at, with_asked}
 use Rattle.escaping.specs.Delivery.{IsCalm, heard_by}
 use Rattle.escaping.specs.Waiting.{AwaitsAnswer}
 use Rattle.escaping.specs.Welcome.{IsWelcomedBack}
-use Rattle.escaping.specs.group_model.Group.{replica_of}
-use Rattle.escaping.specs.group_model.node_model.Moves.Deed.{takes, gives}
-use Rattle.escaping.specs.group_model.snapshots.Past.{Moment, Past, whole_moment}
-use Rattle.escaping.specs.group_model.snapshots.World.{messages, outputs}
-use Rattle.escaping.specs.group_model.world_base.declared.Connection.{Connection}
-use Rattle.escaping.specs.group_model.world_base.declared.item.Item.TheVariants.{Bytes, Peer}
-use Rattle.escaping.specs.group_model.world_base.declared.Port.{Port}
-use Rattle.escaping.specs.group_model.world_base.Connections.{is_open_named, most_pending}
-use Rattle.escaping.specs.group_model.world_base.Core.{CoreState, CountedCore, Turn, rules, serves}
-use Rattle.escaping.specs.group_model.world_base.Handing.{hands_over}
-use Rattle.escaping.specs.group_model.world_base.Step.{node_step}
-use Rattle.escaping.specs.group_model.world_base.Turns.{has_room}
-use Rattle.escaping.proofs.of_group_model.of_node_model.LossesTold.{each_loss_is_told}
-use Rattle.escaping.proofs.of_group_model.of_snapshots.Fronts.{whole_long}
-use Rattle.escaping.proofs.of_group_model.of_snapshots.PastsKept.{StandsFor, past_stands}
+use Rattle.world_nodes.specs.node_group.Group.{replica_of}
+use Rattle.escaping.specs.node_moves.Moves.NodeCall.{takes, gives}
+use Rattle.ways_out.specs.snapshots.Past.{Moment, Past, whole_moment}
+use Rattle.ways_out.specs.snapshots.World.{messages, outputs}
+use Rattle.escaping.specs.world_base.declared.Connection.{Connection}
+use Rattle.escaping.specs.world_base.declared.item.Item.TheVariants.{Bytes, Peer}
+use Rattle.escaping.specs.world_base.declared.Port.{Port}
+use Rattle.escaping.specs.world_base.Connections.{is_open_named, most_pending}
+use Rattle.escaping.specs.world_base.Core.{CoreState, CountedCore, Turn, rules, serves}
+use Rattle.escaping.specs.world_base.Handing.{hands_over}
+use Rattle.escaping.specs.world_base.Step.{node_step}
+use Rattle.escaping.specs.world_base.Turns.{has_room}
+use Rattle.escaping.proofs.of_node_moves.LossesTold.{each_loss_is_told}
+use Rattle.ways_out.proofs.of_snapshots.Fronts.{whole_long}
+use Rattle.ways_out.proofs.of_snapshots.PastsKept.{StandsFor, past_stands}
 use Rattle.escaping.proofs.AnswerAlone.{answer_alone_is_put_out}
 use Rattle.escaping.proofs.AnswerAwaited.{asked_awaits_answer, handing_keeps_it_waiting, messages_keep_it_waiting}
 use Rattle.escaping.proofs.AnswerPutOut.{answer_is_put_out}
@@ -50,12 +50,12 @@ use Rattle.escaping.proofs.ComesBack.{kept_sessions_are_welcomed}
 use Rattle.escaping.proofs.ConnectProposed.{connect_is_proposed}
 use Rattle.world_nodes.specs.Goes.{behind_deed}
 use Rattle.world_nodes.specs.Nodes.{NodesState, cores_of}
-use Rattle.cut_answers.specs.cut_ways.Deliveries.{Delivered, after_outcome}
-use Rattle.cut_answers.specs.cut_ways.ways_out.Deliveries.{AreApart, NodeIs, numbers_from}
-use Rattle.cut_answers.specs.cut_ways.ways_out.Following.{Follows}
-use Rattle.lists.specs.Lists.{In}
-use Rattle.cut_answers.specs.Answering.{AnswersCommand, IsHeldByAll}
-use Rattle.cut_answers.proofs.CutGroupsAnswer.{cut_groups_answer}
+use Rattle.ways_out.specs.CutWaysDeliveries.{Delivered, after_outcome}
+use Rattle.ways_out.specs.Deliveries.{AreApart, NodeIs, numbers_from}
+use Rattle.ways_out.specs.Following.{Follows}
+use Rattle.ways_out.specs.lists.Lists.{In}
+use Rattle.ways_out.specs.Answering.{AnswersCommand, IsHeldByAll}
+use Rattle.ways_out.proofs.CutGroupsAnswer.{cut_groups_answer}
 use Rattle.escaping_nodes.specs.Answered.{CanAsk, OthersLetTheClientBeAnswered, PutsOutAtLast, SoleMemberAnswersTheClient, begun, last_held, session_present}
 use Rattle.escaping_nodes.specs.Coming.{AreCalm, Come, IsSeen}
 use Rattle.escaping_nodes.specs.Coming.Come.{all_came as none_comes, to_node as comes_to_node, to_master as comes_to_master, hands}

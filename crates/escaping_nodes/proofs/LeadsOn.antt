@@ -3,18 +3,18 @@ use Rattle.std.proofs.Common.{◌≡◌, ◌<◌, ◌≤◌, ◌⊎◌, inl, inr
 use Rattle.std.specs.Prelude.{nat_le, nat_lt, ◌&&◌, ◌||◌, ◌==◌}
 use Rattle.std.specs.List.{list_any}
 use Rattle.std.proofs.lemmas.Bool.{and_parts, both_ways, cases_lt, ltb-true, or_cases}
-use Rattle.ballot.specs.Body.{Body}
-use Rattle.ballot.specs.Body.TheVariants.{NewBallot, Join, State, Install, Installed, Activate, Activated, Superseded, Append, Held, Commit}
-use Rattle.ballot.specs.Changing.{answers_installed, lacks, waits_for, on_activated, on_install, on_installed, on_join, on_new_ballot, on_state, on_superseded}
-use Rattle.ballot.specs.Logs.{Log, places, pushed}
-use Rattle.ballot.specs.Machine.{Rules}
-use Rattle.ballot.specs.Protocol.{received}
-use Rattle.ballot.specs.Replica.{ReplicaState, is_active, is_backup, is_fetching, is_installing}
-use Rattle.ballot.specs.Role.TheVariants.{Active, Backup}
-use Rattle.ballot.specs.Sending.{Outcome, message_to, nothing_done}
-use Rattle.ballot.specs.Taking.{taken}
-use Rattle.ballot.specs.Serving.{added, commit, commit_at, follows, leads, least, most_places, on_append, on_commit, on_held, proposed, raised}
-use Rattle.ballot.proofs.StepRows.{commit_at-goes, commit_at-stays}
+use Rattle.escaping.specs.ballot.Body.{Body}
+use Rattle.escaping.specs.ballot.Body.TheVariants.{NewBallot, Join, State, Install, Installed, Activate, Activated, Superseded, Append, Held, Commit}
+use Rattle.escaping.specs.ballot.Changing.{answers_installed, lacks, waits_for, on_activated, on_install, on_installed, on_join, on_new_ballot, on_state, on_superseded}
+use Rattle.escaping.specs.ballot.Logs.{Log, places, pushed}
+use Rattle.escaping.specs.ballot.Machine.{Rules}
+use Rattle.escaping.specs.ballot.Protocol.{received}
+use Rattle.escaping.specs.ballot.Replica.{ReplicaState, is_active, is_backup, is_fetching, is_installing}
+use Rattle.escaping.specs.ballot.Role.TheVariants.{Active, Backup}
+use Rattle.escaping.specs.ballot.Sending.{Outcome, message_to, nothing_done}
+use Rattle.escaping.specs.ballot.Taking.{taken}
+use Rattle.escaping.specs.ballot.Serving.{added, commit, commit_at, follows, leads, least, most_places, on_append, on_commit, on_held, proposed, raised}
+use Rattle.escaping.proofs.of_ballot.StepRows.{commit_at-goes, commit_at-stays}
 
 -- it is the active primary of this ballot, in which its log was installed, and it runs
 pub record LeadsAt {S C : Type 0} (ballot : ℕ) (r : ReplicaState S C) : Type 0 where

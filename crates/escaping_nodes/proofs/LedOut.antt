@@ -1,27 +1,27 @@
 -- Nodes are led out by an Assign and the messages of a way out.
 use Rattle.std.proofs.Common.{◌≡◌, inr, ◌<◌, ℕ, ◌+◌, ◌-◌, List, [], ◌∷◌, ◌++◌, length, Some, refl, sym, ap, ◌∙◌, subst}
 use Rattle.std.specs.Prelude.{slice_get}
-use Rattle.ballot.specs.Config.{Config}
-use Rattle.ballot.specs.Message.{Message}
+use Rattle.escaping.specs.ballot.Config.{Config}
+use Rattle.escaping.specs.ballot.Message.{Message}
 use Rattle.escaping.specs.broker_base.Command.{Command}
 use Rattle.escaping.specs.broker_base.Output.{Output}
 use Rattle.escaping.specs.broker_base.State.{State}
-use Rattle.escaping.specs.group_model.Group.{replica_of}
-use Rattle.escaping.specs.group_model.snapshots.agreement.MasterState.{MasterState, assigning}
-use Rattle.escaping.specs.group_model.snapshots.Masters.{assigned}
-use Rattle.escaping.specs.group_model.snapshots.Past.{Moment, Past, whole_moment}
-use Rattle.escaping.specs.group_model.snapshots.Whole.{whole}
-use Rattle.escaping.specs.group_model.world_base.Core.{CountedCore, rules}
-use Rattle.escaping.proofs.of_group_model.of_snapshots.PastsKept.{StandsFor, past_stands}
-use Rattle.escaping.proofs.of_group_model.of_snapshots.Views.{get_whole}
+use Rattle.world_nodes.specs.node_group.Group.{replica_of}
+use Rattle.ways_out.specs.agreement.MasterState.{MasterState, assigning}
+use Rattle.ways_out.specs.snapshots.Masters.{assigned}
+use Rattle.ways_out.specs.snapshots.Past.{Moment, Past, whole_moment}
+use Rattle.ways_out.specs.snapshots.Whole.{whole}
+use Rattle.escaping.specs.world_base.Core.{CountedCore, rules}
+use Rattle.ways_out.proofs.of_snapshots.PastsKept.{StandsFor, past_stands}
+use Rattle.ways_out.proofs.of_snapshots.Views.{get_whole}
 use Rattle.world_nodes.specs.Goes.{behind_giving}
 use Rattle.world_nodes.specs.Nodes.{NodesState}
-use Rattle.cut_answers.specs.cut_ways.ways_out.Deliveries.{way_out}
-use Rattle.cut_answers.specs.cut_ways.ways_out.Laws.{CanBeLed, StartsGiveNothing}
-use Rattle.cut_answers.proofs.of_cut_ways.of_ways_out.Premises.{joined_below}
-use Rattle.cut_answers.specs.cut_ways.Deliveries.{assigned_moment}
-use Rattle.cut_answers.specs.cut_ways.Laws.{LeadsOut}
-use Rattle.cut_answers.proofs.of_cut_ways.CutGroupsLed.{cut_groups_have_ways_out}
+use Rattle.ways_out.specs.Deliveries.{way_out}
+use Rattle.ways_out.specs.Laws.{CanBeLed, StartsGiveNothing}
+use Rattle.ways_out.proofs.Premises.{joined_below}
+use Rattle.ways_out.specs.CutWaysDeliveries.{assigned_moment}
+use Rattle.ways_out.specs.CutWaysLaws.{LeadsOut}
+use Rattle.ways_out.proofs.CutGroupsLed.{cut_groups_have_ways_out}
 use Rattle.escaping_nodes.specs.Coming.{AreCalm, Come, IsSeen}
 use Rattle.escaping_nodes.specs.Led.{AreLedOut, NodesAreLedOut}
 use Rattle.escaping_nodes.proofs.NodesFollow.{deliveries_are_followed, replica_at}

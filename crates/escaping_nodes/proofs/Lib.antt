@@ -4,6 +4,6 @@ pub mod LeadsOn
 pub mod ClientAnswered
 pub mod OpensFirst
 pub mod WelcomedKept
-pub use Rattle.escaping.proofs as of_escaping
-pub use Rattle.cut_answers.proofs.of_cut_ways as of_cut_ways
+pub use Rattle.world_nodes.proofs.of_master as of_master
+pub use Rattle.ways_out.proofs as of_ways_out
 pub use Rattle.world_nodes.proofs as of_world_nodes

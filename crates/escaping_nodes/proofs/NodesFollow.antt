@@ -3,39 +3,39 @@ use Rattle.std.proofs.Common.{◌≡◌, ◌⊎◌, inl, inr, ◌<◌, ℕ, ◌+
 use Rattle.std.specs.Prelude.{slice_get, slice_set}
 use Rattle.std.proofs.lemmas.Bool.{cases_eq}
 use Rattle.std.proofs.lemmas.List.{append-nil}
-use Rattle.lists.proofs.Places.{get_set, get_set_other}
-use Rattle.ballot.specs.Body.{Body}
-use Rattle.ballot.specs.Body.TheVariants.{Activate}
-use Rattle.ballot.specs.Effect.{Effect}
-use Rattle.ballot.specs.Message.{Message}
-use Rattle.ballot.specs.Protocol.{received}
-use Rattle.ballot.specs.Protocol.Input.{Receives}
-use Rattle.ballot.specs.Replica.{CountedReplica, ReplicaState, is_active}
-use Rattle.ballot.specs.Sending.{Outcome}
+use Rattle.ways_out.proofs.of_lists.Places.{get_set, get_set_other}
+use Rattle.escaping.specs.ballot.Body.{Body}
+use Rattle.escaping.specs.ballot.Body.TheVariants.{Activate}
+use Rattle.escaping.specs.ballot.Effect.{Effect}
+use Rattle.escaping.specs.ballot.Message.{Message}
+use Rattle.escaping.specs.ballot.Protocol.{received}
+use Rattle.escaping.specs.ballot.Protocol.Input.{Receives}
+use Rattle.escaping.specs.ballot.Replica.{CountedReplica, ReplicaState, is_active}
+use Rattle.escaping.specs.ballot.Sending.{Outcome}
 use Rattle.escaping.specs.broker_base.Command.{Command}
 use Rattle.escaping.specs.broker_base.Output.{Output}
 use Rattle.escaping.specs.broker_base.State.{State}
-use Rattle.escaping.specs.group_model.Group.{replica_of}
-use Rattle.escaping.specs.group_model.node_model.Moves.{Deed, done}
-use Rattle.escaping.specs.group_model.node_model.Moves.Deed.{takes, gives}
-use Rattle.escaping.specs.group_model.snapshots.agreement.MasterState.{MasterState}
-use Rattle.escaping.specs.group_model.snapshots.Masters.{activated}
-use Rattle.escaping.specs.group_model.snapshots.Past.{Moment}
-use Rattle.escaping.specs.group_model.snapshots.World.{messages, outputs}
-use Rattle.escaping.specs.group_model.world_base.declared.Connection.{Connection}
-use Rattle.escaping.specs.group_model.world_base.declared.item.Item.TheVariants.{Peer}
-use Rattle.escaping.specs.group_model.world_base.declared.Port.{Port}
-use Rattle.escaping.specs.group_model.world_base.Connections.{changed, handed, has_failed, is_at, is_listed}
-use Rattle.escaping.specs.group_model.world_base.Core.{CoreState, CountedCore, rules}
-use Rattle.escaping.specs.group_model.world_base.Handing.{hands_over, left_by, listed_at}
-use Rattle.escaping.specs.group_model.world_base.Step.{node_step}
-use Rattle.escaping.proofs.of_group_model.Placed.{get_mapped, set_mapped, set_same}
-use Rattle.escaping.proofs.of_group_model.of_node_model.ReplicaLeads.{StaysOr, step_stays}
-use Rattle.escaping.proofs.of_group_model.of_node_model.Views.{each_filtered, each_kept}
+use Rattle.world_nodes.specs.node_group.Group.{replica_of}
+use Rattle.escaping.specs.node_moves.Moves.{NodeCall, done}
+use Rattle.escaping.specs.node_moves.Moves.NodeCall.{takes, gives}
+use Rattle.ways_out.specs.agreement.MasterState.{MasterState}
+use Rattle.ways_out.specs.snapshots.Masters.{activated}
+use Rattle.ways_out.specs.snapshots.Past.{Moment}
+use Rattle.ways_out.specs.snapshots.World.{messages, outputs}
+use Rattle.escaping.specs.world_base.declared.Connection.{Connection}
+use Rattle.escaping.specs.world_base.declared.item.Item.TheVariants.{Peer}
+use Rattle.escaping.specs.world_base.declared.Port.{Port}
+use Rattle.escaping.specs.world_base.Connections.{changed, handed, has_failed, is_at, is_listed}
+use Rattle.escaping.specs.world_base.Core.{CoreState, CountedCore, rules}
+use Rattle.escaping.specs.world_base.Handing.{hands_over, left_by, listed_at}
+use Rattle.escaping.specs.world_base.Step.{node_step}
+use Rattle.world_nodes.proofs.of_node_group.Placed.{get_mapped, set_mapped, set_same}
+use Rattle.escaping.proofs.of_node_moves.ReplicaLeads.{StaysOr, step_stays}
+use Rattle.escaping.proofs.of_node_moves.Views.{each_filtered, each_kept}
 use Rattle.world_nodes.specs.Goes.{behind_answer, behind_deed}
 use Rattle.world_nodes.specs.Nodes.{NodesState, cores_of}
-use Rattle.cut_answers.specs.cut_ways.Deliveries.{Delivered, after_activate, after_outcome}
-use Rattle.cut_answers.specs.cut_ways.Deliveries.Delivered.{all_came, to_master, to_node}
+use Rattle.ways_out.specs.CutWaysDeliveries.{Delivered, after_activate, after_outcome}
+use Rattle.ways_out.specs.CutWaysDeliveries.Delivered.{all_came, to_master, to_node}
 use Rattle.escaping_nodes.specs.Coming.Come.{all_came as none_comes, to_node as comes_to_node, to_master as comes_to_master, hands}
 use Rattle.escaping_nodes.specs.Coming.{AreCalm, AreFollowed, Come, DeliveriesAreFollowed, IsSeen, KeepNames}
 use Rattle.escaping.specs.Delivery.{IsCalm, IsDelivery, heard_by}
@@ -248,7 +248,7 @@ nothing_comes ballot a b all_came n s = s
 -- ---- names
 
 -- a call that gives no name, and more that give none
-names_then : (n : NodesState) (at : ℕ) (node : CountedCore) (deed : Deed) (new : NodesState) → slice_get n.nodes at ≡ Some node →
+names_then : (n : NodesState) (at : ℕ) (node : CountedCore) (deed : NodeCall) (new : NodesState) → slice_get n.nodes at ≡ Some node →
     (done deed node.core).core.last_name ≡ node.core.last_name → KeepNames (behind_deed at node deed n) new → KeepNames n new
 names_then n at node deed new there same more i x later e f = by (cases_eq i at)
   where

@@ -4,8 +4,8 @@ use Rattle.std.specs.Prelude.{slice_get, slice_set, ◌&&◌}
 use Rattle.std.specs.List.{find}
 use Rattle.std.proofs.lemmas.Bool.{cases_eq}
 use Rattle.std.proofs.lemmas.List.{append-nil}
-use Rattle.lists.proofs.Places.{get_set, get_set_other}
-use Rattle.ballot.specs.Replica.{CountedReplica, is_active}
+use Rattle.ways_out.proofs.of_lists.Places.{get_set, get_set_other}
+use Rattle.escaping.specs.ballot.Replica.{CountedReplica, is_active}
 use Rattle.escaping.specs.broker_base.Command.{Command}
 use Rattle.escaping.specs.broker_base.Connection.{ConnectionName}
 use Rattle.escaping.specs.broker_base.Output.{Output}
@@ -13,24 +13,24 @@ use Rattle.escaping.specs.broker_base.State.{State}
 use Rattle.escaping.specs.Delivery.{IsCalm}
 use Rattle.escaping.specs.Opening.{first_name, with_first}
 use Rattle.escaping.specs.Waiting.{AwaitsConnect}
-use Rattle.escaping.specs.group_model.Group.{replica_of}
-use Rattle.escaping.specs.group_model.node_model.Moves.Deed.{takes, gives}
-use Rattle.escaping.specs.group_model.snapshots.Past.{Moment}
-use Rattle.escaping.specs.group_model.snapshots.Whole.{whole}
-use Rattle.escaping.specs.group_model.snapshots.World.{messages}
-use Rattle.escaping.specs.group_model.world_base.declared.item.Item.TheVariants.{Opened}
-use Rattle.escaping.specs.group_model.world_base.declared.Port.{Port}
-use Rattle.escaping.specs.group_model.world_base.Connections.{is_open_named}
-use Rattle.escaping.specs.group_model.world_base.Core.{CoreState, CountedCore, Turn, serves}
-use Rattle.escaping.specs.group_model.world_base.Handing.{hands_over}
-use Rattle.escaping.specs.group_model.world_base.Step.{node_step}
-use Rattle.escaping.specs.group_model.world_base.Turns.{quiet}
-use Rattle.escaping.proofs.of_group_model.of_node_model.LossesTold.{each_loss_is_told}
+use Rattle.world_nodes.specs.node_group.Group.{replica_of}
+use Rattle.escaping.specs.node_moves.Moves.NodeCall.{takes, gives}
+use Rattle.ways_out.specs.snapshots.Past.{Moment}
+use Rattle.ways_out.specs.snapshots.Whole.{whole}
+use Rattle.ways_out.specs.snapshots.World.{messages}
+use Rattle.escaping.specs.world_base.declared.item.Item.TheVariants.{Opened}
+use Rattle.escaping.specs.world_base.declared.Port.{Port}
+use Rattle.escaping.specs.world_base.Connections.{is_open_named}
+use Rattle.escaping.specs.world_base.Core.{CoreState, CountedCore, Turn, serves}
+use Rattle.escaping.specs.world_base.Handing.{hands_over}
+use Rattle.escaping.specs.world_base.Step.{node_step}
+use Rattle.escaping.specs.world_base.Turns.{quiet}
+use Rattle.escaping.proofs.of_node_moves.LossesTold.{each_loss_is_told}
 use Rattle.escaping.proofs.AnswerAwaited.{first_awaits_connect, handing_keeps_the_connect}
 use Rattle.escaping.proofs.FirstOpened.{first_is_opened}
 use Rattle.world_nodes.specs.Goes.{behind_deed}
 use Rattle.world_nodes.specs.Nodes.{NodesState, cores_of}
-use Rattle.cut_answers.specs.cut_ways.ways_out.Following.{Serves}
+use Rattle.ways_out.specs.Following.{Serves}
 use Rattle.escaping_nodes.specs.Coming.{AreCalm, Come, IsSeen}
 use Rattle.escaping_nodes.specs.Coming.Come.{all_came as none_comes, hands}
 use Rattle.escaping_nodes.specs.Opened.{CanOpen, ConnectionsOpenFirst, IsOpened, first_of}

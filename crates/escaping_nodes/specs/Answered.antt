@@ -1,10 +1,10 @@
 -- A client that comes back at the new primary: its CONNECT, and the answer to it.
 use Rattle.std.specs.Prelude.{◌≡◌, ◌<◌, ℕ, ◌+◌, ◌*◌, true, false, List, [], ◌∷◌, ◌++◌, length, slice_get, Some, Ok}
-use Rattle.lists.specs.Lists.{In}
-use Rattle.ballot.specs.Body.TheVariants.{Held}
-use Rattle.ballot.specs.Config.{Config}
-use Rattle.ballot.specs.Message.{Message}
-use Rattle.ballot.specs.Serving.{most_places}
+use Rattle.ways_out.specs.lists.Lists.{In}
+use Rattle.escaping.specs.ballot.Body.TheVariants.{Held}
+use Rattle.escaping.specs.ballot.Config.{Config}
+use Rattle.escaping.specs.ballot.Message.{Message}
+use Rattle.escaping.specs.ballot.Serving.{most_places}
 use Rattle.escaping.specs.packet.declared.connack.Connack.TheVariants as connacks
 use Rattle.escaping.specs.packet.declared.connect.Connect.{Connect}
 use Rattle.escaping.specs.packet.declared.packet.Packet.{Packet}
@@ -20,18 +20,18 @@ use Rattle.escaping.specs.broker_base.Past.{session_of}
 use Rattle.escaping.specs.broker_base.State.{State}
 use Rattle.escaping.specs.Answering.{PutsOutFirst}
 use Rattle.escaping.specs.Waiting.{AwaitsConnect}
-use Rattle.escaping.specs.group_model.Group.{replica_of}
-use Rattle.escaping.specs.group_model.node_model.Moves.Deed.{takes}
-use Rattle.escaping.specs.group_model.snapshots.Past.{Moment, Past, whole_moment}
-use Rattle.escaping.specs.group_model.snapshots.Whole.{whole}
-use Rattle.escaping.specs.group_model.world_base.declared.item.Item.TheVariants.{Bytes, Peer}
-use Rattle.escaping.specs.group_model.world_base.declared.Port.{Port}
-use Rattle.escaping.specs.group_model.world_base.Core.{CountedCore, rules}
-use Rattle.escaping.specs.group_model.world_base.Step.{node_step}
+use Rattle.world_nodes.specs.node_group.Group.{replica_of}
+use Rattle.escaping.specs.node_moves.Moves.NodeCall.{takes}
+use Rattle.ways_out.specs.snapshots.Past.{Moment, Past, whole_moment}
+use Rattle.ways_out.specs.snapshots.Whole.{whole}
+use Rattle.escaping.specs.world_base.declared.item.Item.TheVariants.{Bytes, Peer}
+use Rattle.escaping.specs.world_base.declared.Port.{Port}
+use Rattle.escaping.specs.world_base.Core.{CountedCore, rules}
+use Rattle.escaping.specs.world_base.Step.{node_step}
 use Rattle.world_nodes.specs.Goes.{behind_deed}
 use Rattle.world_nodes.specs.Nodes.{NodesState}
-use Rattle.cut_answers.specs.cut_ways.ways_out.Deliveries.{AreApart, NodeIs, numbers_from}
-use Rattle.cut_answers.specs.cut_ways.ways_out.Following.{Follows, Serves}
+use Rattle.ways_out.specs.Deliveries.{AreApart, NodeIs, numbers_from}
+use Rattle.ways_out.specs.Following.{Follows, Serves}
 use Rattle.escaping_nodes.specs.Coming.{AreCalm, Come, IsSeen}
 
 -- CONNACK 0 with session present (MQTT 3.2.2.2)

@@ -1,20 +1,20 @@
 -- Messages that reach nodes with connections, each by its number and without losses, and what they
 -- do to the replicas.
 use Rattle.std.specs.Prelude.{◌≡◌, ◌⊎◌, ◌<◌, ℕ, ◌+◌, false, List, [], ◌∷◌, map, Some, slice_get}
-use Rattle.ballot.specs.Body.TheVariants.{Activate}
-use Rattle.ballot.specs.Message.{Message}
+use Rattle.escaping.specs.ballot.Body.TheVariants.{Activate}
+use Rattle.escaping.specs.ballot.Message.{Message}
 use Rattle.escaping.specs.broker_base.Command.{Command}
 use Rattle.escaping.specs.broker_base.Output.{Output}
 use Rattle.escaping.specs.broker_base.State.{State}
-use Rattle.escaping.specs.group_model.Group.{replica_of}
-use Rattle.escaping.specs.group_model.node_model.Moves.Deed.{takes, gives}
-use Rattle.escaping.specs.group_model.snapshots.Past.{Moment}
-use Rattle.escaping.specs.group_model.world_base.declared.item.Item.TheVariants.{Peer}
-use Rattle.escaping.specs.group_model.world_base.declared.Port.{Port}
-use Rattle.escaping.specs.group_model.world_base.Core.{CountedCore, rules}
+use Rattle.world_nodes.specs.node_group.Group.{replica_of}
+use Rattle.escaping.specs.node_moves.Moves.NodeCall.{takes, gives}
+use Rattle.ways_out.specs.snapshots.Past.{Moment}
+use Rattle.escaping.specs.world_base.declared.item.Item.TheVariants.{Peer}
+use Rattle.escaping.specs.world_base.declared.Port.{Port}
+use Rattle.escaping.specs.world_base.Core.{CountedCore, rules}
 use Rattle.world_nodes.specs.Goes.{behind_answer, behind_deed}
 use Rattle.world_nodes.specs.Nodes.{NodesState, cores_of}
-use Rattle.cut_answers.specs.cut_ways.Deliveries.{Delivered}
+use Rattle.ways_out.specs.CutWaysDeliveries.{Delivered}
 use Rattle.escaping.specs.Delivery.{IsCalm}
 
 -- the messages of these numbers come, one after another, to nodes that run or to the master; in

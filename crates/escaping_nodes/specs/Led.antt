@@ -1,16 +1,16 @@
 -- Nodes that are led out: an Assign, and the messages of a way out, by their numbers.
 use Rattle.std.specs.Prelude.{ℕ, ◌+◌, ◌-◌, List, ◌∷◌, length}
-use Rattle.ballot.specs.Config.{Config}
+use Rattle.escaping.specs.ballot.Config.{Config}
 use Rattle.escaping.specs.broker_base.Command.{Command}
 use Rattle.escaping.specs.broker_base.Output.{Output}
 use Rattle.escaping.specs.broker_base.State.{State}
-use Rattle.escaping.specs.group_model.snapshots.Past.{Moment, Past, whole_moment}
-use Rattle.escaping.specs.group_model.world_base.Core.{rules}
+use Rattle.ways_out.specs.snapshots.Past.{Moment, Past, whole_moment}
+use Rattle.escaping.specs.world_base.Core.{rules}
 use Rattle.world_nodes.specs.Goes.{behind_giving}
 use Rattle.world_nodes.specs.Nodes.{NodesState}
-use Rattle.cut_answers.specs.cut_ways.ways_out.Deliveries.{way_out}
-use Rattle.cut_answers.specs.cut_ways.ways_out.Laws.{CanBeLed}
-use Rattle.cut_answers.specs.cut_ways.Laws.{LeadsOut}
+use Rattle.ways_out.specs.Deliveries.{way_out}
+use Rattle.ways_out.specs.Laws.{CanBeLed}
+use Rattle.ways_out.specs.CutWaysLaws.{LeadsOut}
 use Rattle.escaping_nodes.specs.Coming.{AreCalm, Come, IsSeen, KeepNames}
 
 -- the moment to which the way out leads is seen then, each node is calm or has not joined the new

@@ -2,6 +2,7 @@ pub mod Coming
 pub mod Led
 pub mod Opened
 pub mod Answered
-pub use Rattle.cut_answers.specs.cut_ways as cut_ways
 pub use Rattle.escaping.specs as escaping
+pub use Rattle.world_nodes.specs.master as master
+pub use Rattle.ways_out.specs as ways_out
 pub use Rattle.world_nodes.specs as world_nodes

@@ -9,18 +9,18 @@ use Rattle.escaping.specs.broker_base.Past.{session_of}
 use Rattle.escaping.specs.broker_base.Place.{Client}
 use Rattle.escaping.specs.broker_base.State.{State}
 use Rattle.escaping.specs.Waiting.{AwaitsConnect}
-use Rattle.escaping.specs.group_model.Group.{replica_of}
-use Rattle.escaping.specs.group_model.node_model.Moves.Deed.{takes}
-use Rattle.escaping.specs.group_model.snapshots.Past.{Moment}
-use Rattle.escaping.specs.group_model.snapshots.Whole.{whole}
-use Rattle.escaping.specs.group_model.world_base.declared.item.Item.TheVariants.{Opened}
-use Rattle.escaping.specs.group_model.world_base.declared.Port.{Port}
-use Rattle.escaping.specs.group_model.world_base.Connections.{is_at, is_open_named}
-use Rattle.escaping.specs.group_model.world_base.Core.{CountedCore}
+use Rattle.world_nodes.specs.node_group.Group.{replica_of}
+use Rattle.escaping.specs.node_moves.Moves.NodeCall.{takes}
+use Rattle.ways_out.specs.snapshots.Past.{Moment}
+use Rattle.ways_out.specs.snapshots.Whole.{whole}
+use Rattle.escaping.specs.world_base.declared.item.Item.TheVariants.{Opened}
+use Rattle.escaping.specs.world_base.declared.Port.{Port}
+use Rattle.escaping.specs.world_base.Connections.{is_at, is_open_named}
+use Rattle.escaping.specs.world_base.Core.{CountedCore}
 use Rattle.world_nodes.specs.Asking.{welcomes_back}
 use Rattle.world_nodes.specs.Goes.{behind_deed}
 use Rattle.world_nodes.specs.Nodes.{NodesState}
-use Rattle.cut_answers.specs.cut_ways.ways_out.Following.{Serves}
+use Rattle.ways_out.specs.Following.{Serves}
 use Rattle.escaping_nodes.specs.Coming.{AreCalm, Come, IsSeen}
 
 -- the first name that is given in a ballot

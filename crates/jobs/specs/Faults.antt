@@ -12,8 +12,8 @@ use Rattle.command_line.specs.declared.fault.TableFault.{TableFault}
 use Rattle.command_line.specs.declared.fault.TableFault.TheVariants as tables
 use Rattle.command_line.specs.declared.fault.LineFault.{LineFault}
 use Rattle.command_line.specs.declared.fault.LineFault.TheVariants as lines
-use Rattle.user_client.specs.declared.fault.ClientFault.{ClientFault}
-use Rattle.user_client.specs.declared.fault.ClientFault.TheVariants as clients
+use Rattle.play.specs.user_client.declared.fault.ClientFault.{ClientFault}
+use Rattle.play.specs.user_client.declared.fault.ClientFault.TheVariants as clients
 use Rattle.jobs.specs.declared.fault.Fault.{Fault}
 use Rattle.jobs.specs.declared.fault.Fault.TheVariants as faults
 

@@ -10,6 +10,8 @@ mod scripts;
 mod serving;
 mod talking;
 
+pub use command_line;
+pub use command_line::packet;
 pub use fault::Fault;
 pub use performing::{perform, tell};
 pub use refusing::refuse;

@@ -1,14 +1,14 @@
 // Orders to the nodes of a server: lines of its input.
 
 ghost use Rattle.std.specs.Prelude.{◌≡◌, None, IfErr, IfOk, OnOk};
-ghost use Rattle.packet.specs.ClientId.{client_fault};
+ghost use Rattle.command_line.specs.packet.ClientId.{client_fault};
 ghost use Rattle.jobs.specs.Orders.{IsRefusedBy};
 ghost use Rattle.jobs.specs.declared.obeying.Order.TheVariants as orders;
 
 use crate::fault::Fault;
 use command_line::ListeningNode;
-use packet::ClientId;
-use server::{Config, Members, OrderError, Peers, Status};
+use command_line::packet::ClientId;
+use server::{Cluster, Config, Members, OrderError, Status};
 use std::alloc::Global;
 use std::io::{BufRead, ErrorKind, Write};
 use std::sync::Wait;
@@ -42,7 +42,7 @@ const NO_MEMORY: u8 = 12;
 /// input that cannot be read.
 pub(crate) fn obey<R, I, O>(
     rt: &R,
-    peers: &Peers,
+    peers: &Cluster,
     nodes: &[ListeningNode],
     input: &mut I,
     output: &mut O,
@@ -141,7 +141,7 @@ pub(crate) fn members_of(alloc: Global, word: &str) -> Result<Members, u8> {
 }
 
 // Does an order and prints the result. Clients are served also if nothing can be printed.
-fn answer<R, O>(rt: &R, peers: &Peers, nodes: &[ListeningNode], order: Order, output: &mut O)
+fn answer<R, O>(rt: &R, peers: &Cluster, nodes: &[ListeningNode], order: Order, output: &mut O)
 where
     R: Wait + Clock,
     O: Write,
@@ -168,7 +168,7 @@ where
 }
 
 // Ends the session of a client, and prints that, or why not.
-fn expel<R, O>(rt: &R, peers: &Peers, client: &ClientId, output: &mut O)
+fn expel<R, O>(rt: &R, peers: &Cluster, client: &ClientId, output: &mut O)
 where
     R: Wait + Clock,
     O: Write,
@@ -187,7 +187,7 @@ fn refuse<O: Write>(output: &mut O, number: u8) {
 }
 
 // Prints the status of each node, in the order of their numbers.
-fn tell_all<R, O>(rt: &R, peers: &Peers, nodes: &[ListeningNode], output: &mut O)
+fn tell_all<R, O>(rt: &R, peers: &Cluster, nodes: &[ListeningNode], output: &mut O)
 where
     R: Wait + Clock,
     O: Write,

@@ -4,7 +4,7 @@ ghost use Rattle.std.specs.Prelude.{◌≡◌, ◌<◌, ℕ, None, IfErr, IfOk, 
 ghost use Rattle.std.specs.Io.KnownBytes.{Appends};
 ghost use Rattle.play.specs.script.Scripts.{Refuses, lines_of};
 ghost use Rattle.play.specs.script.declared.error.ScriptError.TheVariants.{Line};
-ghost use Rattle.packet.specs.ClientId.{client_fault};
+ghost use Rattle.command_line.specs.packet.ClientId.{client_fault};
 ghost use Rattle.play.specs.Ways.{HasNoWay};
 ghost use Rattle.jobs.specs.Orders.{IsRefusedBy};
 ghost use Rattle.jobs.specs.Transcripts.{Prints, PrintsWay};
@@ -12,8 +12,8 @@ ghost use Rattle.jobs.specs.Transcripts.{Prints, PrintsWay};
 use crate::fault::Fault;
 use crate::obeying::members_of;
 use crate::reading::{bytes_of, rest_of};
+use command_line::packet::ClientId;
 use command_line::{Escape, Play};
-use packet::ClientId;
 use play::{PlayError, escape, play};
 use std::alloc::Global;
 use std::io::{BufRead, Write};

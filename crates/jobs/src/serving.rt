@@ -4,7 +4,7 @@ use crate::fault::Fault;
 use crate::obeying::obey;
 use crate::reading::bytes_of;
 use command_line::{ListeningNode, NodeTable, Serve, table};
-use server::{CONNECTIONS, Place, serve_while};
+use server::{CONNECTIONS, Listener, serve_while};
 use std::fs::File;
 use std::io::{BufRead, Write};
 use std::net::{Net, TcpListener, TcpStream};
@@ -97,14 +97,14 @@ where
 }
 
 // Listens where each node has to listen, and then prints it.
-fn listen_all<R, E>(rt: &R, nodes: &[ListeningNode], faults: &mut E) -> Result<Vec<Place>, Fault>
+fn listen_all<R, E>(rt: &R, nodes: &[ListeningNode], faults: &mut E) -> Result<Vec<Listener>, Fault>
 where
     R: AllocGlobal + Net<Listener = TcpListener, Stream = TcpStream>,
     E: Write,
 {
     let mut places = Vec::new(rt.alloc());
     for node in nodes {
-        places.push(Place::new(rt.alloc(), node.id, listen(rt, node)?)?)?;
+        places.push(Listener::new(rt.alloc(), node.id, listen(rt, node)?)?)?;
     }
     for (node, place) in nodes.iter().zip(&places) {
         tell(place, node.id, faults);
@@ -128,7 +128,7 @@ where
 
 // Prints where a node listens, and whether other machines may reach it. Clients are served also if
 // nothing can be printed.
-fn tell<E: Write>(place: &Place, id: u8, faults: &mut E) {
+fn tell<E: Write>(place: &Listener, id: u8, faults: &mut E) {
     if let Ok(address) = place.address() {
         let _ = writeln!(faults, "node {id} listens on {address}");
         if !address.ip().is_loopback() {

@@ -1,8 +1,8 @@
 -- Archived.antt: the record of places after those that a replica applied were added to it.
 use Rattle.std.proofs.Common.{◌≡◌, ℕ, zero, suc, ◌+◌, ◌-◌, ◌<◌, ◌≤◌, Bool, true, false, List, [], ◌∷◌, ◌++◌, length, take, drop, Result, OnOk, refl, ap, ap₂, sym, ◌∙◌, subst, arith}
 use Rattle.std.proofs.lemmas.List.{append-nil, drop-take}
-use Rattle.lists.specs.Lists.{IsPrefixOf}
-use Rattle.lists.proofs.Beginnings.{take_prefix}
+use Rattle.ballot.specs.lists.Lists.{IsPrefixOf}
+use Rattle.ballot.proofs.of_lists.Beginnings.{take_prefix}
 use Rattle.ballot.specs.Logs.{Log, part, places}
 use Rattle.ballot.specs.Replica.{ReplicaState}
 use Rattle.snapshots.specs.Whole.{whole_log}

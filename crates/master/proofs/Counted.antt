@@ -3,16 +3,16 @@ use Rattle.std.proofs.Common.{◌≡◌, ℕ, ◌+◌, ◌-◌, ◌<◌, ◌≤�
 use Rattle.std.specs.Prelude.{slice_get, ◌==◌, ◌&&◌, nat_lt, nat_le}
 use Rattle.std.proofs.lemmas.Bool.{and_parts, cases_eq, cases_lt, eq-eqb, ne_eqb, le-ltb, lt-ltb}
 use Rattle.std.proofs.lemmas.List.{length-take-le}
-use Rattle.machine.specs.Machine.{Rules}
-use Rattle.lists.specs.Lists.{In, IsPrefixOf}
-use Rattle.lists.specs.Lists.In.{here, there}
-use Rattle.lists.proofs.Beginnings.{prefix_length, prefix_then, take_prefix}
+use Rattle.ballot.specs.machine.Machine.{Rules}
+use Rattle.ballot.specs.lists.Lists.{In, IsPrefixOf}
+use Rattle.ballot.specs.lists.Lists.In.{here, there}
+use Rattle.ballot.proofs.of_lists.Beginnings.{prefix_length, prefix_then, take_prefix}
 use Rattle.ballot.specs.Config.{Config}
 use Rattle.ballot.specs.LawfulConfig.{are_rising}
-use Rattle.snapshots.specs.agreement.whole.Messages.{Message}
-use Rattle.snapshots.specs.agreement.whole.Messages.{Body}
-use Rattle.snapshots.specs.agreement.whole.Messages.Body.{NewBallot, Join, State, Install, Installed, Activate, Activated, Superseded, Append, Held, Commit}
-use Rattle.snapshots.specs.agreement.whole.Replica.{ReplicaState}
+use Rattle.snapshots.specs.whole.Messages.{Message}
+use Rattle.snapshots.specs.whole.Messages.{Body}
+use Rattle.snapshots.specs.whole.Messages.Body.{NewBallot, Join, State, Install, Installed, Activate, Activated, Superseded, Append, Held, Commit}
+use Rattle.snapshots.specs.whole.Replica.{ReplicaState}
 use Rattle.snapshots.specs.agreement.World.{World, log_of}
 use Rattle.snapshots.specs.agreement.Past.{Moment, Past, IsAgreed}
 use Rattle.snapshots.specs.agreement.Agreement.{Holds}

@@ -2,7 +2,7 @@
 use Rattle.std.proofs.Common.{◌≡◌, ℕ, zero, suc, get_or, ◌+◌, ◌-◌, ◌^◌, ◌<◌, ◌≤◌, ◌⊎◌, inl, inr, Bool, true, false, cond, min, List, [], ◌∷◌, length, Some, None, Option, refl, ap, sym, ◌∙◌, subst, arith}
 use Rattle.std.specs.Prelude.{slice_get, nat_lt, ◌&&◌}
 use Rattle.std.proofs.lemmas.Bool.{le-ltb, lt-ltb}
-use Rattle.machine.specs.Machine.{Rules}
+use Rattle.ballot.specs.machine.Machine.{Rules}
 use Rattle.ballot.specs.Message.{Message}
 use Rattle.ballot.specs.Effect.{Effect}
 use Rattle.ballot.specs.Status.{Status}
@@ -18,8 +18,8 @@ use Rattle.master.specs.declared.event.Event.TheVariants.{Assign, Deliver}
 use Rattle.snapshots.specs.World.{World, moved}
 use Rattle.snapshots.specs.Past.{Moment}
 use Rattle.ballot.specs.Config.{Config}
-use Rattle.lists.specs.Lists.{In}
-use Rattle.lists.proofs.Members.{in_at}
+use Rattle.ballot.specs.lists.Lists.{In}
+use Rattle.ballot.proofs.of_lists.Members.{in_at}
 use Rattle.snapshots.specs.Steps.{tells_from_master}
 use Rattle.snapshots.specs.Masters.{MasterOutcome, activated, assigned}
 use Rattle.snapshots.specs.agreement.MasterState.{MasterState, refusal}

@@ -4,8 +4,8 @@
 use Rattle.std.proofs.Common.{◌≡◌, ℕ, ◌<◌, ◌≤◌, ◌⊎◌, inl, inr, true, false, List, [], ◌∷◌, Some, None, Option, refl, ap, sym, ◌∙◌}
 use Rattle.std.specs.Prelude.{◌==◌, ◌&&◌}
 use Rattle.std.proofs.lemmas.Bool.{cases_Bool, cases_lt}
-use Rattle.machine.specs.Machine.{Rules}
-use Rattle.lists.specs.Lists.{In}
+use Rattle.ballot.specs.machine.Machine.{Rules}
+use Rattle.ballot.specs.lists.Lists.{In}
 use Rattle.ballot.specs.Body.{Body}
 use Rattle.ballot.specs.Body.TheVariants.{NewBallot, Join, State, Install, Installed, Activate, Activated, Superseded, Append, Held, Commit}
 use Rattle.ballot.specs.Changing.{installs, lacks, on_install, on_new_ballot, on_state, waits_for}
@@ -26,7 +26,7 @@ use Rattle.snapshots.specs.agreement.Inside.Ballots.{Given, History}
 use Rattle.snapshots.specs.agreement.Inside.Sound.{IsOf, Says}
 use Rattle.snapshots.specs.agreement.Past.{Moment as WholeMoment, Past as WholePast}
 use Rattle.snapshots.specs.agreement.World.{World as WholeWorld}
-use Rattle.snapshots.specs.agreement.whole.Messages.Body.{NewBallot as whole_new_ballot}
+use Rattle.snapshots.specs.whole.Messages.Body.{NewBallot as whole_new_ballot}
 use Rattle.snapshots.proofs.of_agreement.Agreed.PastKnown.{past_known}
 use Rattle.snapshots.specs.Past.{Moment, Past, whole_moment}
 use Rattle.snapshots.specs.World.{whole_letter}

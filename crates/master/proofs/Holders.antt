@@ -1,7 +1,7 @@
 -- Holders.antt: members whose logs are long enough, by what is read of their replicas.
 use Rattle.std.proofs.Common.{◌≡◌, ℕ, zero, suc, ◌-◌, ◌<◌, ◌≤◌, List, [], ◌∷◌, length, map, get_or, Option, ap, sym, ◌∙◌, subst, arith}
 use Rattle.std.specs.Prelude.{slice_get}
-use Rattle.lists.specs.Lists.{In}
+use Rattle.ballot.specs.lists.Lists.{In}
 use Rattle.ballot.specs.Logs.{places}
 use Rattle.ballot.specs.Replica.{CountedReplica, ReplicaState, status_of}
 use Rattle.ballot.specs.Status.{Status}

@@ -3,9 +3,9 @@ use Rattle.std.proofs.Common.{◌≡◌, ℕ, ◌+◌, ◌<◌, ◌⊎◌, inl, 
 use Rattle.std.specs.Prelude.{◌==◌, ◌&&◌, nat_lt, nat_le}
 use Rattle.std.specs.List.{list_any}
 use Rattle.std.proofs.lemmas.Bool.{and_parts, cases_Bool, leb-true, ltb-true}
-use Rattle.machine.specs.Machine.{Rules}
-use Rattle.lists.specs.Lists.{In}
-use Rattle.lists.specs.Lists.In.{here, there}
+use Rattle.ballot.specs.machine.Machine.{Rules}
+use Rattle.ballot.specs.lists.Lists.{In}
+use Rattle.ballot.specs.lists.Lists.In.{here, there}
 use Rattle.ballot.specs.Config.{Config}
 use Rattle.ballot.specs.LawfulConfig.{are_rising, is_lawful}
 use Rattle.snapshots.specs.agreement.MasterState.{AssignRefusal, MasterState, activated, refusal, master_behind}

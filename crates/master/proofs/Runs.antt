@@ -1,11 +1,11 @@
 -- Runs.antt: events one after another, and the agreement after them.
 use Rattle.std.proofs.Common.{◌≡◌, ℕ, ◌+◌, ◌-◌, ◌^◌, ◌<◌, ◌≤◌, ◌⊎◌, inl, inr, min, List, [], ◌∷◌, ◌++◌, length, map, take, get_or, refl, ap, sym, ◌∙◌, subst, append_assoc, arith}
 use Rattle.std.proofs.lemmas.List.{take_more}
-use Rattle.machine.specs.Machine.{Rules}
+use Rattle.ballot.specs.machine.Machine.{Rules}
 use Rattle.ballot.specs.Config.{Config}
 use Rattle.ballot.specs.Losses.{one_more}
-use Rattle.lists.specs.Lists.{IsPrefixOf}
-use Rattle.lists.proofs.Beginnings.{prefix_then}
+use Rattle.ballot.specs.lists.Lists.{IsPrefixOf}
+use Rattle.ballot.proofs.of_lists.Beginnings.{prefix_then}
 use Rattle.snapshots.specs.Past.{Moment, Past, whole_moment}
 use Rattle.snapshots.specs.agreement.Past.{IsAgreed, IsChosen, WasActive}
 use Rattle.snapshots.specs.agreement.Past.{Moment as WholeMoment}

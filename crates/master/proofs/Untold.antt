@@ -2,12 +2,12 @@
 use Rattle.std.proofs.Common.{◌≡◌, ℕ, ◌+◌, ◌<◌, ◌≤◌, ◌⊎◌, inl, inr, true, false, cond, List, [], ◌∷◌, Some, refl, ap, ◌∙◌, arith}
 use Rattle.std.specs.Prelude.{◌==◌}
 use Rattle.std.proofs.lemmas.Bool.{cases_Bool, ne_eqb}
-use Rattle.machine.specs.Machine.{Rules}
-use Rattle.lists.specs.Lists.{In}
-use Rattle.lists.specs.Lists.In.{here, there}
+use Rattle.ballot.specs.machine.Machine.{Rules}
+use Rattle.ballot.specs.lists.Lists.{In}
+use Rattle.ballot.specs.lists.Lists.In.{here, there}
 use Rattle.ballot.specs.Config.{Config}
-use Rattle.snapshots.specs.agreement.whole.Messages.{Body, Message}
-use Rattle.snapshots.specs.agreement.whole.Messages.Body.{NewBallot, Join, State, Install, Installed, Activate, Activated, Superseded, Append, Held, Commit}
+use Rattle.snapshots.specs.whole.Messages.{Body, Message}
+use Rattle.snapshots.specs.whole.Messages.Body.{NewBallot, Join, State, Install, Installed, Activate, Activated, Superseded, Append, Held, Commit}
 use Rattle.snapshots.specs.agreement.Inside.Ballots.{Given, History}
 use Rattle.snapshots.specs.agreement.Inside.Sound.{Says}
 use Rattle.snapshots.specs.agreement.Inside.ToldLengths.{most_told, told_by, told_in}

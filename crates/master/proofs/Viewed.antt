@@ -3,8 +3,8 @@
 use Rattle.std.proofs.Common.{◌≡◌, ℕ, zero, suc, Bool, false, ◌+◌, ◌-◌, ◌<◌, ◌≤◌, List, [], ◌∷◌, ◌++◌, length, map, take, get_or, Some, None, Option, refl, ap, sym, ◌∙◌, subst, arith}
 use Rattle.std.specs.Prelude.{slice_get}
 use Rattle.std.proofs.lemmas.List.{append-nil, length-take-le, take-append-le, take-take}
-use Rattle.machine.specs.Machine.{Rules}
-use Rattle.lists.specs.Lists.{In}
+use Rattle.ballot.specs.machine.Machine.{Rules}
+use Rattle.ballot.specs.lists.Lists.{In}
 use Rattle.ballot.specs.Config.{Config}
 use Rattle.ballot.specs.Logs.{Log, places}
 use Rattle.ballot.specs.Message.{Message}
@@ -13,7 +13,7 @@ use Rattle.ballot.specs.Protocol.Input.{Receives, Proposes, Ticks}
 use Rattle.ballot.specs.Sending.{nothing_done}
 use Rattle.ballot.specs.Unread.{is_unread}
 use Rattle.ballot.specs.Replica.{ReplicaState}
-use Rattle.snapshots.specs.agreement.whole.Replica.{ReplicaState as WholeState}
+use Rattle.snapshots.specs.whole.Replica.{ReplicaState as WholeState}
 use Rattle.snapshots.specs.agreement.Past.{IsAgreed}
 use Rattle.snapshots.specs.agreement.World.{log_of}
 use Rattle.snapshots.specs.Past.{Moment, Past, whole_moment}

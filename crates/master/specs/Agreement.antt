@@ -1,7 +1,7 @@
 -- Agreement.antt: what holds for a group whatever happened to it.
 use Rattle.std.specs.Prelude.{◌≡◌, List, ◌∷◌, ◌++◌}
-use Rattle.machine.specs.Machine.{Rules}
-use Rattle.lists.specs.Lists.{IsPrefixOf}
+use Rattle.ballot.specs.machine.Machine.{Rules}
+use Rattle.ballot.specs.lists.Lists.{IsPrefixOf}
 use Rattle.ballot.specs.Config.{Config}
 use Rattle.snapshots.specs.Agreeing.{Agrees, Holds, LeftInOrder}
 use Rattle.snapshots.specs.Past.{IsAgreed, Moment, Past}

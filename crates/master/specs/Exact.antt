@@ -1,6 +1,6 @@
 -- Exact.antt: what an event does to a group if memory suffices.
 use Rattle.std.specs.Prelude.{ℕ, zero, suc, Bool, true, ◌-◌, List, [], ◌∷◌, slice_get, Option, Some, None, ◌&&◌, nat_lt, if◌then◌else◌}
-use Rattle.machine.specs.Machine.{Rules}
+use Rattle.ballot.specs.machine.Machine.{Rules}
 use Rattle.ballot.specs.Body.{Body}
 use Rattle.ballot.specs.Body.TheVariants.{Activate}
 use Rattle.ballot.specs.Config.{Config}

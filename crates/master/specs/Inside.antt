@@ -1,6 +1,6 @@
 -- Inside.antt: what the helpers of a group ensure about nodes, effects, turns and counters.
 use Rattle.std.specs.Prelude.{ℕ, Bool, true, false, ◌-◌, ◌^◌, ◌<◌, ◌≤◌, ◌≡◌, ◌⊎◌, List, [], ◌∷◌, ◌++◌, length, map, min, get_or, slice_get, Option, Some, None, nat_lt, if◌then◌else◌}
-use Rattle.machine.specs.Machine.{Rules}
+use Rattle.ballot.specs.machine.Machine.{Rules}
 use Rattle.ballot.specs.Body.{Body}
 use Rattle.ballot.specs.Body.TheVariants.{Activate}
 use Rattle.ballot.specs.Config.{Config}
@@ -9,7 +9,7 @@ use Rattle.ballot.specs.Effect.{Effect}
 use Rattle.ballot.specs.Effect.TheVariants.{To, Out}
 use Rattle.ballot.specs.Logs.{places}
 use Rattle.ballot.specs.Losses.{IsQuiet, Thinned, Loses, one_more}
-use Rattle.lists.specs.Lists.{Each, In}
+use Rattle.ballot.specs.lists.Lists.{Each, In}
 use Rattle.ballot.specs.Protocol.{Input, replica_step}
 use Rattle.ballot.specs.Protocol.Input.{Receives, Proposes, Ticks}
 use Rattle.ballot.specs.Replica.{ReplicaState, CountedReplica}

@@ -1,6 +1,6 @@
 -- Steps.antt: steps of a group in which memory may have run out, and how these are counted.
 use Rattle.std.specs.Prelude.{◌^◌, ◌-◌, ◌<◌, ◌≡◌, ◌⊎◌, ℕ, List, [], ◌∷◌, Option, Some, None}
-use Rattle.machine.specs.Machine.{Rules}
+use Rattle.ballot.specs.machine.Machine.{Rules}
 use Rattle.ballot.specs.Effect.{Effect}
 use Rattle.ballot.specs.Losses.{IsQuiet, Loses, one_more}
 use Rattle.ballot.specs.Replica.{ReplicaState}

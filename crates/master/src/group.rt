@@ -8,7 +8,7 @@ ghost use Rattle.ballot.specs.Protocol.Input.{Receives};
 ghost use Rattle.ballot.specs.Sending.{nothing_done};
 ghost use Rattle.ballot.specs.Losses.{IsQuiet, one_more};
 ghost use Rattle.ballot.specs.Replica.{ReplicaState};
-ghost use Rattle.lists.specs.Lists.{In};
+ghost use Rattle.ballot.specs.lists.Lists.{In};
 ghost use Rattle.snapshots.specs.Masters.{activated, assigned};
 ghost use Rattle.snapshots.specs.agreement.MasterState.{refusal};
 ghost use Rattle.snapshots.specs.Past.{IsAgreed, Moment, Past, opening_moment};
@@ -28,8 +28,8 @@ use crate::recording::record;
 use crate::telling::{answer_of, asks_for, tell};
 use crate::told::{Told, turn_over};
 use crate::turning::{Taken, counted, part, take_in};
+use ballot::machine::{Machine, Memory};
 use ballot::{Body, Config, Effect, MOST_PLACES, Members, Message, OpeningError, Replica};
-use machine::{Machine, Memory};
 use std::alloc::Global;
 use std::marker::Model;
 

@@ -14,6 +14,8 @@ mod told;
 mod turning;
 
 pub use activation::Activation;
+pub use ballot;
+pub use ballot::machine;
 pub use copying::{config_of, copy_of};
 pub use error::AssignError;
 pub use event::{Event, Idle};

@@ -1,9 +1,9 @@
 // The record of the places that nodes of a group cut from their logs.
 
 ghost use Rattle.std.specs.Prelude.{◌≡◌, ◌≤◌, ◌-◌, ◌++◌, length, take, drop, OnOk, OnErr};
-ghost use Rattle.lists.specs.Lists.{IsPrefixOf};
+ghost use Rattle.ballot.specs.lists.Lists.{IsPrefixOf};
 
-use machine::{Machine, Memory};
+use ballot::machine::{Machine, Memory};
 use std::alloc::Global;
 
 /// Adds to the record the places of a log below `committed` that are not yet there. The log is kept

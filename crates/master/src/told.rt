@@ -2,11 +2,11 @@
 
 ghost use Rattle.std.specs.Prelude.{ℕ, ◌^◌, ◌-◌, ◌≡◌, ◌<◌, ◌≤◌, IfOk, take, length, max, get_or};
 ghost use Rattle.master.specs.ToldLengths.{told_in};
-ghost use Rattle.lists.specs.Lists.{In};
+ghost use Rattle.ballot.specs.lists.Lists.{In};
 ghost use Rattle.master.specs.Inside.{HasCounted, least_but_one, next_least};
 
+use ballot::machine::Memory;
 use ballot::{Body, Message};
-use machine::Memory;
 use std::alloc::Global;
 use std::marker::Model;
 use std::mem::swap;

@@ -1,9 +1,9 @@
 -- How many ballots a master can give, and how many places a log can have: rows at both edges.
 use Rattle.std.specs.Prelude.{◌≡◌, true, Some, None}
-use Rattle.ballot.specs.Config.{Config}
-use Rattle.ballot.specs.LawfulConfig.{is_lawful}
-use Rattle.ballot_base.specs.Serving.{most_places}
-use Rattle.agreement.specs.MasterState.{MasterState, refusal, ballots_spent}
+use Rattle.master.specs.ballot.Config.{Config}
+use Rattle.master.specs.ballot.LawfulConfig.{is_lawful}
+use Rattle.master.specs.ballot_base.Serving.{most_places}
+use Rattle.master.specs.agreement.MasterState.{MasterState, refusal, ballots_spent}
 
 -- the 4,294,967,296th ballot is given, and none after it
 abbrev pub LastBallotIs : Type 0

@@ -13,4 +13,5 @@ pub use Rattle.world_base.specs.Output
 pub use Rattle.world_base.specs.LawfulConfig
 pub use Rattle.world_base.specs.Replica
 pub use Rattle.world_base.specs.declared.item.Item
-pub use Rattle.lists.specs.Lists
+pub use Rattle.world_base.specs.lists.Lists
+pub use Rattle.mailbox.specs as mailbox

@@ -3,7 +3,7 @@
 ghost use Rattle.std.specs.Prelude.{◌≡◌, ◌+◌, ◌*◌, ℕ, length, max, nat_lt, sum_by};
 ghost use Rattle.node.specs.Growth.{bytes_of_body, bytes_of_command, bytes_of_packet, counted, grown};
 
-use packet::{Packet, Subscribe, Unsubscribe};
+use world_base::packet::{Packet, Subscribe, Unsubscribe};
 use world_base::{Body, Command, Item};
 
 /// The least that counts as many bytes when a log is cut because of its size.

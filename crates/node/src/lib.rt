@@ -2,19 +2,20 @@
 #![tactic(auto)]
 
 mod growth;
-mod leave;
 mod naming;
 mod node_state;
+mod permit;
 mod report;
 mod running;
 
-pub use leave::Leave;
+pub use mailbox;
 pub use naming::NodeNaming;
 pub use node_base::{Gate, NoGate, PIECE_BYTES};
 pub use node_state::NodeState;
+pub use permit::Permit;
 pub use report::Report;
 pub use running::{Node, Stated};
 pub use world_base::{
     Body, Command, Config, ConnectionId, Effect, Handed, Item, Members, Memory, Message, NodeCore,
-    OpeningError, Output, Piece, Port, Standing, Status,
+    OpeningError, Output, Piece, Port, Standing, Status, packet,
 };

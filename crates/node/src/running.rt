@@ -4,9 +4,9 @@ ghost use Rattle.std.specs.Prelude.{◌≡◌, ◌↔◌, All, IfOk, IfSome, IsS
 ghost use Rattle.mailbox.specs.Ends.{ArrivesWhole, unmet};
 ghost use Rattle.node.specs.Running.{AreItsLanes, ReportsOn, WasAsked, WasTold};
 
-use crate::leave::Leave;
 use crate::naming::NodeNaming;
 use crate::node_state::NodeState;
+use crate::permit::Permit;
 use crate::report::Report;
 use mailbox::Lane;
 use node_base::Gate;
@@ -154,7 +154,7 @@ impl<'g, J: NodeNaming, S: Stated<J>, G: Gate> Node<'g, J, S, G> {
     /// Begins a turn: waits until the gate opens for the node's next taking, if it opens in time.
     /// Without a gate it does not wait. With a gate, turns come one after another: until this one
     /// is done no other begins.
-    pub fn pass<R: Wait + Clock>(&self, rt: &R) -> Leave<'_>
+    pub fn pass<R: Wait + Clock>(&self, rt: &R) -> Permit<'_>
         ensures one { IfSome result.taking (λ _. result.most ≡ 1) }
 
         // A gate was asked for this node and the number of the taking, and the permit says what it
@@ -163,12 +163,12 @@ impl<'g, J: NodeNaming, S: Stated<J>, G: Gate> Node<'g, J, S, G> {
             WasAsked G.answers self.now.number taking result.is_open) }
     {
         let Some(gate) = self.gate else {
-            return Leave::free();
+            return Permit::free();
         };
         let turn = self.turn.lock(rt);
         let taking = self.lock(rt).state().next_turn();
         let is_open = self.ask(rt, gate, taking);
-        Leave::after(taking, is_open, turn)
+        Permit::after(taking, is_open, turn)
     }
 
     // Waits until the gate opens for a taking, but not for ever. Returns what it answered last: a
@@ -191,7 +191,7 @@ impl<'g, J: NodeNaming, S: Stated<J>, G: Gate> Node<'g, J, S, G> {
     }
 
     /// Ends a turn: informs the gate that the taking is done.
-    pub fn done<R: Wait>(&self, rt: &R, leave: Leave<'_>)
+    pub fn done<R: Wait>(&self, rt: &R, leave: Permit<'_>)
         ensures { self.now.is_gated ≡ true → IfSome leave.entry.taking (λ taking.
             WasTold G.hears self.now.number taking) }
     {

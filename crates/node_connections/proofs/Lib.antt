@@ -1,1 +1,1 @@
-pub use Rattle.broker_model.proofs as of_broker_model
+pub use Rattle.broker_spec.proofs as of_broker_spec

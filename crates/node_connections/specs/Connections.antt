@@ -1,7 +1,7 @@
 -- The connections of a node, in the order in which they were opened, and what happens to one (MQTT
 -- 3.1.2.10, 3.2.2.3).
 use Rattle.std.specs.Prelude.{ℕ, ◌+◌, ◌*◌, Bool, true, false, not, ◌&&◌, ◌||◌, ◌==◌, nat_lt, nat_le, if◌then◌else◌, List, [], ◌∷◌, ◌++◌, length}
-use Rattle.broker_model.specs.Connection.{ConnectionName, same_connection}
+use Rattle.broker_spec.specs.Connection.{ConnectionName, same_connection}
 use Rattle.node_connections.specs.declared.port.Port.{Port}
 use Rattle.node_connections.specs.declared.connection.Stage.{Stage}
 use Rattle.node_connections.specs.declared.connection.Stage.TheVariants.{Awaits, Proposed, Over, Failed}

@@ -4,7 +4,7 @@ use Rattle.cutter.specs.packet.Stop.{Stop}
 use Rattle.cutter.specs.packet.Stop.TheVariants as stops
 use Rattle.cutter.specs.packet.declared.packet.Packet.{Packet}
 use Rattle.cutter.specs.packet.Verdict.{verdict}
-use Rattle.broker_model.specs.Sized.{IsSized}
+use Rattle.broker_spec.specs.Sized.{IsSized}
 use Rattle.node_connections.specs.declared.connection.Connection.{Connection}
 use Rattle.node_connections.specs.declared.front.Front.{Front}
 use Rattle.node_connections.specs.declared.front.Front.TheVariants as fronts

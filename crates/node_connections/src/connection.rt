@@ -13,9 +13,9 @@ use crate::handed::Handed;
 use crate::port::Port;
 use crate::standing::Standing;
 use crate::unread::Unread;
-use broker_model::ConnectionId;
+use broker_spec::ConnectionId;
 use cutter::packet::{Connack, Packet, RefusalCode};
-use piece::{Memory, Piece};
+use cutter::{Memory, Piece};
 use std::alloc::Global;
 
 /// How many bytes may wait to be handed over on one connection: more than a client can be sent

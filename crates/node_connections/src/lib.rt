@@ -10,12 +10,12 @@ mod port;
 mod standing;
 mod unread;
 
-pub use broker_model;
+pub use broker_spec;
 pub use connection::{Connection, Stage};
+pub use cutter::{Memory, Piece, packet, topics};
 pub use front::Front;
 pub use handed::Handed;
 pub use listing::{close_each, has_port, keep_listed, lowest_silent, push, push_idle};
-pub use piece::{Memory, Piece};
 pub use port::Port;
 pub use standing::Standing;
 pub use unread::Unread;

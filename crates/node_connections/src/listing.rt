@@ -3,14 +3,14 @@
 ghost use Rattle.std.specs.Prelude.{◌≡◌, false, true, [], ◌∷◌, ◌++◌, map, filter, OnErr, OnOk};
 ghost use Rattle.std.specs.List.{list_any};
 ghost use Rattle.node_connections.specs.Connections.{closed, is_at, is_listed};
-ghost use Rattle.broker_model.specs.lists.Lists.{IsPrefixOf};
+ghost use Rattle.broker_spec.specs.lists.Lists.{IsPrefixOf};
 ghost use Rattle.node_connections.specs.Pending.{is_idle};
 ghost use Rattle.node_connections.specs.declared.connection.Connection.{Connection};
 ghost use Rattle.node_connections.specs.Silent.{lower, lowest_silent};
 
 use crate::connection::Connection;
 use crate::port::Port;
-use piece::Memory;
+use cutter::Memory;
 
 /// Says whether a connection of this port is listed.
 pub fn has_port(connections: &[Connection], port: Port) -> bool

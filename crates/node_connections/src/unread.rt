@@ -5,8 +5,7 @@ ghost use Rattle.node_connections.specs.Inside.{Reads};
 
 use crate::front::Front;
 use cutter::packet::DecodeFault;
-use cutter::{CutError, Cutter};
-use piece::{Memory, Piece};
+use cutter::{CutError, Cutter, Memory, Piece};
 use std::alloc::Global;
 use std::marker::Model;
 

@@ -2,10 +2,10 @@
 use Rattle.std.proofs.Common.{◌≡◌, ◌<◌, ◌+◌, ℕ, zero, suc, List, [], ◌∷◌, Option, Some, None, Result, Ok, Err, OnOk, ◌++◌, length, take, drop, get_or, map, ap, refl, sym, ◌∙◌, subst, arith}
 use Rattle.std.specs.List.{position}
 use Rattle.std.proofs.lemmas.List.{append-nil, append_assoc, take_more}
-use Rattle.transcript.specs.client_base.declared.accepted.Accepted.{Accepted}
-use Rattle.session_base.specs.declared.publication.Publication.{Publication}
+use Rattle.user_client.specs.client_base.declared.accepted.Accepted.{Accepted}
+use Rattle.script.specs.session_base.declared.publication.Publication.{Publication}
 use Rattle.script.specs.declared.order.Order.{Order}
-use Rattle.transcript.specs.Lines.{accepted_line}
+use Rattle.play.specs.Lines.{accepted_line}
 use Rattle.world.specs.declared.event.Event.{Event}
 use Rattle.world.specs.declared.world.WorldClient.{WorldClient}
 use Rattle.world.specs.Found.{core_at, is_named}

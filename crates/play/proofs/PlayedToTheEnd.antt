@@ -3,11 +3,11 @@
 use Rattle.std.proofs.Common.{◌≡◌, ◌<◌, ◌≤◌, ◌+◌, ℕ, List, [], ◌∷◌, Result, Ok, Err, OnOk, ◌++◌, length, take, get_or, ap, subst, refl, sym, ◌∙◌, arith}
 use Rattle.std.proofs.lemmas.List.{append-nil, append_assoc, length-take-le, take_more}
 use Rattle.world.specs.ballot.Config.{Config}
-use Rattle.world.specs.model.World.{AreApart}
+use Rattle.world.specs.packet_world.World.{AreApart}
 use Rattle.script.specs.Scripts.{IsScript, lines_of}
 use Rattle.script.specs.declared.order.Order.{Order}
 use Rattle.script.specs.declared.reading.Script.{Script}
-use Rattle.transcript.specs.Lines.{end_line}
+use Rattle.play.specs.Lines.{end_line}
 use Rattle.world.specs.Goes.{AreReached}
 use Rattle.world.specs.Standing.{IsReached, asked_on}
 use Rattle.world.specs.World.{WorldState}

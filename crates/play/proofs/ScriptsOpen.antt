@@ -4,10 +4,10 @@ use Rattle.std.specs.Prelude.{bytes_eq}
 use Rattle.std.proofs.lemmas.Bool.{and_parts, false≢true}
 use Rattle.std.proofs.lemmas.Slice.Eq.{bytes_eq-Decides}
 use Rattle.world.specs.agreement.World.{can_open}
-use Rattle.ballot_base.specs.LawfulConfig.{is_lawful}
+use Rattle.script.specs.ballot_base.LawfulConfig.{is_lawful}
 use Rattle.script.specs.Fields.{Text, fields_of}
-use Rattle.lists.specs.Lists.{Each}
-use Rattle.world.specs.model.World.{AreApart}
+use Rattle.script.specs.lists.Lists.{Each}
+use Rattle.world.specs.packet_world.World.{AreApart}
 use Rattle.script.specs.Scripts.{IsOpening, IsScript, are_distinct, are_nodes, has, is_lawful_opening}
 use Rattle.script.specs.Scripts.IsOpening.{world}
 use Rattle.script.specs.declared.opening.Opening.{Opening}

@@ -1,9 +1,9 @@
 -- Auxiliary definitions.
 use Rattle.std.specs.Prelude.{◌≡◌, ℕ, List, [], ◌∷◌, ◌++◌, Some, Result, length, map}
 use Rattle.world.specs.master.declared.event.Idle.{Idle}
-use Rattle.session_base.specs.declared.publication.Publication.{Publication}
+use Rattle.script.specs.session_base.declared.publication.Publication.{Publication}
 use Rattle.script.specs.declared.order.Order.{Order}
-use Rattle.transcript.specs.Lines.{end_line}
+use Rattle.play.specs.Lines.{end_line}
 use Rattle.world.specs.declared.event.Event.{Event}
 use Rattle.world.specs.Goes.{StaysReached, WorldGoesOn}
 use Rattle.world.specs.Standing.{KeepsReached}

@@ -1,14 +1,14 @@
 -- The transcript of a script: the worlds that its orders lead through, and what is written for
 -- each.
 use Rattle.std.specs.Prelude.{◌≡◌, ℕ, List, [], ◌∷◌, ◌++◌, Option, Some, None, Result, Ok, Err, IsErr, drop, length}
-use Rattle.world.specs.client.Core.{Core}
-use Rattle.transcript.specs.client_base.declared.accepted.Accepted.{Accepted}
-use Rattle.session_base.specs.declared.publication.Publication.{Publication}
+use Rattle.user_client.specs.client.Core.{Core}
+use Rattle.user_client.specs.client_base.declared.accepted.Accepted.{Accepted}
+use Rattle.script.specs.session_base.declared.publication.Publication.{Publication}
 use Rattle.world.specs.master.declared.event.Idle.{Idle}
 use Rattle.script.specs.Scripts.{IsScript, lines_of}
 use Rattle.script.specs.declared.order.Order.{Order}
 use Rattle.script.specs.declared.reading.Script.{Script}
-use Rattle.transcript.specs.Lines.{accepted_line, done_line, end_line, idle_line}
+use Rattle.play.specs.Lines.{accepted_line, done_line, end_line, idle_line}
 use Rattle.world.specs.declared.event.Event.{Event}
 use Rattle.world.specs.Found.{core_named}
 use Rattle.world.specs.Goes.{AreReached, StaysReached, WorldGoesOn}

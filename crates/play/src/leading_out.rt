@@ -9,7 +9,7 @@ use crate::error::PlayError;
 use crate::event_lines::write_event;
 use crate::playing::play_all;
 use crate::stage::Stage;
-use packet::ClientId;
+use script::packet::ClientId;
 use script::{Script, read};
 use std::alloc::Global;
 use world::Event;

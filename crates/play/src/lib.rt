@@ -7,7 +7,12 @@ mod events;
 mod leading_out;
 mod playing;
 mod stage;
+mod writing;
 
 pub use error::PlayError;
 pub use leading_out::escape;
 pub use playing::play;
+pub use script;
+pub use script::{packet, session_base, topics};
+pub use user_client;
+pub use writing::{write_accepted, write_done, write_end, write_idle};

@@ -2,7 +2,7 @@
 
 ghost use Rattle.std.specs.Prelude.{◌≡◌, ◌<◌, ◌++◌, ℕ, false, [], map, IfOk, OnOk, OnErr, IsErrOf};
 ghost use Rattle.world.specs.agreement.World.{can_open};
-ghost use Rattle.world.specs.model.World.{AreApart};
+ghost use Rattle.world.specs.packet_world.World.{AreApart};
 ghost use Rattle.world.specs.Goes.{AreReached};
 ghost use Rattle.world.specs.Standing.{IsReached, asked_on};
 ghost use Rattle.play.specs.Inside.{Appends, AreTold, Comes, Ends, Written, lines_untold, names_of, new_listener, told_at};
@@ -10,10 +10,10 @@ ghost use Rattle.play.specs.Transcripts.{accepted_in, accepted_lines, lines_afte
 
 use crate::error::PlayError;
 use crate::events::event_of;
-use packet::ClientId;
+use crate::{write_accepted, write_done, write_end, write_idle};
+use script::packet::ClientId;
 use script::{Opening, Order};
 use std::alloc::Global;
-use transcript::{write_accepted, write_done, write_end, write_idle};
 use world::{Accepted, Idle, World};
 
 /// A client, and how many of the publications that it accepted are written.

@@ -1,7 +1,7 @@
 -- CountsStand.antt: a count that replaces another says all that the other said.
 use Rattle.std.proofs.Common.{◌≡◌, ℕ, ◌≤◌, ◌==◌, ◌&&◌, true, nat_le, List, [], ◌∷◌, max, refl, arith}
-use Rattle.ballot_base.specs.declared.status.Progress.{Progress}
-use Rattle.ballot_base.specs.Serving.{raised, raised_progress}
+use Rattle.master.specs.ballot_base.declared.status.Progress.{Progress}
+use Rattle.master.specs.ballot_base.Serving.{raised, raised_progress}
 use Rattle.post.specs.Laws.{LaterCommitsSuffice, LaterCountsSuffice}
 
 max_max : (a fewer held : ℕ) → fewer ≤ held → max (max a fewer) held ≡ max a held

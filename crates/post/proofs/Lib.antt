@@ -5,3 +5,5 @@ mod MasterIsReachable
 mod NoneAmong
 mod OpenBytes
 mod TrayKept
+pub use Rattle.master.proofs.of_lists as of_lists
+pub use Rattle.node.proofs as of_node

@@ -4,7 +4,7 @@ use Rattle.std.specs.List.{AllWithin}
 use Rattle.std.specs.Option.{MatchOption}
 use Rattle.std.proofs.lemmas.Option.{none-some}
 use Rattle.std.proofs.Common.{sym}
-use Rattle.lists.specs.Lists.{has_id}
+use Rattle.master.specs.lists.Lists.{has_id}
 use Rattle.post.specs.Numbers.{numbers_of}
 use Rattle.post.specs.declared.peer.Peer.{Peer}
 

@@ -7,7 +7,7 @@ use Rattle.node.specs.Message.{Message}
 use Rattle.node.specs.declared.Item.{Item}
 use Rattle.node.specs.declared.Item.TheVariants.{Peer}
 use Rattle.node.specs.Lists.{Each}
-use Rattle.lists.proofs.OfEach.{each_append}
+use Rattle.master.proofs.of_lists.OfEach.{each_append}
 use Rattle.post.specs.Carrying.{Letter}
 use Rattle.post.specs.Letters.{IsLeft, WasAnswered}
 use Rattle.post.specs.Letters.IsLetter.{of_master}

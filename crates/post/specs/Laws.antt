@@ -1,7 +1,7 @@
 -- Laws.antt: which waiting messages may be left out, and which bytes are counted.
 use Rattle.std.specs.Prelude.{◌≡◌, ℕ, ◌+◌, ◌≤◌, true, List, max}
-use Rattle.ballot_base.specs.declared.status.Progress.{Progress}
-use Rattle.ballot_base.specs.Serving.{raised}
+use Rattle.master.specs.ballot_base.declared.status.Progress.{Progress}
+use Rattle.master.specs.ballot_base.Serving.{raised}
 use Rattle.node.specs.declared.Body.TheVariants.{Held, Commit}
 use Rattle.post.specs.Counting.{Counts, Taken, bytes_behind, committed_of}
 use Rattle.post.specs.Crowding.{Taking}

@@ -10,3 +10,5 @@ pub mod Primaries
 pub mod Superseding
 pub mod Waiting
 pub mod Waking
+pub use Rattle.node.specs.mailbox as mailbox
+pub use Rattle.node.specs as node

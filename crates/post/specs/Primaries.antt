@@ -1,7 +1,7 @@
 -- For which node an order about a client is queued, by the status that each node published last.
 use Rattle.std.specs.Prelude.{◌≡◌, ℕ, ◌≤◌, Bool, true, false, ◌&&◌, not, nat_lt, if◌then◌else◌, List, [], ◌∷◌, Option, Some, None}
-use Rattle.ballot_base.specs.Replica.{is_active}
-use Rattle.lists.specs.Lists.{Each, In}
+use Rattle.master.specs.ballot_base.Replica.{is_active}
+use Rattle.master.specs.lists.Lists.{Each, In}
 use Rattle.post.specs.declared.choosing.Shown.{Shown}
 
 -- the node serves clients: it is the active primary of its ballot, and has not stopped

@@ -11,9 +11,9 @@ use std::marker::Model;
 use std::sync::Wait;
 
 /// What steps of a node gave, in order. It cannot be dropped: only [`carry_all`] and
-/// [`Peers::hand_on`] take it, so the code that has it delivers it.
+/// [`Cluster::hand_on`] take it, so the code that has it delivers it.
 ///
-/// [`Peers::hand_on`]: crate::Peers::hand_on
+/// [`Cluster::hand_on`]: crate::Cluster::hand_on
 pub struct Given {
     effects: Vec<Effect<Command, Output>>,
 }

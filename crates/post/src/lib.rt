@@ -3,23 +3,25 @@
 //! that wakes the thread that takes them.
 #![tactic(auto)]
 
-mod bell;
 mod carrier;
 mod choosing;
+mod cluster;
 mod intake;
 mod laws;
 mod messaging_master;
 mod order_error;
+mod outbox;
 mod parcel;
 mod peer;
-mod peers;
 mod superseding;
-mod tray;
+mod waker;
 mod waking;
 
 pub use carrier::{Carrier, Given, carry_all};
+pub use cluster::Cluster;
 pub use laws::{later_commits_suffice, later_counts_suffice, open_bytes_are_counted};
+pub use node;
+pub use node::{mailbox, packet};
 pub use order_error::OrderError;
 pub use parcel::Parcel;
 pub use peer::Peer;
-pub use peers::Peers;

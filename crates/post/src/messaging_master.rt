@@ -3,17 +3,17 @@
 ghost use Rattle.std.specs.Prelude.{◌≡◌, ◌+◌, ◌↔◌, None, Some, false, IfOk, IsErrOf, OnErr, OnOk};
 ghost use Rattle.master.specs.agreement.MasterState.{opening_master, refusal};
 ghost use Rattle.master.specs.agreement.MasterState.AssignRefusal.{bad_members, ballots_spent};
-ghost use Rattle.ballot_base.specs.LawfulConfig.{is_lawful};
-ghost use Rattle.lists.specs.Lists.{has_id};
+ghost use Rattle.master.specs.ballot_base.LawfulConfig.{is_lawful};
+ghost use Rattle.master.specs.lists.Lists.{has_id};
 ghost use Rattle.master.specs.snapshots.Masters.{assigned};
 ghost use Rattle.node.specs.Command.{Command};
 ghost use Rattle.node.specs.Effect.TheVariants.{To};
 ghost use Rattle.post.specs.Letters.{WasAnswered, WasGiven};
 ghost use Rattle.post.specs.Mastering.{answer_to, body_of, letter_if, letter_of, master_after};
 
+use crate::cluster::Cluster;
 use crate::order_error::OrderError;
-use crate::peers::Peers;
-use crate::tray::Tray;
+use crate::outbox::Outbox;
 use master::{Activation, AssignError, Master};
 use node::{Body, Command, Config, Members, Message};
 use std::alloc::Global;
@@ -49,7 +49,7 @@ impl Answer {
     }
 
     /// Loses the answer, because no node has the number of its receiver.
-    pub(crate) fn lose(self, peers: &Peers)
+    pub(crate) fn lose(self, peers: &Cluster)
         requires { has_id self.receiver peers.now ≡ false }
     {
         let _ = peers;
@@ -60,7 +60,7 @@ impl Answer {
     }
 
     /// Loses the answer, because a tray is not of its receiver.
-    pub(crate) fn lose_at(self, tray: &Tray)
+    pub(crate) fn lose_at(self, tray: &Outbox)
         requires { tray.now.number ≡ self.receiver → ⊥ }
     {
         let _ = tray;

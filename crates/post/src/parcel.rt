@@ -1,7 +1,7 @@
 // A message that a step of a node gave for another node.
 
 ghost use Rattle.std.specs.Prelude.{◌≡◌, ◌++◌, ◌∷◌, [], false, true};
-ghost use Rattle.lists.specs.Lists.{has_id};
+ghost use Rattle.master.specs.lists.Lists.{has_id};
 ghost use Rattle.node.specs.Effect.TheVariants.{To};
 ghost use Rattle.node.specs.declared.Item.TheVariants.{Peer};
 ghost use Rattle.post.specs.Letters.{WasGiven};
@@ -9,9 +9,9 @@ ghost use Rattle.post.specs.Mastering.{answer_to, letter_if, master_after};
 ghost use Rattle.post.specs.Superseding.{still_waiting};
 ghost use Rattle.post.specs.Waking.{wakes};
 
+use crate::cluster::Cluster;
 use crate::messaging_master::{Answer, MessagingMaster};
-use crate::peers::Peers;
-use crate::tray::Tray;
+use crate::outbox::Outbox;
 use crate::waking::is_urgent_message;
 use node::{Command, Item, Message};
 use std::marker::Model;
@@ -59,9 +59,9 @@ impl Parcel {
         is_urgent_message(&self.message)
     }
 
-    /// Leaves the message in a tray of its node, as [`Tray::leave`]. Returns whether there was room
+    /// Leaves the message in a tray of its node, as [`Outbox::leave`]. Returns whether there was room
     /// and memory for it; if not, it is lost.
-    pub(crate) fn lay(self, tray: &mut Tray) -> bool
+    pub(crate) fn lay(self, tray: &mut Outbox) -> bool
         requires { self.receiver ≡ tray.old.number }
         ensures left { result ≡ true → tray.new ≡ record tray.old {
           items = still_waiting (Peer self.message) tray.old.items ++ Peer self.message ∷ [];
@@ -93,7 +93,7 @@ impl Parcel {
     }
 
     /// Loses the message, which is not for the master, because no node has its number.
-    pub(crate) fn lose(self, peers: &Peers)
+    pub(crate) fn lose(self, peers: &Cluster)
         requires master { self.receiver ≡ 0 → ⊥ }
         requires none { has_id self.receiver peers.now ≡ false }
     {
@@ -105,7 +105,7 @@ impl Parcel {
     }
 
     /// Loses the message, because a tray is not of its node.
-    pub(crate) fn lose_at(self, tray: &Tray)
+    pub(crate) fn lose_at(self, tray: &Outbox)
         requires { tray.now.number ≡ self.receiver → ⊥ }
     {
         let _ = tray;

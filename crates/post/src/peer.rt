@@ -4,15 +4,15 @@ ghost use Rattle.std.specs.Prelude.{◌≡◌, ◌≤◌};
 ghost use Rattle.node.specs.Lists.{Each};
 ghost use Rattle.post.specs.Letters.{IsLeft, IsPosted};
 
-use crate::bell::Bell;
 use crate::intake::Intake;
 use crate::messaging_master::{Answer, MessagingMaster};
 use crate::order_error::OrderError;
+use crate::outbox::Outbox;
 use crate::parcel::Parcel;
-use crate::tray::Tray;
+use crate::waker::Waker;
 use crate::waking::is_urgent;
+use node::packet::ClientId;
 use node::{Config, Item, Memory, Status};
-use packet::ClientId;
 use std::alloc::Global;
 use std::sync::{Mutex, Wait};
 use std::time::Duration;
@@ -23,13 +23,13 @@ pub struct Peer {
     /// The node's number.
     pub number: u8,
     /// What the other nodes and the master have for it.
-    tray: Mutex<Tray>,
+    tray: Mutex<Outbox>,
     /// Its status after its last change, and what it takes from its clients.
     intake: Mutex<Intake>,
     /// Whether the order to crash was queued for it.
     is_crash_ordered: Mutex<bool>,
     /// Its own thread sleeps on this.
-    bell: Bell,
+    bell: Waker,
 }
 
 impl Peer {
@@ -38,10 +38,10 @@ impl Peer {
     {
         Peer {
             number,
-            tray: Mutex::new(Tray::new(alloc, number)),
+            tray: Mutex::new(Outbox::new(alloc, number)),
             intake: Mutex::new(Intake::new()),
             is_crash_ordered: Mutex::new(false),
-            bell: Bell::new(),
+            bell: Waker::new(),
         }
     }
 

@@ -1,6 +1,6 @@
 -- How a fault of a field becomes one of its line.
-use Rattle.topics.specs.declared.malformed.MalformedKind.{MalformedKind}
-use Rattle.topics.specs.declared.malformed.MalformedKind.TheVariants as kinds
+use Rattle.session_base.specs.topics.declared.malformed.MalformedKind.{MalformedKind}
+use Rattle.session_base.specs.topics.declared.malformed.MalformedKind.TheVariants as kinds
 use Rattle.script.specs.declared.error.LineFault.{LineFault}
 use Rattle.script.specs.declared.error.LineFault.TheVariants as faults
 

@@ -1,6 +1,6 @@
 -- The form of each line after the first: its fields, and the order that they write.
 use Rattle.std.specs.Prelude.{◌≡◌, ℕ, Bool, List, [], ◌∷◌, codes, Some}
-use Rattle.packet.specs.declared.qos.QoS.{QoS}
+use Rattle.session_base.specs.packet.declared.qos.QoS.{QoS}
 use Rattle.script.specs.Fields.{Text, amount_of, client_of, filter_of, number_of, numbers_of, payload_of, qos_of, retain_of, topic_of}
 use Rattle.script.specs.declared.order.Amount.{Amount}
 use Rattle.script.specs.declared.order.Order.{Order}

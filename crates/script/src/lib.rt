@@ -13,9 +13,12 @@ mod ordering;
 mod reading;
 mod values;
 
+pub use ballot_base;
 pub use error::ScriptError;
 pub use laws::{no_script_is_refused, one_order_a_line};
 pub use numbers::Numbers;
 pub use opening::Opening;
 pub use order::{Amount, Order};
 pub use reading::{Script, read};
+pub use session_base;
+pub use session_base::{packet, topics};

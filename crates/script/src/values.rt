@@ -8,9 +8,9 @@ use crate::fields::parts_of;
 use crate::numbers::Numbers;
 use crate::order::Amount;
 use hex::FromHexError;
-use packet::{ClientId, Payload, QoS};
+use session_base::packet::{ClientId, Payload, QoS};
+use session_base::topics::{Filter, TopicName};
 use std::alloc::Global;
-use topics::{Filter, TopicName};
 
 /// Returns a decimal number.
 pub(crate) fn number(text: &str) -> Result<u64, LineFault>

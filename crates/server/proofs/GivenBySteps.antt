@@ -1,14 +1,14 @@
 -- GivenBySteps.antt: what the steps of a node give was given by one of them.
 use Rattle.std.proofs.Common.{ℕ, List, [], ◌∷◌, sym, subst}
-use Rattle.node.specs.Command.{Command}
-use Rattle.node.specs.Output.{Output}
-use Rattle.node.specs.Effect.{Effect}
-use Rattle.node.specs.Core.{CountedCore}
-use Rattle.node.specs.declared.Config.{Config}
-use Rattle.node.specs.Lists.{Each, In}
-use Rattle.node.specs.Lists.In.{here, there}
-use Rattle.node.specs.State.{Replays, Seen, TakesOne}
-use Rattle.node.proofs.of_lists.OfEach.{each_append}
+use Rattle.post.specs.node.Command.{Command}
+use Rattle.post.specs.node.Output.{Output}
+use Rattle.post.specs.node.Effect.{Effect}
+use Rattle.post.specs.node.Core.{CountedCore}
+use Rattle.post.specs.node.declared.Config.{Config}
+use Rattle.post.specs.node.Lists.{Each, In}
+use Rattle.post.specs.node.Lists.In.{here, there}
+use Rattle.post.specs.node.State.{Replays, Seen, TakesOne}
+use Rattle.post.proofs.of_lists.OfEach.{each_append}
 use Rattle.post.specs.Letters.{EachOpens, EachOpensAs, WasGiven}
 
 -- what holds for whatever is in a list holds for each

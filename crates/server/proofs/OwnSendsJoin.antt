@@ -1,7 +1,7 @@
 -- OwnSendsJoin.antt: what a node's own thread sends at first and then is what it sends.
 use Rattle.std.proofs.Common.{◌≡◌, ℕ, List, [], ◌∷◌, ◌++◌, sym, subst}
-use Rattle.node.specs.declared.Item.{Item}
-use Rattle.node.specs.declared.Item.TheVariants.{Tick, Cut}
+use Rattle.post.specs.node.declared.Item.{Item}
+use Rattle.post.specs.node.declared.Item.TheVariants.{Tick, Cut}
 use Rattle.post.specs.Letters.{IsLeft}
 use Rattle.server.specs.Serving.{SendsOwn}
 use Rattle.server.specs.Serving.SendsOwn.{starts, ticks, cuts, hands}

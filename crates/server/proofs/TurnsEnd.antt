@@ -1,10 +1,10 @@
 -- TurnsEnd.antt: how turns of a node begin, and how they end if no item waits.
 use Rattle.std.proofs.Common.{◌≡◌, List, [], sym, subst}
-use Rattle.node.specs.Command.{Command}
-use Rattle.node.specs.Output.{Output}
-use Rattle.node.specs.Effect.{Effect}
-use Rattle.node.specs.Lists.{Each}
-use Rattle.node.specs.State.{Seen, next_turn}
+use Rattle.post.specs.node.Command.{Command}
+use Rattle.post.specs.node.Output.{Output}
+use Rattle.post.specs.node.Effect.{Effect}
+use Rattle.post.specs.node.Lists.{Each}
+use Rattle.post.specs.node.State.{Seen, next_turn}
 use Rattle.post.specs.Letters.{WasGiven}
 use Rattle.server.specs.Turns.{Turns}
 use Rattle.server.specs.Turns.Turns.{begins, finds_none}

@@ -1,8 +1,8 @@
 -- What a lane reports of a connection.
 use Rattle.std.specs.Prelude.{◌≡◌, ℕ, ◌+◌, ◌*◌, List, [], ◌∷◌, ◌++◌, None}
-use Rattle.node.specs.declared.Item.{Item}
-use Rattle.node.specs.declared.Item.TheVariants.{Tick, Cut}
-use Rattle.node.specs.declared.Port.{Port}
+use Rattle.post.specs.node.declared.Item.{Item}
+use Rattle.post.specs.node.declared.Item.TheVariants.{Tick, Cut}
+use Rattle.post.specs.node.declared.Port.{Port}
 use Rattle.streams.specs.connection.declared.ending.Ending.{Ending}
 use Rattle.streams.specs.connection.Hearing.{Hears}
 use Rattle.post.specs.Letters.{IsLeft}

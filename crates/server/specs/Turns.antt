@@ -1,9 +1,9 @@
 -- What the turns of a node give.
 use Rattle.std.specs.Prelude.{List, []}
-use Rattle.node.specs.Command.{Command}
-use Rattle.node.specs.Output.{Output}
-use Rattle.node.specs.Effect.{Effect}
-use Rattle.node.specs.State.{Seen, TakesOne, next_turn}
+use Rattle.post.specs.node.Command.{Command}
+use Rattle.post.specs.node.Output.{Output}
+use Rattle.post.specs.node.Effect.{Effect}
+use Rattle.post.specs.node.State.{Seen, TakesOne, next_turn}
 
 -- From a state of a node on, one item after another was taken, and these are all effects of the
 -- steps, in order; or no item waited.

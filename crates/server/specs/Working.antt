@@ -1,7 +1,7 @@
 -- What a lane sends in its whole life.
 use Rattle.std.specs.Prelude.{◌≡◌, ℕ, ◌<◌, List, Option, Some, None}
-use Rattle.node.specs.declared.Item.{Item}
-use Rattle.mailbox.specs.Ends.{Sender}
+use Rattle.post.specs.node.declared.Item.{Item}
+use Rattle.post.specs.mailbox.Ends.{Sender}
 use Rattle.server.specs.Serving.{SendsOwn, SendsRow}
 
 -- what the thread of a lane of a node sends, by the lane's number: lane 0 is the node's own

@@ -5,8 +5,8 @@ ghost use Rattle.server.specs.Cutting.{cuts_after};
 ghost use Rattle.server.specs.Serving.{SendsOwn};
 
 use crate::shared::Shared;
-use mailbox::Lane;
-use node::{Gate, Item, NodeNaming, Stated};
+use post::mailbox::Lane;
+use post::node::{Gate, Item, NodeNaming, Stated};
 use std::sync::Wait;
 use std::time::Clock;
 

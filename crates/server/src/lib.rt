@@ -4,16 +4,16 @@
 //! takes what other nodes and the master have for it.
 #![tactic(auto)]
 
+mod blocked_writer;
 mod cutting;
-mod ear;
-mod late_writer;
+mod lane_reporter;
 mod laws;
 mod listening;
+mod node_context;
 mod node_report;
 mod outcome;
 mod own_thread;
 mod room;
-mod seat;
 mod serve_error;
 mod serving;
 mod shared;
@@ -24,8 +24,8 @@ mod writing;
 
 pub use laws::{cuts_come_apart, cuts_come_often, ports_differ};
 pub use listening::{serve_gated, serve_while};
-pub use node::{Config, Gate, Members, Memory, NoGate, Status};
 pub use node_report::NodeReport;
-pub use post::{OrderError, Peers};
+pub use post::node::{Config, Gate, Members, Memory, NoGate, Status};
+pub use post::{Cluster, OrderError, packet};
 pub use serve_error::ServeError;
-pub use streams::{CONNECTIONS, Place};
+pub use streams::{CONNECTIONS, Listener};

@@ -3,18 +3,18 @@
 ghost use Rattle.std.specs.Prelude.{◌≡◌};
 ghost use Rattle.post.specs.Letters.{EachOpensAs};
 
+use crate::node_context::NodeContext;
 use crate::node_report::NodeReport;
 use crate::outcome::Outcome;
-use crate::seat::Seat;
 use crate::serve_error::ServeError;
 use crate::shared::Shared;
 use crate::starting::can_start;
-use crate::working::{Desk, LANES, THREADS, run};
-use mailbox::{Inbox, Lane};
-use node::{
+use crate::working::{LANES, LaneSlot, THREADS, run};
+use post::Cluster;
+use post::mailbox::{Inbox, Lane};
+use post::node::{
     Config, Gate, Item, Memory, NoGate, Node, NodeCore, NodeNaming, NodeState, OpeningError, Report,
 };
-use post::Peers;
 use std::alloc::Global;
 use std::marker::Brand;
 use std::net::{Net, TcpStream};
@@ -22,7 +22,7 @@ use std::sync::{Mutex, Wait};
 use std::thread;
 use std::thread::{Parker, Threads};
 use std::time::{Clock, Instant};
-use streams::{CONNECTIONS, Place};
+use streams::{CONNECTIONS, Listener};
 
 /// Serves the clients of several nodes, each at its place, while `attend` runs with these nodes,
 /// and returns what that returned; then all connections are ended. The nodes open in ballot 1 of
@@ -34,14 +34,14 @@ use streams::{CONNECTIONS, Place};
 pub fn serve_while<R, T, F>(
     rt: &R,
     alloc: Global,
-    places: &[Place],
+    places: &[Listener],
     config: &Config,
     attend: F,
 ) -> Result<T, ServeError>
 where
     R: Threads + Wait + Clock + Sync + Net<Stream = TcpStream>,
     T: Drop,
-    F: FnOnce(&Peers) -> T,
+    F: FnOnce(&Cluster) -> T,
     requires { F.IsAlwaysCallable attend }
 {
     let (answer, _reports) = serve_all(rt, alloc, places, config, None::<&NoGate>, attend)?;
@@ -57,7 +57,7 @@ where
 pub fn serve_gated<R, G, T, F>(
     rt: &R,
     alloc: Global,
-    places: &[Place],
+    places: &[Listener],
     config: &Config,
     gate: &G,
     attend: F,
@@ -66,7 +66,7 @@ where
     R: Threads + Wait + Clock + Sync + Net<Stream = TcpStream>,
     G: Gate + Sync,
     T: Drop,
-    F: FnOnce(&Peers) -> T,
+    F: FnOnce(&Cluster) -> T,
     requires { F.IsAlwaysCallable attend }
 {
     serve_all(rt, alloc, places, config, Some(gate), attend)
@@ -76,7 +76,7 @@ where
 fn serve_all<R, G, T, F>(
     rt: &R,
     alloc: Global,
-    places: &[Place],
+    places: &[Listener],
     config: &Config,
     gate: Option<&G>,
     attend: F,
@@ -85,7 +85,7 @@ where
     R: Threads + Wait + Clock + Sync + Net<Stream = TcpStream>,
     G: Gate + Sync,
     T: Drop,
-    F: FnOnce(&Peers) -> T,
+    F: FnOnce(&Cluster) -> T,
     requires { F.IsAlwaysCallable attend }
 {
     let peers = open_post(alloc, places, config)?;
@@ -108,7 +108,7 @@ where
             requires callable { F.IsAlwaysCallable attend }
         {
             for place in places {
-                if let Some(seat) = Seat::new(group, place, start) {
+                if let Some(seat) = NodeContext::new(group, place, start) {
                     let served = scope.spawn(move || tell(
                         rt,
                         told,
@@ -130,9 +130,9 @@ where
 }
 
 // Returns the peers of the nodes of these places, and their master.
-fn open_post(alloc: Global, places: &[Place], config: &Config) -> Result<Peers, OpeningError> {
+fn open_post(alloc: Global, places: &[Listener], config: &Config) -> Result<Cluster, OpeningError> {
     let numbers: Vec<u8> = places.iter().map(|place| place.number).collect(alloc)?;
-    Peers::new(alloc, numbers.as_slice(), config)
+    Cluster::new(alloc, numbers.as_slice(), config)
 }
 
 // Keeps what became of a node.
@@ -144,7 +144,7 @@ fn tell<R: Wait>(rt: &R, told: &Mutex<Outcome>, served: Result<NodeReport, Serve
 fn serve<G: Gate + Sync, R: Threads + Wait + Clock + Sync>(
     rt: &R,
     alloc: Global,
-    seat: Seat<'_>,
+    seat: NodeContext<'_>,
     config: &Config,
     gate: Option<&G>,
 ) -> Result<NodeReport, ServeError> {
@@ -165,7 +165,7 @@ fn serve<G: Gate + Sync, R: Threads + Wait + Clock + Sync>(
 fn serve_named<J: NodeNaming + Send + Sync, G: Gate + Sync, R: Threads + Wait + Clock + Sync>(
     rt: &R,
     alloc: Global,
-    seat: Seat<'_>,
+    seat: NodeContext<'_>,
     config: &Config,
     inbox: Inbox<Item>,
     core: NodeCore,
@@ -178,7 +178,7 @@ fn serve_named<J: NodeNaming + Send + Sync, G: Gate + Sync, R: Threads + Wait + 
     let (receiver, lanes) = inbox.named::<J>(seat.place.number, LANES)?;
     let mut back = Vec::with_capacity(alloc, lanes.len())?;
     seat.node.publish(rt, core.status());
-    let mut desks: Vec<Desk<J>> = lanes.into_iter().map(Some).collect(alloc)?;
+    let mut desks: Vec<LaneSlot<J>> = lanes.into_iter().map(Some).collect(alloc)?;
     // The desk of the thread that goes on with full sockets has no lane.
     desks.push(None)?;
     let shared = Shared {
@@ -198,13 +198,13 @@ fn serve_named<J: NodeNaming + Send + Sync, G: Gate + Sync, R: Threads + Wait + 
 fn run_state<J: NodeNaming + Send + Sync, G: Gate + Sync, R: Threads + Wait + Clock + Sync>(
     rt: &R,
     shared: &Shared<J, NodeState<J>, G>,
-    desks: &mut [Desk<J>],
+    desks: &mut [LaneSlot<J>],
 ) {
     run::<J, NodeState<J>, G, R>(rt, shared, desks);
 }
 
 // Collects the lanes that came back.
-fn gather<J: NodeNaming>(desks: Vec<Desk<J>>, back: &mut Vec<Lane<Item, J>>) {
+fn gather<J: NodeNaming>(desks: Vec<LaneSlot<J>>, back: &mut Vec<Lane<Item, J>>) {
     for desk in desks {
         if let Some(lane) = desk {
             // There is room for it.

@@ -1,6 +1,6 @@
 // What a node reports at the end.
 
-use node::Report;
+use post::node::Report;
 
 /// What happened to the items that were sent to one of the nodes.
 #[derive(Drop)]

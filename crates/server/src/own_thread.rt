@@ -7,8 +7,8 @@ ghost use Rattle.server.specs.Closing.{is_overdue};
 ghost use Rattle.server.specs.Serving.{SendsOwn};
 
 use crate::shared::Shared;
-use mailbox::Lane;
-use node::{Gate, Item, NodeNaming, Standing, Stated};
+use post::mailbox::Lane;
+use post::node::{Gate, Item, NodeNaming, Standing, Stated};
 use std::hint;
 use std::sync::Wait;
 use std::time::{Clock, Duration};

@@ -3,7 +3,7 @@
 ghost use Rattle.std.specs.Prelude.{◌≤◌};
 
 use crate::shared::Shared;
-use node::{Gate, NodeNaming, Port, Standing, Stated};
+use post::node::{Gate, NodeNaming, Port, Standing, Stated};
 use std::sync::Wait;
 use std::thread;
 use std::time::{Clock, Duration};

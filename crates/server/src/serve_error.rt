@@ -2,7 +2,7 @@
 
 ghost use Rattle.std.specs.Prelude.{◌≡◌};
 
-use node::{Memory, OpeningError};
+use post::node::{Memory, OpeningError};
 use std::error::Error;
 use std::fmt;
 

@@ -4,10 +4,10 @@ ghost use Rattle.std.specs.Prelude.{◌≡◌, ◌<◌, ◌^◌, IfSome};
 ghost use Rattle.std.specs.Arc.{arc_value};
 ghost use Rattle.server.specs.Serving.{SendsRow, SendsWhole, TellsOne, port_of};
 
-use crate::ear::Ear;
+use crate::lane_reporter::LaneReporter;
 use crate::shared::Shared;
-use mailbox::Lane;
-use node::{Gate, Item, NodeNaming, Port, Stated};
+use post::mailbox::Lane;
+use post::node::{Gate, Item, NodeNaming, Port, Stated};
 use std::alloc::Global;
 use std::net::TcpStream;
 use std::sync::{Arc, Wait};
@@ -109,7 +109,7 @@ impl<'a, J: NodeNaming, S: Stated<J>, G: Gate> Shared<'a, J, S, G> {
     ) -> Lane<Item, J>
         ensures { SendsWhole (arc_value link.now).port lane.sent result.sent }
     {
-        let mut ear = Ear {
+        let mut ear = LaneReporter {
             shared: self,
             link,
             lane,

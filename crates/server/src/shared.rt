@@ -1,17 +1,17 @@
 // What the threads of a node share.
 
 ghost use Rattle.std.specs.Prelude.{◌≡◌, All, IfOk, OnErr, OnOk, map};
-ghost use Rattle.mailbox.specs.Ends.{ArrivesWhole, unmet};
-ghost use Rattle.node.specs.Running.{AreItsLanes, ReportsOn};
+ghost use Rattle.post.specs.mailbox.Ends.{ArrivesWhole, unmet};
+ghost use Rattle.post.specs.node.Running.{AreItsLanes, ReportsOn};
 ghost use Rattle.post.specs.Letters.{EachOpensAs};
 
-use crate::seat::Seat;
-use mailbox::Lane;
-use node::{Config, Gate, Item, Memory, Node, NodeNaming, NodeState, Report, Stated};
+use crate::node_context::NodeContext;
+use post::mailbox::Lane;
+use post::node::{Config, Gate, Item, Memory, Node, NodeNaming, NodeState, Report, Stated};
 use std::alloc::Global;
 use std::sync::{Mutex, Wait};
 use std::thread::Parker;
-use streams::Late;
+use streams::Blocked;
 
 /// What the threads of a node share. No thread holds one of the locks while it waits, except its
 /// turn at a gate.
@@ -19,11 +19,11 @@ use streams::Late;
 pub(crate) struct Shared<'a, J: NodeNaming, S: Stated<J>, G: Gate> {
     pub(crate) alloc: Global,
     pub(crate) node: Node<'a, J, S, G>,
-    pub(crate) seat: Seat<'a>,
+    pub(crate) seat: NodeContext<'a>,
     /// The configuration in which all nodes opened.
     pub(crate) config: &'a Config,
     /// The connections whose sockets were full.
-    pub(crate) late: Mutex<Vec<Late>>,
+    pub(crate) late: Mutex<Vec<Blocked>>,
     /// The thread that continues with them sleeps on this.
     pub(crate) late_waker: Parker,
     pub(crate) ghost opens: { EachOpensAs seat.place.now.number config.now J.first_of },

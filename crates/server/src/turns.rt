@@ -1,16 +1,16 @@
 // A worker's turn, which whoever sent an item does itself.
 
 ghost use Rattle.std.specs.Prelude.{◌≡◌, ◌++◌, ◌∷◌, [], true, false};
-ghost use Rattle.mailbox.specs.Ends.{all_met, unmet};
-ghost use Rattle.node.specs.Running.{IsNext};
+ghost use Rattle.post.specs.mailbox.Ends.{all_met, unmet};
+ghost use Rattle.post.specs.node.Running.{IsNext};
 ghost use Rattle.post.specs.Letters.{EachOpens};
 ghost use Rattle.server.specs.Turns.{Turns};
 
 use crate::shared::Shared;
 use crate::working::OWN_LANE;
-use mailbox::Lane;
-use node::{Gate, Item, Leave, NodeNaming, NodeState, Stated};
 use post::Given;
+use post::mailbox::Lane;
+use post::node::{Gate, Item, NodeNaming, NodeState, Permit, Stated};
 use std::alloc::Global;
 use std::sync::{Arc, Wait};
 use std::time::Clock;
@@ -107,7 +107,7 @@ impl<'a, J: NodeNaming, S: Stated<J>, G: Gate> Shared<'a, J, S, G> {
     // Takes items under one lock, as many as the permit allows. Returns whether more may wait. What
     // the node has for others is handed on while the lock is held, so that it keeps the order of
     // the node's steps. The status is published then, too.
-    fn take_locked<R: Wait>(&self, rt: &R, leave: &Leave<'_>, lane: &mut Lane<Item, J>) -> bool
+    fn take_locked<R: Wait>(&self, rt: &R, leave: &Permit<'_>, lane: &mut Lane<Item, J>) -> bool
         ensures more { result ≡ true → lane.new ≡ lane.old }
         ensures none { result ≡ false → lane.new ≡ all_met lane.old }
     {
@@ -135,7 +135,7 @@ fn take_up_to<J: NodeNaming, R: Wait>(
     rt: &R,
     alloc: Global,
     node: &mut NodeState<J>,
-    leave: &Leave<'_>,
+    leave: &Permit<'_>,
     lane: &mut Lane<Item, J>,
 ) -> (bool, Given)
     requires inbox { lane.old.inbox ≡ node.old.taker.inbox }

@@ -4,8 +4,8 @@ ghost use Rattle.std.specs.Prelude.{ℕ, ◌<◌, length, slice_index_or};
 ghost use Rattle.server.specs.Working.{ComesBack, SendsSo};
 
 use crate::shared::Shared;
-use mailbox::Lane;
-use node::{Gate, Item, NodeNaming, Stated};
+use post::mailbox::Lane;
+use post::node::{Gate, Item, NodeNaming, Stated};
 use std::sync::Wait;
 use std::thread;
 use std::thread::Threads;
@@ -22,11 +22,11 @@ pub(crate) const LANES: u8 = CONNECTIONS + 2;
 pub(crate) const THREADS: usize = LANES as usize + 1;
 
 /// A lane, unless its thread has it in hand. The thread that goes on with full sockets has none.
-pub(crate) type Desk<J> = Option<Lane<Item, J>>;
+pub(crate) type LaneSlot<J> = Option<Lane<Item, J>>;
 
 /// Works with each lane by a thread of its own, until the door is closed. Where threads are wanting lanes
 /// wait until others come back, the node's own before all the others.
-pub(crate) fn run<J, S, G, R>(rt: &R, shared: &Shared<J, S, G>, desks: &mut [Desk<J>])
+pub(crate) fn run<J, S, G, R>(rt: &R, shared: &Shared<J, S, G>, desks: &mut [LaneSlot<J>])
 where
     J: NodeNaming + Send + Sync,
     S: Stated<J> + Send,
@@ -36,12 +36,12 @@ where
         ComesBack shared.now.seat.node.now.number
         (slice_index_or desks.old place other) (slice_index_or desks.new place other) }
 {
-    thread::for_each_mut(rt, desks, THREADS, &|_, desk| shared.sit(rt, desk));
+    thread::for_each_mut(rt, desks, THREADS, &|_, desk| shared.run_lane(rt, desk));
 }
 
 impl<'a, J: NodeNaming, S: Stated<J>, G: Gate> Shared<'a, J, S, G> {
     // Works with the lane of a desk, and puts it back. Where there is none it goes on with full sockets.
-    fn sit<R: Wait + Clock>(&self, rt: &R, desk: &mut Desk<J>)
+    fn run_lane<R: Wait + Clock>(&self, rt: &R, desk: &mut LaneSlot<J>)
         ensures { ComesBack self.now.seat.node.now.number desk.old desk.new }
     {
         match desk.take() {

@@ -5,11 +5,11 @@ ghost use Rattle.std.specs.Arc.{arc_value};
 ghost use Rattle.streams.specs.Pens.{HasWholeStream, IsPenOf};
 
 use crate::shared::Shared;
-use node::{Gate, Handed, Memory, NodeNaming, Stated};
+use post::node::{Gate, Handed, Memory, NodeNaming, Stated};
 use std::alloc::Global;
 use std::sync::{Arc, Wait};
 use streams::connection::{Flow, Outlet};
-use streams::{Link, Pen, PortTap};
+use streams::{Link, PortTap, WriteToken};
 
 // The node behind its lock, which queued bytes for its connections.
 #[derive(Drop)]
@@ -49,9 +49,9 @@ impl<'a, J: NodeNaming, S: Stated<J>, G: Gate> Shared<'a, J, S, G> {
         &self,
         rt: &R,
         link: &Arc<Link, Global>,
-        pen: Pen,
+        pen: WriteToken,
         waits: bool,
-    ) -> Option<Pen>
+    ) -> Option<WriteToken>
         requires { IsPenOf (arc_value link.now).port pen }
         ensures { IfSome result (λ late. IsPenOf (arc_value link.now).port late) }
     {
@@ -59,7 +59,7 @@ impl<'a, J: NodeNaming, S: Stated<J>, G: Gate> Shared<'a, J, S, G> {
         for _ in rt.forever() {
             match self.write_so(rt, link, &mut pen, waits) {
                 Flow::Open => pen = link.lay_back(rt, pen)?,
-                Flow::Late => return Some(pen),
+                Flow::Blocked => return Some(pen),
                 Flow::Closed | Flow::Stopped | Flow::Fault => {
                     link.shut();
                     return None;
@@ -74,7 +74,7 @@ impl<'a, J: NodeNaming, S: Stated<J>, G: Gate> Shared<'a, J, S, G> {
         &self,
         rt: &R,
         link: &Arc<Link, Global>,
-        pen: &mut Pen,
+        pen: &mut WriteToken,
         waits: bool,
     ) -> Flow
         ensures { IsPenOf pen.old.tap.port pen.new }
@@ -95,7 +95,7 @@ impl<'a, J: NodeNaming, S: Stated<J>, G: Gate> Shared<'a, J, S, G> {
 
     // Writes what a full socket left over, followed by what the node hands over, as far as the
     // socket takes it within its time.
-    fn write_once<R: Wait>(&self, rt: &R, pen: &mut Pen) -> Flow
+    fn write_once<R: Wait>(&self, rt: &R, pen: &mut WriteToken) -> Flow
         ensures whole { HasWholeStream pen.new }
         ensures port { IsPenOf pen.old.tap.port pen.new }
     {

@@ -2,7 +2,7 @@
 
 use crate::host::Host;
 use anyhow::{Result, bail};
-use server::{Config, Members, Place, serve_while};
+use server::{Config, Listener, Members, serve_while};
 use std::net::{SocketAddr, TcpListener};
 
 /// Runs these nodes, all members of ballot 1, and calls `attend` meanwhile with the address of node
@@ -19,7 +19,7 @@ where
 }
 
 // The places are lent, so that no way out has to drop them.
-fn beside_places<R, T, F>(rt: &R, places: &[Place], members: &[u8], attend: F) -> Result<T>
+fn beside_places<R, T, F>(rt: &R, places: &[Listener], members: &[u8], attend: F) -> Result<T>
 where
     R: Host,
     T: Drop,
@@ -45,21 +45,21 @@ where
 }
 
 // Returns the places of these nodes, each on a free port.
-fn places<R: Host>(rt: &R, numbers: &[u8]) -> Result<Vec<Place>> {
+fn places<R: Host>(rt: &R, numbers: &[u8]) -> Result<Vec<Listener>> {
     let mut places = Vec::new(rt.alloc());
     put_places(rt, numbers, &mut places)?;
     Ok(places)
 }
 
-fn put_places<R: Host>(rt: &R, numbers: &[u8], places: &mut Vec<Place>) -> Result<()> {
+fn put_places<R: Host>(rt: &R, numbers: &[u8], places: &mut Vec<Listener>) -> Result<()> {
     for number in numbers {
         let listener = TcpListener::bind(rt, "127.0.0.1:0")?;
-        places.push(Place::new(rt.alloc(), *number, listener)?)?;
+        places.push(Listener::new(rt.alloc(), *number, listener)?)?;
     }
     Ok(())
 }
 
-fn first_address(places: &[Place]) -> Result<SocketAddr> {
+fn first_address(places: &[Listener]) -> Result<SocketAddr> {
     match places.first() {
         Some(place) => Ok(place.address()?),
         None => bail!("there is no node"),

@@ -3,13 +3,13 @@ use Rattle.std.proofs.Common.{◌≡◌, ℕ, Bool, true, false, ◌&&◌, ◌||
 use Rattle.std.specs.List.{list_any}
 use Rattle.std.specs.Map.{lookup}
 use Rattle.std.proofs.lemmas.List.Folds.{list_any-append}
-use Rattle.packet.specs.declared.packet.Packet.TheVariants as packets
-use Rattle.session_form.specs.lists.Lists.{has_id, IsDistinct}
-use Rattle.session_form.specs.session_base.declared.publication.Publication.{Publication}
-use Rattle.session_form.specs.session_base.declared.awaits.Awaits.{Awaits}
-use Rattle.session_form.specs.session_base.declared.awaits.Awaits.TheVariants as waits_for
-use Rattle.session_form.specs.session_base.Queue.{Flight, is_pubrec, is_released, awaits_pubrec, awaits_pubcomp, ids_of, released_with, on_pubrec}
-use Rattle.session_form.specs.session_base.Sending.{pubrec_sends}
+use Rattle.session_base.specs.packet.declared.packet.Packet.TheVariants as packets
+use Rattle.session_base.specs.lists.Lists.{has_id, IsDistinct}
+use Rattle.session_base.specs.declared.publication.Publication.{Publication}
+use Rattle.session_base.specs.declared.awaits.Awaits.{Awaits}
+use Rattle.session_base.specs.declared.awaits.Awaits.TheVariants as waits_for
+use Rattle.session_base.specs.Queue.{Flight, is_pubrec, is_released, awaits_pubrec, awaits_pubcomp, ids_of, released_with, on_pubrec}
+use Rattle.session_base.specs.Sending.{pubrec_sends}
 
 same_number : (i j : ℕ) → (i == j) ≡ true → i ≡ j
 same_number i j e = grind arith

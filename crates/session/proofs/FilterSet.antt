@@ -4,9 +4,9 @@ use Rattle.std.specs.Prelude.{bytes_eq, is_some}
 use Rattle.std.proofs.lemmas.Bool.{or_parts}
 use Rattle.std.specs.Map.{lookup}
 use Rattle.indexmap.specs.IndexMap.{insert_entry}
-use Rattle.packet.specs.declared.qos.QoS.{QoS}
-use Rattle.session_form.specs.Counted.{keep}
-use Rattle.session_form.specs.session_base.Subscriptions.{HeldFilter, is_held, with_subscription}
+use Rattle.session_base.specs.packet.declared.qos.QoS.{QoS}
+use Rattle.session_base.specs.Counted.{keep}
+use Rattle.session_base.specs.Subscriptions.{HeldFilter, is_held, with_subscription}
 
 -- a filter is set in its place, or comes last
 pub set_as_entry : (filter : List ℕ) (qos : QoS) (held : List HeldFilter) → insert_entry bytes_eq held filter qos ≡ with_subscription (filter, qos) held

@@ -1,8 +1,8 @@
 -- The greater of several QoS does not ask in which order they are compared.
 use Rattle.std.proofs.Common.{◌≡◌, Option, Some, None, refl, ap}
-use Rattle.packet.specs.declared.qos.QoS.{QoS}
-use Rattle.packet.specs.declared.qos.QoS.TheVariants as levels
-use Rattle.session_form.specs.session_base.Publication.{greater_qos}
+use Rattle.session_base.specs.packet.declared.qos.QoS.{QoS}
+use Rattle.session_base.specs.packet.declared.qos.QoS.TheVariants as levels
+use Rattle.session_base.specs.Publication.{greater_qos}
 use Rattle.session.specs.Inside.{greater_of}
 
 two : (h b : QoS) → greater_qos h (Some b) ≡ greater_qos b (Some h)

@@ -5,9 +5,9 @@ use Rattle.std.specs.declared.cmp.Ordering.TheVariants.{Less, Greater}
 use Rattle.std.specs.Ordering.{nat_cmp, match_ordering}
 use Rattle.std.specs.List.{AllByRecursion, last_or}
 use Rattle.std.specs.List.Sorted.{IsStrictlySortedBy}
-use Rattle.session_form.specs.session_base.Identifiers.{with_id}
-use Rattle.session_form.specs.Counted.{last_of}
-use Rattle.session_form.specs.Form.{is_over, is_above}
+use Rattle.session_base.specs.Identifiers.{with_id}
+use Rattle.session_base.specs.Counted.{last_of}
+use Rattle.session_base.specs.Form.{is_over, is_above}
 
 pub last_is : {A : Type 0} (xs : List A) (x : A) (o : Option A) → last_or o (x ∷ xs) ≡ slice_get (x ∷ xs) (length (x ∷ xs) - 1)
 last_is [] x o = refl

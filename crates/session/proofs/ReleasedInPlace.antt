@@ -7,11 +7,11 @@ use Rattle.std.specs.List.{position_or_len, AllByRecursion, IsDistinct as IsDist
 use Rattle.std.specs.Map.{lookup, keys_of, remove_entry}
 use Rattle.std.proofs.lemmas.Bool.{or_parts, or_from}
 use Rattle.indexmap.specs.IndexMap.{move_index}
-use Rattle.session_form.specs.lists.Lists.{has_id, IsDistinct}
-use Rattle.session_form.specs.session_base.declared.awaits.Awaits.{Awaits}
-use Rattle.session_form.specs.session_base.declared.awaits.Awaits.TheVariants as waits_for
-use Rattle.session_form.specs.session_base.Queue.{Flight, is_released, awaits_pubrec, ids_of, released_with}
-use Rattle.session_form.specs.session_base.OrderLaws.{NoneReleased, IsReleasedFirst}
+use Rattle.session_base.specs.lists.Lists.{has_id, IsDistinct}
+use Rattle.session_base.specs.declared.awaits.Awaits.{Awaits}
+use Rattle.session_base.specs.declared.awaits.Awaits.TheVariants as waits_for
+use Rattle.session_base.specs.Queue.{Flight, is_released, awaits_pubrec, ids_of, released_with}
+use Rattle.session_base.specs.OrderLaws.{NoneReleased, IsReleasedFirst}
 use Rattle.session.specs.Inside.{IsAwaited, with_released}
 
 same_number : (i j : ℕ) → (i == j) ≡ true → i ≡ j

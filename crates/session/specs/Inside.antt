@@ -1,14 +1,14 @@
 -- What the private calls ensure: one start in a queue, an entry that is released, and filters.
 use Rattle.std.specs.Prelude.{◌≡◌, ℕ, ◌==◌, false, Option, Some, None, List, [], ◌∷◌, ◌++◌}
 use Rattle.std.specs.Map.{lookup, set_value}
-use Rattle.packet.specs.declared.qos.QoS.{QoS}
-use Rattle.packet.specs.declared.packet.Packet.{Packet}
-use Rattle.packet.specs.declared.packet.Packet.TheVariants as packets
-use Rattle.session_form.specs.session_base.declared.publication.Publication.{Publication}
-use Rattle.session_form.specs.session_base.declared.awaits.Awaits.TheVariants as waits_for
-use Rattle.session_form.specs.session_base.Publication.{publish_of, greater_qos}
-use Rattle.session_form.specs.session_base.Queue.{Flight, Queue, started_flight}
-use Rattle.session_form.specs.Form.{IsWritable}
+use Rattle.session_base.specs.packet.declared.qos.QoS.{QoS}
+use Rattle.session_base.specs.packet.declared.packet.Packet.{Packet}
+use Rattle.session_base.specs.packet.declared.packet.Packet.TheVariants as packets
+use Rattle.session_base.specs.declared.publication.Publication.{Publication}
+use Rattle.session_base.specs.declared.awaits.Awaits.TheVariants as waits_for
+use Rattle.session_base.specs.Publication.{publish_of, greater_qos}
+use Rattle.session_base.specs.Queue.{Flight, Queue, started_flight}
+use Rattle.session_base.specs.Form.{IsWritable}
 
 -- the first publication that waits starts
 abbrev pub started_with : List Flight → List Publication → Queue

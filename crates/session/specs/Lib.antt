@@ -1,8 +1,10 @@
 pub mod Errors
 pub mod Inside
-pub use Rattle.session_form.specs.session_base.Session
-pub use Rattle.session_form.specs.session_base.Queue
-pub use Rattle.session_form.specs.session_base.Sending
-pub use Rattle.session_form.specs.session_base.Subscriptions
-pub use Rattle.session_form.specs.session_base.Identifiers
-pub use Rattle.session_form.specs.session_base.Publication
+pub use Rattle.session_base.specs.Session
+pub use Rattle.session_base.specs.Queue
+pub use Rattle.session_base.specs.Sending
+pub use Rattle.session_base.specs.Subscriptions
+pub use Rattle.session_base.specs.Identifiers
+pub use Rattle.session_base.specs.Publication
+pub use Rattle.session_base.specs.packet as packet
+pub use Rattle.session_base.specs as session_base

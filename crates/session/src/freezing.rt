@@ -2,19 +2,20 @@
 
 ghost use Rattle.std.specs.Prelude.{◌≡◌, ◌≤◌, ◌++◌, length, OnOk};
 ghost use Rattle.std.specs.List.{flat_map, AllByRecursion};
-ghost use Rattle.packet.specs.packet_base.Spelling.{number};
-ghost use Rattle.session_form.specs.Counted.{counted};
-ghost use Rattle.session_form.specs.Form.{one_byte, held_bytes, flight_bytes, publication_bytes, state_bytes, HasLength, IsWritable};
-ghost use Rattle.session_form.specs.FormLaws.{HasForm};
+ghost use Rattle.session_base.specs.packet_base.Spelling.{number};
+ghost use Rattle.session_base.specs.Counted.{counted};
+ghost use Rattle.session_base.specs.Form.{one_byte, held_bytes, flight_bytes, publication_bytes, state_bytes, HasLength, IsWritable};
+ghost use Rattle.session_base.specs.FormLaws.{HasForm};
 ghost use Rattle.session.specs.Inside.{AreWritable};
 
 use crate::received::Received;
 use crate::session::Session;
 use crate::session_queue::SessionQueue;
 use crate::subscriptions::Subscriptions;
-use packet::PacketId;
-use session_form::session_base::{Awaits, Publication};
-use session_form::{write_flight, write_held, write_number, write_publication};
+use session_base::packet::PacketId;
+use session_base::{
+    Awaits, Publication, write_flight, write_held, write_number, write_publication,
+};
 use std::alloc::AllocError;
 
 impl Session {

@@ -15,3 +15,5 @@ mod thawing;
 pub use arrival::Arrival;
 pub use error::EnqueueError;
 pub use session::{MAX_ENTRIES, Session};
+pub use session_base;
+pub use session_base::{packet, packet_base, topics};

@@ -1,13 +1,13 @@
 // The packets of entries, and what an entry waits for.
 
 ghost use Rattle.std.specs.Prelude.{◌≡◌, false, [], ◌∷◌, ◌++◌, IfOk, OnOk, OnErr};
-ghost use Rattle.packet.specs.declared.packet.Packet.TheVariants as packets;
-ghost use Rattle.session_form.specs.session_base.Publication.{publish_of, delivery_at};
-ghost use Rattle.session_form.specs.session_base.Queue.{is_puback, is_pubrec, is_pubcomp, awaited};
-ghost use Rattle.session_form.specs.session_base.Sending.{sent_anew};
+ghost use Rattle.session_base.specs.packet.declared.packet.Packet.TheVariants as packets;
+ghost use Rattle.session_base.specs.Publication.{publish_of, delivery_at};
+ghost use Rattle.session_base.specs.Queue.{is_puback, is_pubrec, is_pubcomp, awaited};
+ghost use Rattle.session_base.specs.Sending.{sent_anew};
 
-use packet::{Delivery, Packet, PacketId, Publish, QoS};
-use session_form::session_base::{Awaits, Publication};
+use session_base::packet::{Delivery, Packet, PacketId, Publish, QoS};
+use session_base::{Awaits, Publication};
 use std::alloc::AllocError;
 
 /// Says whether the entry waits for PUBACK.

@@ -1,12 +1,12 @@
 // One client's session (MQTT 3.1.2.4, 4.1).
 
 ghost use Rattle.std.specs.Prelude.{◌≡◌, ◌≢◌, ◌≤◌, ◌<◌, ◌++◌, ◌↔◌, [], true, length, IsOk, Ok, Err, OnOk, OnErr};
-ghost use Rattle.session_form.specs.lists.Lists.{has_id};
-ghost use Rattle.session_form.specs.session_base.Identifiers.{with_id, without_id};
-ghost use Rattle.session_form.specs.session_base.Subscriptions.{is_held, with_subscription, without_filter, granted_qos};
-ghost use Rattle.session_form.specs.session_base.Queue.{on_puback, on_pubrec, on_pubcomp, enqueue, room, filled};
-ghost use Rattle.session_form.specs.session_base.Sending.{fill_sends, resend, pubrec_sends};
-ghost use Rattle.session_form.specs.session_base.Session.{empty_session, with_filters, with_received, with_queue, with_flights};
+ghost use Rattle.session_base.specs.lists.Lists.{has_id};
+ghost use Rattle.session_base.specs.Identifiers.{with_id, without_id};
+ghost use Rattle.session_base.specs.Subscriptions.{is_held, with_subscription, without_filter, granted_qos};
+ghost use Rattle.session_base.specs.Queue.{on_puback, on_pubrec, on_pubcomp, enqueue, room, filled};
+ghost use Rattle.session_base.specs.Sending.{fill_sends, resend, pubrec_sends};
+ghost use Rattle.session_base.specs.Session.{empty_session, with_filters, with_received, with_queue, with_flights};
 ghost use Rattle.session.specs.declared.arrival.Arrival.TheVariants.{First, Again};
 ghost use Rattle.session.specs.declared.error.EnqueueError.TheVariants.{QueueFull};
 
@@ -16,11 +16,11 @@ use crate::received::Received;
 use crate::session_queue::SessionQueue;
 use crate::subscriptions::Subscriptions;
 use indexmap::IndexMap;
-use packet::{Packet, PacketId, QoS};
-use session_form::session_base::{Publication, resend_keeps_the_order};
+use session_base::packet::{Packet, PacketId, QoS};
+use session_base::topics::{Filter, TopicName};
+use session_base::{Publication, resend_keeps_the_order};
 use std::alloc::{AllocError, Global};
 use std::marker::Model;
-use topics::{Filter, TopicName};
 
 /// The most entries that a session holds, including those in flight.
 pub const MAX_ENTRIES: usize = 4096;
@@ -35,8 +35,8 @@ pub struct Session {
 }
 
 impl Model for Session {
-    ghost use Rattle.session_form.specs.session_base.Session.{SessionState};
-    ghost use Rattle.session_form.specs.session_base.OrderLaws.{IsReleasedFirst};
+    ghost use Rattle.session_base.specs.Session.{SessionState};
+    ghost use Rattle.session_base.specs.OrderLaws.{IsReleasedFirst};
 
     ghost Value = { SessionState };
 

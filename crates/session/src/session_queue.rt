@@ -2,22 +2,20 @@
 
 ghost use Rattle.std.specs.Prelude.{◌≡◌, ◌≤◌, ◌<◌, ◌++◌, [], ◌∷◌, true, false, length, filter, take, drop, IsOk, IfOk, OnOk, OnErr};
 ghost use Rattle.std.specs.List.{list_any};
-ghost use Rattle.session_form.specs.lists.Lists.{has_id};
-ghost use Rattle.session_form.specs.session_base.Identifiers.{least_free};
-ghost use Rattle.session_form.specs.session_base.Session.{with_flights};
-ghost use Rattle.session_form.specs.session_base.OrderLaws.{IsReleasedFirst};
-ghost use Rattle.session_form.specs.session_base.Sending.{fill_sends, resend, pubrec_sends};
+ghost use Rattle.session_base.specs.lists.Lists.{has_id};
+ghost use Rattle.session_base.specs.Identifiers.{least_free};
+ghost use Rattle.session_base.specs.Session.{with_flights};
+ghost use Rattle.session_base.specs.OrderLaws.{IsReleasedFirst};
+ghost use Rattle.session_base.specs.Sending.{fill_sends, resend, pubrec_sends};
 ghost use Rattle.session.specs.Inside.{started_with, sends_with, IsAwaited, with_released};
-ghost use Rattle.session_form.specs.session_base.Queue.{empty_queue, is_released, awaits_pubrec, awaits_pubcomp, on_puback, on_pubrec, on_pubcomp, released_with, enqueue, room, filled, ids_of};
+ghost use Rattle.session_base.specs.Queue.{empty_queue, is_released, awaits_pubrec, awaits_pubcomp, on_puback, on_pubrec, on_pubcomp, released_with, enqueue, room, filled, ids_of};
 
 use crate::sending::{
     awaits_of, packet_anew, send_publish, waits_for_puback, waits_for_pubcomp, waits_for_pubrec,
 };
 use indexmap::IndexMap;
-use packet::{Packet, PacketId};
-use session_form::session_base::{
-    Awaits, Publication, fill_takes_what_waits, resend_keeps_the_order,
-};
+use session_base::packet::{Packet, PacketId};
+use session_base::{Awaits, Publication, fill_takes_what_waits, resend_keeps_the_order};
 use std::alloc::{AllocError, AllocFailed, Global};
 use std::collections::VecDeque;
 use std::marker::Model;
@@ -30,7 +28,7 @@ pub(crate) struct SessionQueue {
 }
 
 impl Model for SessionQueue {
-    ghost use Rattle.session_form.specs.session_base.Queue.{Queue};
+    ghost use Rattle.session_base.specs.Queue.{Queue};
 
     ghost Value = { Queue };
 

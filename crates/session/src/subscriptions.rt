@@ -1,14 +1,14 @@
 // The subscriptions of a session (MQTT 3.8.4, 3.10.4).
 
 ghost use Rattle.std.specs.Prelude.{◌≡◌, [], true, IsOk, OnOk, OnErr, length};
-ghost use Rattle.session_form.specs.session_base.Subscriptions.{is_held, with_subscription, without_filter, granted_qos};
-ghost use Rattle.session_form.specs.session_base.Publication.{greater_qos};
+ghost use Rattle.session_base.specs.Subscriptions.{is_held, with_subscription, without_filter, granted_qos};
+ghost use Rattle.session_base.specs.Publication.{greater_qos};
 
 use indexmap::IndexMap;
-use packet::QoS;
+use session_base::packet::QoS;
+use session_base::topics::{Filter, TopicName, matches};
 use std::alloc::{AllocError, Global};
 use std::marker::Model;
-use topics::{Filter, TopicName, matches};
 
 /// Filters, each with the QoS that was granted last, in the order of their first granting.
 #[derive(Drop)]
@@ -18,7 +18,7 @@ pub(crate) struct Subscriptions {
 
 impl Model for Subscriptions {
     ghost use Rattle.std.specs.Prelude.{List};
-    ghost use Rattle.session_form.specs.session_base.Subscriptions.{HeldFilter};
+    ghost use Rattle.session_base.specs.Subscriptions.{HeldFilter};
 
     ghost Value = { List HeldFilter };
 

@@ -3,13 +3,13 @@
 ghost use Rattle.std.specs.Prelude.{◌≡◌, ◌≤◌, [], length, IfOk};
 ghost use Rattle.std.specs.List.Sorted.{IsStrictlySortedBy};
 ghost use Rattle.std.specs.Ordering.{nat_cmp};
-ghost use Rattle.packet.specs.packet_base.Outcome.{Gives, Reads};
-ghost use Rattle.packet.specs.packet_base.Reading.{byte_at, number_at, id_at};
-ghost use Rattle.session_form.specs.Counted.{counted_at, items_behind, last_of, Adds};
-ghost use Rattle.session_form.specs.Form.{is_new_filter, held_at, is_above, may_follow, flight_at, anything, was_released, waiting_at, state_at};
-ghost use Rattle.session_form.specs.lists.Lists.{has_id};
-ghost use Rattle.session_form.specs.session_base.Queue.{ids_of};
-ghost use Rattle.session_form.specs.session_base.OrderLaws.{IsReleasedFirst};
+ghost use Rattle.session_base.specs.packet_base.Outcome.{Gives, Reads};
+ghost use Rattle.session_base.specs.packet_base.Reading.{byte_at, number_at, id_at};
+ghost use Rattle.session_base.specs.Counted.{counted_at, items_behind, last_of, Adds};
+ghost use Rattle.session_base.specs.Form.{is_new_filter, held_at, is_above, may_follow, flight_at, anything, was_released, waiting_at, state_at};
+ghost use Rattle.session_base.specs.lists.Lists.{has_id};
+ghost use Rattle.session_base.specs.Queue.{ids_of};
+ghost use Rattle.session_base.specs.OrderLaws.{IsReleasedFirst};
 
 use crate::received::Received;
 use crate::sending::waits_for_pubcomp;
@@ -17,13 +17,12 @@ use crate::session::{MAX_ENTRIES, Session};
 use crate::session_queue::{SessionQueue, put_last};
 use crate::subscriptions::Subscriptions;
 use indexmap::IndexMap;
-use packet::packet_base::{Reader, Stop};
-use packet::{PacketId, QoS};
-use session_form::session_base::{Awaits, Publication};
-use session_form::{keep, read_flight, read_held, read_waiting};
+use session_base::packet::{PacketId, QoS};
+use session_base::packet_base::{Reader, Stop};
+use session_base::topics::{Filter, MalformedKind};
+use session_base::{Awaits, Publication, keep, read_flight, read_held, read_waiting};
 use std::alloc::Global;
 use std::collections::VecDeque;
-use topics::{Filter, MalformedKind};
 
 /// The most subscriptions of a session.
 const MAX_SUBSCRIPTIONS: u8 = 64;
@@ -32,7 +31,7 @@ const OUT_OF_MEMORY: Stop = Stop::Malformed(MalformedKind::Memory);
 
 impl Subscriptions {
     /// Reads as many filters as their count says, none of them twice.
-    #[tactic(auto, unfolding(session_form::specs::Counted::counted_at))]
+    #[tactic(auto, unfolding(session_base::specs::Counted::counted_at))]
     pub(crate) fn read(alloc: Global, reader: &mut Reader) -> Result<Subscriptions, Stop>
         ensures { Reads (λ x. x) result reader.new (counted_at byte_at is_new_filter held_at 64 reader.old) }
     {
@@ -66,7 +65,7 @@ fn read_filters(alloc: Global, count: u8, reader: &mut Reader) -> Result<Subscri
 
 impl Received {
     /// Reads as many identifiers as their count says, in rising order.
-    #[tactic(auto, unfolding(session_form::specs::Counted::counted_at))]
+    #[tactic(auto, unfolding(session_base::specs::Counted::counted_at))]
     pub(crate) fn read(alloc: Global, reader: &mut Reader) -> Result<Received, Stop>
         ensures { Reads (λ x. x) result reader.new (counted_at number_at is_above id_at 65535 reader.old) }
     {
@@ -115,7 +114,7 @@ impl Session {
     /// Reads the session at the front of the bytes that are left. Whatever is not of the form stops
     /// the reading: a filter or an identifier that occurs twice, a part out of its range, a 65th
     /// subscription, more in flight than the window, a 4,097th entry. `Memory` if memory runs out.
-    #[tactic(auto, unfolding(session_form::specs::Form::state_at))]
+    #[tactic(auto, unfolding(session_base::specs::Form::state_at))]
     pub fn read(alloc: Global, window: usize, reader: &mut Reader) -> Result<Session, Stop>
         requires { window ≤ 4096 }
         ensures { Reads (λ x. x) result reader.new (state_at window reader.old) }
@@ -133,7 +132,7 @@ impl Session {
 }
 
 // Reads as many entries in flight as their count says, the released ones first.
-#[tactic(auto, using(session_form::proofs::FollowRead::read_first, session_form::proofs::FollowRead::read_few))]
+#[tactic(auto, using(session_base::proofs::FollowRead::read_first, session_base::proofs::FollowRead::read_few))]
 fn read_in_flight(
     alloc: Global,
     window: usize,
@@ -146,7 +145,7 @@ fn read_in_flight(
     read_counted_flights(alloc, window, reader)
 }
 
-#[tactic(auto, unfolding(session_form::specs::Counted::counted_at))]
+#[tactic(auto, unfolding(session_base::specs::Counted::counted_at))]
 fn read_counted_flights(
     alloc: Global,
     window: usize,
@@ -215,7 +214,7 @@ fn last_is_released(in_flight: &IndexMap<PacketId, Awaits>) -> bool
 }
 
 // Reads as many publications that wait as their count says, and no more than these.
-#[tactic(auto, unfolding(session_form::specs::Counted::counted_at))]
+#[tactic(auto, unfolding(session_base::specs::Counted::counted_at))]
 fn read_all_waiting(
     alloc: Global,
     most: usize,

@@ -7,6 +7,14 @@ pub mod Sending
 pub mod Laws
 pub mod OrderLaws
 pub mod KeepingLaws
+pub mod InRange
+pub mod Counted
+pub mod Writing
+pub mod Follows
+pub mod Form
+pub mod FormLaws
+pub mod FormRows
 pub use Rattle.lists.specs as lists
 pub use Rattle.packet.specs as packet
-pub use Rattle.packet.specs.topics as topics
+pub use Rattle.packet_base.specs as packet_base
+pub use Rattle.packet_base.specs.topics as topics

@@ -2,7 +2,7 @@
 -- 3.10.4).
 use Rattle.std.specs.Prelude.{ℕ, Bool, not, if◌then◌else◌, List, [], ◌∷◌, filter, bytes_eq, Option, Some, None}
 use Rattle.std.specs.List.{list_any}
-use Rattle.packet.specs.topics.Matching.{is_match}
+use Rattle.packet_base.specs.topics.Matching.{is_match}
 use Rattle.packet.specs.declared.qos.QoS.{QoS}
 use Rattle.session_base.specs.Publication.{greater_qos}
 

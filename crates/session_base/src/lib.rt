@@ -5,6 +5,9 @@
 mod awaits;
 mod laws;
 mod publication;
+mod reading;
+mod session_form_laws;
+mod writing;
 
 pub use awaits::Awaits;
 pub use laws::{
@@ -12,5 +15,16 @@ pub use laws::{
     other_answers_change_nothing, resend_keeps_the_order, sessions_keep_their_form,
 };
 pub use packet;
-pub use packet::topics;
+pub use packet_base;
+pub use packet_base::topics;
 pub use publication::Publication;
+pub use reading::{
+    body_length, keep, read_flag, read_flight, read_held, read_long_number, read_publication,
+    read_qos, read_waiting,
+};
+pub use session_form_laws::{
+    frozen_is_read, full_session_is_frozen, read_has_form, read_is_frozen,
+};
+pub use writing::{
+    write_flight, write_held, write_number, write_payload, write_publication, write_text,
+};

@@ -1,7 +1,7 @@
 // A publication: what a PUBLISH carries, without how it is delivered (MQTT 3.3).
 
-use packet::topics::TopicName;
 use packet::{Payload, QoS};
+use packet_base::topics::TopicName;
 
 /// A publication, MQTT's Application Message, as a session's queue holds it.
 #[derive(Clone, Debug, PartialEq, Eq, Drop)]

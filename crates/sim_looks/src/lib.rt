@@ -10,5 +10,6 @@ mod sessions;
 mod told;
 mod watching;
 
+pub use broker_spec::{packet, session_base, topics};
 pub use making::{made_by, payload_of};
 pub use watching::{Broken, Watch};

@@ -1,6 +1,6 @@
 // What the publications of a run carry.
 
-use packet::Payload;
+use broker_spec::packet::Payload;
 
 /// Returns the bytes of a publication that say which client made it, by its place, and its number.
 pub fn payload_of(place: u8, serial: u64) -> [u8; 3] {

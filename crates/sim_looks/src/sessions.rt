@@ -1,10 +1,10 @@
 // One client's session: what the agreed commands make of it.
 
 use crate::matching::is_match;
-use broker_model::ConnectionId;
-use packet::{ClientId, PacketId, Payload, QoS};
+use broker_spec::ConnectionId;
+use broker_spec::packet::{ClientId, PacketId, Payload, QoS};
+use broker_spec::topics::{Filter, TopicName};
 use std::alloc::Global;
-use topics::{Filter, TopicName};
 
 /// A publication that a session has to send at QoS 2.
 #[derive(Drop)]

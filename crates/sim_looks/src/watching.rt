@@ -2,9 +2,9 @@
 
 use crate::seen::Seen;
 use crate::told::Told;
-use broker_model::Command;
+use broker_spec::Command;
+use broker_spec::packet::ClientId;
 use client::ClientCore;
-use packet::ClientId;
 use std::alloc::Global;
 use std::fmt;
 

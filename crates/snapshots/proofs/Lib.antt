@@ -26,3 +26,5 @@ pub mod TakenStands
 pub mod Taking
 pub mod Views
 pub use Rattle.agreement.proofs as of_agreement
+pub use Rattle.agreement.proofs.of_lists as of_lists
+pub use Rattle.agreement.proofs.of_whole as of_whole

@@ -1,7 +1,7 @@
 -- Orders.antt: what holds for the order of proposals, and of what nodes give, in every past of a
 -- group that cuts its logs. What is said about logs is said about whole ones.
 use Rattle.std.specs.Prelude.{ℕ, Bool, ◌≤◌, ◌≡◌, List, [], ◌∷◌, ◌++◌, filter, length, map, slice_get, Some}
-use Rattle.machine.specs.Machine.{Rules}
+use Rattle.agreement.specs.machine.Machine.{Rules}
 use Rattle.agreement.specs.lists.Lists.{In, IsPrefixOf}
 use Rattle.agreement.specs.whole.Applying.{outputs_between}
 use Rattle.agreement.specs.Giving.{GivesNext}

@@ -2,17 +2,17 @@
 -- entry, by its QoS (MQTT 4.3.2, 4.3.3), and whom an Expel names.
 use Rattle.std.specs.Prelude.{◌≡◌, true, false, [], ◌∷◌, ◌++◌, Some, None, codes}
 use Rattle.std.specs.List.{AllByRecursion}
-use Rattle.packet.specs.declared.delivery.Delivery.TheVariants as deliveries
-use Rattle.packet.specs.declared.packet.Packet.TheVariants as packets
-use Rattle.packet.specs.declared.qos.QoS.TheVariants as levels
-use Rattle.session_base.specs.Publication.{is_acknowledged}
-use Rattle.broker_model.specs.Commands.{usual_limits}
-use Rattle.broker_model.specs.Entries.{Entry}
-use Rattle.broker_model.specs.Place.{Client, Past, Limits}
-use Rattle.broker_model.specs.RowWords.{Gives, b, nth, connect, gets, sends, connack, publish, subscribed_at}
-use Rattle.broker_model.specs.Times.{entries_of}
-use Rattle.broker_model.specs.declared.command.Command.TheVariants as commands
-use Rattle.broker_model.specs.declared.command.Output.TheVariants.{Close}
+use Rattle.session.specs.packet.declared.delivery.Delivery.TheVariants as deliveries
+use Rattle.session.specs.packet.declared.packet.Packet.TheVariants as packets
+use Rattle.session.specs.packet.declared.qos.QoS.TheVariants as levels
+use Rattle.session.specs.session_base.Publication.{is_acknowledged}
+use Rattle.broker_form.specs.broker_spec.Commands.{usual_limits}
+use Rattle.broker_form.specs.broker_spec.Entries.{Entry}
+use Rattle.broker_form.specs.broker_spec.Place.{Client, Past, Limits}
+use Rattle.broker_form.specs.broker_spec.RowWords.{Gives, b, nth, connect, gets, sends, connack, publish, subscribed_at}
+use Rattle.broker_form.specs.broker_spec.Times.{entries_of}
+use Rattle.broker_form.specs.broker_spec.declared.command.Command.TheVariants as commands
+use Rattle.broker_form.specs.broker_spec.declared.command.Output.TheVariants.{Close}
 
 -- an entry is released at QoS 2 alone, and finished without a release at QoS 1 alone
 abbrev pub FitsItsQoS : Entry → Type 0

@@ -40,7 +40,7 @@ counts_flow : (first before behind : PortTap) (handed bytes : List ℕ) (flow : 
     → Counts first handed before → HandsSo HandsOut flow before bytes behind → Counts first (handed ++ bytes) behind
 counts_flow first before behind handed bytes flows.Open counts out = counts_call first before behind handed bytes _ counts out
 counts_flow first before behind handed bytes flows.Closed counts out = counts_call first before behind handed bytes _ counts out
-counts_flow first before behind handed bytes flows.Late counts out = counts_any first before behind handed bytes counts out
+counts_flow first before behind handed bytes flows.Blocked counts out = counts_any first before behind handed bytes counts out
 counts_flow first before behind handed bytes flows.Stopped counts out = counts_any first before behind handed bytes counts out
 counts_flow first before behind handed bytes flows.Fault counts out = counts_any first before behind handed bytes counts out
 

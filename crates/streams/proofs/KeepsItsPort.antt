@@ -14,6 +14,6 @@ pub keeps_its_port : (flow : Flow) (before behind : PortTap) (bytes : List ℕ)
     → HandsSo HandsOut flow before bytes behind → behind.port.0 ≡ before.port.0
 keeps_its_port flows.Open before behind bytes out = ap (λ (tap : PortTap). tap.port.0) out.counts
 keeps_its_port flows.Closed before behind bytes out = ap (λ (tap : PortTap). tap.port.0) out.counts
-keeps_its_port flows.Late before behind bytes out = one_call before behind bytes out
+keeps_its_port flows.Blocked before behind bytes out = one_call before behind bytes out
 keeps_its_port flows.Stopped before behind bytes out = one_call before behind bytes out
 keeps_its_port flows.Fault before behind bytes out = one_call before behind bytes out

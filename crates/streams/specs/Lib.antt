@@ -1,4 +1,4 @@
-pub use Rattle.connection.specs as connection
 pub mod Laws
 pub mod Pens
 pub mod Tapping
+pub use Rattle.connection.specs as connection

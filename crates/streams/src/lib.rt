@@ -1,23 +1,23 @@
 //! The listener of a node, the streams of its connections, and the right to write on each.
 #![tactic(auto)]
 
-mod door;
+mod connection_table;
 mod forgetting;
 mod idle_lanes;
 mod laws;
 mod link;
+mod listener;
 mod patient;
-mod place;
 mod port_tap;
 mod socket;
 
 pub use connection;
-pub use door::Door;
+pub use connection_table::ConnectionTable;
 pub use forgetting::forget;
 pub use idle_lanes::IdleLanes;
 pub use laws::taps_count_all;
-pub use link::{Late, Link, Pen};
+pub use link::{Blocked, Link, WriteToken};
+pub use listener::{CONNECTIONS, Listener};
 pub use patient::Patient;
-pub use place::{CONNECTIONS, Place};
 pub use port_tap::PortTap;
 pub use socket::Socket;

@@ -16,13 +16,13 @@ use std::sync::{Arc, Mutex, Wait};
 /// The right to write on a connection's stream: the tap of the connection's port, its socket, and
 /// what a full socket has not yet taken. A connection has one, made with it, so one thread at a
 /// time writes, and its stream is whole wherever the pen is kept.
-pub type Pen = Outflow<PortTap, Socket>;
+pub type WriteToken = Outflow<PortTap, Socket>;
 
 /// Where a connection's pen is kept while no thread writes.
 #[derive(Drop)]
-struct PenCase {
+struct WriteSlot {
     /// None while a thread writes, and for good once the stream takes no more.
-    pen: Option<Pen>,
+    pen: Option<WriteToken>,
     /// More may have been queued since the thread that writes looked.
     again: bool,
 }
@@ -37,16 +37,16 @@ pub struct Link {
     /// When it was accepted.
     pub opened: u64,
     stream: Arc<TcpStream, Global>,
-    case: Mutex<PenCase>,
+    case: Mutex<WriteSlot>,
 }
 
 /// A connection whose socket was full, and its pen.
 #[derive(Drop)]
-pub struct Late {
+pub struct Blocked {
     /// The connection.
     pub link: Arc<Link, Global>,
     /// Its pen.
-    pub pen: Pen,
+    pub pen: WriteToken,
     pub ghost its: { pen.tap.port.0 ≡ (arc_value link).port.0 },
 }
 
@@ -72,7 +72,7 @@ impl Link {
             place,
             opened,
             stream,
-            case: Mutex::new(PenCase {
+            case: Mutex::new(WriteSlot {
                 pen: Some(Outflow::new(alloc, PortTap::new(port), socket)),
                 again: false,
             }),
@@ -85,7 +85,7 @@ impl Link {
     }
 
     /// Takes the pen, with which the caller writes. If another thread has it, that one looks again.
-    pub fn take_pen<R: Wait>(&self, rt: &R) -> Option<Pen>
+    pub fn take_pen<R: Wait>(&self, rt: &R) -> Option<WriteToken>
         ensures { IfSome result (λ pen. IsPenOf self.now.port pen) }
     {
         let mut case = self.case.lock(rt);
@@ -101,7 +101,7 @@ impl Link {
 
     /// Returns the pen. If more may have been queued meanwhile the caller keeps it, and looks
     /// again.
-    pub fn lay_back<R: Wait>(&self, rt: &R, pen: Pen) -> Option<Pen>
+    pub fn lay_back<R: Wait>(&self, rt: &R, pen: WriteToken) -> Option<WriteToken>
         ensures { IfSome result (λ kept. kept ≡ pen) }
     {
         let mut case = self.case.lock(rt);

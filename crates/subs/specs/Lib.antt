@@ -1,7 +1,15 @@
-pub use Rattle.subs_tree.specs.subs_base.Content
-pub use Rattle.subs_tree.specs.subs_base.Granted
-pub use Rattle.subs_tree.specs.subs_base.Laws
-pub use Rattle.subs_tree.specs.subs_base.ListIndex
-pub use Rattle.subs_tree.specs.packet as packet
-pub use Rattle.subs_tree.specs.subs_base as subs_base
-pub use Rattle.subs_tree.specs.topics as topics
+pub use Rattle.subs_base.specs.Content
+pub use Rattle.subs_base.specs.Granted
+pub use Rattle.subs_base.specs.Laws
+pub use Rattle.subs_base.specs.ListIndex
+pub mod Shape
+pub mod Ways
+pub mod Changes
+pub mod Rows
+pub mod Inside
+pub mod Standing
+pub mod Walk
+pub mod Gathered
+pub use Rattle.subs_base.specs.packet as packet
+pub use Rattle.subs_base.specs as subs_base
+pub use Rattle.topics.specs as topics

@@ -1,5 +1,19 @@
 //! The index of all clients' subscriptions.
 #![tactic(auto)]
 
-pub use subs_tree::TreeIndex;
-pub use subs_tree::subs_base::{ListIndex, SubIndex, grants_one_list};
+mod finding;
+mod gathering;
+mod group;
+mod making;
+mod node;
+mod node_id;
+mod nodes;
+mod pruning;
+mod rows;
+mod slots;
+#[cfg(test)]
+mod tests;
+mod tree_index;
+
+pub use subs_base::{ListIndex, SubIndex, grants_one_list};
+pub use tree_index::TreeIndex;

@@ -1,8 +1,8 @@
 -- Acknowledged.antt: a publisher that took its leave keeps what it kept.
 use Rattle.std.proofs.Common.{◌≡◌, [], sym, subst, ◌∙◌, Option}
 use Rattle.std.specs.Prelude.{Some, None}
-use Rattle.packet.specs.declared.publish.Publish.{Publish}
-use Rattle.client_base.specs.State.{kept_count}
+use Rattle.client.specs.packet.declared.publish.Publish.{Publish}
+use Rattle.client.specs.client_base.State.{kept_count}
 use Rattle.user_client.specs.Tracing.{Called, Trace}
 use Rattle.user_client.specs.Publishing.{Publishing, IsAcknowledged, IsAcknowledgedAs}
 use Rattle.user_client.proofs.TracesJoin.{traces_follow}

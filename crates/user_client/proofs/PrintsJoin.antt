@@ -4,7 +4,7 @@ use Rattle.std.specs.Prelude.{Result, Ok, Err, OnOk}
 use native.Mathlib.Omega.{arith}
 use Rattle.std.specs.Io.KnownBytes.{Appends}
 use Rattle.std.proofs.KnownBytes.{Appends-trans, Appends-nil}
-use Rattle.client_base.specs.declared.accepted.Accepted.{Accepted}
+use Rattle.client.specs.client_base.declared.accepted.Accepted.{Accepted}
 use Rattle.user_client.specs.Printing.{line_of}
 use Rattle.user_client.specs.Tracing.{Called, Trace}
 use Rattle.user_client.specs.Listening.{Listening, Asks, Hears, Shows, lines_of}

@@ -2,4 +2,5 @@ pub mod Listening
 pub mod Printing
 pub mod Publishing
 pub mod Tracing
-pub use Rattle.client_base.specs as client_base
+pub use Rattle.client.specs as client
+pub use Rattle.client.specs.client_base as client_base

@@ -2,7 +2,7 @@
 use Rattle.std.specs.Prelude.{◌≡◌, ℕ, ◌-◌, List, [], length, take, Option}
 use Rattle.std.specs.List.{flat_map}
 use Rattle.std.specs.Io.KnownBytes.{Appends}
-use Rattle.client_base.specs.declared.accepted.Accepted.{Accepted}
+use Rattle.client.specs.client_base.declared.accepted.Accepted.{Accepted}
 use Rattle.user_client.specs.Printing.{line_of}
 use Rattle.user_client.specs.Tracing.{Called, Trace}
 

@@ -1,7 +1,7 @@
 -- A client that publishes once.
 use Rattle.std.specs.Prelude.{◌≡◌, ⊤, Option, Some, None}
-use Rattle.packet.specs.declared.publish.Publish.{Publish}
-use Rattle.client_base.specs.State.{kept_count}
+use Rattle.client.specs.packet.declared.publish.Publish.{Publish}
+use Rattle.client.specs.client_base.State.{kept_count}
 use Rattle.user_client.specs.Tracing.{Called}
 
 -- a client, and its publication if that has QoS 0: otherwise the client keeps it

@@ -1,17 +1,17 @@
 // A client, and whether a server has accepted one of its connections.
 
 ghost use Rattle.std.specs.Prelude.{◌≡◌, ◌≢◌, ◌++◌, false, OnOk, Err, []};
-ghost use Rattle.client_base.specs.declared.error.ClientError.TheVariants as errors;
-ghost use Rattle.client_base.specs.State.{kept_count};
+ghost use Rattle.client.specs.client_base.declared.error.ClientError.TheVariants as errors;
+ghost use Rattle.client.specs.client_base.State.{kept_count};
 ghost use Rattle.client.specs.Core.{new_core};
 ghost use Rattle.user_client.specs.Tracing.{IsFirst, Trace};
 
 use crate::fault::ClientFault;
+use client::packet::{ClientId, Payload, QoS};
+use client::topics::{Filter, TopicName};
 use client::{Accepted, ClientCore, ClientError};
-use packet::{ClientId, Payload, QoS};
 use std::alloc::Global;
 use std::marker::Model;
-use topics::{Filter, TopicName};
 
 /// The result of bytes that a server sent.
 #[derive(Clone, Copy, Debug, PartialEq, Eq)]

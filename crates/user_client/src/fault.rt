@@ -1,8 +1,8 @@
 // Why a client did not do what it was asked for.
 
 use client::ClientError;
+use client::topics::MalformedKind;
 use std::alloc::{AllocError, AllocFailed};
-use topics::MalformedKind;
 
 /// Why a client did not do what it was asked for.
 #[derive(Clone, Copy, Debug, PartialEq, Eq)]

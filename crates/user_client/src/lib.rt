@@ -11,6 +11,7 @@ mod subscriber;
 mod visiting;
 
 pub use client;
+pub use client::{client_base, packet, topics};
 pub use fault::ClientFault;
 pub use printing::{print_line, print_text};
 pub use publisher::Publisher;

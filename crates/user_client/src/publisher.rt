@@ -1,7 +1,7 @@
 // Publishing once.
 
 ghost use Rattle.std.specs.Prelude.{◌≡◌, ◌≢◌, true, [], OnOk, IfOk};
-ghost use Rattle.client_base.specs.State.{kept_count};
+ghost use Rattle.client.specs.client_base.State.{kept_count};
 ghost use Rattle.user_client.specs.Tracing.{Trace};
 ghost use Rattle.user_client.specs.Publishing.{IsAcknowledged};
 
@@ -10,12 +10,12 @@ use crate::fault::ClientFault;
 use crate::servers::Servers;
 use crate::visiting::{exchange, leave, next_stream, send};
 use client::ClientError;
+use client::packet::{ClientId, Delivery, Packet, Payload, Publish, QoS};
+use client::topics::TopicName;
 use node_base::{Counted, PIECE_BYTES};
-use packet::{ClientId, Delivery, Packet, Payload, Publish, QoS};
 use std::alloc::Global;
 use std::io::{Read, Write};
 use std::marker::Model;
-use topics::TopicName;
 
 /// A client that publishes once.
 #[derive(Drop)]

@@ -11,12 +11,12 @@ use crate::printing::print_line;
 use crate::servers::Servers;
 use crate::visiting::{exchange, leave, next_stream};
 use client::Accepted;
+use client::packet::{ClientId, QoS};
+use client::topics::Filter;
 use node_base::{Counted, PIECE_BYTES};
-use packet::{ClientId, QoS};
 use std::alloc::Global;
 use std::io::{Read, Write};
 use std::marker::Model;
-use topics::Filter;
 
 /// A client that prints what is published.
 #[derive(Drop)]

@@ -2,7 +2,7 @@
 
 ghost use Rattle.std.specs.Prelude.{◌≡◌, true, [], OnOk, IfOk};
 ghost use Rattle.std.specs.Io.KnownBytes.{Appends};
-ghost use Rattle.client_base.specs.State.{kept_count};
+ghost use Rattle.client.specs.client_base.State.{kept_count};
 ghost use Rattle.user_client.specs.Tracing.{Trace};
 
 use crate::caller::{Caller, News};

@@ -6,7 +6,7 @@ mod standard_error;
 
 ghost use Rattle.std.specs.Prelude.{◌≡◌, ◌≢◌};
 
-use command_line::line;
+use jobs::command_line::line;
 use jobs::{Fault, perform, refuse, tell};
 use standard_error::StandardError;
 use std::io::ErrorKind;

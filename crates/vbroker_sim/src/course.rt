@@ -2,7 +2,7 @@
 
 use crate::draw::Draw;
 use crate::saying::{published, subscribed, unsubscribed};
-use packet::ClientId;
+use sim_looks::packet::ClientId;
 use std::alloc::Global;
 use world::{Config, Event, Members, World};
 

@@ -1,6 +1,6 @@
 // The worlds in which runs begin.
 
-use packet::ClientId;
+use sim_looks::packet::ClientId;
 use std::alloc::{AllocError, Global};
 use world::{Config, Members, World};
 

@@ -1,11 +1,11 @@
 // What a client says to its broker.
 
 use crate::draw::Draw;
-use packet::{ClientId, Payload, QoS};
-use session_base::Publication;
+use sim_looks::packet::{ClientId, Payload, QoS};
 use sim_looks::payload_of;
+use sim_looks::session_base::Publication;
+use sim_looks::topics::{Filter, TopicName};
 use std::alloc::Global;
-use topics::{Filter, TopicName};
 use world::Event;
 
 const TOPICS: [&str; 4] = ["t/1", "t/2", "u", "t/1/x"];

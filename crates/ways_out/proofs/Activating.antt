@@ -2,21 +2,21 @@
 use Rattle.std.proofs.Common.{◌≡◌, ℕ, ◌+◌, ◌<◌, List, [], ◌∷◌, ◌++◌, length, false, Some, None, Option, refl, ap, sym, ◌∙◌, subst, arith, length-append, map}
 use Rattle.std.specs.Prelude.{slice_get}
 use Rattle.std.proofs.lemmas.Bool.{eq-eqb}
-use Rattle.machine.specs.Machine.{Rules}
-use Rattle.whole.specs.Applying.{applied_to, outputs_to}
-use Rattle.whole.specs.Messages.Body.{Activate, Activated, Append, Held}
-use Rattle.whole.specs.Config.{Config}
-use Rattle.whole.specs.Messages.{Effect, Message}
-use Rattle.whole.specs.Messages.Effect.{Out}
-use Rattle.whole.specs.Protocol.{received}
-use Rattle.whole.specs.Replica.{ReplicaState, others, progress_at}
-use Rattle.whole.specs.Sending.{Outcome, message_to_followed}
-use Rattle.whole.specs.Serving.{most_places}
-use Rattle.agreement.specs.MasterState.{MasterOutcome, MasterState, activated}
-use Rattle.agreement.specs.Past.{Moment}
-use Rattle.agreement.specs.World.{messages, outputs}
-use Rattle.agreement.proofs.Effects.{outputs_of_messages}
-use Rattle.lists.specs.Lists.{In}
+use Rattle.snapshots.specs.machine.Machine.{Rules}
+use Rattle.snapshots.specs.whole.Applying.{applied_to, outputs_to}
+use Rattle.snapshots.specs.whole.Messages.Body.{Activate, Activated, Append, Held}
+use Rattle.snapshots.specs.whole.Config.{Config}
+use Rattle.snapshots.specs.whole.Messages.{Effect, Message}
+use Rattle.snapshots.specs.whole.Messages.Effect.{Out}
+use Rattle.snapshots.specs.whole.Protocol.{received}
+use Rattle.snapshots.specs.whole.Replica.{ReplicaState, others, progress_at}
+use Rattle.snapshots.specs.whole.Sending.{Outcome, message_to_followed}
+use Rattle.snapshots.specs.whole.Serving.{most_places}
+use Rattle.snapshots.specs.agreement.MasterState.{MasterOutcome, MasterState, activated}
+use Rattle.snapshots.specs.agreement.Past.{Moment}
+use Rattle.snapshots.specs.agreement.World.{messages, outputs}
+use Rattle.snapshots.proofs.of_agreement.Effects.{outputs_of_messages}
+use Rattle.snapshots.specs.lists.Lists.{In}
 use Rattle.ways_out.specs.Deliveries.{AreApart, Delivered, NodeIs, after_activate, numbers_from}
 use Rattle.ways_out.specs.Deliveries.Delivered.{to_master}
 use Rattle.ways_out.specs.Following.{Follows, Serves}

@@ -4,19 +4,19 @@ use Rattle.std.proofs.Common.{◌≡◌, ℕ, ◌+◌, ◌≤◌, ◌⊎◌, inl
 use Rattle.std.specs.Prelude.{slice_get}
 use Rattle.std.proofs.lemmas.Bool.{cases_eq}
 use Rattle.std.proofs.lemmas.List.{append-nil, length-append, take_all}
-use Rattle.machine.specs.Machine.{Rules}
-use Rattle.lists.specs.Lists.{In, IsPrefixOf}
-use Rattle.lists.proofs.Beginnings.{prefix_length}
-use Rattle.whole.specs.Config.{Config}
-use Rattle.whole.specs.Replica.{ReplicaState}
-use Rattle.agreement.specs.Past.{Moment, Past, IsAgreed}
-use Rattle.agreement.specs.Inside.Ballots.{Given, IsChosenIn, Told}
-use Rattle.agreement.specs.Inside.Ballots.Told.{told_as_primary, told_by_held}
-use Rattle.agreement.specs.Inside.Chosen.{ChosenList}
-use Rattle.agreement.specs.Inside.Sound.{IsActive}
-use Rattle.agreement.proofs.Agreed.PastAgrees.{agreed_known, has_agreed, nodes_agree}
-use Rattle.agreement.proofs.Agreed.PastIsKnown.{IsKnown}
-use Rattle.agreement.proofs.Agreed.PastKnown.{past_known}
+use Rattle.snapshots.specs.machine.Machine.{Rules}
+use Rattle.snapshots.specs.lists.Lists.{In, IsPrefixOf}
+use Rattle.snapshots.proofs.of_lists.Beginnings.{prefix_length}
+use Rattle.snapshots.specs.whole.Config.{Config}
+use Rattle.snapshots.specs.whole.Replica.{ReplicaState}
+use Rattle.snapshots.specs.agreement.Past.{Moment, Past, IsAgreed}
+use Rattle.snapshots.specs.agreement.Inside.Ballots.{Given, IsChosenIn, Told}
+use Rattle.snapshots.specs.agreement.Inside.Ballots.Told.{told_as_primary, told_by_held}
+use Rattle.snapshots.specs.agreement.Inside.Chosen.{ChosenList}
+use Rattle.snapshots.specs.agreement.Inside.Sound.{IsActive}
+use Rattle.snapshots.proofs.of_agreement.Agreed.PastAgrees.{agreed_known, has_agreed, nodes_agree}
+use Rattle.snapshots.proofs.of_agreement.Agreed.PastIsKnown.{IsKnown}
+use Rattle.snapshots.proofs.of_agreement.Agreed.PastKnown.{past_known}
 use Rattle.ways_out.specs.Deliveries.{NodeIs}
 use Rattle.ways_out.specs.Following.{Serves}
 use Rattle.ways_out.specs.Laws.{WhatAllHoldIsAgreed}

@@ -3,25 +3,25 @@
 use Rattle.std.proofs.Common.{◌≡◌, ℕ, ◌+◌, ◌*◌, ◌<◌, List, [], ◌∷◌, ◌++◌, length, map, Some, refl, ap, sym, ◌∙◌, subst, arith, length-append}
 use Rattle.std.specs.Prelude.{slice_get}
 use Rattle.std.proofs.lemmas.List.{take_all}
-use Rattle.machine.specs.Machine.{Rules, replay}
-use Rattle.lists.specs.Lists.{In}
-use Rattle.lists.proofs.Members.{in_right}
-use Rattle.lists.proofs.Places.{get_set, get_set_other}
-use Rattle.whole.specs.Applying.{applied_to, outputs_to}
-use Rattle.whole.specs.Messages.Body.{Append, Held, Commit}
-use Rattle.whole.specs.Messages.{Effect, Message}
-use Rattle.whole.specs.Messages.Effect.{Out}
-use Rattle.whole.specs.Progress.{Progress}
-use Rattle.whole.specs.Protocol.{received, replica_step}
-use Rattle.whole.specs.Protocol.Input.{Proposes}
-use Rattle.whole.specs.Replica.{ReplicaState, is_active, progress_at}
-use Rattle.whole.specs.Sending.{Outcome, message_to_followed}
-use Rattle.whole.specs.Serving.{added, most_places}
-use Rattle.whole.proofs.StepRows.{proposed-adds}
-use Rattle.agreement.specs.Past.{Moment}
-use Rattle.agreement.specs.World.{messages, outputs}
-use Rattle.agreement.proofs.Agreed.PastAgrees.{machines_replay}
-use Rattle.agreement.proofs.Effects.{outputs_of_messages}
+use Rattle.snapshots.specs.machine.Machine.{Rules, replay}
+use Rattle.snapshots.specs.lists.Lists.{In}
+use Rattle.snapshots.proofs.of_lists.Members.{in_right}
+use Rattle.snapshots.proofs.of_lists.Places.{get_set, get_set_other}
+use Rattle.snapshots.specs.whole.Applying.{applied_to, outputs_to}
+use Rattle.snapshots.specs.whole.Messages.Body.{Append, Held, Commit}
+use Rattle.snapshots.specs.whole.Messages.{Effect, Message}
+use Rattle.snapshots.specs.whole.Messages.Effect.{Out}
+use Rattle.snapshots.specs.whole.Progress.{Progress}
+use Rattle.snapshots.specs.whole.Protocol.{received, replica_step}
+use Rattle.snapshots.specs.whole.Protocol.Input.{Proposes}
+use Rattle.snapshots.specs.whole.Replica.{ReplicaState, is_active, progress_at}
+use Rattle.snapshots.specs.whole.Sending.{Outcome, message_to_followed}
+use Rattle.snapshots.specs.whole.Serving.{added, most_places}
+use Rattle.snapshots.proofs.of_whole.StepRows.{proposed-adds}
+use Rattle.snapshots.specs.agreement.Past.{Moment}
+use Rattle.snapshots.specs.agreement.World.{messages, outputs}
+use Rattle.snapshots.proofs.of_agreement.Agreed.PastAgrees.{machines_replay}
+use Rattle.snapshots.proofs.of_agreement.Effects.{outputs_of_messages}
 use Rattle.ways_out.specs.Deliveries.{after_outcome, AreApart, Delivered, NodeIs, numbers_from}
 use Rattle.ways_out.specs.Following.{Follows, LeadsIn, Serves}
 use Rattle.ways_out.specs.Inside.{known}

@@ -1,16 +1,16 @@
 -- Broadcasts.antt: a message comes to each of some nodes, and each of them answers it to one.
 use Rattle.std.proofs.Common.{◌≡◌, ℕ, ◌+◌, List, [], ◌∷◌, ◌++◌, length, map, false, Some, refl, ap, sym, ◌∙◌, subst, append_assoc}
 use Rattle.std.specs.Prelude.{slice_get}
-use Rattle.machine.specs.Machine.{Rules}
-use Rattle.whole.specs.Messages.{Body, Effect, Message}
-use Rattle.whole.specs.Messages.Effect.{To}
-use Rattle.whole.specs.Protocol.{received}
-use Rattle.whole.specs.Replica.{ReplicaState}
-use Rattle.agreement.specs.Past.{Moment}
-use Rattle.agreement.specs.World.{messages, outputs}
-use Rattle.lists.specs.Lists.{In}
-use Rattle.lists.specs.Lists.In.{here, there}
-use Rattle.lists.proofs.Places.{get_set, get_set_other}
+use Rattle.snapshots.specs.machine.Machine.{Rules}
+use Rattle.snapshots.specs.whole.Messages.{Body, Effect, Message}
+use Rattle.snapshots.specs.whole.Messages.Effect.{To}
+use Rattle.snapshots.specs.whole.Protocol.{received}
+use Rattle.snapshots.specs.whole.Replica.{ReplicaState}
+use Rattle.snapshots.specs.agreement.Past.{Moment}
+use Rattle.snapshots.specs.agreement.World.{messages, outputs}
+use Rattle.snapshots.specs.lists.Lists.{In}
+use Rattle.snapshots.specs.lists.Lists.In.{here, there}
+use Rattle.snapshots.proofs.of_lists.Places.{get_set, get_set_other}
 use Rattle.ways_out.specs.Deliveries.{AreApart, Delivered, NodeIs, after_outcome, numbers_from}
 use Rattle.ways_out.specs.Deliveries.Delivered.{all_came, to_node}
 use Rattle.ways_out.proofs.Standing.{StandFrom, stand_more}

@@ -2,18 +2,18 @@
 use Rattle.std.proofs.Common.{◌≡◌, ℕ, zero, suc, ◌+◌, ◌<◌, ◌≤◌, ◌⊎◌, inl, inr, List, [], ◌∷◌, ◌++◌, length, false, true, cond, Bool, Some, Option, refl, ap, sym, ◌∙◌, subst, arith, length-append}
 use Rattle.std.specs.Prelude.{slice_get, nat_le, nat_lt}
 use Rattle.std.proofs.lemmas.Bool.{cases_eq, le-leb, le-ltb, cases_lt, lt-ltb}
-use Rattle.machine.specs.Machine.{Rules}
-use Rattle.whole.specs.Messages.{Body, Message}
-use Rattle.whole.specs.Messages.Body.{NewBallot, Join, State}
-use Rattle.whole.specs.Config.{Config}
-use Rattle.whole.specs.Protocol.{received}
-use Rattle.whole.specs.Replica.{ReplicaState}
-use Rattle.whole.specs.Role.TheVariants.{Backup}
-use Rattle.whole.specs.Sending.{Outcome, message_to, message_to_each}
-use Rattle.whole.proofs.ChangeRows.{on_join-answers, on_new_ballot-joins}
-use Rattle.agreement.specs.MasterState.{MasterState, assigning}
-use Rattle.agreement.specs.Past.{Moment}
-use Rattle.lists.specs.Lists.{In}
+use Rattle.snapshots.specs.machine.Machine.{Rules}
+use Rattle.snapshots.specs.whole.Messages.{Body, Message}
+use Rattle.snapshots.specs.whole.Messages.Body.{NewBallot, Join, State}
+use Rattle.snapshots.specs.whole.Config.{Config}
+use Rattle.snapshots.specs.whole.Protocol.{received}
+use Rattle.snapshots.specs.whole.Replica.{ReplicaState}
+use Rattle.snapshots.specs.whole.Role.TheVariants.{Backup}
+use Rattle.snapshots.specs.whole.Sending.{Outcome, message_to, message_to_each}
+use Rattle.snapshots.proofs.of_whole.ChangeRows.{on_join-answers, on_new_ballot-joins}
+use Rattle.snapshots.specs.agreement.MasterState.{MasterState, assigning}
+use Rattle.snapshots.specs.agreement.Past.{Moment}
+use Rattle.snapshots.specs.lists.Lists.{In}
 use Rattle.ways_out.specs.Deliveries.{Delivered, NodeIs, assigned_moment}
 use Rattle.ways_out.specs.Inside.{CanTake, fetching}
 use Rattle.ways_out.proofs.AllCome.{Taken, takes_one, then_come}

@@ -1,15 +1,15 @@
 -- Gathers.antt: one node takes the answers of all others but the last, and gives nothing for them.
 use Rattle.std.proofs.Common.{◌≡◌, ℕ, ◌+◌, List, [], ◌∷◌, ◌++◌, length, false, Some, refl, ap, sym, ◌∙◌, append_assoc}
 use Rattle.std.specs.Prelude.{slice_get}
-use Rattle.machine.specs.Machine.{Rules}
-use Rattle.whole.specs.Messages.{Body}
-use Rattle.whole.specs.Protocol.{received}
-use Rattle.whole.specs.Replica.{ReplicaState}
-use Rattle.whole.specs.Sending.{Outcome}
-use Rattle.agreement.specs.Past.{Moment}
-use Rattle.agreement.specs.World.{messages, outputs}
-use Rattle.lists.specs.Lists.{In}
-use Rattle.lists.proofs.Places.{get_set, get_set_other}
+use Rattle.snapshots.specs.machine.Machine.{Rules}
+use Rattle.snapshots.specs.whole.Messages.{Body}
+use Rattle.snapshots.specs.whole.Protocol.{received}
+use Rattle.snapshots.specs.whole.Replica.{ReplicaState}
+use Rattle.snapshots.specs.whole.Sending.{Outcome}
+use Rattle.snapshots.specs.agreement.Past.{Moment}
+use Rattle.snapshots.specs.agreement.World.{messages, outputs}
+use Rattle.snapshots.specs.lists.Lists.{In}
+use Rattle.snapshots.proofs.of_lists.Places.{get_set, get_set_other}
 use Rattle.ways_out.specs.Deliveries.{AreApart, Delivered, after_outcome, numbers_from}
 use Rattle.ways_out.specs.Deliveries.Delivered.{all_came, to_node}
 use Rattle.ways_out.proofs.Broadcasts.{from_each}

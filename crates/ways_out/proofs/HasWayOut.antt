@@ -1,17 +1,17 @@
 -- HasWayOut.antt: from every moment of a group whose starts give nothing there is a way out.
 use Rattle.std.proofs.Common.{◌≡◌, ℕ, ◌+◌, ◌-◌, ◌*◌, ◌⊎◌, inl, inr, true, false, List, [], ◌∷◌, ◌++◌, length, length-append, Some, refl, ap, sym, ◌∙◌, subst, arith}
 use Rattle.std.specs.Prelude.{slice_get}
-use Rattle.machine.specs.Machine.{Rules}
-use Rattle.lists.specs.Lists.{In}
-use Rattle.lists.proofs.Members.{in_at}
-use Rattle.whole.specs.Messages.Body.{Held}
-use Rattle.whole.specs.Config.{Config}
-use Rattle.whole.specs.LawfulConfig.{is_lawful}
-use Rattle.whole.specs.Replica.{ReplicaState, others}
-use Rattle.agreement.specs.MasterState.{MasterState, assigning}
-use Rattle.agreement.specs.Past.{Moment, Past, IsAgreed}
-use Rattle.agreement.proofs.Changing.OtherMembers.{in_others, not_others, others_in}
-use Rattle.agreement.proofs.Masters.Assigns.{lawful_is, not_refused}
+use Rattle.snapshots.specs.machine.Machine.{Rules}
+use Rattle.snapshots.specs.lists.Lists.{In}
+use Rattle.snapshots.proofs.of_lists.Members.{in_at}
+use Rattle.snapshots.specs.whole.Messages.Body.{Held}
+use Rattle.snapshots.specs.whole.Config.{Config}
+use Rattle.snapshots.specs.whole.LawfulConfig.{is_lawful}
+use Rattle.snapshots.specs.whole.Replica.{ReplicaState, others}
+use Rattle.snapshots.specs.agreement.MasterState.{MasterState, assigning}
+use Rattle.snapshots.specs.agreement.Past.{Moment, Past, IsAgreed}
+use Rattle.snapshots.proofs.of_agreement.Changing.OtherMembers.{in_others, not_others, others_in}
+use Rattle.snapshots.proofs.of_agreement.Masters.Assigns.{lawful_is, not_refused}
 use Rattle.ways_out.specs.Deliveries.{Delivered, NodeIs, assigned_moment, way_out}
 use Rattle.ways_out.specs.Following.{Runs, RunsWith, Serves}
 use Rattle.ways_out.specs.Inside.{CanTake}

@@ -1,20 +1,20 @@
 -- Holding.antt: a command that a primary has added comes to all others, and is committed.
 use Rattle.std.proofs.Common.{◌≡◌, ℕ, ◌+◌, List, [], ◌∷◌, ◌++◌, length, Some, refl, ap, sym, ◌∙◌, subst, arith, length-append, map}
 use Rattle.std.specs.Prelude.{slice_get}
-use Rattle.machine.specs.Machine.{Rules}
-use Rattle.whole.specs.Applying.{applied_to}
-use Rattle.whole.specs.Messages.{Body, Effect, Message}
-use Rattle.whole.specs.Messages.Body.{Append, Held, Commit}
-use Rattle.whole.specs.Messages.Effect.{Out}
-use Rattle.whole.specs.Progress.{Progress}
-use Rattle.whole.specs.Replica.{ReplicaState, progress_at}
-use Rattle.whole.specs.Sending.{Outcome, message_to_followed}
-use Rattle.agreement.specs.Past.{Moment}
-use Rattle.agreement.specs.World.{messages, outputs}
-use Rattle.agreement.proofs.Effects.{outputs-append, outputs_of_messages}
-use Rattle.lists.specs.Lists.{In}
-use Rattle.lists.specs.Lists.In.{here, there}
-use Rattle.lists.proofs.Members.{in_left, in_right}
+use Rattle.snapshots.specs.machine.Machine.{Rules}
+use Rattle.snapshots.specs.whole.Applying.{applied_to}
+use Rattle.snapshots.specs.whole.Messages.{Body, Effect, Message}
+use Rattle.snapshots.specs.whole.Messages.Body.{Append, Held, Commit}
+use Rattle.snapshots.specs.whole.Messages.Effect.{Out}
+use Rattle.snapshots.specs.whole.Progress.{Progress}
+use Rattle.snapshots.specs.whole.Replica.{ReplicaState, progress_at}
+use Rattle.snapshots.specs.whole.Sending.{Outcome, message_to_followed}
+use Rattle.snapshots.specs.agreement.Past.{Moment}
+use Rattle.snapshots.specs.agreement.World.{messages, outputs}
+use Rattle.snapshots.proofs.of_agreement.Effects.{outputs-append, outputs_of_messages}
+use Rattle.snapshots.specs.lists.Lists.{In}
+use Rattle.snapshots.specs.lists.Lists.In.{here, there}
+use Rattle.snapshots.proofs.of_lists.Members.{in_left, in_right}
 use Rattle.ways_out.specs.Deliveries.{AreApart, Delivered, NodeIs, numbers_from}
 use Rattle.ways_out.specs.Following.{Follows, LeadsIn, Serves}
 use Rattle.ways_out.specs.Inside.{known}

@@ -1,16 +1,16 @@
 -- Installing.antt: from the State that a new primary takes to its Activate: each other member gets the log.
 use Rattle.std.proofs.Common.{◌≡◌, ℕ, suc, ◌+◌, ◌≤◌, List, [], ◌∷◌, ◌++◌, length, false, Some, refl, ap, sym, ◌∙◌, subst, arith, length-append}
 use Rattle.std.specs.Prelude.{slice_get}
-use Rattle.machine.specs.Machine.{Rules}
-use Rattle.whole.specs.Messages.{Body, Message}
-use Rattle.whole.specs.Messages.Body.{State, Install, Installed, Activate}
-use Rattle.whole.specs.Changing.{installs}
-use Rattle.whole.specs.Protocol.{received}
-use Rattle.whole.specs.Replica.{ReplicaState, others}
-use Rattle.whole.specs.Role.TheVariants.{Fetching}
-use Rattle.whole.specs.Sending.{Outcome, master, message_to, message_to_each}
-use Rattle.agreement.specs.Past.{Moment}
-use Rattle.lists.specs.Lists.{In}
+use Rattle.snapshots.specs.machine.Machine.{Rules}
+use Rattle.snapshots.specs.whole.Messages.{Body, Message}
+use Rattle.snapshots.specs.whole.Messages.Body.{State, Install, Installed, Activate}
+use Rattle.snapshots.specs.whole.Changing.{installs}
+use Rattle.snapshots.specs.whole.Protocol.{received}
+use Rattle.snapshots.specs.whole.Replica.{ReplicaState, others}
+use Rattle.snapshots.specs.whole.Role.TheVariants.{Fetching}
+use Rattle.snapshots.specs.whole.Sending.{Outcome, master, message_to, message_to_each}
+use Rattle.snapshots.specs.agreement.Past.{Moment}
+use Rattle.snapshots.specs.lists.Lists.{In}
 use Rattle.ways_out.specs.Deliveries.{AreApart, Delivered, NodeIs, numbers_from}
 use Rattle.ways_out.specs.Following.{Follows}
 use Rattle.ways_out.specs.Inside.{CanTake, installing}

@@ -3,23 +3,23 @@ use Rattle.std.proofs.Common.{◌≡◌, ℕ, suc, ◌+◌, ◌<◌, ◌≤◌, 
 use Rattle.std.specs.Prelude.{◌==◌, ◌&&◌, nat_lt, nat_le}
 use Rattle.std.specs.List.{list_any}
 use Rattle.std.proofs.lemmas.Bool.{eq-eqb, ne_eqb, le-leb, lt-ltb}
-use Rattle.machine.specs.Machine.{Rules}
-use Rattle.whole.specs.Applying.{applied_to, outputs_from, outputs_to}
-use Rattle.whole.specs.Messages.Body.{State, Installed, Activate, Activated, Append, Held, Commit}
-use Rattle.whole.specs.Changing.{installs, activates}
-use Rattle.whole.specs.Messages.{Effect}
-use Rattle.whole.specs.Messages.Effect.{Out}
-use Rattle.whole.specs.Progress.{Progress}
-use Rattle.whole.specs.Protocol.{received}
-use Rattle.whole.specs.Replica.{ReplicaState, others, progress_at, is_active, is_fetching}
-use Rattle.whole.specs.Role.TheVariants.{Fetching, Active}
-use Rattle.whole.specs.Sending.{Outcome, master, message_to, message_to_followed, sent_first}
-use Rattle.whole.specs.Serving.{added, commit_at, least, most_places, raised, raised_progress}
-use Rattle.whole.proofs.ChangeRows.{on_state-takes, on_installed-counts, on_activated-adds}
-use Rattle.whole.proofs.MessageRows.{on_held-raises}
-use Rattle.whole.proofs.StepRows.{added-is, commit_at-goes, commit_at-stays}
-use Rattle.lists.specs.Lists.{In}
-use Rattle.lists.specs.Lists.In.{here, there}
+use Rattle.snapshots.specs.machine.Machine.{Rules}
+use Rattle.snapshots.specs.whole.Applying.{applied_to, outputs_from, outputs_to}
+use Rattle.snapshots.specs.whole.Messages.Body.{State, Installed, Activate, Activated, Append, Held, Commit}
+use Rattle.snapshots.specs.whole.Changing.{installs, activates}
+use Rattle.snapshots.specs.whole.Messages.{Effect}
+use Rattle.snapshots.specs.whole.Messages.Effect.{Out}
+use Rattle.snapshots.specs.whole.Progress.{Progress}
+use Rattle.snapshots.specs.whole.Protocol.{received}
+use Rattle.snapshots.specs.whole.Replica.{ReplicaState, others, progress_at, is_active, is_fetching}
+use Rattle.snapshots.specs.whole.Role.TheVariants.{Fetching, Active}
+use Rattle.snapshots.specs.whole.Sending.{Outcome, master, message_to, message_to_followed, sent_first}
+use Rattle.snapshots.specs.whole.Serving.{added, commit_at, least, most_places, raised, raised_progress}
+use Rattle.snapshots.proofs.of_whole.ChangeRows.{on_state-takes, on_installed-counts, on_activated-adds}
+use Rattle.snapshots.proofs.of_whole.MessageRows.{on_held-raises}
+use Rattle.snapshots.proofs.of_whole.StepRows.{added-is, commit_at-goes, commit_at-stays}
+use Rattle.snapshots.specs.lists.Lists.{In}
+use Rattle.snapshots.specs.lists.Lists.In.{here, there}
 use Rattle.ways_out.specs.Following.{LeadsIn}
 use Rattle.ways_out.specs.Inside.{installing, known}
 use Rattle.ways_out.proofs.Gathers.{nothing_behind}

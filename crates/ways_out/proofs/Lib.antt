@@ -15,3 +15,12 @@ pub mod AllAgreed
 pub mod Ways
 pub mod HasWayOut
 pub mod Answering
+mod Counted
+pub mod SameRows
+pub mod Ahead
+pub mod LogsLike
+pub mod Followed
+pub mod CutGroupsLed
+pub mod CutGroupsAnswer
+pub use Rattle.snapshots.proofs.of_lists as of_lists
+pub use Rattle.snapshots.proofs as of_snapshots

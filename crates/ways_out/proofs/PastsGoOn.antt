@@ -1,22 +1,22 @@
 -- PastsGoOn.antt: what comes in a way out is a past that continues, so what was agreed begins what
 -- is agreed after it.
 use Rattle.std.proofs.Common.{◌≡◌, ℕ, ◌+◌, inl, List, [], ◌∷◌, ◌++◌, None, Option, refl, subst}
-use Rattle.machine.specs.Machine.{Rules}
-use Rattle.lists.specs.Lists.{IsPrefixOf}
-use Rattle.lists.proofs.Beginnings.{prefix_then}
-use Rattle.lists.proofs.Members.{in_at}
-use Rattle.whole.specs.Config.{Config}
-use Rattle.whole.specs.Protocol.Input.{Receives}
-use Rattle.whole.specs.Messages.{Effect}
-use Rattle.whole.specs.Losses.{Thinned}
-use Rattle.whole.specs.Losses.Thinned.{none, keeps}
-use Rattle.agreement.specs.MasterState.{AssignRefusal, master_behind, refusal}
-use Rattle.agreement.specs.Past.{Moment, Past, IsAgreed}
-use Rattle.agreement.specs.Past.Past.{went_on}
-use Rattle.agreement.specs.Steps.{MayHappen, world_behind}
-use Rattle.agreement.specs.Steps.MayHappen.{node_takes, master_assigns, master_hears}
-use Rattle.agreement.proofs.Agreed.PastAgrees.{has_agreed}
-use Rattle.agreement.proofs.Agreed.PastGrows.{agreed_only_grows}
+use Rattle.snapshots.specs.machine.Machine.{Rules}
+use Rattle.snapshots.specs.lists.Lists.{IsPrefixOf}
+use Rattle.snapshots.proofs.of_lists.Beginnings.{prefix_then}
+use Rattle.snapshots.proofs.of_lists.Members.{in_at}
+use Rattle.snapshots.specs.whole.Config.{Config}
+use Rattle.snapshots.specs.whole.Protocol.Input.{Receives}
+use Rattle.snapshots.specs.whole.Messages.{Effect}
+use Rattle.snapshots.specs.whole.Losses.{Thinned}
+use Rattle.snapshots.specs.whole.Losses.Thinned.{none, keeps}
+use Rattle.snapshots.specs.agreement.MasterState.{AssignRefusal, master_behind, refusal}
+use Rattle.snapshots.specs.agreement.Past.{Moment, Past, IsAgreed}
+use Rattle.snapshots.specs.agreement.Past.Past.{went_on}
+use Rattle.snapshots.specs.agreement.Steps.{MayHappen, world_behind}
+use Rattle.snapshots.specs.agreement.Steps.MayHappen.{node_takes, master_assigns, master_hears}
+use Rattle.snapshots.proofs.of_agreement.Agreed.PastAgrees.{has_agreed}
+use Rattle.snapshots.proofs.of_agreement.Agreed.PastGrows.{agreed_only_grows}
 use Rattle.ways_out.specs.Deliveries.{Delivered, assigned_moment}
 use Rattle.ways_out.specs.Deliveries.Delivered.{all_came, to_master, to_node}
 

@@ -3,19 +3,19 @@
 use Rattle.std.proofs.Common.{◌≡◌, ℕ, ◌+◌, ◌<◌, ◌≤◌, ◌⊎◌, inl, inr, false, List, ◌∷◌, length, Some, refl, sym, subst, arith}
 use Rattle.std.specs.Prelude.{slice_get}
 use Rattle.std.proofs.lemmas.List.{length-take-le}
-use Rattle.machine.specs.Machine.{Rules}
-use Rattle.lists.specs.Lists.{In}
-use Rattle.lists.specs.Lists.In.{here}
-use Rattle.lists.proofs.Beginnings.{prefix_length}
-use Rattle.whole.specs.Config.{Config}
-use Rattle.whole.specs.Replica.{ReplicaState}
-use Rattle.agreement.specs.Agreement.{Agrees}
-use Rattle.agreement.specs.Past.{Moment, Past}
-use Rattle.agreement.specs.Inside.Ballots.{Given, Line, IsChosenIn}
-use Rattle.agreement.proofs.Agreed.PastAgrees.{has_agreed, nodes_agree}
-use Rattle.agreement.proofs.Agreed.PastIsKnown.{IsKnown}
-use Rattle.agreement.proofs.Agreed.PastKnown.{past_known}
-use Rattle.agreement.proofs.Frame.Bases.{chosen_told}
+use Rattle.snapshots.specs.machine.Machine.{Rules}
+use Rattle.snapshots.specs.lists.Lists.{In}
+use Rattle.snapshots.specs.lists.Lists.In.{here}
+use Rattle.snapshots.proofs.of_lists.Beginnings.{prefix_length}
+use Rattle.snapshots.specs.whole.Config.{Config}
+use Rattle.snapshots.specs.whole.Replica.{ReplicaState}
+use Rattle.snapshots.specs.agreement.Agreement.{Agrees}
+use Rattle.snapshots.specs.agreement.Past.{Moment, Past}
+use Rattle.snapshots.specs.agreement.Inside.Ballots.{Given, Line, IsChosenIn}
+use Rattle.snapshots.proofs.of_agreement.Agreed.PastAgrees.{has_agreed, nodes_agree}
+use Rattle.snapshots.proofs.of_agreement.Agreed.PastIsKnown.{IsKnown}
+use Rattle.snapshots.proofs.of_agreement.Agreed.PastKnown.{past_known}
+use Rattle.snapshots.proofs.of_agreement.Frame.Bases.{chosen_told}
 use Rattle.ways_out.specs.Following.{whole_log}
 use Rattle.ways_out.specs.Inside.{CanTake}
 use Rattle.ways_out.proofs.Fetching.{CanGive}

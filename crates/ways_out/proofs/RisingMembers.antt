@@ -3,12 +3,12 @@ use Rattle.std.proofs.Common.{◌≡◌, ℕ, ◌+◌, ◌<◌, Bool, true, fals
 use Rattle.std.specs.Prelude.{◌==◌, ◌&&◌, nat_le, nat_lt, not}
 use Rattle.std.specs.List.{list_any}
 use Rattle.std.proofs.lemmas.Bool.{and_parts, eq-eqb, ltb-true, ne_eqb}
-use Rattle.whole.specs.Config.{Config}
-use Rattle.whole.specs.LawfulConfig.{are_rising, is_lawful}
-use Rattle.whole.specs.Replica.{others}
-use Rattle.lists.specs.Lists.{In}
-use Rattle.lists.specs.Lists.In.{here, there}
-use Rattle.agreement.proofs.Changing.OtherMembers.{in_others}
+use Rattle.snapshots.specs.whole.Config.{Config}
+use Rattle.snapshots.specs.whole.LawfulConfig.{are_rising, is_lawful}
+use Rattle.snapshots.specs.whole.Replica.{others}
+use Rattle.snapshots.specs.lists.Lists.{In}
+use Rattle.snapshots.specs.lists.Lists.In.{here, there}
+use Rattle.snapshots.proofs.of_agreement.Changing.OtherMembers.{in_others}
 use Rattle.ways_out.specs.Deliveries.{AreApart}
 use Rattle.ways_out.proofs.Rows.{others_none}
 

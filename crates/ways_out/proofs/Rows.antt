@@ -3,19 +3,19 @@ use Rattle.std.proofs.Common.{◌≡◌, ℕ, ◌+◌, ◌<◌, ◌≤◌, ◌�
 use Rattle.std.specs.Prelude.{◌==◌, ◌&&◌, ◌||◌, nat_lt, nat_le}
 use Rattle.std.specs.List.{list_any}
 use Rattle.std.proofs.lemmas.Bool.{cases_lt, eq-eqb, ne_eqb, le-leb, lt-ltb}
-use Rattle.machine.specs.Machine.{Rules}
-use Rattle.whole.specs.Messages.{Body, Message}
-use Rattle.whole.specs.Messages.Body.{Install, Installed, Append, Held}
-use Rattle.whole.specs.Protocol.{received}
-use Rattle.whole.specs.Replica.{ReplicaState, others, progress_at, is_backup}
-use Rattle.whole.specs.Role.TheVariants.{Backup}
-use Rattle.whole.specs.Sending.{Outcome, message_to, message_to_each, message_to_followed}
-use Rattle.whole.specs.Serving.{extended, follows}
-use Rattle.whole.proofs.ChangeRows.{on_install-takes}
-use Rattle.whole.proofs.MessageRows.{on_append-takes}
-use Rattle.agreement.specs.World.{messages, outputs}
-use Rattle.lists.specs.Lists.{In}
-use Rattle.lists.specs.Lists.In.{here, there}
+use Rattle.snapshots.specs.machine.Machine.{Rules}
+use Rattle.snapshots.specs.whole.Messages.{Body, Message}
+use Rattle.snapshots.specs.whole.Messages.Body.{Install, Installed, Append, Held}
+use Rattle.snapshots.specs.whole.Protocol.{received}
+use Rattle.snapshots.specs.whole.Replica.{ReplicaState, others, progress_at, is_backup}
+use Rattle.snapshots.specs.whole.Role.TheVariants.{Backup}
+use Rattle.snapshots.specs.whole.Sending.{Outcome, message_to, message_to_each, message_to_followed}
+use Rattle.snapshots.specs.whole.Serving.{extended, follows}
+use Rattle.snapshots.proofs.of_whole.ChangeRows.{on_install-takes}
+use Rattle.snapshots.proofs.of_whole.MessageRows.{on_append-takes}
+use Rattle.snapshots.specs.agreement.World.{messages, outputs}
+use Rattle.snapshots.specs.lists.Lists.{In}
+use Rattle.snapshots.specs.lists.Lists.In.{here, there}
 use Rattle.ways_out.specs.Following.{Follows}
 use Rattle.ways_out.specs.Inside.{CanTake}
 use Rattle.ways_out.proofs.Broadcasts.{Answers, to_each}

@@ -1,14 +1,14 @@
 -- Ways.antt: from every moment there is a way out: the messages of `way_out` come, and the next ballot is led to its start.
 use Rattle.std.proofs.Common.{◌≡◌, ℕ, zero, suc, ◌+◌, ◌*◌, ◌<◌, List, [], ◌∷◌, ◌++◌, length, Some, refl, ap, sym, ◌∙◌, subst, arith, length-append}
 use Rattle.std.specs.Prelude.{slice_get}
-use Rattle.machine.specs.Machine.{Rules}
-use Rattle.lists.specs.Lists.{In}
-use Rattle.whole.specs.Messages.Body.{Held}
-use Rattle.whole.specs.Config.{Config}
-use Rattle.whole.specs.Replica.{ReplicaState, others}
-use Rattle.whole.specs.Serving.{most_places}
-use Rattle.agreement.specs.MasterState.{MasterState, assigning}
-use Rattle.agreement.specs.Past.{Moment}
+use Rattle.snapshots.specs.machine.Machine.{Rules}
+use Rattle.snapshots.specs.lists.Lists.{In}
+use Rattle.snapshots.specs.whole.Messages.Body.{Held}
+use Rattle.snapshots.specs.whole.Config.{Config}
+use Rattle.snapshots.specs.whole.Replica.{ReplicaState, others}
+use Rattle.snapshots.specs.whole.Serving.{most_places}
+use Rattle.snapshots.specs.agreement.MasterState.{MasterState, assigning}
+use Rattle.snapshots.specs.agreement.Past.{Moment}
 use Rattle.ways_out.specs.Deliveries.{AreApart, Delivered, NodeIs, asked_at, assigned_moment, numbers_from, way_out}
 use Rattle.ways_out.specs.Following.{Follows, Serves}
 use Rattle.ways_out.specs.Inside.{CanTake, fetching}

@@ -1,18 +1,18 @@
 -- Deliveries.antt: messages that come to their receivers one after another, exactly, each named by
 -- its number, and the numbers of those that lead a new ballot to its start.
-use Rattle.lists.specs.Lists.{In}
+use Rattle.snapshots.specs.lists.Lists.{In}
 use Rattle.std.specs.Prelude.{ℕ, zero, suc, ◌+◌, ◌≡◌, false, List, [], ◌∷◌, ◌++◌, slice_get, Some}
-use Rattle.machine.specs.Machine.{Rules}
-use Rattle.whole.specs.Messages.Body.{Activate}
-use Rattle.whole.specs.Config.{Config}
-use Rattle.whole.specs.Messages.{Message}
-use Rattle.whole.specs.Protocol.{received}
-use Rattle.whole.specs.Replica.{ReplicaState}
-use Rattle.whole.specs.Sending.{Outcome}
-use Rattle.agreement.specs.MasterState.{activated, assigned, assigning}
-use Rattle.agreement.specs.Past.{Moment}
-use Rattle.agreement.specs.World.{moved, outputs}
-use Rattle.agreement.specs.Steps.{tells_from_master}
+use Rattle.snapshots.specs.machine.Machine.{Rules}
+use Rattle.snapshots.specs.whole.Messages.Body.{Activate}
+use Rattle.snapshots.specs.whole.Config.{Config}
+use Rattle.snapshots.specs.whole.Messages.{Message}
+use Rattle.snapshots.specs.whole.Protocol.{received}
+use Rattle.snapshots.specs.whole.Replica.{ReplicaState}
+use Rattle.snapshots.specs.whole.Sending.{Outcome}
+use Rattle.snapshots.specs.agreement.MasterState.{activated, assigned, assigning}
+use Rattle.snapshots.specs.agreement.Past.{Moment}
+use Rattle.snapshots.specs.agreement.World.{moved, outputs}
+use Rattle.snapshots.specs.agreement.Steps.{tells_from_master}
 
 -- the moment after a step of the node at place n
 abbrev pub after_outcome : {S C O : Type 0} → ℕ → Outcome S C O → Moment S C O → Moment S C O

@@ -1,7 +1,7 @@
 -- Following.antt: the states of nodes in relation to the ballot that is led to its start.
 use Rattle.std.specs.Prelude.{ℕ, ◌≡◌, false, List, length}
-use Rattle.whole.specs.Role.TheVariants.{Backup, Active}
-use Rattle.whole.specs.Replica.{ReplicaState, progress_at}
+use Rattle.snapshots.specs.whole.Role.TheVariants.{Backup, Active}
+use Rattle.snapshots.specs.whole.Replica.{ReplicaState, progress_at}
 
 -- the whole list of commands of a node's log
 abbrev pub whole_log : {S C : Type 0} → ReplicaState S C → List C

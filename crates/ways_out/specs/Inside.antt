@@ -1,7 +1,7 @@
 -- Inside.antt: what proofs say about nodes during a way out; no law cites it.
 use Rattle.std.specs.Prelude.{ℕ, ◌+◌, ◌≡◌, ◌≤◌, ◌<◌, false, List, [], ◌++◌}
-use Rattle.whole.specs.Role.TheVariants.{Fetching, Installing}
-use Rattle.whole.specs.Replica.{ReplicaState, progress_at}
+use Rattle.snapshots.specs.whole.Role.TheVariants.{Fetching, Installing}
+use Rattle.snapshots.specs.whole.Replica.{ReplicaState, progress_at}
 
 -- a node that runs and can still take a ballot's log of this length
 pub record CanTake {S C : Type 0} (ballot length_of_log : ℕ) (m : ℕ)

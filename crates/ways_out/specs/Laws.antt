@@ -1,20 +1,20 @@
 -- Laws.antt: at each moment of a group a new ballot can be led to its start, which all its members
 -- then hold: by which messages, in which order, and what is agreed after them.
 use Rattle.std.specs.Prelude.{ℕ, ◌+◌, ◌-◌, ◌*◌, ◌<◌, ◌≡◌, false, List, [], ◌∷◌, ◌++◌, length, map, None, slice_get, Some}
-use Rattle.machine.specs.Machine.{Rules, replay}
-use Rattle.lists.specs.Lists.{In, IsPrefixOf}
-use Rattle.whole.specs.Messages.Body.{Held}
-use Rattle.whole.specs.Config.{Config}
-use Rattle.whole.specs.Messages.{Effect}
-use Rattle.whole.specs.Messages.Effect.{Out}
-use Rattle.whole.specs.Protocol.{received, replica_step}
-use Rattle.whole.specs.Protocol.Input.{Proposes}
-use Rattle.whole.specs.Replica.{ReplicaState, others}
-use Rattle.whole.specs.Sending.{Outcome}
-use Rattle.whole.specs.Serving.{most_places}
-use Rattle.agreement.specs.MasterState.{refusal}
-use Rattle.agreement.specs.Past.{Moment, Past, IsAgreed}
-use Rattle.agreement.specs.World.{outputs}
+use Rattle.snapshots.specs.machine.Machine.{Rules, replay}
+use Rattle.snapshots.specs.lists.Lists.{In, IsPrefixOf}
+use Rattle.snapshots.specs.whole.Messages.Body.{Held}
+use Rattle.snapshots.specs.whole.Config.{Config}
+use Rattle.snapshots.specs.whole.Messages.{Effect}
+use Rattle.snapshots.specs.whole.Messages.Effect.{Out}
+use Rattle.snapshots.specs.whole.Protocol.{received, replica_step}
+use Rattle.snapshots.specs.whole.Protocol.Input.{Proposes}
+use Rattle.snapshots.specs.whole.Replica.{ReplicaState, others}
+use Rattle.snapshots.specs.whole.Sending.{Outcome}
+use Rattle.snapshots.specs.whole.Serving.{most_places}
+use Rattle.snapshots.specs.agreement.MasterState.{refusal}
+use Rattle.snapshots.specs.agreement.Past.{Moment, Past, IsAgreed}
+use Rattle.snapshots.specs.agreement.World.{outputs}
 use Rattle.ways_out.specs.Deliveries.{AreApart, Delivered, NodeIs, after_outcome, assigned_moment, numbers_from, way_out}
 use Rattle.ways_out.specs.Following.{Follows, Runs, RunsWith, Serves}
 

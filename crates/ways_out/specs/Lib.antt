@@ -2,3 +2,10 @@ pub mod Deliveries
 pub mod Following
 pub mod Inside
 pub mod Laws
+pub mod Lengths
+pub mod CutWaysDeliveries
+pub mod CutWaysLaws
+pub mod Answering
+pub use Rattle.snapshots.specs.agreement as agreement
+pub use Rattle.snapshots.specs.lists as lists
+pub use Rattle.snapshots.specs as snapshots

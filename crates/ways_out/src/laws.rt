@@ -2,7 +2,7 @@
 
 ghost use Rattle.ways_out.specs.Laws.{CommandsAreAnswered, HasWayOut, WhatAllHoldIsAgreed};
 
-use machine::Machine;
+use snapshots::machine::Machine;
 
 /// States that a group can always be led on: if the members of a new configuration and one member
 /// of the active one run, and a ballot and a place are left, the messages of a list lead to the

@@ -12,3 +12,5 @@ pub use Rattle.ballot_base.specs.declared.status.Progress
 pub use Rattle.ballot_base.specs.declared.status.Role
 pub use Rattle.ballot_base.specs.machine.Machine
 pub use Rattle.ballot_base.specs as ballot_base
+pub use Rattle.ballot_base.specs.lists as lists
+pub use Rattle.ballot_base.specs.machine as machine

@@ -1,24 +1,24 @@
 -- AgreedOnlyGrows.antt: what nodes agreed on before is a prefix of what they agree on then.
 use Rattle.std.proofs.Common.{ℕ, List, ◌∷◌, ◌++◌, sym, ap, ◌∙◌, subst}
-use Rattle.lists.specs.Lists.{IsPrefixOf}
-use Rattle.lists.specs.Lists.In.{here}
-use Rattle.lists.proofs.Beginnings.{prefix_same, prefix_then}
-use Rattle.ballot.specs.Config.{Config}
-use Rattle.exact_model.specs.group_model.snapshots.Past.{IsAgreed, Moment}
-use Rattle.exact_model.proofs.of_group_model.of_snapshots.PastsAgree.{has_agreed, nodes_agree}
-use Rattle.broker_base.specs.Command.{Command}
-use Rattle.broker_base.specs.Output.{Output}
-use Rattle.broker_base.specs.State.{State}
-use Rattle.world_pipes.specs.world_base.Core.{rules}
-use Rattle.exact_model.specs.group_model.Group.{Group, moment_of}
-use Rattle.exact_model.specs.group_model.Goes.{Went, all_put, groups_of, put_in_step}
-use Rattle.exact_model.specs.group_model.Goes.Went.{then_went}
-use Rattle.exact_model.specs.group_model.Order.{KeepsOrder}
-use Rattle.exact_model.specs.group_model.Pasts.{HasPast, packets_in}
-use Rattle.exact_model.proofs.of_group_model.GroupsArePasts.{goes_on as past_goes_on, seen_still}
-use Rattle.exact_model.proofs.of_group_model.NamesInGroups.{puts_in_the_ballot_of_the_name}
-use Rattle.exact_model.proofs.of_group_model.Ordered.{groups_keep_the_order, in_agreed}
-use Rattle.exact_model.proofs.of_group_model.Packets.{packets_join}
+use Rattle.escaping_client.specs.lists.Lists.{IsPrefixOf}
+use Rattle.escaping_client.specs.lists.Lists.In.{here}
+use Rattle.escaping_client.proofs.of_lists.Beginnings.{prefix_same, prefix_then}
+use Rattle.headline.specs.ballot.Config.{Config}
+use Rattle.headline.specs.snapshots.Past.{IsAgreed, Moment}
+use Rattle.headline.proofs.of_snapshots.PastsAgree.{has_agreed, nodes_agree}
+use Rattle.headline.specs.broker_base.Command.{Command}
+use Rattle.headline.specs.broker_base.Output.{Output}
+use Rattle.headline.specs.broker_base.State.{State}
+use Rattle.headline.specs.world_base.Core.{rules}
+use Rattle.headline.specs.node_group.Group.{Group, moment_of}
+use Rattle.headline.specs.node_group.Goes.{Went, all_put, groups_of, put_in_step}
+use Rattle.headline.specs.node_group.Goes.Went.{then_went}
+use Rattle.headline.specs.node_group.Order.{KeepsOrder}
+use Rattle.headline.specs.node_group.Pasts.{HasPast, packets_in}
+use Rattle.headline.proofs.of_node_group.GroupsArePasts.{goes_on as past_goes_on, seen_still}
+use Rattle.headline.proofs.of_node_group.NamesInGroups.{puts_in_the_ballot_of_the_name}
+use Rattle.headline.proofs.of_node_group.Ordered.{groups_keep_the_order, in_agreed}
+use Rattle.headline.proofs.of_node_group.Packets.{packets_join}
 use Rattle.escaping_nodes.specs.world_nodes.Nodes.{NodesState}
 use Rattle.world.specs.Goes.{AgreedGrows, Goes, NodesGo}
 use Rattle.world.specs.Goes.Goes.{rests, goes_on}

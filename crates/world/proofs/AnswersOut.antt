@@ -1,28 +1,28 @@
 -- The CONNECT of a client comes to the primary of the new ballot, and is answered: at once, or when the others have answered.
 use Rattle.std.proofs.Common.{◌≡◌, ◌<◌, ◌+◌, ◌*◌, ℕ, suc, true, List, [], ◌∷◌, ◌++◌, Option, Some, length, map, slice_get, refl, sym, ◌∙◌}
 use Rattle.std.specs.List.{position}
-use Rattle.ballot.specs.Config.{Config}
-use Rattle.broker_base.specs.Command.{Command}
-use Rattle.broker_base.specs.Connection.{ConnectionName}
-use Rattle.broker_base.specs.Output.{Output}
-use Rattle.broker_base.specs.State.{State}
+use Rattle.headline.specs.ballot.Config.{Config}
+use Rattle.headline.specs.broker_base.Command.{Command}
+use Rattle.headline.specs.broker_base.Connection.{ConnectionName}
+use Rattle.headline.specs.broker_base.Output.{Output}
+use Rattle.headline.specs.broker_base.State.{State}
 use Rattle.escaping_client.specs.client.Core.{Core}
 use Rattle.escaping_nodes.specs.Answered.{CanAsk, begun}
-use Rattle.escaping_nodes.specs.cut_ways.Deliveries.Delivered.{all_came}
-use Rattle.escaping_nodes.specs.cut_ways.ways_out.Deliveries.{AreApart, NodeIs}
-use Rattle.escaping_nodes.specs.cut_ways.ways_out.Following.{Follows}
+use Rattle.escaping_nodes.specs.ways_out.CutWaysDeliveries.Delivered.{all_came}
+use Rattle.escaping_nodes.specs.ways_out.Deliveries.{AreApart, NodeIs}
+use Rattle.escaping_nodes.specs.ways_out.Following.{Follows}
 use Rattle.escaping_nodes.proofs.ClientAnswered.{AwaitsOthers, others_are_awaited, others_let_the_client_be_answered, sole_member_answers_the_client, waits_on}
 use Rattle.escaping_nodes.proofs.NodesFollow.{deliveries_are_followed}
-use Rattle.exact_model.specs.group_model.snapshots.Past.{Moment, Past, whole_moment}
-use Rattle.exact_model.specs.node_model.Moves.{Deed}
-use Rattle.exact_model.specs.node_model.Moves.Deed.{takes}
-use Rattle.lists.specs.Lists.{In}
-use Rattle.lists.proofs.Places.{get_set}
-use Rattle.packet.specs.declared.connect.Connect.{Connect}
-use Rattle.world_pipes.specs.world_base.Core.{CountedCore, rules}
-use Rattle.world_pipes.specs.world_base.declared.item.Item.{Item}
-use Rattle.world_pipes.specs.world_base.declared.item.Item.TheVariants.{Bytes}
-use Rattle.world_pipes.specs.world_base.Step.{node_step}
+use Rattle.headline.specs.snapshots.Past.{Moment, Past, whole_moment}
+use Rattle.headline.specs.node_moves.Moves.{NodeCall}
+use Rattle.headline.specs.node_moves.Moves.NodeCall.{takes}
+use Rattle.escaping_client.specs.lists.Lists.{In}
+use Rattle.escaping_client.proofs.of_lists.Places.{get_set}
+use Rattle.escaping_client.specs.packet.declared.connect.Connect.{Connect}
+use Rattle.headline.specs.world_base.Core.{CountedCore, rules}
+use Rattle.headline.specs.world_base.declared.item.Item.{Item}
+use Rattle.headline.specs.world_base.declared.item.Item.TheVariants.{Bytes}
+use Rattle.headline.specs.world_base.Step.{node_step}
 use Rattle.escaping_nodes.specs.world_nodes.Goes.{behind_deed}
 use Rattle.escaping_nodes.specs.world_nodes.Nodes.{NodesState}
 use Rattle.escaping_nodes.proofs.of_world_nodes.Acts.{acts}
@@ -32,7 +32,7 @@ use Rattle.world.specs.Found.{is_named, port_of}
 use Rattle.world.specs.Gathering.{Gathers}
 use Rattle.world.specs.Goes.{LosesNothing, NodesGo}
 use Rattle.world.specs.Happening.{Run}
-use Rattle.world.specs.Housed.{AreHoused, leads_of}
+use Rattle.world.specs.SlotsAreValid.{AreHoused, leads_of}
 use Rattle.world.specs.World.{WorldState}
 use Rattle.world.proofs.ExactRuns.{in_two}
 use Rattle.world.proofs.GroupGoes.{acts_go, with_nodes}
@@ -65,7 +65,7 @@ module _ (name : List ℕ) (i at number place : ℕ) (core : Core) (up : List �
   passes = gathers_passes (suc place) (with_nodes taken w) after gathers housed
 
   goes : NodesGo w.nodes taken
-  goes = acts_go (let deed : Option (ℕ × Deed) = Some (place, takes item) in deed) w.nodes taken (acts w.nodes place node (takes item) stands (λ g t. tt))
+  goes = acts_go (let deed : Option (ℕ × NodeCall) = Some (place, takes item) in deed) w.nodes taken (acts w.nodes place node (takes item) stands (λ g t. tt))
 
   -- a sole member answers at once
   pub answers_alone : CanAsk a w.nodes ballot place node [] (port_of number) x list start piece connect → IsAnswered name i at number place core w.nodes after.nodes after

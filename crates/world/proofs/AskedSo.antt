@@ -4,12 +4,12 @@ use Rattle.std.specs.Prelude.{get_or}
 use Rattle.std.specs.List.{position}
 use Rattle.std.proofs.lemmas.Bool.{both_ways}
 use Rattle.std.proofs.lemmas.List.{append-nil, take_more}
-use Rattle.ballot.specs.Losses.{one_more}
-use Rattle.client_base.specs.Steps.{Call}
-use Rattle.client_base.specs.declared.error.ClientError.{ClientError}
-use Rattle.client_base.specs.declared.error.ClientError.TheVariants as errors
-use Rattle.master.specs.declared.event.Idle.{Idle}
-use Rattle.session_base.specs.declared.publication.Publication.{Publication}
+use Rattle.headline.specs.ballot.Losses.{one_more}
+use Rattle.escaping_client.specs.client_base.Steps.{Call}
+use Rattle.escaping_client.specs.client_base.declared.error.ClientError.{ClientError}
+use Rattle.escaping_client.specs.client_base.declared.error.ClientError.TheVariants as errors
+use Rattle.escaping_nodes.specs.master.declared.event.Idle.{Idle}
+use Rattle.escaping_client.specs.session_base.declared.publication.Publication.{Publication}
 use Rattle.world_pipes.specs.declared.sending.Sending.{Sending}
 use Rattle.world_pipes.specs.declared.sending.Sending.TheVariants as sendings
 use Rattle.world_pipes.specs.Following.{CallingFollows}

@@ -4,27 +4,27 @@
 use Rattle.std.proofs.Common.{◌≡◌, ◌⊎◌, inl, inr, ◌<◌, ◌≤◌, ◌+◌, ◌*◌, ℕ, suc, true, false, List, [], ◌∷◌, ◌++◌, Some, Ok, drop, length, map, refl, ap, ◌∙◌, subst, append_assoc, arith}
 use Rattle.std.specs.List.{position}
 use Rattle.std.proofs.lemmas.List.{length-append, map-append}
-use Rattle.ballot.specs.Config.{Config}
-use Rattle.ballot.specs.Serving.{most_places}
-use Rattle.broker_base.specs.Command.{Command}
-use Rattle.broker_base.specs.Command.TheVariants as commands
-use Rattle.broker_base.specs.Commands.{past_of, usual_limits}
-use Rattle.broker_base.specs.Output.{Output}
-use Rattle.broker_base.specs.Past.{session_of}
-use Rattle.broker_base.specs.State.{State}
+use Rattle.headline.specs.ballot.Config.{Config}
+use Rattle.headline.specs.ballot.Serving.{most_places}
+use Rattle.headline.specs.broker_base.Command.{Command}
+use Rattle.headline.specs.broker_base.Command.TheVariants as commands
+use Rattle.headline.specs.broker_base.Commands.{past_of, usual_limits}
+use Rattle.headline.specs.broker_base.Output.{Output}
+use Rattle.headline.specs.broker_base.Past.{session_of}
+use Rattle.headline.specs.broker_base.State.{State}
 use Rattle.escaping_client.specs.client.Core.{Core}
 use Rattle.escaping_nodes.specs.Answered.{CanAsk, begun}
 use Rattle.escaping_nodes.specs.Opened.{IsOpened, first_of}
-use Rattle.escaping_nodes.specs.cut_ways.ways_out.Deliveries.{AreApart, NodeIs, asked_and_answered}
-use Rattle.escaping_nodes.specs.cut_ways.ways_out.Following.{Follows}
-use Rattle.exact_model.specs.group_model.snapshots.Past.{Moment, Past, whole_moment}
-use Rattle.exact_model.specs.node_model.Moves.Deed.{takes}
-use Rattle.lists.specs.Lists.{In}
-use Rattle.packet.specs.declared.connect.Connect.{Connect}
-use Rattle.packet.specs.declared.packet.Packet.TheVariants as packets
-use Rattle.packet.specs.Verdict.{verdict}
-use Rattle.world_pipes.specs.world_base.Core.{rules}
-use Rattle.world_pipes.specs.world_base.declared.item.Item.TheVariants.{Bytes}
+use Rattle.escaping_nodes.specs.ways_out.Deliveries.{AreApart, NodeIs, asked_and_answered}
+use Rattle.escaping_nodes.specs.ways_out.Following.{Follows}
+use Rattle.headline.specs.snapshots.Past.{Moment, Past, whole_moment}
+use Rattle.headline.specs.node_moves.Moves.NodeCall.{takes}
+use Rattle.escaping_client.specs.lists.Lists.{In}
+use Rattle.escaping_client.specs.packet.declared.connect.Connect.{Connect}
+use Rattle.escaping_client.specs.packet.declared.packet.Packet.TheVariants as packets
+use Rattle.escaping_client.specs.packet.Verdict.{verdict}
+use Rattle.headline.specs.world_base.Core.{rules}
+use Rattle.headline.specs.world_base.declared.item.Item.TheVariants.{Bytes}
 use Rattle.escaping_nodes.specs.world_nodes.Goes.{behind_deed}
 use Rattle.escaping_nodes.specs.world_nodes.Nodes.{NodesState}
 use Rattle.world.specs.declared.event.Event.{Event}
@@ -33,7 +33,7 @@ use Rattle.world.specs.Found.{is_named, port_of}
 use Rattle.world.specs.Gathering.{Gathers}
 use Rattle.world.specs.Goes.{LosesNothing}
 use Rattle.world.specs.Happening.{Run}
-use Rattle.world.specs.Housed.{AreHoused, leads_of}
+use Rattle.world.specs.SlotsAreValid.{AreHoused, leads_of}
 use Rattle.world.specs.World.{WorldState}
 use Rattle.world.proofs.AnswersOut.{answers_alone, answers_with_others}
 use Rattle.world.proofs.ExactRuns.{First, first_done}

@@ -2,9 +2,9 @@
 -- is counted; and a refusal changes nothing.
 use Rattle.std.proofs.Common.{◌≡◌, ◌≤◌, ℕ, Bool, true, false, if◌then◌else◌, [], Some, Result, Ok, Err, IsOk, IsErr, OnErr, slice_get, refl, sym, ◌∙◌, subst}
 use Rattle.std.proofs.lemmas.Bool.{both_ways}
-use Rattle.client_base.specs.declared.error.ClientError.{ClientError}
-use Rattle.client_base.specs.declared.error.ClientError.TheVariants as errors
-use Rattle.master.specs.declared.event.Idle.{Idle}
+use Rattle.escaping_client.specs.client_base.declared.error.ClientError.{ClientError}
+use Rattle.escaping_client.specs.client_base.declared.error.ClientError.TheVariants as errors
+use Rattle.escaping_nodes.specs.master.declared.event.Idle.{Idle}
 use Rattle.world_pipes.specs.declared.sending.Sending.{Sending}
 use Rattle.world_pipes.specs.declared.sending.Sending.TheVariants as sendings
 use Rattle.world_pipes.specs.Following.{CallingFollows, FollowsAll}

@@ -4,19 +4,19 @@ use Rattle.std.specs.List.{position}
 use Rattle.std.specs.Option.{is_some}
 use Rattle.std.proofs.lemmas.Bool.{both_ways}
 use Rattle.std.proofs.lemmas.Option.{none-some}
-use Rattle.ballot.specs.Losses.{one_more}
+use Rattle.headline.specs.ballot.Losses.{one_more}
 use Rattle.escaping_client.specs.client.Core.{Core, publication_with}
-use Rattle.client_base.specs.Answered.{Turn}
-use Rattle.client_base.specs.Calls.{publish_refusal, published}
-use Rattle.client_base.specs.State.{ClientState, is_online, is_open}
-use Rattle.client_base.specs.Steps.{Call, disconnected, keeper_step, request_refusal, subscribed, unless_refused, unsubscribed}
-use Rattle.client_base.specs.declared.error.ClientError.{ClientError}
-use Rattle.client_base.specs.declared.error.ClientError.TheVariants as errors
-use Rattle.client_base.specs.declared.stage.Stage.{Stage}
-use Rattle.client_base.specs.declared.stage.Stage.TheVariants as stages
-use Rattle.master.specs.declared.event.Idle.{Idle}
-use Rattle.packet.specs.declared.qos.QoS.{QoS}
-use Rattle.session_base.specs.declared.publication.Publication.{Publication}
+use Rattle.escaping_client.specs.client_base.Answered.{Turn}
+use Rattle.escaping_client.specs.client_base.Calls.{publish_refusal, published}
+use Rattle.escaping_client.specs.client_base.State.{ClientState, is_online, is_open}
+use Rattle.escaping_client.specs.client_base.Steps.{Call, disconnected, keeper_step, request_refusal, subscribed, unless_refused, unsubscribed}
+use Rattle.escaping_client.specs.client_base.declared.error.ClientError.{ClientError}
+use Rattle.escaping_client.specs.client_base.declared.error.ClientError.TheVariants as errors
+use Rattle.escaping_client.specs.client_base.declared.stage.Stage.{Stage}
+use Rattle.escaping_client.specs.client_base.declared.stage.Stage.TheVariants as stages
+use Rattle.escaping_nodes.specs.master.declared.event.Idle.{Idle}
+use Rattle.escaping_client.specs.packet.declared.qos.QoS.{QoS}
+use Rattle.escaping_client.specs.session_base.declared.publication.Publication.{Publication}
 use Rattle.world_pipes.specs.declared.sending.Sending.{Sending}
 use Rattle.world_pipes.specs.declared.sending.Sending.TheVariants as sendings
 use Rattle.world_pipes.specs.Following.{CallingFollows}

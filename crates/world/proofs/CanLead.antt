@@ -5,27 +5,27 @@ use Rattle.std.specs.List.{list_all, position}
 use Rattle.std.proofs.lemmas.Bool.{and_parts}
 use Rattle.std.proofs.lemmas.List.Quantifiers.{position-Some}
 use Rattle.std.proofs.lemmas.Option.{get_or_from_slice_get}
-use Rattle.agreement.specs.MasterState.{MasterState, refusal}
-use Rattle.ballot.specs.Config.{Config}
-use Rattle.ballot.specs.Serving.{most_places}
-use Rattle.broker_base.specs.Command.{Command}
-use Rattle.broker_base.specs.Output.{Output}
-use Rattle.broker_base.specs.Place.{Client}
-use Rattle.broker_base.specs.State.{State}
+use Rattle.headline.specs.agreement.MasterState.{MasterState, refusal}
+use Rattle.headline.specs.ballot.Config.{Config}
+use Rattle.headline.specs.ballot.Serving.{most_places}
+use Rattle.headline.specs.broker_base.Command.{Command}
+use Rattle.headline.specs.broker_base.Output.{Output}
+use Rattle.headline.specs.broker_base.Place.{Client}
+use Rattle.headline.specs.broker_base.State.{State}
 use Rattle.escaping_nodes.specs.Coming.{IsSeen}
-use Rattle.escaping_nodes.specs.cut_ways.ways_out.Deliveries.{NodeIs}
-use Rattle.escaping_nodes.specs.cut_ways.ways_out.Following.{Runs}
-use Rattle.escaping_nodes.specs.cut_ways.ways_out.Laws.{CanBeLed}
+use Rattle.escaping_nodes.specs.ways_out.Deliveries.{NodeIs}
+use Rattle.escaping_nodes.specs.ways_out.Following.{Runs}
+use Rattle.escaping_nodes.specs.ways_out.Laws.{CanBeLed}
 use Rattle.escaping_nodes.proofs.NodesFollow.{replica_at}
-use Rattle.exact_model.specs.group_model.Group.{Group, moment_of, replica_of}
-use Rattle.exact_model.specs.group_model.snapshots.Past.{Moment, Past, whole_moment}
-use Rattle.exact_model.specs.group_model.snapshots.Whole.{whole, whole_log}
-use Rattle.exact_model.proofs.of_group_model.of_snapshots.Fronts.{whole_long}
-use Rattle.exact_model.proofs.of_group_model.of_snapshots.PastsKept.{past_stands}
-use Rattle.exact_model.proofs.of_group_model.of_snapshots.Views.{get_whole}
-use Rattle.lists.specs.Lists.{In}
-use Rattle.lists.specs.Lists.In.{here, there}
-use Rattle.world_pipes.specs.world_base.Core.{CountedCore, rules}
+use Rattle.headline.specs.node_group.Group.{Group, moment_of, replica_of}
+use Rattle.headline.specs.snapshots.Past.{Moment, Past, whole_moment}
+use Rattle.headline.specs.snapshots.Whole.{whole, whole_log}
+use Rattle.headline.proofs.of_snapshots.Fronts.{whole_long}
+use Rattle.headline.proofs.of_snapshots.PastsKept.{past_stands}
+use Rattle.headline.proofs.of_snapshots.Views.{get_whole}
+use Rattle.escaping_client.specs.lists.Lists.{In}
+use Rattle.escaping_client.specs.lists.Lists.In.{here, there}
+use Rattle.headline.specs.world_base.Core.{CountedCore, rules}
 use Rattle.escaping_nodes.specs.world_nodes.Asking.{log_in, log_of}
 use Rattle.escaping_nodes.specs.world_nodes.Goes.{node_of}
 use Rattle.escaping_nodes.specs.world_nodes.Nodes.{NodesState, StandsFor}

@@ -1,17 +1,17 @@
 -- ClientGoes.antt: if a client takes a step, its world does.
 use Rattle.std.proofs.Common.{◌≡◌, ◌≤◌, ℕ, List, [], ◌++◌, Some, set, slice_get, refl, sym, ap, ap₂, ◌∙◌, subst, arith}
 use Rattle.std.proofs.lemmas.List.{append-nil, map-append, set-set}
-use Rattle.lists.proofs.Places.{get_set}
-use Rattle.exact_model.specs.world_model.World.{ClientPipes, World, with_client}
-use Rattle.exact_model.specs.world_model.Published.{from_client}
-use Rattle.session_base.specs.declared.publication.Publication.{Publication}
+use Rattle.escaping_client.proofs.of_lists.Places.{get_set}
+use Rattle.headline.specs.byte_world.World.{ClientPipes, World, with_client}
+use Rattle.headline.specs.byte_world.Published.{from_client}
+use Rattle.escaping_client.specs.session_base.declared.publication.Publication.{Publication}
 use Rattle.world_pipes.specs.Following.{FollowsAll, FollowsBy, FollowsLosing, after_losing}
 use Rattle.world_pipes.specs.Goes.{ClientGoes, published_along as published_with, published_with as published_with_one}
 use Rattle.world_pipes.specs.Piped.{Piped}
 use Rattle.world_pipes.proofs.StepsInWorlds.{steps_in_worlds}
-use Rattle.world.specs.declared.place.Place.{Place}
+use Rattle.world.specs.declared.connection_slot.ConnectionSlot.{ConnectionSlot}
 use Rattle.world.specs.declared.world.WorldClient.{WorldClient}
-use Rattle.world.specs.Housed.{AreHoused, leads, leads_of}
+use Rattle.world.specs.SlotsAreValid.{AreHoused, leads, leads_of}
 use Rattle.world.specs.Inside.Steps.{GoesOn, GoesOnBy}
 use Rattle.world.specs.Inside.Calling.{forgetful}
 use Rattle.world.specs.Standing.{Steps, WorldGoes, WorldGoesBy, published_along}
@@ -110,7 +110,7 @@ same_piped old i client piped found same =
     ap (λ (p : Piped). with_piped i client p old) same ∙ ap (λ (cs : List WorldClient). record old { clients = cs }) (set_itself old.clients i client found)
 
 -- and connections lead to the same nodes
-pub housed_still : (clients : List WorldClient) (connections : List Place) (i : ℕ) (client : WorldClient) (piped : Piped) → slice_get clients i ≡ Some client →
+pub housed_still : (clients : List WorldClient) (connections : List ConnectionSlot) (i : ℕ) (client : WorldClient) (piped : Piped) → slice_get clients i ≡ Some client →
     leads piped.ways ≡ leads client.piped.ways → AreHoused (leads_of clients) connections →
     AreHoused (leads_of (set clients i (record client { piped = piped }))) connections
 housed_still clients connections i client piped found same housed =

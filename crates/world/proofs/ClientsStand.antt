@@ -1,7 +1,7 @@
 -- ClientsStand.antt: the clients of a world, each at its place.
 use Rattle.std.proofs.Common.{◌≡◌, ℕ, zero, suc, List, [], ◌∷◌, Some, set, slice_get, refl, subst}
 use Rattle.std.proofs.lemmas.Option.{same_Some, none-some}
-use Rattle.exact_model.specs.world_model.World.{ClientPipes}
+use Rattle.headline.specs.byte_world.World.{ClientPipes}
 use Rattle.world_pipes.specs.Piped.{Piped}
 use Rattle.world_pipes.specs.Standing.{StandsFor as ClientStands}
 use Rattle.world.specs.declared.world.WorldClient.{WorldClient}

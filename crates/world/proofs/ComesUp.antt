@@ -2,18 +2,18 @@
 use Rattle.std.proofs.Common.{◌≡◌, ◌-◌, ◌≤◌, ℕ, suc, List, [], ◌++◌, take, drop, length, slice_get, Some, refl, sym, ap, ◌∙◌, subst, arith}
 use Rattle.std.proofs.lemmas.List.{take-append-drop, take-append-le, drop-append-le}
 use Rattle.std.proofs.lemmas.Option.{same_Some}
-use Rattle.world_pipes.specs.world_base.declared.item.Item.TheVariants.{Bytes}
-use Rattle.world_pipes.specs.world_base.declared.Port.{Port}
-use Rattle.exact_model.specs.node_model.Moves.Deed.{takes}
-use Rattle.exact_model.specs.world_model.World.{HasPipe, Pipe, World, with_client, with_pipe}
-use Rattle.exact_model.specs.world_model.Goes.WorldStep.{comes_up}
+use Rattle.headline.specs.world_base.declared.item.Item.TheVariants.{Bytes}
+use Rattle.headline.specs.world_base.declared.Port.{Port}
+use Rattle.headline.specs.node_moves.Moves.NodeCall.{takes}
+use Rattle.headline.specs.byte_world.World.{HasPipe, Pipe, World, with_client, with_pipe}
+use Rattle.headline.specs.byte_world.Goes.WorldStep.{comes_up}
 use Rattle.escaping_nodes.specs.world_nodes.Goes.{Acts}
 use Rattle.escaping_nodes.specs.world_nodes.Nodes.{NodesState}
 use Rattle.world_pipes.specs.declared.way.Way.{Way}
 use Rattle.world_pipes.specs.Piped.{Piped}
-use Rattle.world.specs.declared.place.Place.{Place}
+use Rattle.world.specs.declared.connection_slot.ConnectionSlot.{ConnectionSlot}
 use Rattle.world.specs.declared.world.WorldClient.{WorldClient}
-use Rattle.world.specs.Housed.{LeadsThere, leads_of}
+use Rattle.world.specs.SlotsAreValid.{LeadsThere, leads_of}
 use Rattle.world.specs.Found.{with_less}
 use Rattle.world.specs.Inside.Carrying.{TakesUp}
 use Rattle.world.specs.Standing.{GoesTo, StandsFor, WorldGoes}
@@ -24,7 +24,7 @@ use Rattle.world.proofs.GoesDown.{put_down}
 use Rattle.world.proofs.LeadsKept.{led}
 use Rattle.world.proofs.WaysStand.{PipeAt, pipe_at, way_changes}
 
-taken_up : (old : WorldState) (m : World) (s : StandsFor m old) (place : Place) (client : WorldClient) (one : StandsAt m.clients place.client client.piped) (way : Way)
+taken_up : (old : WorldState) (m : World) (s : StandsFor m old) (place : ConnectionSlot) (client : WorldClient) (one : StandsAt m.clients place.client client.piped) (way : Way)
     (x : PipeAt client.piped one.c place.at way) (new : NodesState) (count : ℕ) → count ≤ length way.up
     → Acts x.p.node (takes (Bytes x.p.port (take count way.up) 0)) old.nodes new → GoesTo [] m (put_down place.client client (with_less place.at count way client.piped) new old)
 taken_up old m s place client one way x new count part acts =
@@ -53,7 +53,7 @@ taken_up old m s place client one way x new count part acts =
       };
     }
 
-pub takes_up : (old : WorldState) (number count : ℕ) (place : Place) (client : WorldClient) (new : NodesState) (later : Piped) → LeadsThere (leads_of old.clients) number place
+pub takes_up : (old : WorldState) (number count : ℕ) (place : ConnectionSlot) (client : WorldClient) (new : NodesState) (later : Piped) → LeadsThere (leads_of old.clients) number place
     → slice_get old.clients place.client ≡ Some client → TakesUp place (record { 0 = number }) count old.nodes client.piped new later
     → WorldGoes old (put_down place.client client later new old)
 takes_up old number count place client new later there at t nodes config cs m trail s =

@@ -11,14 +11,14 @@ use Rattle.escaping_client.specs.client.State.{is_online, is_open}
 use Rattle.escaping_client.specs.Online.{IsServed}
 use Rattle.escaping_client.proofs.ConnackServed.{connack_serves}
 use Rattle.escaping_nodes.specs.Answered.{session_present}
-use Rattle.lists.specs.Lists.{IsPrefixOf}
-use Rattle.lists.proofs.Places.{get_pushed, get_set}
-use Rattle.packet.specs.Spelling.{spelling}
-use Rattle.packet.specs.Verdict.{verdict}
+use Rattle.escaping_client.specs.lists.Lists.{IsPrefixOf}
+use Rattle.escaping_client.proofs.of_lists.Places.{get_pushed, get_set}
+use Rattle.escaping_client.specs.packet.Spelling.{spelling}
+use Rattle.escaping_client.specs.packet.Verdict.{verdict}
 use Rattle.world_pipes.specs.declared.way.Way.{Way}
 use Rattle.world_pipes.specs.Piped.{Hears, Piped, broken, come_down, sent_up}
 use Rattle.world.specs.declared.event.Event.TheVariants as events
-use Rattle.world.specs.declared.place.Place.{Place}
+use Rattle.world.specs.declared.connection_slot.ConnectionSlot.{ConnectionSlot}
 use Rattle.world.specs.declared.world.WorldClient.{WorldClient}
 use Rattle.world.specs.Doing.{Does}
 use Rattle.world.specs.Found.{core_named, is_named, with_piped}
@@ -103,7 +103,7 @@ module _ (name : List ℕ) (i at number node : ℕ) (core : Core) (up down : Lis
       same : new ≡ after
       same =
           is
-          ∙ ap (λ (p : Place). with_piped p.client c.client piped w) (place_is i at number node core up down b w s positive c)
+          ∙ ap (λ (p : ConnectionSlot). with_piped p.client c.client piped w) (place_is i at number node core up down b w s positive c)
           ∙ ap (λ (d : WorldClient). with_piped i d piped w) (client_is i at number node core up down b w s positive c)
 
   pub connack_comes : (new : WorldState) → is_open core.state.stage ≡ true → Run (events.CarryDown number 4 ∷ []) w new → LosesNothing w new → IsOnline name w new

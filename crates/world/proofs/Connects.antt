@@ -5,23 +5,23 @@ use Rattle.std.specs.Option.{is_some}
 use Rattle.std.proofs.lemmas.Bool.{both_ways, ne_eqb}
 use Rattle.std.proofs.lemmas.List.{reverse-reverse}
 use Rattle.std.proofs.lemmas.Option.{none-some}
-use Rattle.lists.proofs.Tests.{none_or}
-use Rattle.world_pipes.specs.world_base.declared.item.Item.TheVariants.{Opened}
-use Rattle.world_pipes.specs.world_base.declared.Port.{Port}
-use Rattle.world_pipes.specs.world_base.Core.{CoreState, CountedCore}
-use Rattle.world_pipes.specs.world_base.Handing.{listed_at}
-use Rattle.exact_model.specs.node_model.Moves.Deed.{takes}
-use Rattle.exact_model.proofs.of_group_model.Placed.{get_mapped}
-use Rattle.exact_model.specs.world_model.World.{ClientPipes, Pipe, World, is_used, leads_to, with_client}
-use Rattle.exact_model.specs.world_model.Goes.{after_connecting}
-use Rattle.exact_model.specs.world_model.Goes.WorldStep.{connects}
+use Rattle.escaping_client.proofs.of_lists.Tests.{none_or}
+use Rattle.headline.specs.world_base.declared.item.Item.TheVariants.{Opened}
+use Rattle.headline.specs.world_base.declared.Port.{Port}
+use Rattle.headline.specs.world_base.Core.{CoreState, CountedCore}
+use Rattle.headline.specs.world_base.Handing.{listed_at}
+use Rattle.headline.specs.node_moves.Moves.NodeCall.{takes}
+use Rattle.headline.proofs.of_node_group.Placed.{get_mapped}
+use Rattle.headline.specs.byte_world.World.{ClientPipes, Pipe, World, is_used, leads_to, with_client}
+use Rattle.headline.specs.byte_world.Goes.{after_connecting}
+use Rattle.headline.specs.byte_world.Goes.WorldStep.{connects}
 use Rattle.escaping_nodes.specs.world_nodes.Goes.{Acts, node_of}
 use Rattle.escaping_nodes.specs.world_nodes.Nodes.{NodesState, StandsFor as NodesStand}
 use Rattle.world_pipes.specs.declared.way.Way.{Way}
 use Rattle.world_pipes.specs.Following.{ConnectingFollows}
 use Rattle.world_pipes.specs.Standing.{AreWays}
 use Rattle.world.specs.declared.world.WorldClient.{WorldClient}
-use Rattle.world.specs.Housed.{AreHoused, leads, leads_of}
+use Rattle.world.specs.SlotsAreValid.{AreHoused, leads, leads_of}
 use Rattle.world.specs.Inside.Connecting.{ConnectsAt, IsKnown}
 use Rattle.world.specs.Standing.{ClientsStand, GoesTo, WorldGoes}
 use Rattle.world.specs.Standing.Steps.{rests, goes_on}

@@ -2,25 +2,25 @@
 use Rattle.std.proofs.Common.{◌≡◌, ◌-◌, ◌+◌, ℕ, suc, Bool, true, false, if◌then◌else◌, List, [], ◌∷◌, Option, Some, None, map, refl, sym, ap, ◌∙◌, subst, arith}
 use Rattle.std.specs.Prelude.{slice_get}
 use Rattle.std.proofs.lemmas.Option.{none-some, same_Some}
-use Rattle.ballot.specs.Body.TheVariants.{Activate}
-use Rattle.ballot.specs.Message.{Message}
-use Rattle.ballot.specs.Protocol.{received}
-use Rattle.ballot.specs.Replica.{ReplicaState}
-use Rattle.broker_base.specs.Command.{Command}
-use Rattle.broker_base.specs.Output.{Output}
-use Rattle.broker_base.specs.State.{State}
-use Rattle.escaping_nodes.specs.cut_ways.Deliveries.{Delivered, after_activate, after_outcome}
-use Rattle.escaping_nodes.specs.cut_ways.Deliveries.Delivered.{all_came, to_node, to_master}
+use Rattle.headline.specs.ballot.Body.TheVariants.{Activate}
+use Rattle.headline.specs.ballot.Message.{Message}
+use Rattle.headline.specs.ballot.Protocol.{received}
+use Rattle.headline.specs.ballot.Replica.{ReplicaState}
+use Rattle.headline.specs.broker_base.Command.{Command}
+use Rattle.headline.specs.broker_base.Output.{Output}
+use Rattle.headline.specs.broker_base.State.{State}
+use Rattle.escaping_nodes.specs.ways_out.CutWaysDeliveries.{Delivered, after_activate, after_outcome}
+use Rattle.escaping_nodes.specs.ways_out.CutWaysDeliveries.Delivered.{all_came, to_node, to_master}
 use Rattle.escaping_nodes.specs.Coming.{AreCalm, Come, IsSeen}
 use Rattle.escaping_nodes.specs.Coming.Come.{all_came as none_comes, to_node as comes_to_node, to_master as comes_to_master}
 use Rattle.escaping_nodes.proofs.NodesFollow.{deliveries_are_followed}
-use Rattle.exact_model.specs.group_model.Group.{replica_of}
-use Rattle.exact_model.specs.group_model.snapshots.Past.{Moment}
-use Rattle.exact_model.specs.node_model.Moves.Deed.{takes}
-use Rattle.lists.specs.Lists.{In}
-use Rattle.lists.proofs.Members.{in_at}
-use Rattle.world_pipes.specs.world_base.Core.{CoreState, CountedCore, rules}
-use Rattle.world_pipes.specs.world_base.declared.item.Item.TheVariants.{Peer}
+use Rattle.headline.specs.node_group.Group.{replica_of}
+use Rattle.headline.specs.snapshots.Past.{Moment}
+use Rattle.headline.specs.node_moves.Moves.NodeCall.{takes}
+use Rattle.escaping_client.specs.lists.Lists.{In}
+use Rattle.escaping_client.proofs.of_lists.Members.{in_at}
+use Rattle.headline.specs.world_base.Core.{CoreState, CountedCore, rules}
+use Rattle.headline.specs.world_base.declared.item.Item.TheVariants.{Peer}
 use Rattle.escaping_nodes.specs.world_nodes.Goes.{Comes, ComesToNobody, TakesExactly, behind_answer, behind_deed, running, unless_stopped}
 use Rattle.escaping_nodes.specs.world_nodes.Nodes.{NodesState, cores_of}
 use Rattle.escaping_nodes.proofs.of_world_nodes.Acts.{acts}
@@ -31,7 +31,7 @@ use Rattle.world.specs.Doing.{Does, receiver_of}
 use Rattle.world.specs.Gathering.{Gathers}
 use Rattle.world.specs.Goes.{LosesNothing}
 use Rattle.world.specs.Happening.{Run}
-use Rattle.world.specs.Housed.{AreHoused, leads_of}
+use Rattle.world.specs.SlotsAreValid.{AreHoused, leads_of}
 use Rattle.world.specs.World.{WorldState}
 use Rattle.world.proofs.ExactRuns.{first_done}
 use Rattle.world.proofs.GroupGoes.{GoesApart, goes_apart, with_nodes}

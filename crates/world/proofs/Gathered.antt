@@ -2,7 +2,7 @@
 use Rattle.std.proofs.Common.{◌≡◌, inl, inr, ◌<◌, ◌-◌, ℕ, zero, suc, Bool, true, false, List, ◌++◌, Some, length, set, slice_get, refl, sym, ap, ◌∙◌, subst, arith}
 use Rattle.escaping_nodes.specs.world_nodes.Goes.{node_of}
 use Rattle.escaping_nodes.specs.world_nodes.Steps.{forgetful}
-use Rattle.world.specs.declared.place.Place.{Place}
+use Rattle.world.specs.declared.connection_slot.ConnectionSlot.{ConnectionSlot}
 use Rattle.world.specs.Found.{place_numbered, port_of, with_down, with_piped}
 use Rattle.world.specs.Gathering.{AskedWhere, Gathers, GathersAmong, IsAsked, MayBeAsked, is_open_at, put_out}
 use Rattle.world.specs.Inside.Steps.{GoesOn}
@@ -14,7 +14,7 @@ use Rattle.world.proofs.Turned.{set_itself}
 
 -- ---- one connection
 
-pub is_asked : (number : ℕ) (place : Place) (is_open : Bool) (old mid new : WorldState) → slice_get old.connections (number - 1) ≡ Some place → 0 < number → HandsOn number place old is_open mid
+pub is_asked : (number : ℕ) (place : ConnectionSlot) (is_open : Bool) (old mid new : WorldState) → slice_get old.connections (number - 1) ≡ Some place → 0 < number → HandsOn number place old is_open mid
     → new ≡ marked number place is_open mid → IsAsked number old new
 is_asked number place is_open old mid new at positive h is =
     let down : WorldState = record (with_piped place.client h.client
@@ -29,13 +29,13 @@ is_asked number place is_open old mid new at positive h is =
     }
 
 -- one that stays open is as it was
-pub stays_open : (number : ℕ) (place : Place) (w : WorldState) → slice_get w.connections (number - 1) ≡ Some place → place.is_open ≡ true → w ≡ marked number place true w
+pub stays_open : (number : ℕ) (place : ConnectionSlot) (w : WorldState) → slice_get w.connections (number - 1) ≡ Some place → place.is_open ≡ true → w ≡ marked number place true w
 stays_open number place w found up =
-    ap (λ (l : List Place). record w { connections = l })
+    ap (λ (l : List ConnectionSlot). record w { connections = l })
     (sym (set_itself w.connections (number - 1) place found) ∙ ap (λ (b : Bool). set w.connections (number - 1) (record place { is_open = b })) up)
 
 -- exactly, or its node ran out of memory
-pub may_be_asked : (number : ℕ) (place : Place) (is_open : Bool) (old mid new : WorldState) → slice_get old.connections (number - 1) ≡ Some place → 0 < number → place.is_open ≡ true
+pub may_be_asked : (number : ℕ) (place : ConnectionSlot) (is_open : Bool) (old mid new : WorldState) → slice_get old.connections (number - 1) ≡ Some place → 0 < number → place.is_open ≡ true
     → MayHandOn number place old is_open mid → new ≡ marked number place is_open mid → MayBeAsked false number old new
 may_be_asked number place is_open old mid new at positive up (inl h) is = inl (is_asked number place is_open old mid new at positive h is)
 may_be_asked number place is_open old mid new at positive up (inr lost) is =

@@ -1,34 +1,34 @@
 -- GoesDown.antt: what a node hands over for a connection goes down on it.
 use Rattle.std.proofs.Common.{◌≡◌, inl, inr, ◌-◌, ℕ, suc, Bool, if◌then◌else◌, List, [], ◌++◌, Option, Some, None, set, slice_get, refl, sym, ap, ◌∙◌, subst, arith}
 use Rattle.std.proofs.lemmas.Option.{same_Some}
-use Rattle.ballot.specs.Config.{Config}
-use Rattle.broker_base.specs.Connection.{ConnectionName, same_connection}
-use Rattle.broker_base.specs.Place.{Client}
-use Rattle.lists.specs.Lists.{In}
-use Rattle.lists.proofs.Tests.{eq_is}
-use Rattle.world_pipes.proofs.of_story.Takes.{same_name_self}
-use Rattle.world_pipes.specs.world_base.declared.Connection.{Connection as NodesEnd}
-use Rattle.world_pipes.specs.world_base.declared.Port.{Port}
-use Rattle.world_pipes.specs.world_base.Connections.{is_at}
-use Rattle.world_pipes.specs.world_base.Core.{CoreState, CountedCore}
-use Rattle.world_pipes.specs.world_base.Handing.{bytes_of, listed_at}
-use Rattle.exact_model.specs.node_model.Moves.Deed.{gives}
-use Rattle.exact_model.proofs.of_node_model.Views.{found_passes}
-use Rattle.exact_model.specs.connection_model.Streams.{bytes_named}
-use Rattle.exact_model.specs.connection_model.Streams.{goes_down as goes_down_in}
-use Rattle.exact_model.specs.world_model.World.{HasPipe, Pipe, World, with_client, with_pipe}
-use Rattle.exact_model.specs.world_model.Goes.{Reached}
-use Rattle.exact_model.specs.world_model.Goes.WorldStep.{goes_down}
-use Rattle.exact_model.proofs.of_world_model.NodesGoOn.{carries_with}
-use Rattle.exact_model.proofs.of_world_model.PipesHold.{found_in}
-use Rattle.exact_model.proofs.of_world_model.PipesInOrder.{reached_holds}
+use Rattle.headline.specs.ballot.Config.{Config}
+use Rattle.headline.specs.broker_base.Connection.{ConnectionName, same_connection}
+use Rattle.headline.specs.broker_base.Place.{Client}
+use Rattle.escaping_client.specs.lists.Lists.{In}
+use Rattle.escaping_client.proofs.of_lists.Tests.{eq_is}
+use Rattle.headline.proofs.of_exactly_once.Takes.{same_name_self}
+use Rattle.headline.specs.world_base.declared.Connection.{Connection as NodesEnd}
+use Rattle.headline.specs.world_base.declared.Port.{Port}
+use Rattle.headline.specs.world_base.Connections.{is_at}
+use Rattle.headline.specs.world_base.Core.{CoreState, CountedCore}
+use Rattle.headline.specs.world_base.Handing.{bytes_of, listed_at}
+use Rattle.headline.specs.node_moves.Moves.NodeCall.{gives}
+use Rattle.headline.proofs.of_node_moves.Views.{found_passes}
+use Rattle.headline.specs.node_group.Streams.{bytes_named}
+use Rattle.headline.specs.node_group.Streams.{goes_down as goes_down_in}
+use Rattle.headline.specs.byte_world.World.{HasPipe, Pipe, World, with_client, with_pipe}
+use Rattle.headline.specs.byte_world.Goes.{Reached}
+use Rattle.headline.specs.byte_world.Goes.WorldStep.{goes_down}
+use Rattle.headline.proofs.of_byte_world.NodesGoOn.{carries_with}
+use Rattle.headline.proofs.of_byte_world.PipesHold.{found_in}
+use Rattle.headline.proofs.of_byte_world.PipesInOrder.{reached_holds}
 use Rattle.escaping_nodes.specs.world_nodes.Goes.{Acts, HandsOver}
 use Rattle.escaping_nodes.specs.world_nodes.Nodes.{NodesState}
 use Rattle.world_pipes.specs.declared.way.Way.{Way}
 use Rattle.world_pipes.specs.Piped.{Piped}
-use Rattle.world.specs.declared.place.Place.{Place}
+use Rattle.world.specs.declared.connection_slot.ConnectionSlot.{ConnectionSlot}
 use Rattle.world.specs.declared.world.WorldClient.{WorldClient}
-use Rattle.world.specs.Housed.{LeadsThere, leads_of}
+use Rattle.world.specs.SlotsAreValid.{LeadsThere, leads_of}
 use Rattle.world.specs.Found.{with_down}
 use Rattle.world.specs.Inside.Handing.{MayHandDown, MayPutDown}
 use Rattle.world.specs.Inside.Steps.{NodesStay}
@@ -56,7 +56,7 @@ all_named x port core ports = by (listed_at port core) refl
 abbrev pub put_down : ℕ → WorldClient → Piped → NodesState → WorldState → WorldState
 put_down i client later new old = record old { nodes = new; clients = set old.clients i (record client { piped = later }) }
 
-module _ {nodes : ℕ} {config : Config} {cs : List Client} (m : World) (trail : Reached nodes config cs m) (old : WorldState) (s : StandsFor m old) (place : Place) (client : WorldClient)
+module _ {nodes : ℕ} {config : Config} {cs : List Client} (m : World) (trail : Reached nodes config cs m) (old : WorldState) (s : StandsFor m old) (place : ConnectionSlot) (client : WorldClient)
     (one : StandsAt m.clients place.client client.piped) (way : Way) (x : PipeAt client.piped one.c place.at way) (new : NodesState) where
   has : HasPipe m place.client one.c x.turned.place x.κ x.p
   has = record { client = one.at; connection = x.connection; pipe = x.pipe }
@@ -98,7 +98,7 @@ module _ {nodes : ℕ} {config : Config} {cs : List Client} (m : World) (trail :
       (record { behind = m; steps = rests; asked_is = refl; stands = record { nodes = stay m.group s.nodes; clients = s.clients } }))
 
 -- what its node queued for the connection of a number goes down, or nothing does
-pub puts_down : (old : WorldState) (number : ℕ) (place : Place) (client : WorldClient) (new : NodesState) (later : Piped) → LeadsThere (leads_of old.clients) number place
+pub puts_down : (old : WorldState) (number : ℕ) (place : ConnectionSlot) (client : WorldClient) (new : NodesState) (later : Piped) → LeadsThere (leads_of old.clients) number place
     → slice_get old.clients place.client ≡ Some client → MayPutDown place.at place.node (record { 0 = number }) old.nodes client.piped new later
     → WorldGoes old (put_down place.client client later new old)
 puts_down old number place client new later there at puts nodes config cs m trail s =

@@ -2,19 +2,19 @@
 -- memory runs out.
 use Rattle.std.proofs.Common.{◌≡◌, ◌⊎◌, inl, inr, ◌≤◌, ◌-◌, ℕ, zero, suc, true, Option, Some, None, Result, Ok, Err, OnOk, OnErr, refl, arith}
 use Rattle.std.specs.Prelude.{slice_get}
-use Rattle.ballot.specs.Body.{Body}
-use Rattle.ballot.specs.Body.TheVariants.{NewBallot, Join, State, Install, Installed, Activate, Activated, Superseded, Append, Held, Commit}
-use Rattle.ballot.specs.Message.{Message}
-use Rattle.broker_base.specs.Command.{Command}
-use Rattle.broker_base.specs.Place.{Client}
-use Rattle.master.specs.declared.event.Idle.{Idle}
-use Rattle.world_pipes.specs.world_base.declared.item.Item.TheVariants.{Cut, Expel, Peer}
-use Rattle.exact_model.specs.node_model.Moves.{Deed}
-use Rattle.exact_model.specs.node_model.Moves.Deed.{takes}
-use Rattle.exact_model.specs.group_model.Group.{Group}
-use Rattle.exact_model.specs.world_model.World.{World}
-use Rattle.exact_model.specs.world_model.Goes.{is_apart}
-use Rattle.exact_model.specs.world_model.Goes.WorldStep.{goes_on as group_goes}
+use Rattle.headline.specs.ballot.Body.{Body}
+use Rattle.headline.specs.ballot.Body.TheVariants.{NewBallot, Join, State, Install, Installed, Activate, Activated, Superseded, Append, Held, Commit}
+use Rattle.headline.specs.ballot.Message.{Message}
+use Rattle.headline.specs.broker_base.Command.{Command}
+use Rattle.headline.specs.broker_base.Place.{Client}
+use Rattle.escaping_nodes.specs.master.declared.event.Idle.{Idle}
+use Rattle.headline.specs.world_base.declared.item.Item.TheVariants.{Cut, Expel, Peer}
+use Rattle.headline.specs.node_moves.Moves.{NodeCall}
+use Rattle.headline.specs.node_moves.Moves.NodeCall.{takes}
+use Rattle.headline.specs.node_group.Group.{Group}
+use Rattle.headline.specs.byte_world.World.{World}
+use Rattle.headline.specs.byte_world.Goes.{is_apart}
+use Rattle.headline.specs.byte_world.Goes.WorldStep.{goes_on as group_goes}
 use Rattle.escaping_nodes.specs.world_nodes.Nodes.{NodesState, StandsFor as NodesStand}
 use Rattle.escaping_nodes.specs.world_nodes.Goes.{Acts, GoesBy}
 use Rattle.escaping_nodes.specs.world_nodes.Steps.{ActsOrRests, ComesOrRests, MasterGoesOrRests, MasterHears, forgetful}
@@ -34,9 +34,9 @@ with_nodes nodes w = record w { nodes = nodes }
 -- a call in which connections have no part, or nothing
 pub data GoesApart (old new : NodesState) : Type 0 where
   stays : NodesStay old new → GoesApart old new
-  acts : (deed : Option (ℕ × Deed)) → is_apart deed ≡ true → ((g : Group) → NodesStand g old → GoesBy deed g new) → GoesApart old new
+  acts : (deed : Option (ℕ × NodeCall)) → is_apart deed ≡ true → ((g : Group) → NodesStand g old → GoesBy deed g new) → GoesApart old new
 
-pub acts_go : (deed : Option (ℕ × Deed)) (old new : NodesState) → ((g : Group) → NodesStand g old → GoesBy deed g new) → NodesGo old new
+pub acts_go : (deed : Option (ℕ × NodeCall)) (old new : NodesState) → ((g : Group) → NodesStand g old → GoesBy deed g new) → NodesGo old new
 acts_go deed old new by g s = let d = by g s in record { behind = d.does.behind; goes = then_goes stands_still d.does.step; stands = d.stands }
 
 nodes_go : (old new : NodesState) → GoesApart old new → NodesGo old new
@@ -63,18 +63,18 @@ goes_apart old new rises apart =
 
 -- ---- calls of nodes, done or idle
 
-pub by_call : {X : Type 0} (r : Result X Idle) (old new : NodesState) (at : ℕ) (deed : Deed) → is_apart (Some (at, deed)) ≡ true → OnOk r (Acts at deed old new)
+pub by_call : {X : Type 0} (r : Result X Idle) (old new : NodesState) (at : ℕ) (deed : NodeCall) → is_apart (Some (at, deed)) ≡ true → OnOk r (Acts at deed old new)
     → OnErr r (new ≡ old) → GoesApart old new
 by_call (Ok x) old new at deed apart does same = acts (Some (at, deed)) apart does
 by_call (Err e) old new at deed apart does same = stays (nodes_stay old new same)
 
 -- also by one that connections have a part in
-pub call_goes : {X : Type 0} (r : Result X Idle) (old new : NodesState) (at : ℕ) (deed : Deed) → old.losses ≤ new.losses → OnOk r (Acts at deed old new) → OnErr r (new ≡ old)
+pub call_goes : {X : Type 0} (r : Result X Idle) (old new : NodesState) (at : ℕ) (deed : NodeCall) → old.losses ≤ new.losses → OnOk r (Acts at deed old new) → OnErr r (new ≡ old)
     → NodesGoOn old new
 call_goes (Ok x) old new at deed rises does same = record { rises = rises; goes = acts_go (Some (at, deed)) old new does }
 call_goes (Err e) old new at deed rises does same = nodes_rest old new same
 
-acts_or_stays : (deed : Option (ℕ × Deed)) (old new : NodesState) → is_apart deed ≡ true → ((g : Group) → NodesStand g old → GoesBy deed g new) ⊎ (new ≡ forgetful old) → GoesApart old new
+acts_or_stays : (deed : Option (ℕ × NodeCall)) (old new : NodesState) → is_apart deed ≡ true → ((g : Group) → NodesStand g old → GoesBy deed g new) ⊎ (new ≡ forgetful old) → GoesApart old new
 acts_or_stays deed old new apart (inl does) = acts deed apart does
 acts_or_stays deed old new apart (inr forgets) = stays (nodes_forget old new forgets)
 

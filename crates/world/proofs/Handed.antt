@@ -2,19 +2,19 @@
 use Rattle.std.proofs.Common.{◌≡◌, inl, inr, ◌<◌, ◌≤◌, ◌-◌, ℕ, Bool, true, false, List, Some, None, Result, Ok, Err, OnErr, length, slice_get, refl, sym, ap, ◌∙◌, subst, arith}
 use Rattle.std.specs.Prelude.{IfOk, IfSome, drop, take}
 use Rattle.std.proofs.lemmas.Option.{same_Some}
-use Rattle.master.specs.declared.event.Idle.{Idle}
-use Rattle.world_pipes.specs.world_base.declared.item.Item.TheVariants.{Bytes}
-use Rattle.world_pipes.specs.world_base.declared.Port.{Port}
-use Rattle.exact_model.specs.node_model.Moves.Deed.{takes}
+use Rattle.escaping_nodes.specs.master.declared.event.Idle.{Idle}
+use Rattle.headline.specs.world_base.declared.item.Item.TheVariants.{Bytes}
+use Rattle.headline.specs.world_base.declared.Port.{Port}
+use Rattle.headline.specs.node_moves.Moves.NodeCall.{takes}
 use Rattle.escaping_nodes.specs.world_nodes.Goes.{Acts, running}
 use Rattle.escaping_nodes.specs.world_nodes.Nodes.{NodesState}
 use Rattle.escaping_nodes.specs.world_nodes.Steps.{TakesIn}
 use Rattle.world_pipes.specs.declared.way.Way.{Way}
 use Rattle.world_pipes.specs.Piped.{Piped}
-use Rattle.world.specs.declared.place.Place.{Place}
+use Rattle.world.specs.declared.connection_slot.ConnectionSlot.{ConnectionSlot}
 use Rattle.world.specs.declared.world.WorldClient.{WorldClient}
 use Rattle.world.specs.Goes.{NodesGoOn}
-use Rattle.world.specs.Housed.{AreHoused, leads, leads_of}
+use Rattle.world.specs.SlotsAreValid.{AreHoused, leads, leads_of}
 use Rattle.world.specs.Found.{port_of, with_down, with_less}
 use Rattle.world.specs.Inside.Carrying.{CanTake, CannotTake, CannotTakeOn, TakesUp, TakesUpOnWhere, TakesUpWhere}
 use Rattle.world.specs.Inside.Steps.{GoesOn}
@@ -33,7 +33,7 @@ same_client old i client new later found still =
     ap (λ (p : Piped). put_down i client p new old) still ∙ ap (λ (l : List WorldClient). record old { nodes = new; clients = l }) (set_itself old.clients i client found)
 
 -- what is known about the end, and what went down; or nothing went down
-pub hands : (old : WorldState) (number : ℕ) (place : Place) (client : WorldClient) (way : Way) (is_open : Bool) (new : NodesState) (later : Piped) → slice_get old.clients place.client ≡ Some client
+pub hands : (old : WorldState) (number : ℕ) (place : ConnectionSlot) (client : WorldClient) (way : Way) (is_open : Bool) (new : NodesState) (later : Piped) → slice_get old.clients place.client ≡ Some client
     → slice_get client.piped.ways place.at ≡ Some way → PutsDown place.at place.node (port_of number) old.nodes client.piped new later is_open
     → MayHandOn number place old is_open (put_down place.client client later new old)
 hands old number place client way is_open new later owned stands puts = by (puts way stands)
@@ -62,7 +62,7 @@ hands old number place client way is_open new later owned stands puts = by (puts
           same_client old place.client client new later owned (is ∙ same_bytes bytes p.1) ∙ ap (λ (n : NodesState). let w : WorldState = record old { nodes = n } in w) p.0,
         )
 
-pub hands_on : (old : WorldState) (number : ℕ) (place : Place) (client : WorldClient) (new : NodesState) (later : Piped) → AreHoused (leads_of old.clients) old.connections
+pub hands_on : (old : WorldState) (number : ℕ) (place : ConnectionSlot) (client : WorldClient) (new : NodesState) (later : Piped) → AreHoused (leads_of old.clients) old.connections
     → slice_get old.connections (number - 1) ≡ Some place → 0 < number → slice_get old.clients place.client ≡ Some client → NodesGoOn old.nodes new
     → MayPutDown place.at place.node (record { 0 = number }) old.nodes client.piped new later → GoesOn old (put_down place.client client later new old)
 hands_on old number place client new later housed at positive found nodes puts =
@@ -83,7 +83,7 @@ pub takes_nothing : (old : WorldState) (i : ℕ) (client : WorldClient) (new : N
 takes_nothing old i client new later found same still = goes_on_rest old (put_down i client later new old) (unchanged old i client new later found same still)
 
 -- bytes come, or there is no memory for them
-pub takes_on : {E : Type 0} (r : Result Bool E) (old : WorldState) (number count : ℕ) (place : Place) (client : WorldClient) (new : NodesState) (later : Piped)
+pub takes_on : {E : Type 0} (r : Result Bool E) (old : WorldState) (number count : ℕ) (place : ConnectionSlot) (client : WorldClient) (new : NodesState) (later : Piped)
     → AreHoused (leads_of old.clients) old.connections → slice_get old.connections (number - 1) ≡ Some place → 0 < number → slice_get old.clients place.client ≡ Some client
     → NodesGoOn old.nodes new → IfOk r (λ had. TakesUpWhere had place (record { 0 = number }) count old.nodes client.piped new later)
     → OnErr r (new ≡ old.nodes) → OnErr r (later ≡ client.piped) → GoesOn old (put_down place.client client later new old)
@@ -97,7 +97,7 @@ takes_on (Ok false) old number count place client new later housed at positive f
 takes_on (Err e) old number count place client new later housed at positive found nodes took same still = takes_nothing old place.client client new later found same still
 
 -- what comes is what was in transit
-pub takes_part : (place : Place) (port : Port) (count : ℕ) (old : NodesState) (client : Piped) (new : NodesState) (later : Piped) (waiting piece : List ℕ)
+pub takes_part : (place : ConnectionSlot) (port : Port) (count : ℕ) (old : NodesState) (client : Piped) (new : NodesState) (later : Piped) (waiting piece : List ℕ)
     → place.at < length client.ways → IfSome (slice_get client.ways place.at) (λ way. waiting ≡ way.up) → 0 < count → count ≤ length waiting
     → (running old.nodes place.node ≡ None → ⊥) → piece ≡ take count waiting
     → IfSome (slice_get client.ways place.at) (λ way. later ≡ with_less place.at count way client) → TakesIn place.node (Bytes port piece 0) old new
@@ -120,7 +120,7 @@ takes_part place port count old client new later waiting piece below up some par
     of_some P way e i = subst (λ o. IfSome o P) e i
 
 -- if there is no memory for it, it could have come
-pub can_take : (place : Place) (count : ℕ) (old : NodesState) (client : Piped) (waiting : List ℕ) → place.at < length client.ways → IfSome (slice_get client.ways place.at) (λ way. waiting ≡ way.up)
+pub can_take : (place : ConnectionSlot) (count : ℕ) (old : NodesState) (client : Piped) (waiting : List ℕ) → place.at < length client.ways → IfSome (slice_get client.ways place.at) (λ way. waiting ≡ way.up)
     → 0 < count → count ≤ length waiting → (running old.nodes place.node ≡ None → ⊥) → CanTake place count old client
 can_take place count old client waiting below up some part runs =
     let w = there client.ways place.at below in
@@ -140,7 +140,7 @@ less_leads client later at count way found less =
     of_some e i = subst (λ o. IfSome o (λ w. later ≡ with_less at count w client)) e i
 
 -- the same in a world: they come, or they cannot
-pub takes_up_on : {E : Type 0} (r : Result Bool E) (old : WorldState) (number count : ℕ) (place : Place) (client : WorldClient) (new : NodesState) (later : Piped)
+pub takes_up_on : {E : Type 0} (r : Result Bool E) (old : WorldState) (number count : ℕ) (place : ConnectionSlot) (client : WorldClient) (new : NodesState) (later : Piped)
     → slice_get old.clients place.client ≡ Some client → IfOk r (λ had. TakesUpWhere had place (port_of number) count old.nodes client.piped new later)
     → IfOk r (λ had. TakesUpOnWhere had number place count old (put_down place.client client later new old))
 takes_up_on (Ok true) old number count place client new later owned taken = record { client = client; owned = owned; between = new; piped = later; takes = taken; is = refl }
@@ -148,12 +148,12 @@ takes_up_on (Ok false) old number count place client new later owned taken = (un
 takes_up_on (Err e) old number count place client new later owned taken = tt
 
 -- and if they cannot, nothing is changed
-pub takes_none : {X E : Type 0} (r : Result X E) (old : WorldState) (place : Place) (client : WorldClient) (new : NodesState) (later : Piped) → slice_get old.clients place.client ≡ Some client
+pub takes_none : {X E : Type 0} (r : Result X E) (old : WorldState) (place : ConnectionSlot) (client : WorldClient) (new : NodesState) (later : Piped) → slice_get old.clients place.client ≡ Some client
     → OnErr r (new ≡ old.nodes) → OnErr r (later ≡ client.piped) → OnErr r (put_down place.client client later new old ≡ old)
 takes_none (Ok x) old place client new later owned same still = tt
 takes_none (Err e) old place client new later owned same still = unchanged old place.client client new later owned same still
 
-pub takes_nothing_on : {X : Type 0} (r : Result X Idle) (w : WorldState) (count : ℕ) (place : Place) (client : WorldClient) → slice_get w.clients place.client ≡ Some client
+pub takes_nothing_on : {X : Type 0} (r : Result X Idle) (w : WorldState) (count : ℕ) (place : ConnectionSlot) (client : WorldClient) → slice_get w.clients place.client ≡ Some client
     → OnErr r (CannotTake place count w.nodes client.piped) → OnErr r (CannotTakeOn place count w)
 takes_nothing_on (Ok x) w count place client owned cannot = tt
 takes_nothing_on (Err e) w count place client owned cannot = λ other there. subst (λ (k : WorldClient). CannotTake place count w.nodes k.piped) (same_Some client other (sym owned ∙ there)) cannot

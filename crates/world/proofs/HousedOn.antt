@@ -2,15 +2,15 @@
 use Rattle.std.proofs.Common.{◌≡◌, ◌⊎◌, inl, inr, ◌≤◌, ℕ, zero, suc, Bool, List, [], ◌∷◌, ◌++◌, Some, length, set, slice_get, refl, sym, ap, ◌∙◌, subst, arith}
 use Rattle.std.proofs.lemmas.List.{length-append, length-set}
 use Rattle.std.proofs.lemmas.Option.{same_Some, none-some}
-use Rattle.lists.proofs.Places.{get_pushed, get_set, get_set_other}
-use Rattle.exact_model.proofs.of_model.Lists.{same_or_other, set_get}
-use Rattle.world_pipes.specs.world_base.declared.Port.{Port}
-use Rattle.world.specs.declared.place.Place.{Place}
-use Rattle.world.specs.Housed.{AreHoused, LeadsThere}
+use Rattle.escaping_client.proofs.of_lists.Places.{get_pushed, get_set, get_set_other}
+use Rattle.headline.proofs.of_packet_world.Lists.{same_or_other, set_get}
+use Rattle.headline.specs.world_base.declared.Port.{Port}
+use Rattle.world.specs.declared.connection_slot.ConnectionSlot.{ConnectionSlot}
+use Rattle.world.specs.SlotsAreValid.{AreHoused, LeadsThere}
 
 -- ---- an end is open, or closed
 
-pub housed_mark : (all : List (List (ℕ × Port))) (connections : List Place) (n : ℕ) (old : Place) (up : Bool) → slice_get connections n ≡ Some old → AreHoused all connections
+pub housed_mark : (all : List (List (ℕ × Port))) (connections : List ConnectionSlot) (n : ℕ) (old : ConnectionSlot) (up : Bool) → slice_get connections n ≡ Some old → AreHoused all connections
     → AreHoused all (set connections n (record old { is_open = up }))
 housed_mark all connections n old up at h =
     record {
@@ -18,10 +18,10 @@ housed_mark all connections n old up at h =
       used = λ i j node port ways there e. subst (λ (m : ℕ). port.0 ≤ m) (sym (length-set connections n (record old { is_open = up }))) (h.used i j node port ways there e);
     }
   where
-    by : (k : ℕ) (place : Place) → ((k ≡ n) × ((record old { is_open = up }) ≡ place)) ⊎ ((k ≡ n → ⊥) × (slice_get connections k ≡ Some place)) → LeadsThere all (suc k) place
+    by : (k : ℕ) (place : ConnectionSlot) → ((k ≡ n) × ((record old { is_open = up }) ≡ place)) ⊎ ((k ≡ n → ⊥) × (slice_get connections k ≡ Some place)) → LeadsThere all (suc k) place
     by k place (inl (here, is)) =
         let l = h.known k old (ap (slice_get connections) here ∙ at) in
-        subst (λ (p : Place). LeadsThere all (suc k) p) is (record { ways = l.ways; node = l.node; client = l.client; way = l.way; numbered = l.numbered })
+        subst (λ (p : ConnectionSlot). LeadsThere all (suc k) p) is (record { ways = l.ways; node = l.node; client = l.client; way = l.way; numbered = l.numbered })
     by k place (inr (other, there)) = h.known k place there
 
 -- ---- a new one
@@ -42,7 +42,7 @@ front_or_last (z ∷ xs) x y (suc i) e = by (front_or_last xs x y i e)
     by (inr (last, is)) = inr (ap suc last, is)
 
 -- the client at place i has it after those that it had
-pub housed_more : (all : List (List (ℕ × Port))) (connections : List Place) (i : ℕ) (ways : List (ℕ × Port)) (node number : ℕ) (place : Place)
+pub housed_more : (all : List (List (ℕ × Port))) (connections : List ConnectionSlot) (i : ℕ) (ways : List (ℕ × Port)) (node number : ℕ) (place : ConnectionSlot)
     → slice_get all i ≡ Some ways → number ≡ suc (length connections) → place.client ≡ i → place.at ≡ length ways → suc node ≡ place.node → AreHoused all connections
     → AreHoused (set all i (ways ++ (node, record { 0 = number }) ∷ [])) (connections ++ place ∷ [])
 housed_more all connections i ways node number place at counted client last numbered h =
@@ -60,7 +60,7 @@ housed_more all connections i ways node number place at counted client last numb
     longer : length (connections ++ place ∷ []) ≡ suc (length connections)
     longer = let e = length-append connections (place ∷ []) in omega (arith, e)
 
-    there_still : (p : Place) (n : ℕ) (l : LeadsThere all n p) → (p.client ≡ i) ⊎ (p.client ≡ i → ⊥) → LeadsThere (set all i more) n p
+    there_still : (p : ConnectionSlot) (n : ℕ) (l : LeadsThere all n p) → (p.client ≡ i) ⊎ (p.client ≡ i → ⊥) → LeadsThere (set all i more) n p
     there_still p n l (inl same) =
         let is : l.ways ≡ ways = same_Some l.ways ways (sym l.client ∙ ap (slice_get all) same ∙ at) in
         record {
@@ -73,11 +73,11 @@ housed_more all connections i ways node number place at counted client last numb
     there_still p n l (inr other) =
         record { ways = l.ways; node = l.node; client = get_set_other all i p.client more other ∙ l.client; way = l.way; numbered = l.numbered }
 
-    known : (n : ℕ) (p : Place) → (slice_get connections n ≡ Some p) ⊎ ((n ≡ length connections) × (place ≡ p)) → LeadsThere (set all i more) (suc n) p
+    known : (n : ℕ) (p : ConnectionSlot) → (slice_get connections n ≡ Some p) ⊎ ((n ≡ length connections) × (place ≡ p)) → LeadsThere (set all i more) (suc n) p
     known n p (inl there) = there_still p (suc n) (h.known n p there) (same_or_other p.client i)
     known n p (inr (end, is)) =
         let number_is : number ≡ suc n = counted ∙ ap suc (sym end) in
-        subst (λ (q : Place). LeadsThere (set all i more) (suc n) q) is
+        subst (λ (q : ConnectionSlot). LeadsThere (set all i more) (suc n) q) is
         (record {
           ways = more;
           node = node;

@@ -2,20 +2,20 @@
 use Rattle.std.proofs.Common.{◌≡◌, ℕ, suc, List, [], ◌∷◌, ◌++◌, Some, length, set, slice_get, sym, ap, ◌∙◌, subst}
 use Rattle.std.proofs.lemmas.List.{length-map, map-append, map-set}
 use Rattle.escaping_client.specs.client.Core.{Core}
-use Rattle.exact_model.proofs.of_group_model.Placed.{get_mapped}
-use Rattle.world_pipes.specs.world_base.declared.Port.{Port}
+use Rattle.headline.proofs.of_node_group.Placed.{get_mapped}
+use Rattle.headline.specs.world_base.declared.Port.{Port}
 use Rattle.world_pipes.specs.declared.way.Way.{Way}
 use Rattle.world_pipes.specs.Piped.{Piped, new_way, sent_up}
-use Rattle.world.specs.declared.place.Place.{Place}
+use Rattle.world.specs.declared.connection_slot.ConnectionSlot.{ConnectionSlot}
 use Rattle.world.specs.declared.world.WorldClient.{WorldClient}
-use Rattle.world.specs.Housed.{AreHoused, leads, leads_of}
+use Rattle.world.specs.SlotsAreValid.{AreHoused, leads, leads_of}
 use Rattle.world.proofs.HousedOn.{housed_more}
 
 abbrev lead : Way → ℕ × Port
 lead way = (way.node, way.port)
 
 -- the new one is after those that the client had
-pub housed_opened : (clients : List WorldClient) (connections : List Place) (i : ℕ) (client : WorldClient) (piped : Piped) (node number : ℕ) (place : Place) (core : Core)
+pub housed_opened : (clients : List WorldClient) (connections : List ConnectionSlot) (i : ℕ) (client : WorldClient) (piped : Piped) (node number : ℕ) (place : ConnectionSlot) (core : Core)
     → slice_get clients i ≡ Some client → piped ≡ sent_up core client.piped.ways (new_way node (record { 0 = number })) → number ≡ suc (length connections) → place.client ≡ i
     → place.at ≡ length client.piped.ways → suc node ≡ place.node → AreHoused (leads_of clients) connections
     → AreHoused (leads_of (set clients i (record client { piped = piped }))) (connections ++ place ∷ [])

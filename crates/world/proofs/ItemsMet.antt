@@ -5,12 +5,12 @@ use Rattle.std.specs.List.{position}
 use Rattle.std.proofs.lemmas.List.{take_more}
 use Rattle.std.proofs.lemmas.Bool.{both_ways}
 use Rattle.std.proofs.lemmas.Option.{same_Some}
-use Rattle.agreement.specs.MasterState.{refusal}
-use Rattle.ballot.specs.Config.{Config}
-use Rattle.ballot.specs.Losses.{one_more}
-use Rattle.master.specs.declared.event.Idle.{Idle}
-use Rattle.world_pipes.specs.world_base.declared.item.Item.{Item}
-use Rattle.world_pipes.specs.world_base.declared.item.Item.TheVariants.{Bytes, Crash, Ended, Expel, Tick}
+use Rattle.headline.specs.agreement.MasterState.{refusal}
+use Rattle.headline.specs.ballot.Config.{Config}
+use Rattle.headline.specs.ballot.Losses.{one_more}
+use Rattle.escaping_nodes.specs.master.declared.event.Idle.{Idle}
+use Rattle.headline.specs.world_base.declared.item.Item.{Item}
+use Rattle.headline.specs.world_base.declared.item.Item.TheVariants.{Bytes, Crash, Ended, Expel, Tick}
 use Rattle.escaping_nodes.specs.world_nodes.Goes.{Comes, ComesToNobody, CutsExactly, TakesExactly, cutting, proposing, running}
 use Rattle.escaping_nodes.specs.world_nodes.Nodes.{NodesState}
 use Rattle.escaping_nodes.specs.world_nodes.Steps.{ComesIn, CutsIn, ExpelsIn, GivesIn, LosesNothing as NodesLoseNothing, TakesIn}
@@ -18,14 +18,14 @@ use Rattle.world_pipes.specs.declared.way.Way.{Way}
 use Rattle.world_pipes.specs.Piped.{Piped, is_holding}
 use Rattle.world.specs.declared.event.Event.{Event}
 use Rattle.world.specs.declared.event.Event.TheVariants as events
-use Rattle.world.specs.declared.place.Place.{Place}
+use Rattle.world.specs.declared.connection_slot.ConnectionSlot.{ConnectionSlot}
 use Rattle.world.specs.declared.world.WorldClient.{WorldClient}
 use Rattle.world.specs.Found.{Connected, is_named, place_numbered, port_of, with_less, with_piped}
 use Rattle.world.specs.Gathering.{Gathers, TakesItem}
 use Rattle.world.specs.Cannot.{CannotHappen, IsClosed, IsNoPart, down_of, is_held, is_held_by, up_of}
 use Rattle.world.specs.Doing.{Does, HearsThem, LosesAtClient, receiver_of}
 use Rattle.world.specs.Happening.{Happens, HappensExactly, HappensLosing, Run}
-use Rattle.world.specs.Housed.{AreHoused, leads_of}
+use Rattle.world.specs.SlotsAreValid.{AreHoused, leads_of}
 use Rattle.world.specs.Quiet.{TakesNoMemory}
 use Rattle.world.specs.Inside.Carrying.{CanTake, CannotHear, CannotTakeOn, HearsOn, TakesUpOn}
 use Rattle.world.specs.Inside.Steps.{IsCounted, IsDone, Meets}
@@ -132,16 +132,16 @@ noticed number old c between new can takes gathers still =
     record { can = can; does = inr (c, item); exact = λ none. (c, takes_exactly c.place.node (Ended (port_of number)) old new item none); uncounted = still }
 
 pub closed_none : (number : ℕ) (w : WorldState) → place_numbered number w.connections ≡ None → IsClosed (place_numbered number w.connections) w.nodes.nodes
-closed_none number w none = subst (λ (o : Option Place). IsClosed o w.nodes.nodes) (sym none) tt
+closed_none number w none = subst (λ (o : Option ConnectionSlot). IsClosed o w.nodes.nodes) (sym none) tt
 
-pub closed_some : (number : ℕ) (w : WorldState) (place : Place) → place_numbered number w.connections ≡ Some place → (place.is_open ≡ false) ⊎ (running w.nodes.nodes place.node ≡ None)
+pub closed_some : (number : ℕ) (w : WorldState) (place : ConnectionSlot) → place_numbered number w.connections ≡ Some place → (place.is_open ≡ false) ⊎ (running w.nodes.nodes place.node ≡ None)
     → IsClosed (place_numbered number w.connections) w.nodes.nodes
-closed_some number w place is why = subst (λ (o : Option Place). IsClosed o w.nodes.nodes) (sym is) why
+closed_some number w place is why = subst (λ (o : Option ConnectionSlot). IsClosed o w.nodes.nodes) (sym is) why
 
-pub not_closed : (number : ℕ) (w : WorldState) (place : Place) → slice_get w.connections (number - 1) ≡ Some place → 0 < number → place.is_open ≡ true → (running w.nodes.nodes place.node ≡ None → ⊥)
+pub not_closed : (number : ℕ) (w : WorldState) (place : ConnectionSlot) → slice_get w.connections (number - 1) ≡ Some place → 0 < number → place.is_open ≡ true → (running w.nodes.nodes place.node ≡ None → ⊥)
     → IsClosed (place_numbered number w.connections) w.nodes.nodes → ⊥
 not_closed number w place at positive up runs closed =
-    by (subst (λ (o : Option Place). IsClosed o w.nodes.nodes) (numbered_at number w.connections (Some place) positive at) closed)
+    by (subst (λ (o : Option ConnectionSlot). IsClosed o w.nodes.nodes) (numbered_at number w.connections (Some place) positive at) closed)
   where
     by : (place.is_open ≡ false) ⊎ (running w.nodes.nodes place.node ≡ None) → ⊥
     by (inl shut) = both_ways _ shut up
@@ -153,7 +153,7 @@ no_part count waiting some part (inr more) = omega (arith, part, more)
 
 -- ---- bytes come up
 
-pub carries_up : (number : ℕ) (place : Place) (count : ℕ) (old mid new : WorldState) → slice_get old.connections (number - 1) ≡ Some place → 0 < number → place.is_open ≡ true
+pub carries_up : (number : ℕ) (place : ConnectionSlot) (count : ℕ) (old mid new : WorldState) → slice_get old.connections (number - 1) ≡ Some place → 0 < number → place.is_open ≡ true
     → TakesUpOn number place count old mid → Gathers false place.node mid new → new.losses ≡ old.losses → IsDone (events.CarryUp number count) old new
 carries_up number place count old mid new at positive up t gathers still =
     record { can = can; does = inr (c, item); exact = λ none. (c, takes_exactly place.node piece less new item none); uncounted = still }
@@ -187,7 +187,7 @@ carries_up number place count old mid new at positive up t gathers still =
     )
 
 -- there was no memory for them, and that is counted
-pub lost_up : (number : ℕ) (place : Place) (count : ℕ) (old mid new : WorldState) → slice_get old.connections (number - 1) ≡ Some place → 0 < number → place.is_open ≡ true
+pub lost_up : (number : ℕ) (place : ConnectionSlot) (count : ℕ) (old mid new : WorldState) → slice_get old.connections (number - 1) ≡ Some place → 0 < number → place.is_open ≡ true
     → (mid ≡ old) × (client : WorldClient) × (slice_get old.clients place.client ≡ Some client) × CanTake place count old.nodes client.piped → new ≡ forgetful mid
     → HappensLosing (events.CarryUp number count) old new
 lost_up number place count old mid new at positive up (same, client, owned, t) forgot =
@@ -207,7 +207,7 @@ lost_up number place count old mid new at positive up (same, client, owned, t) f
     can (inl closed) = not_closed number old place at positive up t.runs closed
     can (inr few) = no_part count t.way.up t.some t.part (subst (λ (o : Option Way). IsNoPart count (up_of o)) (way_found number old c) few)
 
-pub carries_nothing : (number : ℕ) (place : Place) (count : ℕ) (old : WorldState) → AreHoused (leads_of old.clients) old.connections → slice_get old.connections (number - 1) ≡ Some place → 0 < number
+pub carries_nothing : (number : ℕ) (place : ConnectionSlot) (count : ℕ) (old : WorldState) → AreHoused (leads_of old.clients) old.connections → slice_get old.connections (number - 1) ≡ Some place → 0 < number
     → CannotTakeOn place count old → CannotHappen (events.CarryUp number count) old
 carries_nothing number place count old housed at positive cannot = by (cannot c.client c.owned c.way c.stands)
   where
@@ -221,9 +221,9 @@ carries_nothing number place count old housed at positive cannot = by (cannot c.
 -- ---- bytes come down
 
 held_there : (number : ℕ) (w : WorldState) (c : Connected number w) → is_held (place_numbered number w.connections) w.clients ≡ (is_holding c.client.piped && (suc c.place.at == length c.client.piped.ways))
-held_there number w c = ap (λ (o : Option Place). is_held o w.clients) c.numbered ∙ ap (λ (o : Option WorldClient). is_held_by o c.place.at) c.owned
+held_there number w c = ap (λ (o : Option ConnectionSlot). is_held o w.clients) c.numbered ∙ ap (λ (o : Option WorldClient). is_held_by o c.place.at) c.owned
 
-pub carries_down : (number : ℕ) (place : Place) (count : ℕ) (had : Bool) (old : WorldState) (client : WorldClient) (piped : Piped) → AreHoused (leads_of old.clients) old.connections
+pub carries_down : (number : ℕ) (place : ConnectionSlot) (count : ℕ) (had : Bool) (old : WorldState) (client : WorldClient) (piped : Piped) → AreHoused (leads_of old.clients) old.connections
     → slice_get old.connections (number - 1) ≡ Some place → 0 < number → slice_get old.clients place.client ≡ Some client → HearsOn had place.at count client.piped piped
     → (CannotHappen (events.CarryDown number count) old → ⊥) × Does had (events.CarryDown number count) old (with_piped place.client client piped old)
     × (had ≡ false → LosesAtClient (events.CarryDown number count) old (with_piped place.client client piped old))
@@ -251,7 +251,7 @@ carries_down number place count had old client piped housed at positive owned he
     can (inl other) = both_ways _ (sym (held_there number old c) ∙ other) hears.held
     can (inr few) = hears.some c.way c.stands (subst (λ (o : Option Way). IsNoPart count (down_of o)) (way_found number old c) few)
 
-pub hears_nothing : (number : ℕ) (place : Place) (count : ℕ) (old : WorldState) (client : WorldClient) → AreHoused (leads_of old.clients) old.connections → slice_get old.connections (number - 1) ≡ Some place
+pub hears_nothing : (number : ℕ) (place : ConnectionSlot) (count : ℕ) (old : WorldState) (client : WorldClient) → AreHoused (leads_of old.clients) old.connections → slice_get old.connections (number - 1) ≡ Some place
     → 0 < number → slice_get old.clients place.client ≡ Some client → CannotHear place.at count client.piped → CannotHappen (events.CarryDown number count) old
 hears_nothing number place count old client housed at positive owned cannot =
     by (subst (λ (k : WorldClient). CannotHear place.at count k.piped) (same_Some client c.client (sym owned ∙ c.owned)) cannot c.way c.stands)
@@ -271,7 +271,7 @@ does_less : (number count : ℕ) (old new : WorldState) → Does true (events.Ca
 does_less number count old new d = (d.0, d.1, hears_less count d.0.client.piped d.1 d.2, d.3)
 
 -- running out of memory is counted
-pub heard_meets : (number : ℕ) (place : Place) (count : ℕ) (had : Bool) (old : WorldState) (client : WorldClient) (piped : Piped) (new : WorldState) → AreHoused (leads_of old.clients) old.connections
+pub heard_meets : (number : ℕ) (place : ConnectionSlot) (count : ℕ) (had : Bool) (old : WorldState) (client : WorldClient) (piped : Piped) (new : WorldState) → AreHoused (leads_of old.clients) old.connections
     → slice_get old.connections (number - 1) ≡ Some place → 0 < number → slice_get old.clients place.client ≡ Some client → HearsOn had place.at count client.piped piped
     → new ≡ (if had then with_piped place.client client piped old else forgetful (with_piped place.client client piped old))
     → IsDone (events.CarryDown number count) old new ⊎ HappensLosing (events.CarryDown number count) old new
@@ -285,7 +285,7 @@ heard_meets number place count false old client piped new housed at positive own
     inr (record { can = d.0; needs = λ none low. none; done = with_piped place.client client piped old; does = inr d.1; lost = inr (inl (d.2 refl)); counted = is })
 
 pub never_opened : (number count : ℕ) (w : WorldState) → place_numbered number w.connections ≡ None → CannotHappen (events.CarryDown number count) w
-never_opened number count w none = inl (ap (λ (o : Option Place). is_held o w.clients) none)
+never_opened number count w none = inl (ap (λ (o : Option ConnectionSlot). is_held o w.clients) none)
 
 -- ---- whole steps
 

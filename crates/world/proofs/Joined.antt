@@ -1,16 +1,16 @@
 -- Joined.antt: steps of worlds, one after another.
 use Rattle.std.proofs.Common.{◌≡◌, ◌<◌, ◌≤◌, ◌^◌, ◌-◌, ℕ, List, [], ◌++◌, refl, sym, ap, ap₂, ◌∙◌, subst, arith, append_assoc}
 use Rattle.std.proofs.lemmas.List.{append-nil}
-use Rattle.ballot.specs.Config.{Config}
-use Rattle.ballot.specs.Losses.{one_more}
-use Rattle.broker_base.specs.Place.{Client}
-use Rattle.exact_model.proofs.WorldsExact.{worlds_are_exact}
-use Rattle.exact_model.specs.model.World.{AreApart}
-use Rattle.session_base.specs.declared.publication.Publication.{Publication}
-use Rattle.exact_model.specs.world_model.World.{World}
-use Rattle.exact_model.specs.world_model.Goes.{Reached}
-use Rattle.exact_model.specs.world_model.Goes.Reached.{goes_on as reached_more}
-use Rattle.exact_model.specs.world_model.Published.{published_in, published_on}
+use Rattle.headline.specs.ballot.Config.{Config}
+use Rattle.headline.specs.ballot.Losses.{one_more}
+use Rattle.headline.specs.broker_base.Place.{Client}
+use Rattle.headline.proofs.WorldsExact.{worlds_are_exact}
+use Rattle.headline.specs.packet_world.World.{AreApart}
+use Rattle.escaping_client.specs.session_base.declared.publication.Publication.{Publication}
+use Rattle.headline.specs.byte_world.World.{World}
+use Rattle.headline.specs.byte_world.Goes.{Reached}
+use Rattle.headline.specs.byte_world.Goes.Reached.{goes_on as reached_more}
+use Rattle.headline.specs.byte_world.Published.{published_in, published_on}
 use Rattle.escaping_nodes.specs.world_nodes.Nodes.{NodesState, StandsFor as NodesStand}
 use Rattle.world.specs.Goes.{LosesNothing, WorldGoesOn}
 use Rattle.world.specs.Inside.Steps.{GoesOn, GoesOnBy}

@@ -2,12 +2,12 @@
 use Rattle.std.proofs.Common.{◌≡◌, ◌<◌, ◌-◌, ℕ, suc, List, Some, set, slice_get, sym, ap, ◌∙◌, subst, arith}
 use Rattle.std.proofs.lemmas.List.{map-set}
 use Rattle.std.proofs.lemmas.Option.{same_Some}
-use Rattle.world_pipes.specs.world_base.declared.Port.{Port}
-use Rattle.exact_model.proofs.of_group_model.Placed.{get_mapped}
+use Rattle.headline.specs.world_base.declared.Port.{Port}
+use Rattle.headline.proofs.of_node_group.Placed.{get_mapped}
 use Rattle.world_pipes.specs.declared.way.Way.{Way}
-use Rattle.world.specs.declared.place.Place.{Place}
+use Rattle.world.specs.declared.connection_slot.ConnectionSlot.{ConnectionSlot}
 use Rattle.world.specs.declared.world.WorldClient.{WorldClient}
-use Rattle.world.specs.Housed.{AreHoused, LeadsThere, leads, leads_of}
+use Rattle.world.specs.SlotsAreValid.{AreHoused, LeadsThere, leads, leads_of}
 use Rattle.world.proofs.Turned.{mapped_from, set_itself}
 
 abbrev leads_in : WorldClient → List (ℕ × Port)
@@ -23,7 +23,7 @@ housed_set clients i old new at same =
     map-set leads_in clients i new ∙ ap (set (leads_of clients) i) same
     ∙ set_itself (leads_of clients) i (leads old.piped.ways) (get_mapped leads_in clients i old at)
 
-pub housed_client : (clients : List WorldClient) (connections : List Place) (i : ℕ) (old new : WorldClient) → slice_get clients i ≡ Some old
+pub housed_client : (clients : List WorldClient) (connections : List ConnectionSlot) (i : ℕ) (old new : WorldClient) → slice_get clients i ≡ Some old
     → leads new.piped.ways ≡ leads old.piped.ways → AreHoused (leads_of clients) connections → AreHoused (leads_of (set clients i new)) connections
 housed_client clients connections i old new at same h =
     subst (λ (all : List (List (ℕ × Port))). AreHoused all connections) (sym (housed_set clients i old new at same)) h
@@ -34,13 +34,13 @@ leads_set ways i old new at same =
     map-set lead ways i new ∙ ap (set (leads ways) i) same ∙ set_itself (leads ways) i (lead old) (get_mapped lead ways i old at)
 
 -- the connection that is at a place
-pub record IsLed (ways : List Way) (number : ℕ) (place : Place) : Type 0 where
+pub record IsLed (ways : List Way) (number : ℕ) (place : ConnectionSlot) : Type 0 where
   pub way : Way
   pub found : slice_get ways place.at ≡ Some way
   pub node : suc way.node ≡ place.node
   pub port : way.port ≡ record { 0 = number }
 
-pub led : (clients : List WorldClient) (number : ℕ) (place : Place) (client : WorldClient) → LeadsThere (leads_of clients) number place
+pub led : (clients : List WorldClient) (number : ℕ) (place : ConnectionSlot) (client : WorldClient) → LeadsThere (leads_of clients) number place
     → slice_get clients place.client ≡ Some client → IsLed client.piped.ways number place
 led clients number place client there at =
     let same : leads client.piped.ways ≡ there.ways =
@@ -54,7 +54,7 @@ led clients number place client there at =
     }
 
 -- the place of the connection of a number
-pub led_there : (all : List (List (ℕ × Port))) (connections : List Place) (number : ℕ) (place : Place) → AreHoused all connections
+pub led_there : (all : List (List (ℕ × Port))) (connections : List ConnectionSlot) (number : ℕ) (place : ConnectionSlot) → AreHoused all connections
     → slice_get connections (number - 1) ≡ Some place → 0 < number → LeadsThere all number place
 led_there all connections number place h at positive =
     subst (λ (k : ℕ). LeadsThere all k place) (let e : suc (number - 1) ≡ number = omega (arith, positive) in e) (h.known (number - 1) place at)

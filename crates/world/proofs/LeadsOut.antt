@@ -1,38 +1,38 @@
 -- The events of a way out lead out: to the next ballot, and to the client online with its session present.
 use Rattle.std.proofs.Common.{◌≡◌, ◌-◌, ◌+◌, ℕ, suc, Bool, List, [], ◌∷◌, ◌++◌, length, map, refl, sym, ap, ◌∙◌, subst, append_assoc, arith}
 use Rattle.std.proofs.lemmas.Option.{none-some}
-use Rattle.agreement.specs.MasterState.{MasterState}
-use Rattle.agreement.specs.MasterState.AssignRefusal.{bad_members}
-use Rattle.ballot.specs.Config.{Config}
-use Rattle.ballot.specs.Message.{Message}
-use Rattle.broker_base.specs.Command.{Command}
-use Rattle.broker_base.specs.Output.{Output}
-use Rattle.broker_base.specs.Place.{Client}
-use Rattle.broker_base.specs.State.{State}
+use Rattle.headline.specs.agreement.MasterState.{MasterState}
+use Rattle.headline.specs.agreement.MasterState.AssignRefusal.{bad_members}
+use Rattle.headline.specs.ballot.Config.{Config}
+use Rattle.headline.specs.ballot.Message.{Message}
+use Rattle.headline.specs.broker_base.Command.{Command}
+use Rattle.headline.specs.broker_base.Output.{Output}
+use Rattle.headline.specs.broker_base.Place.{Client}
+use Rattle.headline.specs.broker_base.State.{State}
 use Rattle.escaping_client.specs.client.Core.{AppendsAll, Core}
 use Rattle.escaping_client.specs.client.State.{is_open}
 use Rattle.escaping_nodes.specs.Answered.{begun}
 use Rattle.escaping_nodes.specs.Opened.{CanOpen}
-use Rattle.escaping_nodes.specs.cut_ways.ways_out.Deliveries.{asked_and_answered}
-use Rattle.exact_model.specs.group_model.Group.{Group, moment_of}
-use Rattle.exact_model.specs.group_model.snapshots.Past.{Moment, Past}
-use Rattle.exact_model.specs.world_model.Carried.{went_of}
-use Rattle.lists.specs.Lists.{IsPrefixOf}
-use Rattle.packet.specs.declared.packet.Packet.TheVariants as packets
-use Rattle.world_pipes.specs.world_base.Core.{rules}
+use Rattle.escaping_nodes.specs.ways_out.Deliveries.{asked_and_answered}
+use Rattle.headline.specs.node_group.Group.{Group, moment_of}
+use Rattle.headline.specs.snapshots.Past.{Moment, Past}
+use Rattle.headline.specs.byte_world.Carried.{went_of}
+use Rattle.escaping_client.specs.lists.Lists.{IsPrefixOf}
+use Rattle.escaping_client.specs.packet.declared.packet.Packet.TheVariants as packets
+use Rattle.headline.specs.world_base.Core.{rules}
 use Rattle.escaping_nodes.specs.world_nodes.Agreed.{AgreeOn}
 use Rattle.escaping_nodes.specs.world_nodes.Asking.{log_of}
 use Rattle.escaping_nodes.specs.world_nodes.Nodes.{NodesState}
 use Rattle.world_pipes.specs.Standing.{CanGoOut}
 use Rattle.world.specs.declared.event.Event.{Event}
 use Rattle.world.specs.declared.event.Event.TheVariants as events
-use Rattle.world.specs.declared.place.Place.{Place}
+use Rattle.world.specs.declared.connection_slot.ConnectionSlot.{ConnectionSlot}
 use Rattle.world.specs.Doing.{next_number}
 use Rattle.world.specs.Escaping.{CanEscape, HasEscaped, LeadsOut}
 use Rattle.world.specs.Found.{port_of}
 use Rattle.world.specs.Goes.{AreReached, LosesNothing, NodesGo}
 use Rattle.world.specs.Happening.{Run}
-use Rattle.world.specs.Housed.{AreHoused, leads_of}
+use Rattle.world.specs.SlotsAreValid.{AreHoused, leads_of}
 use Rattle.world.specs.Inside.Escaping.{answer_events, client_events, escaping_events, leaving, sent_then}
 use Rattle.world.specs.Standing.{IsReached}
 use Rattle.world.specs.World.{WorldState}
@@ -113,12 +113,12 @@ module _ (name : Client) (w : WorldState) (housed : AreHoused (leads_of w.client
     b = l.way.last
 
     same_number : next_number left.after ≡ number
-    same_number = ap (λ (c : List Place). suc (length c)) left.connections ∙ ap suc l.many
+    same_number = ap (λ (c : List ConnectionSlot). suc (length c)) left.connections ∙ ap suc l.many
 
     can_open : CanOpen b left.after.nodes ballot p.place p.node os log (port_of (next_number left.after))
     can_open =
         subst (λ (n : NodesState). CanOpen b n ballot p.place p.node os log (port_of (next_number left.after))) (sym left.nodes)
-        (subst (λ (c : List Place). CanOpen b l.mid.nodes ballot p.place p.node os log (port_of (suc (length c)))) (sym left.connections) p.can)
+        (subst (λ (c : List ConnectionSlot). CanOpen b l.mid.nodes ballot p.place p.node os log (port_of (suc (length c)))) (sym left.connections) p.can)
 
     -- from the world in which the connection was opened
     module _ (v : WorldState) (h : HasOpened name left.before.state b ballot p.place os log number left.after v)

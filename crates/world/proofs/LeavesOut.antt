@@ -4,7 +4,7 @@ use Rattle.std.proofs.lemmas.Bool.{both_ways}
 use Rattle.std.proofs.lemmas.Option.{same_Some}
 use Rattle.escaping_client.specs.client.Core.{Core, gone}
 use Rattle.escaping_client.specs.client.State.{is_open}
-use Rattle.lists.proofs.Places.{get_set}
+use Rattle.escaping_client.proofs.of_lists.Places.{get_set}
 use Rattle.world_pipes.specs.Piped.{Piped}
 use Rattle.world.specs.declared.event.Event.{Event}
 use Rattle.world.specs.declared.event.Event.TheVariants as events
@@ -14,7 +14,7 @@ use Rattle.world.specs.Doing.{Does}
 use Rattle.world.specs.Found.{core_named, with_piped}
 use Rattle.world.specs.Goes.{LosesNothing}
 use Rattle.world.specs.Happening.{Run}
-use Rattle.world.specs.Housed.{AreHoused, leads, leads_of}
+use Rattle.world.specs.SlotsAreValid.{AreHoused, leads, leads_of}
 use Rattle.world.specs.Inside.Escaping.{leaving}
 use Rattle.world.specs.World.{WorldState}
 use Rattle.world.proofs.ExactRuns.{First, first_done}

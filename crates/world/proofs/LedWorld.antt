@@ -2,24 +2,24 @@
 use Rattle.std.proofs.Common.{◌≡◌, inr, ◌<◌, ◌-◌, ◌+◌, ℕ, Bool, true, false, if◌then◌else◌, List, ◌∷◌, ◌++◌, None, Some, length, map, refl, ap, ◌∙◌, subst, arith}
 use Rattle.std.specs.Prelude.{nat_le}
 use Rattle.std.proofs.lemmas.Bool.{leb-false}
-use Rattle.agreement.specs.MasterState.{MasterState, last_ballot}
-use Rattle.agreement.specs.MasterState.AssignRefusal.{bad_members, ballots_spent}
-use Rattle.ballot.specs.Config.{Config}
-use Rattle.ballot.specs.LawfulConfig.{is_lawful}
-use Rattle.ballot.specs.Message.{Message}
-use Rattle.broker_base.specs.Command.{Command}
-use Rattle.broker_base.specs.Output.{Output}
-use Rattle.broker_base.specs.Place.{Client}
-use Rattle.broker_base.specs.State.{State}
+use Rattle.headline.specs.agreement.MasterState.{MasterState, last_ballot}
+use Rattle.headline.specs.agreement.MasterState.AssignRefusal.{bad_members, ballots_spent}
+use Rattle.headline.specs.ballot.Config.{Config}
+use Rattle.headline.specs.ballot.LawfulConfig.{is_lawful}
+use Rattle.headline.specs.ballot.Message.{Message}
+use Rattle.headline.specs.broker_base.Command.{Command}
+use Rattle.headline.specs.broker_base.Output.{Output}
+use Rattle.headline.specs.broker_base.Place.{Client}
+use Rattle.headline.specs.broker_base.State.{State}
 use Rattle.escaping_nodes.specs.Coming.{AreCalm, AreFollowed, IsSeen}
-use Rattle.escaping_nodes.specs.cut_ways.Deliveries.{Delivered, assigned_moment}
-use Rattle.escaping_nodes.specs.cut_ways.Laws.{LeadsOut}
-use Rattle.escaping_nodes.specs.cut_ways.ways_out.Deliveries.{way_out}
+use Rattle.escaping_nodes.specs.ways_out.CutWaysDeliveries.{Delivered, assigned_moment}
+use Rattle.escaping_nodes.specs.ways_out.CutWaysLaws.{LeadsOut}
+use Rattle.escaping_nodes.specs.ways_out.Deliveries.{way_out}
 use Rattle.escaping_nodes.proofs.LedOut.{assigned_seen, low_before, way_of}
 use Rattle.escaping_nodes.proofs.NodesFollow.{deliveries_are_followed}
-use Rattle.exact_model.specs.group_model.Group.{Group, moment_of}
-use Rattle.exact_model.specs.group_model.snapshots.Past.{Moment, Past}
-use Rattle.world_pipes.specs.world_base.Core.{rules}
+use Rattle.headline.specs.node_group.Group.{Group, moment_of}
+use Rattle.headline.specs.snapshots.Past.{Moment, Past}
+use Rattle.headline.specs.world_base.Core.{rules}
 use Rattle.escaping_nodes.specs.world_nodes.Asking.{log_of}
 use Rattle.escaping_nodes.specs.world_nodes.Goes.{behind_giving}
 use Rattle.escaping_nodes.specs.world_nodes.Nodes.{NodesState, StandsFor as NodesStand}
@@ -29,7 +29,7 @@ use Rattle.world.specs.declared.event.Event.TheVariants as events
 use Rattle.world.specs.Escaping.{CanEscape, configuration_of}
 use Rattle.world.specs.Goes.{LosesNothing, NodesGo}
 use Rattle.world.specs.Happening.{Run}
-use Rattle.world.specs.Housed.{AreHoused, leads_of}
+use Rattle.world.specs.SlotsAreValid.{AreHoused, leads_of}
 use Rattle.world.specs.Standing.{WorldGoes}
 use Rattle.world.specs.World.{WorldState}
 use Rattle.world.proofs.CanLead.{can_be_led, seen_as}

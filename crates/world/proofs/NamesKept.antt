@@ -5,7 +5,7 @@ use Rattle.std.specs.List.{position, position_or_len, prefix_len}
 use Rattle.std.proofs.lemmas.List.{length-map, map-set}
 use Rattle.std.proofs.lemmas.Option.{none-some, same_Some}
 use Rattle.escaping_client.specs.client.Core.{Core}
-use Rattle.exact_model.proofs.of_group_model.Placed.{get_mapped}
+use Rattle.headline.proofs.of_node_group.Placed.{get_mapped}
 use Rattle.world.specs.declared.world.WorldClient.{WorldClient}
 use Rattle.world.specs.Found.{core_at, core_named, core_of, is_named}
 use Rattle.world.proofs.PassesOn.{seen_of}

@@ -2,9 +2,9 @@
 use Rattle.std.proofs.Common.{◌≡◌, inl, inr, ◌<◌, ◌≤◌, ◌^◌, ◌-◌, ◌+◌, ◌==◌, ◌&&◌, nat_lt, nat_le, not, if◌then◌else◌, ℕ, Bool, true, false, List, Some, refl, ap, ◌∙◌, subst, arith}
 use Rattle.std.specs.Prelude.{Ok}
 use Rattle.std.proofs.lemmas.Bool.{eq-eqb, lt-ltb, le-leb, ne_eqb}
-use Rattle.broker_base.specs.Connection.{ConnectionName, is_connection_name}
-use Rattle.world_pipes.specs.world_base.Core.{CountedCore}
-use Rattle.world_pipes.specs.world_base.Step.{accepted}
+use Rattle.headline.specs.broker_base.Connection.{ConnectionName, is_connection_name}
+use Rattle.headline.specs.world_base.Core.{CountedCore}
+use Rattle.headline.specs.world_base.Step.{accepted}
 use Rattle.escaping_nodes.specs.world_nodes.Goes.{node_of}
 use Rattle.world.specs.declared.event.Event.TheVariants as events
 use Rattle.world.specs.Doing.{OpensUnless, is_full}

@@ -3,33 +3,33 @@ use Rattle.std.proofs.Common.{◌≡◌, ◌<◌, ◌≤◌, ◌+◌, ◌^◌, �
 use Rattle.std.specs.Prelude.{nat_le}
 use Rattle.std.specs.List.{list_any}
 use Rattle.std.proofs.lemmas.Bool.{and_parts}
-use Rattle.agreement.specs.MasterState.{MasterState, last_ballot}
-use Rattle.agreement.specs.whole.Replica.{ReplicaState as WholeState}
-use Rattle.ballot.specs.Config.{Config}
-use Rattle.ballot.specs.LawfulConfig.{are_rising, is_lawful}
-use Rattle.ballot.specs.Replica.{ReplicaState, others}
-use Rattle.broker_base.specs.Command.{Command}
-use Rattle.broker_base.specs.Connection.{ConnectionName}
-use Rattle.broker_base.specs.Output.{Output}
-use Rattle.broker_base.specs.Place.{Client}
-use Rattle.broker_base.specs.State.{State}
+use Rattle.headline.specs.agreement.MasterState.{MasterState, last_ballot}
+use Rattle.headline.specs.whole.Replica.{ReplicaState as WholeState}
+use Rattle.headline.specs.ballot.Config.{Config}
+use Rattle.headline.specs.ballot.LawfulConfig.{are_rising, is_lawful}
+use Rattle.headline.specs.ballot.Replica.{ReplicaState, others}
+use Rattle.headline.specs.broker_base.Command.{Command}
+use Rattle.headline.specs.broker_base.Connection.{ConnectionName}
+use Rattle.headline.specs.broker_base.Output.{Output}
+use Rattle.headline.specs.broker_base.Place.{Client}
+use Rattle.headline.specs.broker_base.State.{State}
 use Rattle.escaping_nodes.specs.Answered.{begun}
 use Rattle.escaping_nodes.specs.Opened.{CanOpen}
-use Rattle.escaping_nodes.specs.cut_ways.ways_out.Deliveries.{AreApart, NodeIs}
-use Rattle.escaping_nodes.specs.cut_ways.ways_out.Following.{Follows, Serves}
+use Rattle.escaping_nodes.specs.ways_out.Deliveries.{AreApart, NodeIs}
+use Rattle.escaping_nodes.specs.ways_out.Following.{Follows, Serves}
 use Rattle.escaping_nodes.proofs.LedOut.{low_before}
-use Rattle.escaping_nodes.proofs.of_cut_ways.of_ways_out.RisingMembers.{rising_apart}
-use Rattle.escaping_nodes.proofs.of_cut_ways.of_ways_out.Rows.{others_first}
-use Rattle.exact_model.specs.group_model.Group.{moment_of, replica_of}
-use Rattle.exact_model.specs.group_model.snapshots.Past.{Moment, Past, whole_moment}
-use Rattle.exact_model.specs.group_model.snapshots.Whole.{whole}
-use Rattle.exact_model.specs.world_model.World.{World}
-use Rattle.exact_model.specs.world_model.Goes.{Reached}
-use Rattle.exact_model.proofs.of_group_model.Placed.{get_mapped}
-use Rattle.exact_model.proofs.of_world_model.NodesHoused.{nodes_are_orderly}
-use Rattle.lists.specs.Lists.{In}
-use Rattle.lists.specs.Lists.In.{here}
-use Rattle.world_pipes.specs.world_base.Core.{CoreState, CountedCore, rules}
+use Rattle.escaping_nodes.proofs.of_ways_out.RisingMembers.{rising_apart}
+use Rattle.escaping_nodes.proofs.of_ways_out.Rows.{others_first}
+use Rattle.headline.specs.node_group.Group.{moment_of, replica_of}
+use Rattle.headline.specs.snapshots.Past.{Moment, Past, whole_moment}
+use Rattle.headline.specs.snapshots.Whole.{whole}
+use Rattle.headline.specs.byte_world.World.{World}
+use Rattle.headline.specs.byte_world.Goes.{Reached}
+use Rattle.headline.proofs.of_node_group.Placed.{get_mapped}
+use Rattle.headline.proofs.of_byte_world.NodesHoused.{nodes_are_orderly}
+use Rattle.escaping_client.specs.lists.Lists.{In}
+use Rattle.escaping_client.specs.lists.Lists.In.{here}
+use Rattle.headline.specs.world_base.Core.{CoreState, CountedCore, rules}
 use Rattle.escaping_nodes.specs.world_nodes.Asking.{log_of}
 use Rattle.escaping_nodes.specs.world_nodes.Nodes.{cores_of}
 use Rattle.world.specs.declared.event.Event.{Event}

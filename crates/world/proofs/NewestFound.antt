@@ -6,23 +6,23 @@ use Rattle.std.proofs.lemmas.List.{length-set, take_all}
 use Rattle.std.proofs.lemmas.Option.{none-some, same_Some}
 use Rattle.escaping_client.specs.client.Core.{Core}
 use Rattle.escaping_client.specs.client.State.{is_open}
-use Rattle.lists.proofs.Places.{get_set}
-use Rattle.world_pipes.specs.world_base.Core.{CountedCore}
-use Rattle.world_pipes.specs.world_base.declared.item.Item.{Item}
-use Rattle.world_pipes.specs.world_base.declared.item.Item.TheVariants.{Bytes}
-use Rattle.exact_model.specs.node_model.Moves.Deed.{takes}
+use Rattle.escaping_client.proofs.of_lists.Places.{get_set}
+use Rattle.headline.specs.world_base.Core.{CountedCore}
+use Rattle.headline.specs.world_base.declared.item.Item.{Item}
+use Rattle.headline.specs.world_base.declared.item.Item.TheVariants.{Bytes}
+use Rattle.headline.specs.node_moves.Moves.NodeCall.{takes}
 use Rattle.escaping_nodes.specs.world_nodes.Goes.{TakesExactly, behind_deed, running, unless_stopped}
 use Rattle.escaping_nodes.specs.world_nodes.Nodes.{NodesState}
 use Rattle.world_pipes.specs.declared.way.Way.{Way}
 use Rattle.world_pipes.specs.Piped.{is_holding}
 use Rattle.world.specs.declared.event.Event.TheVariants as events
-use Rattle.world.specs.declared.place.Place.{Place}
+use Rattle.world.specs.declared.connection_slot.ConnectionSlot.{ConnectionSlot}
 use Rattle.world.specs.declared.world.WorldClient.{WorldClient}
 use Rattle.world.specs.Cannot.{IsClosed, IsNoPart, down_of, is_held, is_held_by, up_of}
 use Rattle.world.specs.Doing.{Does}
 use Rattle.world.specs.Found.{Connected, place_numbered, port_of, way_at, way_in, way_of, with_less, with_piped}
 use Rattle.world.specs.Gathering.{Gathers, TakesItem}
-use Rattle.world.specs.Housed.{AreHoused, leads_of}
+use Rattle.world.specs.SlotsAreValid.{AreHoused, leads_of}
 use Rattle.world.specs.World.{WorldState}
 use Rattle.world.proofs.DeliversOn.{runs_there}
 use Rattle.world.proofs.GroupGoes.{with_nodes}
@@ -47,7 +47,7 @@ running_at place nodes node stands runs = ap unless_stopped stands ∙ ap (λ (b
 
 -- ---- its place
 
-abbrev pub its_place : ℕ → ℕ → ℕ → Bool → Place
+abbrev pub its_place : ℕ → ℕ → ℕ → Bool → ConnectionSlot
 its_place i at node is_open = record { client = i; at = at; node = node; is_open = is_open }
 
 module _ (i at number node : ℕ) (core : Core) (up down : List ℕ) (b : Bool) (w : WorldState) (s : IsNewest i at number node core up down b w) (positive : 0 < number) where
@@ -56,7 +56,7 @@ module _ (i at number node : ℕ) (core : Core) (up down : List ℕ) (b : Bool) 
 
   pub newest_way : way_of number w ≡ Some s.way
   newest_way =
-      ap (λ (o : Option Place). way_at o w.clients) place_found
+      ap (λ (o : Option ConnectionSlot). way_at o w.clients) place_found
       ∙ ap (λ (o : Option WorldClient). way_in o at) s.found
       ∙ s.stands
 
@@ -64,20 +64,20 @@ module _ (i at number node : ℕ) (core : Core) (up down : List ℕ) (b : Bool) 
   place_is c = same_Some c.place (its_place i at node b) (sym c.numbered ∙ place_found)
 
   pub client_is : (c : Connected number w) → c.client ≡ s.client
-  client_is c = same_Some c.client s.client (sym c.owned ∙ ap (λ (p : Place). slice_get w.clients p.client) (place_is c) ∙ s.found)
+  client_is c = same_Some c.client s.client (sym c.owned ∙ ap (λ (p : ConnectionSlot). slice_get w.clients p.client) (place_is c) ∙ s.found)
 
   pub way_is : (c : Connected number w) → c.way ≡ s.way
   way_is c =
       same_Some c.way s.way
       (sym c.stands
-      ∙ ap (λ (p : Place). slice_get c.client.piped.ways p.at) (place_is c)
+      ∙ ap (λ (p : ConnectionSlot). slice_get c.client.piped.ways p.at) (place_is c)
       ∙ ap (λ (d : WorldClient). slice_get d.piped.ways at) (client_is c)
       ∙ s.stands)
 
   -- its client holds it while it is open there
   pub is_held_on : is_open core.state.stage ≡ true → is_held (place_numbered number w.connections) w.clients ≡ true
   is_held_on holding =
-      ap (λ (o : Option Place). is_held o w.clients) place_found
+      ap (λ (o : Option ConnectionSlot). is_held o w.clients) place_found
       ∙ ap (λ (o : Option WorldClient). is_held_by o at) s.found
       ∙ and_from (is_holding s.client.piped) (suc at == length s.client.piped.ways)
       (ap (λ (k : Core). is_open k.state.stage) s.core_is ∙ holding)
@@ -107,7 +107,7 @@ module _ (i at number place : ℕ) (core : Core) (up : List ℕ) (w : WorldState
   way = record s.way { up = drop count s.way.up }
 
   pub can_come_up : node.core.replica.state.stopped ≡ false → 0 < count → IsClosed (place_numbered number w.connections) w.nodes.nodes ⊎ IsNoPart count (up_of (way_of number w)) → ⊥
-  can_come_up runs some (inl closed) = by (subst (λ (o : Option Place). IsClosed o w.nodes.nodes) (place_found i at number (suc place) core up [] true w s positive) closed)
+  can_come_up runs some (inl closed) = by (subst (λ (o : Option ConnectionSlot). IsClosed o w.nodes.nodes) (place_found i at number (suc place) core up [] true w s positive) closed)
     where
       by : (true ≡ false) ⊎ (running w.nodes.nodes (suc place) ≡ None) → ⊥
       by (inl e) = both_ways true e refl
@@ -147,7 +147,7 @@ module _ (i at number place : ℕ) (core : Core) (up : List ℕ) (w : WorldState
     where
       at_place : TakesItem true (suc place) (Bytes (port_of number) (take count c.way.up) 0) (with_piped i c.client (with_less at count c.way c.client.piped) w) after
       at_place =
-          subst (λ (p : Place). TakesItem true p.node (Bytes (port_of number) (take count c.way.up) 0) (with_piped p.client c.client (with_less p.at count c.way c.client.piped) w) after)
+          subst (λ (p : ConnectionSlot). TakesItem true p.node (Bytes (port_of number) (take count c.way.up) 0) (with_piped p.client c.client (with_less p.at count c.way c.client.piped) w) after)
           (place_is i at number (suc place) core up [] true w s positive c) t
 
       at_client : TakesItem true (suc place) (Bytes (port_of number) (take count c.way.up) 0) (with_piped i s.client (with_less at count c.way s.client.piped) w) after

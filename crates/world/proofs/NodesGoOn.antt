@@ -1,12 +1,12 @@
 -- Steps of nodes, one after another.
 use Rattle.std.proofs.Common.{◌≡◌, ◌<◌, ◌≤◌, ◌^◌, ◌-◌, ℕ, sym, subst, arith}
-use Rattle.ballot.specs.Config.{Config}
-use Rattle.exact_model.proofs.of_group_model.of_snapshots.PastsAgree.{has_agreed, nodes_agree}
-use Rattle.world_pipes.specs.world_base.Core.{rules}
-use Rattle.exact_model.specs.group_model.Group.{Group, moment_of}
-use Rattle.exact_model.specs.group_model.Goes.{Went}
-use Rattle.exact_model.specs.group_model.Goes.Went.{then_went}
-use Rattle.exact_model.proofs.of_group_model.Ordered.{groups_keep_the_order}
+use Rattle.headline.specs.ballot.Config.{Config}
+use Rattle.headline.proofs.of_snapshots.PastsAgree.{has_agreed, nodes_agree}
+use Rattle.headline.specs.world_base.Core.{rules}
+use Rattle.headline.specs.node_group.Group.{Group, moment_of}
+use Rattle.headline.specs.node_group.Goes.{Went}
+use Rattle.headline.specs.node_group.Goes.Went.{then_went}
+use Rattle.headline.proofs.of_node_group.Ordered.{groups_keep_the_order}
 use Rattle.escaping_nodes.specs.world_nodes.Nodes.{NodesState, StandsFor}
 use Rattle.escaping_nodes.specs.world_nodes.Steps.{LosesNothing as NodesLoseNothing, forgetful}
 use Rattle.world.specs.Goes.{AreReached, Goes, NodesGo, NodesGoOn, StaysReached}

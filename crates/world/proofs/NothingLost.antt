@@ -1,18 +1,18 @@
 -- NothingLost.antt: what was done with losses allowed was done exactly if the nodes counted none.
 use Rattle.std.specs.Prelude.{min}
 use Rattle.std.proofs.Common.{◌≡◌, ◌⊎◌, inl, inr, ◌≤◌, ◌<◌, ◌^◌, ◌-◌, ℕ, zero, suc, Bool, true, false, Option, Some, None, length, ap, arith}
-use Rattle.ballot.specs.Body.{Body}
-use Rattle.ballot.specs.Body.TheVariants.{NewBallot, Join, State, Install, Installed, Activate, Activated, Superseded, Append, Held, Commit}
-use Rattle.ballot.specs.Config.{Config}
-use Rattle.ballot.specs.Message.{Message}
-use Rattle.broker_base.specs.Command.{Command}
-use Rattle.broker_base.specs.Place.{Client}
-use Rattle.exact_model.specs.group_model.snapshots.World.{recorded}
-use Rattle.exact_model.specs.node_model.Moves.Deed.{takes}
-use Rattle.world_pipes.specs.world_base.Core.{CountedCore}
-use Rattle.world_pipes.specs.world_base.declared.item.Item.{Item}
-use Rattle.world_pipes.specs.world_base.declared.item.Item.TheVariants.{Cut, Expel, Peer}
-use Rattle.world_pipes.specs.world_base.declared.Port.{Port}
+use Rattle.headline.specs.ballot.Body.{Body}
+use Rattle.headline.specs.ballot.Body.TheVariants.{NewBallot, Join, State, Install, Installed, Activate, Activated, Superseded, Append, Held, Commit}
+use Rattle.headline.specs.ballot.Config.{Config}
+use Rattle.headline.specs.ballot.Message.{Message}
+use Rattle.headline.specs.broker_base.Command.{Command}
+use Rattle.headline.specs.broker_base.Place.{Client}
+use Rattle.headline.specs.snapshots.World.{recorded}
+use Rattle.headline.specs.node_moves.Moves.NodeCall.{takes}
+use Rattle.headline.specs.world_base.Core.{CountedCore}
+use Rattle.headline.specs.world_base.declared.item.Item.{Item}
+use Rattle.headline.specs.world_base.declared.item.Item.TheVariants.{Cut, Expel, Peer}
+use Rattle.headline.specs.world_base.declared.Port.{Port}
 use Rattle.escaping_nodes.specs.world_nodes.Goes.{behind_deed}
 use Rattle.escaping_nodes.specs.world_nodes.Nodes.{NodesState}
 use Rattle.escaping_nodes.specs.world_nodes.Steps.{ActsWithLosses, ComesIn, CutsIn, CutsWithLosses, ExpelsIn, HearsIn, LosesNothing as NodesLoseNothing, TakesIn, forgetful}

@@ -6,22 +6,22 @@ use Rattle.std.specs.Prelude.{Err, OnErr, OnOk, Result}
 use Rattle.std.specs.Result.{is_err}
 use Rattle.std.proofs.lemmas.Bool.{both_ways}
 use Rattle.std.proofs.lemmas.Option.{none-some}
-use Rattle.master.specs.declared.event.Idle.{Idle}
-use Rattle.world_pipes.specs.world_base.declared.item.Item.{Item}
-use Rattle.world_pipes.specs.world_base.declared.item.Item.TheVariants.{Opened}
-use Rattle.world_pipes.specs.world_base.declared.Port.{Port}
-use Rattle.world_pipes.specs.world_base.Core.{CountedCore}
-use Rattle.world_pipes.specs.world_base.Handing.{listed_at}
-use Rattle.exact_model.specs.node_model.Moves.Deed.{takes}
-use Rattle.exact_model.proofs.of_group_model.Placed.{get_of_set}
+use Rattle.escaping_nodes.specs.master.declared.event.Idle.{Idle}
+use Rattle.headline.specs.world_base.declared.item.Item.{Item}
+use Rattle.headline.specs.world_base.declared.item.Item.TheVariants.{Opened}
+use Rattle.headline.specs.world_base.declared.Port.{Port}
+use Rattle.headline.specs.world_base.Core.{CountedCore}
+use Rattle.headline.specs.world_base.Handing.{listed_at}
+use Rattle.headline.specs.node_moves.Moves.NodeCall.{takes}
+use Rattle.headline.proofs.of_node_group.Placed.{get_of_set}
 use Rattle.escaping_nodes.specs.world_nodes.Goes.{Acts, behind_deed, node_of, running, unless_stopped}
 use Rattle.escaping_nodes.specs.world_nodes.Nodes.{NodesState}
 use Rattle.escaping_nodes.specs.world_nodes.Steps.{ActsWithLosses, TakesIn}
-use Rattle.client_base.specs.Steps.{Call, keeper_step}
+use Rattle.escaping_client.specs.client_base.Steps.{Call, keeper_step}
 use Rattle.world_pipes.specs.Following.{ConnectingFollows}
 use Rattle.world_pipes.specs.Piped.{Connects as Opens, Piped, taken_back}
 use Rattle.world_pipes.proofs.TakenBack.{taken_back_ways, taking_back_follows}
-use Rattle.world.specs.Housed.{leads}
+use Rattle.world.specs.SlotsAreValid.{leads}
 use Rattle.world.specs.Inside.Connecting.{HearsOfOne, Reaches}
 
 -- ---- a node that takes an item in is there still

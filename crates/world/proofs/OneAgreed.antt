@@ -1,16 +1,16 @@
 -- There is one agreed list, so that the nodes of a world agree on it, and its clients are exact by it.
 use Rattle.std.proofs.Common.{◌≡◌, ◌⊎◌, inl, inr, ℕ, List, [], ◌∷◌, ◌++◌, length, map, refl, sym, ap, ◌∙◌, subst, arith}
 use Rattle.std.proofs.lemmas.List.{append-nil, length-append}
-use Rattle.lists.specs.Lists.{IsPrefixOf}
-use Rattle.lists.proofs.Beginnings.{prefix_length}
-use Rattle.ballot.specs.Config.{Config}
-use Rattle.exact_model.specs.group_model.Group.{moment_of}
-use Rattle.exact_model.specs.group_model.snapshots.Past.{IsAgreed, Moment, whole_moment}
-use Rattle.agreement.specs.Past.{IsChosen, WasActive}
-use Rattle.broker_base.specs.Command.{Command}
-use Rattle.broker_base.specs.Output.{Output}
-use Rattle.broker_base.specs.Place.{Client}
-use Rattle.broker_base.specs.State.{State}
+use Rattle.escaping_client.specs.lists.Lists.{IsPrefixOf}
+use Rattle.escaping_client.proofs.of_lists.Beginnings.{prefix_length}
+use Rattle.headline.specs.ballot.Config.{Config}
+use Rattle.headline.specs.node_group.Group.{moment_of}
+use Rattle.headline.specs.snapshots.Past.{IsAgreed, Moment, whole_moment}
+use Rattle.headline.specs.agreement.Past.{IsChosen, WasActive}
+use Rattle.headline.specs.broker_base.Command.{Command}
+use Rattle.headline.specs.broker_base.Output.{Output}
+use Rattle.headline.specs.broker_base.Place.{Client}
+use Rattle.headline.specs.broker_base.State.{State}
 use Rattle.escaping_nodes.specs.world_nodes.Agreed.{AgreeOn}
 use Rattle.escaping_nodes.specs.world_nodes.Nodes.{NodesState}
 use Rattle.world.specs.World.{WorldState}

@@ -4,26 +4,26 @@ use Rattle.std.specs.Prelude.{slice_get}
 use Rattle.std.specs.List.{find, list_any}
 use Rattle.std.proofs.lemmas.Bool.{eq-eqb, ne_eqb, or_parts}
 use Rattle.std.proofs.lemmas.Option.{none-some, same_Some}
-use Rattle.ballot.specs.Config.{Config}
-use Rattle.broker_base.specs.Place.{Client}
+use Rattle.headline.specs.ballot.Config.{Config}
+use Rattle.headline.specs.broker_base.Place.{Client}
 use Rattle.escaping_nodes.specs.Opened.{first_of}
-use Rattle.exact_model.specs.node_model.Ends.{IsGiven}
-use Rattle.exact_model.specs.world_model.AtNodes.{Leads}
-use Rattle.exact_model.specs.world_model.World.{ClientPipes, World, is_used, leads_to}
-use Rattle.exact_model.specs.world_model.Goes.{Reached}
-use Rattle.exact_model.proofs.of_group_model.Placed.{get_mapped}
-use Rattle.exact_model.proofs.of_world_model.NodesHoused.{nodes_are_orderly, ports_have_pipes}
-use Rattle.lists.proofs.Tests.{eq_is}
-use Rattle.lists.specs.Lists.{Each, In}
-use Rattle.lists.specs.Lists.In.{here, there}
-use Rattle.world_pipes.specs.world_base.declared.Connection.{Connection}
-use Rattle.world_pipes.specs.world_base.declared.Port.{Port}
-use Rattle.world_pipes.specs.world_base.Connections.{is_at, is_open_named, is_over}
-use Rattle.world_pipes.specs.world_base.Core.{CoreState, CountedCore}
+use Rattle.headline.specs.node_moves.Ends.{IsGiven}
+use Rattle.headline.specs.byte_world.AtNodes.{Leads}
+use Rattle.headline.specs.byte_world.World.{ClientPipes, World, is_used, leads_to}
+use Rattle.headline.specs.byte_world.Goes.{Reached}
+use Rattle.headline.proofs.of_node_group.Placed.{get_mapped}
+use Rattle.headline.proofs.of_byte_world.NodesHoused.{nodes_are_orderly, ports_have_pipes}
+use Rattle.escaping_client.proofs.of_lists.Tests.{eq_is}
+use Rattle.escaping_client.specs.lists.Lists.{Each, In}
+use Rattle.escaping_client.specs.lists.Lists.In.{here, there}
+use Rattle.headline.specs.world_base.declared.Connection.{Connection}
+use Rattle.headline.specs.world_base.declared.Port.{Port}
+use Rattle.headline.specs.world_base.Connections.{is_at, is_open_named, is_over}
+use Rattle.headline.specs.world_base.Core.{CoreState, CountedCore}
 use Rattle.world.specs.Found.{port_of}
 use Rattle.world.specs.Standing.{StandsFor}
 use Rattle.world.specs.World.{WorldState}
-use Rattle.world.specs.Housed.{AreHoused, leads_of}
+use Rattle.world.specs.SlotsAreValid.{AreHoused, leads_of}
 use Rattle.world.proofs.Connects.{unused}
 
 -- ---- tests that nothing passes

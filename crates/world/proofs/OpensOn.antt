@@ -5,24 +5,24 @@ use Rattle.std.specs.List.{position}
 use Rattle.std.specs.Option.{is_some}
 use Rattle.std.proofs.lemmas.Bool.{both_ways}
 use Rattle.std.proofs.lemmas.Option.{none-some}
-use Rattle.world_pipes.specs.world_base.declared.item.Item.TheVariants.{Opened}
-use Rattle.world_pipes.specs.world_base.declared.Port.{Port}
-use Rattle.world_pipes.specs.world_base.Core.{CoreState, CountedCore}
-use Rattle.world_pipes.specs.world_base.Handing.{listed_at}
-use Rattle.exact_model.specs.node_model.Moves.Deed.{takes}
-use Rattle.exact_model.proofs.of_group_model.Placed.{get_mapped}
-use Rattle.exact_model.specs.world_model.World.{World}
-use Rattle.exact_model.specs.world_model.Goes.WorldStep.{is_turned_away}
+use Rattle.headline.specs.world_base.declared.item.Item.TheVariants.{Opened}
+use Rattle.headline.specs.world_base.declared.Port.{Port}
+use Rattle.headline.specs.world_base.Core.{CoreState, CountedCore}
+use Rattle.headline.specs.world_base.Handing.{listed_at}
+use Rattle.headline.specs.node_moves.Moves.NodeCall.{takes}
+use Rattle.headline.proofs.of_node_group.Placed.{get_mapped}
+use Rattle.headline.specs.byte_world.World.{World}
+use Rattle.headline.specs.byte_world.Goes.WorldStep.{is_turned_away}
 use Rattle.escaping_nodes.specs.world_nodes.Goes.{Acts, node_of}
 use Rattle.escaping_nodes.specs.world_nodes.Nodes.{NodesState}
 use Rattle.escaping_nodes.specs.world_nodes.Steps.{LosesNothing as NodesLoseNothing}
 use Rattle.world_pipes.specs.Following.{FollowsAll}
 use Rattle.world_pipes.specs.Piped.{Piped, is_holding}
 use Rattle.world.specs.Goes.{NodesGoOn}
-use Rattle.world.specs.Housed.{AreHoused, leads_of}
+use Rattle.world.specs.SlotsAreValid.{AreHoused, leads_of}
 use Rattle.world.specs.declared.event.Event.TheVariants as events
 use Rattle.world.specs.declared.world.WorldClient.{WorldClient}
-use Rattle.world.specs.declared.place.Place.{Place}
+use Rattle.world.specs.declared.connection_slot.ConnectionSlot.{ConnectionSlot}
 use Rattle.world.specs.Found.{Named, core_named, is_named, port_of, with_piped}
 use Rattle.world.specs.Doing.{Does as HappenDoes, NoneOpens, OpensNone, OpensOne, OpensUnless, is_full, next_number, with_connection}
 use Rattle.world.specs.Happening.{HappensLosing}
@@ -54,7 +54,7 @@ pub connects_on : (i node : ℕ) (old new : WorldState) → AreHoused (leads_of 
 connects_on i node old new housed losses nodes one = record { rises = omega (arith, losses); nodes = nodes; goes = connects_goes i node old new housed one }
 
 -- what a client that has it does to the world
-pub connects_at : (i node number at : ℕ) (old : WorldState) (client : WorldClient) (between : NodesState) (piped : Piped) (after : List Place) → slice_get old.clients i ≡ Some client
+pub connects_at : (i node number at : ℕ) (old : WorldState) (client : WorldClient) (between : NodesState) (piped : Piped) (after : List ConnectionSlot) → slice_get old.clients i ≡ Some client
     → number ≡ suc (length old.connections) → at ≡ length client.piped.ways → after ≡ old.connections ++ record { client = i; at = at; node = node; is_open = true } ∷ []
     → HasNew node (port_of number) old.nodes client.piped between piped → ConnectsAt i node old (record (with_piped i client piped old) { nodes = between; connections = after })
 connects_at i node number at old client between piped after found counted last is reaches =
@@ -64,7 +64,7 @@ connects_at i node number at old client between piped after found counted last i
       between = between;
       piped = piped;
       reaches = subst (λ (k : ℕ). HasNew node (port_of k) old.nodes client.piped between piped) counted reaches;
-      is = ap (λ (l : List Place). let w : WorldState = record (with_piped i client piped old) { nodes = between; connections = l } in w)
+      is = ap (λ (l : List ConnectionSlot). let w : WorldState = record (with_piped i client piped old) { nodes = between; connections = l } in w)
           (is ∙ ap (λ (k : ℕ). old.connections ++ record { client = i; at = k; node = node; is_open = true } ∷ []) last);
     }
 

@@ -5,10 +5,10 @@ use Rattle.std.specs.List.{position}
 use Rattle.std.proofs.lemmas.Bool.{both_ways}
 use Rattle.std.proofs.lemmas.List.{length-append}
 use Rattle.std.proofs.lemmas.Option.{same_Some}
-use Rattle.ballot.specs.Replica.{is_active}
-use Rattle.broker_base.specs.Command.{Command}
-use Rattle.broker_base.specs.Output.{Output}
-use Rattle.broker_base.specs.State.{State}
+use Rattle.headline.specs.ballot.Replica.{is_active}
+use Rattle.headline.specs.broker_base.Command.{Command}
+use Rattle.headline.specs.broker_base.Output.{Output}
+use Rattle.headline.specs.broker_base.State.{State}
 use Rattle.escaping_client.specs.client.Calls.{opened}
 use Rattle.escaping_client.specs.client.Core.{AppendsAll, Core, nothing_read}
 use Rattle.escaping_client.specs.client.Stage.TheVariants as stages
@@ -17,13 +17,13 @@ use Rattle.escaping_nodes.specs.Coming.{Come}
 use Rattle.escaping_nodes.specs.Coming.Come.{all_came as none_comes}
 use Rattle.escaping_nodes.specs.Opened.{CanOpen, IsOpened, first_of}
 use Rattle.escaping_nodes.proofs.OpensFirst.{connections_open_first}
-use Rattle.exact_model.specs.group_model.snapshots.Past.{Moment}
-use Rattle.exact_model.specs.node_model.Moves.{Deed}
-use Rattle.exact_model.specs.node_model.Moves.Deed.{takes}
-use Rattle.lists.proofs.Places.{get_pushed, get_set}
-use Rattle.world_pipes.specs.world_base.Core.{CountedCore}
-use Rattle.world_pipes.specs.world_base.declared.item.Item.{Item}
-use Rattle.world_pipes.specs.world_base.declared.item.Item.TheVariants.{Opened}
+use Rattle.headline.specs.snapshots.Past.{Moment}
+use Rattle.headline.specs.node_moves.Moves.{NodeCall}
+use Rattle.headline.specs.node_moves.Moves.NodeCall.{takes}
+use Rattle.escaping_client.proofs.of_lists.Places.{get_pushed, get_set}
+use Rattle.headline.specs.world_base.Core.{CountedCore}
+use Rattle.headline.specs.world_base.declared.item.Item.{Item}
+use Rattle.headline.specs.world_base.declared.item.Item.TheVariants.{Opened}
 use Rattle.escaping_nodes.specs.world_nodes.Goes.{behind_deed, node_of}
 use Rattle.escaping_nodes.specs.world_nodes.Nodes.{NodesState}
 use Rattle.escaping_nodes.proofs.of_world_nodes.Acts.{acts}
@@ -31,7 +31,7 @@ use Rattle.world_pipes.specs.declared.way.Way.{Way}
 use Rattle.world_pipes.specs.Piped.{Piped, new_way}
 use Rattle.world.specs.declared.event.Event.{Event}
 use Rattle.world.specs.declared.event.Event.TheVariants as events
-use Rattle.world.specs.declared.place.Place.{Place}
+use Rattle.world.specs.declared.connection_slot.ConnectionSlot.{ConnectionSlot}
 use Rattle.world.specs.declared.world.WorldClient.{WorldClient}
 use Rattle.world.specs.Cannot.{IsTaken, is_serving}
 use Rattle.world.specs.Doing.{OpensOne, OpensUnless, is_full, next_number, with_connection}
@@ -39,7 +39,7 @@ use Rattle.world.specs.Found.{Named, core_named, is_named, port_of}
 use Rattle.world.specs.Gathering.{Gathers}
 use Rattle.world.specs.Goes.{LosesNothing, NodesGo}
 use Rattle.world.specs.Happening.{Run}
-use Rattle.world.specs.Housed.{AreHoused, leads_of}
+use Rattle.world.specs.SlotsAreValid.{AreHoused, leads_of}
 use Rattle.world.specs.World.{WorldState}
 use Rattle.world.proofs.ExactRuns.{first_done}
 use Rattle.world.proofs.GroupGoes.{acts_go, with_nodes}
@@ -111,7 +111,7 @@ module _ (name : List ℕ) (before : Core) (a : Moment State Command Output) (ba
     abbrev way : Way
     way = record (new_way (suc place - 1) (port_of number)) { up = core.out }
 
-    abbrev stands_at : Place
+    abbrev stands_at : ConnectionSlot
     stands_at = its_place c.at at (suc place) true
 
     abbrev mid : WorldState
@@ -182,7 +182,7 @@ module _ (name : List ℕ) (before : Core) (a : Moment State Command Output) (ba
               (names_seen after.clients mid.clients passes.clients ∙ names_set old.clients c.at c.client later c.stands refl) ∙ c.first;
           housed = passes.housed;
           nodes = nodes_go_join old.nodes taken after.nodes
-              (acts_go (let deed : Option (ℕ × Deed) = Some (place, takes item) in deed) old.nodes taken (acts old.nodes place node (takes item) can.stands (λ g s. tt)))
+              (acts_go (let deed : Option (ℕ × NodeCall) = Some (place, takes item) in deed) old.nodes taken (acts old.nodes place node (takes item) can.stands (λ g s. tt)))
               passes.nodes;
         }
 

@@ -3,20 +3,20 @@ use Rattle.std.proofs.Common.{◌≡◌, ◌<◌, ◌+◌, ℕ, true, List, [], 
 use Rattle.std.specs.Prelude.{get_or}
 use Rattle.std.proofs.lemmas.List.{map-append, take_more}
 use Rattle.std.proofs.lemmas.Option.{none-some}
-use Rattle.ballot.specs.Config.{Config}
-use Rattle.agreement.specs.World.{can_open}
-use Rattle.broker_base.specs.Place.{Client}
-use Rattle.exact_model.specs.model.World.{AreApart}
-use Rattle.exact_model.specs.group_model.Group.{opening_group}
-use Rattle.world_pipes.specs.world_base.declared.Port.{Port}
-use Rattle.exact_model.specs.world_model.World.{ClientPipes, Pipe, new_client, opening}
-use Rattle.exact_model.specs.world_model.Goes.Reached.{begins}
+use Rattle.headline.specs.ballot.Config.{Config}
+use Rattle.headline.specs.agreement.World.{can_open}
+use Rattle.headline.specs.broker_base.Place.{Client}
+use Rattle.headline.specs.packet_world.World.{AreApart}
+use Rattle.headline.specs.node_group.Group.{opening_group}
+use Rattle.headline.specs.world_base.declared.Port.{Port}
+use Rattle.headline.specs.byte_world.World.{ClientPipes, Pipe, new_client, opening}
+use Rattle.headline.specs.byte_world.Goes.Reached.{begins}
 use Rattle.escaping_nodes.specs.world_nodes.Nodes.{StandsFor as NodesStand}
 use Rattle.world_pipes.specs.declared.way.Way.{Way}
 use Rattle.world_pipes.specs.Standing.{StandsFor as ClientStands}
 use Rattle.world.specs.declared.world.WorldClient.{WorldClient}
 use Rattle.world.specs.Happening.{new_world_client}
-use Rattle.world.specs.Housed.{AreHoused, leads, leads_of}
+use Rattle.world.specs.SlotsAreValid.{AreHoused, leads, leads_of}
 use Rattle.world.specs.Standing.{ClientsStand, IsReached, StandsFor, asked_on, identifiers}
 use Rattle.world.specs.World.{WorldState}
 use Rattle.world.proofs.ClientsStand.{client_at}

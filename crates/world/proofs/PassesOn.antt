@@ -6,22 +6,22 @@ use Rattle.std.proofs.lemmas.Option.{same_Some}
 use Rattle.escaping_client.specs.client.Core.{Core}
 use Rattle.escaping_nodes.specs.Coming.{Come}
 use Rattle.escaping_nodes.specs.Coming.Come.{all_came as none_comes, hands, to_node as comes_to_node, to_master as comes_to_master}
-use Rattle.exact_model.specs.node_model.Moves.Deed.{gives}
-use Rattle.exact_model.proofs.of_group_model.Placed.{get_mapped}
-use Rattle.world_pipes.specs.world_base.Core.{CountedCore}
-use Rattle.world_pipes.specs.world_base.Handing.{bytes_of, listed_at}
-use Rattle.world_pipes.specs.world_base.declared.Port.{Port}
+use Rattle.headline.specs.node_moves.Moves.NodeCall.{gives}
+use Rattle.headline.proofs.of_node_group.Placed.{get_mapped}
+use Rattle.headline.specs.world_base.Core.{CountedCore}
+use Rattle.headline.specs.world_base.Handing.{bytes_of, listed_at}
+use Rattle.headline.specs.world_base.declared.Port.{Port}
 use Rattle.escaping_nodes.specs.world_nodes.Goes.{node_of}
 use Rattle.escaping_nodes.specs.world_nodes.Nodes.{NodesState}
 use Rattle.escaping_nodes.proofs.of_world_nodes.Exactly.{at_place, gives_acts}
 use Rattle.world_pipes.specs.declared.way.Way.{Way}
 use Rattle.world_pipes.specs.Piped.{Piped}
-use Rattle.world.specs.declared.place.Place.{Place}
+use Rattle.world.specs.declared.connection_slot.ConnectionSlot.{ConnectionSlot}
 use Rattle.world.specs.declared.world.WorldClient.{WorldClient}
 use Rattle.world.specs.Found.{place_numbered, port_of, with_down}
 use Rattle.world.specs.Gathering.{AskedWhere, Gathers, GathersAmong, Gives, IsAsked, is_open_at, is_told_open, put_out}
 use Rattle.world.specs.Goes.{NodesGo}
-use Rattle.world.specs.Housed.{AreHoused, leads_of}
+use Rattle.world.specs.SlotsAreValid.{AreHoused, leads_of}
 use Rattle.world.specs.Inside.Handing.{MayHandDown, MayPutDown}
 use Rattle.world.specs.Standing.{WorldGoes}
 use Rattle.world.specs.World.{WorldState}
@@ -100,13 +100,13 @@ handed (Some core) node port before old between is given =
 
 -- ---- one connection
 
-pub at_number : (number : ℕ) (connections : List Place) (place : Place) → 0 < number → place_numbered number connections ≡ Some place → slice_get connections (number - 1) ≡ Some place
+pub at_number : (number : ℕ) (connections : List ConnectionSlot) (place : ConnectionSlot) → 0 < number → place_numbered number connections ≡ Some place → slice_get connections (number - 1) ≡ Some place
 at_number zero connections place positive e = absurd (omega (arith, positive))
 at_number (suc n) connections place positive e =
     sym (ap (λ (b : Bool). if b then None else slice_get connections (suc n - 1)) (ne_eqb (suc n) 0 (λ z. cc))) ∙ e
 
 module _ (number : ℕ) (old new : WorldState) (a : IsAsked number old new) (housed : AreHoused (leads_of old.clients) old.connections) (positive : 0 < number) where
-  abbrev place : Place
+  abbrev place : ConnectionSlot
   place = a.c.place
 
   abbrev port : Port

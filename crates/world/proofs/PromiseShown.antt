@@ -1,10 +1,10 @@
 -- PromiseShown.antt: what a client of a world that is reached shows is as promised.
 use Rattle.std.proofs.Common.{◌≡◌, ℕ, List, Option, Some, slice_get, sym, subst}
-use Rattle.ballot.specs.Config.{Config}
-use Rattle.broker_base.specs.Place.{Client}
-use Rattle.exact_model.specs.Promise.{Promise}
-use Rattle.exact_model.specs.world_model.World.{ClientPipes}
-use Rattle.exact_model.specs.world_model.Published.{published_of, published_on}
+use Rattle.headline.specs.ballot.Config.{Config}
+use Rattle.headline.specs.broker_base.Place.{Client}
+use Rattle.headline.specs.Promise.{Promise}
+use Rattle.headline.specs.byte_world.World.{ClientPipes}
+use Rattle.headline.specs.byte_world.Published.{published_of, published_on}
 use Rattle.world.specs.declared.world.WorldClient.{WorldClient}
 use Rattle.world.specs.Standing.{IsReached, connections_at, connections_in}
 use Rattle.world.specs.World.{WorldState}

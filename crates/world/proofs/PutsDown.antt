@@ -2,19 +2,19 @@
 use Rattle.std.proofs.Common.{◌≡◌, inl, inr, ◌↔◌, ◌≤◌, ◌-◌, ℕ, Bool, List, ◌++◌, Option, Some, None, Result, Ok, Err, OnErr, slice_get, refl, sym, ap, ◌∙◌, subst}
 use Rattle.std.specs.Prelude.{IfSome, IfOk, IsErr}
 use Rattle.std.proofs.lemmas.List.{append-nil, set-set}
-use Rattle.lists.proofs.Places.{get_set}
-use Rattle.master.specs.declared.event.Idle.{Idle}
-use Rattle.world_pipes.specs.world_base.declared.Handed.{Handed}
-use Rattle.world_pipes.specs.world_base.declared.Port.{Port}
-use Rattle.world_pipes.specs.world_base.Core.{CountedCore}
-use Rattle.exact_model.specs.node_model.Moves.Deed.{gives}
+use Rattle.escaping_client.proofs.of_lists.Places.{get_set}
+use Rattle.escaping_nodes.specs.master.declared.event.Idle.{Idle}
+use Rattle.headline.specs.world_base.declared.Handed.{Handed}
+use Rattle.headline.specs.world_base.declared.Port.{Port}
+use Rattle.headline.specs.world_base.Core.{CountedCore}
+use Rattle.headline.specs.node_moves.Moves.NodeCall.{gives}
 use Rattle.escaping_nodes.specs.world_nodes.Goes.{node_of}
 use Rattle.escaping_nodes.specs.world_nodes.Nodes.{NodesState}
 use Rattle.escaping_nodes.specs.world_nodes.Steps.{HandsIn}
 use Rattle.escaping_nodes.proofs.of_world_nodes.Exactly.{gives_acts}
 use Rattle.world_pipes.specs.declared.way.Way.{Way}
 use Rattle.world_pipes.specs.Piped.{Piped}
-use Rattle.world.specs.Housed.{leads}
+use Rattle.world.specs.SlotsAreValid.{leads}
 use Rattle.world.specs.Found.{with_down}
 use Rattle.world.specs.Gathering.{Gives, is_more, is_told_open, put_out}
 use Rattle.world.specs.Goes.{NodesGoOn}

@@ -3,22 +3,22 @@
 use Rattle.std.proofs.Common.{◌≡◌, ◌<◌, ◌+◌, ◌*◌, ℕ, zero, suc, Bool, true, List, [], ◌∷◌, ◌++◌, Option, Some, None, slice_get, refl, sym, ap, ◌∙◌, subst, append_assoc, arith}
 use Rattle.std.specs.List.{position}
 use Rattle.std.proofs.lemmas.Option.{none-some, same_Some}
-use Rattle.ballot.specs.Message.{Message}
-use Rattle.broker_base.specs.Command.{Command}
+use Rattle.headline.specs.ballot.Message.{Message}
+use Rattle.headline.specs.broker_base.Command.{Command}
 use Rattle.escaping_client.specs.client.Core.{Core}
 use Rattle.escaping_nodes.specs.Answered.{PutsOutAtLast, last_held, session_present}
 use Rattle.escaping_nodes.specs.Coming.{Come}
 use Rattle.escaping_nodes.specs.Coming.Come.{all_came as none_comes, hands}
-use Rattle.escaping_nodes.specs.cut_ways.ways_out.Deliveries.{asked_and_answered, numbers_from}
+use Rattle.escaping_nodes.specs.ways_out.Deliveries.{asked_and_answered, numbers_from}
 use Rattle.escaping_nodes.specs.escaping.Answering.{PutsOutFirst}
-use Rattle.exact_model.specs.node_model.Moves.Deed.{takes}
-use Rattle.lists.specs.Lists.{IsPrefixOf}
-use Rattle.lists.proofs.Places.{get_set}
-use Rattle.packet.specs.Spelling.{spelling}
-use Rattle.world_pipes.specs.world_base.Core.{CountedCore}
-use Rattle.world_pipes.specs.world_base.declared.item.Item.TheVariants.{Peer}
-use Rattle.world_pipes.specs.world_base.Handing.{bytes_of}
-use Rattle.world_pipes.specs.world_base.Step.{node_step}
+use Rattle.headline.specs.node_moves.Moves.NodeCall.{takes}
+use Rattle.escaping_client.specs.lists.Lists.{IsPrefixOf}
+use Rattle.escaping_client.proofs.of_lists.Places.{get_set}
+use Rattle.escaping_client.specs.packet.Spelling.{spelling}
+use Rattle.headline.specs.world_base.Core.{CountedCore}
+use Rattle.headline.specs.world_base.declared.item.Item.TheVariants.{Peer}
+use Rattle.headline.specs.world_base.Handing.{bytes_of}
+use Rattle.headline.specs.world_base.Step.{node_step}
 use Rattle.escaping_nodes.specs.world_nodes.Goes.{ComesToNobody, behind_deed, node_of, running}
 use Rattle.escaping_nodes.specs.world_nodes.Nodes.{NodesState}
 use Rattle.world.specs.declared.event.Event.{Event}
@@ -27,7 +27,7 @@ use Rattle.world.specs.Found.{is_named, port_of}
 use Rattle.world.specs.Gathering.{Gathers, is_told_open, put_out}
 use Rattle.world.specs.Goes.{LosesNothing, NodesGo}
 use Rattle.world.specs.Happening.{Run}
-use Rattle.world.specs.Housed.{AreHoused, leads_of}
+use Rattle.world.specs.SlotsAreValid.{AreHoused, leads_of}
 use Rattle.world.specs.World.{WorldState}
 use Rattle.world.proofs.DeliversOn.{AtNode, at_node}
 use Rattle.world.proofs.ExactRuns.{first_done}

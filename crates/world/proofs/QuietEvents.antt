@@ -2,25 +2,25 @@
 use Rattle.std.proofs.Common.{◌≡◌, inl, inr, ◌<◌, ◌^◌, ◌-◌, ◌↔◌, ℕ, zero, suc, Bool, true, false, not, if◌then◌else◌, List, [], ◌∷◌, Option, Some, None, Result, Ok, Err, IsErr, OnErr, OnOk, slice_get, slice_set, refl, sym, ap, ◌∙◌, subst, arith}
 use Rattle.std.proofs.lemmas.Bool.{both_ways}
 use Rattle.std.proofs.lemmas.Option.{none-some, same_Some}
-use Rattle.ballot.specs.Body.{Body}
-use Rattle.ballot.specs.Body.TheVariants.{NewBallot, Join, State, Install, Installed, Activate, Activated, Superseded, Append, Held, Commit}
-use Rattle.ballot.specs.Message.{Message}
-use Rattle.broker_base.specs.Command.{Command}
-use Rattle.master.specs.declared.event.Idle.{Idle}
-use Rattle.world_pipes.specs.world_base.Core.{CountedCore}
-use Rattle.world_pipes.specs.world_base.Handing.{hands_over}
-use Rattle.world_pipes.specs.world_base.Losses.{WaitsNothing}
-use Rattle.world_pipes.specs.world_base.Step.{node_step}
-use Rattle.world_pipes.specs.world_base.declared.Handed.{Handed}
-use Rattle.world_pipes.specs.world_base.declared.item.Item.{Item}
-use Rattle.world_pipes.specs.world_base.declared.item.Item.TheVariants.{Peer}
-use Rattle.world_pipes.specs.world_base.declared.Port.{Port}
-use Rattle.world_pipes.proofs.of_world_base.Calmly.{hands_over_waits, nothing_handed, step_waits}
+use Rattle.headline.specs.ballot.Body.{Body}
+use Rattle.headline.specs.ballot.Body.TheVariants.{NewBallot, Join, State, Install, Installed, Activate, Activated, Superseded, Append, Held, Commit}
+use Rattle.headline.specs.ballot.Message.{Message}
+use Rattle.headline.specs.broker_base.Command.{Command}
+use Rattle.escaping_nodes.specs.master.declared.event.Idle.{Idle}
+use Rattle.headline.specs.world_base.Core.{CountedCore}
+use Rattle.headline.specs.world_base.Handing.{hands_over}
+use Rattle.headline.specs.world_base.Losses.{WaitsNothing}
+use Rattle.headline.specs.world_base.Step.{node_step}
+use Rattle.headline.specs.world_base.declared.Handed.{Handed}
+use Rattle.headline.specs.world_base.declared.item.Item.{Item}
+use Rattle.headline.specs.world_base.declared.item.Item.TheVariants.{Peer}
+use Rattle.headline.specs.world_base.declared.Port.{Port}
+use Rattle.headline.proofs.of_world_base.Calmly.{hands_over_waits, nothing_handed, step_waits}
 use Rattle.escaping_nodes.specs.world_nodes.Goes.{Comes, GivesExactly, HeardByMaster, TakesExactly, node_of, running, unless_stopped}
 use Rattle.escaping_nodes.specs.world_nodes.Nodes.{NodesState}
 use Rattle.escaping_nodes.specs.world_nodes.Quiet.{ComesUnheeded, IsUnheeded, RestsAt, WaitsAtNone}
 use Rattle.world.specs.declared.event.Event.{Event}
-use Rattle.world.specs.declared.place.Place.{Place}
+use Rattle.world.specs.declared.connection_slot.ConnectionSlot.{ConnectionSlot}
 use Rattle.world.specs.Cannot.{CannotHappen}
 use Rattle.world.specs.Doing.{receiver_of}
 use Rattle.world.specs.Happening.{Happens}
@@ -136,11 +136,11 @@ message_quiet (Some (suc at, message)) receiver old between new is quiet comes s
     item_quiet (suc at) (Peer message) old between new quiet comes (subst (λ (k : ℕ). StaysQuiet k between new) is stays)
 
 -- the end of a connection
-pub end_quiet : {X : Type 0} (number : ℕ) (o : Option Place) (place : Place) (n : NodesState) → o ≡ Some place → EndsQuietly number o n → (EndsQuietly number (Some place) n → X) → X
-end_quiet number o place n is quiet then_so = then_so (subst (λ (p : Option Place). EndsQuietly number p n) is quiet)
+pub end_quiet : {X : Type 0} (number : ℕ) (o : Option ConnectionSlot) (place : ConnectionSlot) (n : NodesState) → o ≡ Some place → EndsQuietly number o n → (EndsQuietly number (Some place) n → X) → X
+end_quiet number o place n is quiet then_so = then_so (subst (λ (p : Option ConnectionSlot). EndsQuietly number p n) is quiet)
 
-pub no_end : {X : Type 0} (number : ℕ) (o : Option Place) (n : NodesState) → o ≡ None → EndsQuietly number o n → X
-no_end number o n is quiet = absurd (subst (λ (p : Option Place). EndsQuietly number p n) is quiet)
+pub no_end : {X : Type 0} (number : ℕ) (o : Option ConnectionSlot) (n : NodesState) → o ≡ None → EndsQuietly number o n → X
+no_end number o n is quiet = absurd (subst (λ (p : Option ConnectionSlot). EndsQuietly number p n) is quiet)
 
 -- ---- whole steps
 

@@ -4,18 +4,18 @@ use Rattle.std.proofs.Common.{◌≡◌, ◌⊎◌, inl, inr, ◌<◌, ◌-◌, 
 use Rattle.std.proofs.lemmas.Bool.{eq-eqb, ne_eqb}
 use Rattle.std.proofs.lemmas.List.{length-set}
 use Rattle.std.proofs.lemmas.Option.{same_Some}
-use Rattle.lists.proofs.Places.{get_set, get_set_other}
+use Rattle.escaping_client.proofs.of_lists.Places.{get_set, get_set_other}
 use Rattle.escaping_client.specs.client.Core.{Core}
-use Rattle.exact_model.proofs.of_model.Lists.{same_or_other}
-use Rattle.world_pipes.specs.world_base.Core.{CountedCore}
-use Rattle.world_pipes.specs.world_base.declared.Port.{Port}
+use Rattle.headline.proofs.of_packet_world.Lists.{same_or_other}
+use Rattle.headline.specs.world_base.Core.{CountedCore}
+use Rattle.headline.specs.world_base.declared.Port.{Port}
 use Rattle.escaping_nodes.specs.world_nodes.Goes.{node_of}
 use Rattle.world_pipes.specs.declared.way.Way.{Way}
-use Rattle.world.specs.declared.place.Place.{Place}
+use Rattle.world.specs.declared.connection_slot.ConnectionSlot.{ConnectionSlot}
 use Rattle.world.specs.declared.world.WorldClient.{WorldClient}
 use Rattle.world.specs.Found.{place_numbered, port_of, with_down}
 use Rattle.world.specs.Gathering.{AskedWhere, Gathers, GathersAmong, IsAsked, is_open_at, is_told_open, put_out}
-use Rattle.world.specs.Housed.{AreHoused, leads_of}
+use Rattle.world.specs.SlotsAreValid.{AreHoused, leads_of}
 use Rattle.world.specs.World.{WorldState}
 use Rattle.world.proofs.LeadsKept.{IsLed, led, led_there}
 use Rattle.world.proofs.PassesOn.{at_number, where_passes}
@@ -34,7 +34,7 @@ pub record IsNewest (i at number node : ℕ) (core : Core) (up down : List ℕ) 
   pub place : slice_get w.connections (number - 1) ≡ Some (record { client = i; at = at; node = node; is_open = is_open })
   pub last : length w.connections ≡ number
 
-abbrev newest_place : ℕ → ℕ → ℕ → Bool → Place
+abbrev newest_place : ℕ → ℕ → ℕ → Bool → ConnectionSlot
 newest_place i at node is_open = record { client = i; at = at; node = node; is_open = is_open }
 
 -- ---- it is asked itself
@@ -57,7 +57,7 @@ module _ (i at number node : ℕ) (core : Core) (up down : List ℕ) (is_open : 
             ∙ ap (λ (o : Option CountedCore). down ++ put_out (port_of number) o) node_is;
         place = ap (λ (w : WorldState). slice_get w.connections (number - 1)) a.is
             ∙ get_set old.connections (number - 1) a.c.place (record a.c.place { is_open = is_told_open (port_of number) a.node }) found
-            ∙ ap (λ (p : Place). Some (let q : Place = record p { is_open = is_told_open (port_of number) a.node } in q)) place_is
+            ∙ ap (λ (p : ConnectionSlot). Some (let q : ConnectionSlot = record p { is_open = is_told_open (port_of number) a.node } in q)) place_is
             ∙ ap (λ (o : Option CountedCore). Some (newest_place i at node (is_told_open (port_of number) o))) node_is;
         last = ap (λ (w : WorldState). length w.connections) a.is
             ∙ length-set old.connections (number - 1) (record a.c.place { is_open = is_told_open (port_of number) a.node }) ∙ s.last;
@@ -70,13 +70,13 @@ module _ (i at number node : ℕ) (core : Core) (up down : List ℕ) (is_open : 
       place_is = same_Some a.c.place (newest_place i at node is_open) (sym found ∙ s.place)
 
       client_is : a.c.place.client ≡ i
-      client_is = ap (λ (p : Place). p.client) place_is
+      client_is = ap (λ (p : ConnectionSlot). p.client) place_is
 
       at_is : a.c.place.at ≡ at
-      at_is = ap (λ (p : Place). p.at) place_is
+      at_is = ap (λ (p : ConnectionSlot). p.at) place_is
 
       node_is : a.node ≡ node_of old.nodes.nodes node
-      node_is = a.is_node ∙ ap (λ (p : Place). node_of old.nodes.nodes p.node) place_is
+      node_is = a.is_node ∙ ap (λ (p : ConnectionSlot). node_of old.nodes.nodes p.node) place_is
 
       owned : slice_get old.clients i ≡ Some a.c.client
       owned = ap (slice_get old.clients) (sym client_is) ∙ a.c.owned

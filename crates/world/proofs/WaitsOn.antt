@@ -2,32 +2,32 @@
 use Rattle.std.proofs.Common.{◌≡◌, ◌⊎◌, inl, inr, ◌<◌, ◌+◌, ℕ, suc, Bool, true, false, not, if◌then◌else◌, List, [], ◌∷◌, Option, Some, map, refl, sym, ap, ◌∙◌, subst, arith}
 use Rattle.std.specs.Prelude.{slice_get}
 use Rattle.std.proofs.lemmas.Bool.{and_parts, cases_eq}
-use Rattle.ballot.specs.Body.TheVariants.{Activate}
-use Rattle.ballot.specs.Message.{Message}
-use Rattle.ballot.specs.Protocol.{received}
-use Rattle.broker_base.specs.Command.{Command}
-use Rattle.broker_base.specs.Connection.{ConnectionName, same_connection}
-use Rattle.broker_base.specs.Output.{Output}
-use Rattle.broker_base.specs.State.{State}
+use Rattle.headline.specs.ballot.Body.TheVariants.{Activate}
+use Rattle.headline.specs.ballot.Message.{Message}
+use Rattle.headline.specs.ballot.Protocol.{received}
+use Rattle.headline.specs.broker_base.Command.{Command}
+use Rattle.headline.specs.broker_base.Connection.{ConnectionName, same_connection}
+use Rattle.headline.specs.broker_base.Output.{Output}
+use Rattle.headline.specs.broker_base.State.{State}
 use Rattle.escaping_client.specs.client.Core.{Core}
-use Rattle.escaping_nodes.specs.cut_ways.Deliveries.{Delivered, after_activate, after_outcome}
-use Rattle.escaping_nodes.specs.cut_ways.Deliveries.Delivered.{all_came, to_node, to_master}
+use Rattle.escaping_nodes.specs.ways_out.CutWaysDeliveries.{Delivered, after_activate, after_outcome}
+use Rattle.escaping_nodes.specs.ways_out.CutWaysDeliveries.Delivered.{all_came, to_node, to_master}
 use Rattle.escaping_nodes.specs.escaping.Waiting.{AwaitsAnswer}
 use Rattle.escaping_nodes.specs.Coming.{AreCalm, IsSeen}
 use Rattle.escaping_nodes.specs.Coming.Come.{all_came as none_comes, to_node as comes_to_node}
 use Rattle.escaping_nodes.proofs.ClientAnswered.{StillWaits, waits_on}
 use Rattle.escaping_nodes.proofs.NodesFollow.{deliveries_are_followed}
-use Rattle.exact_model.specs.group_model.snapshots.Past.{Moment}
-use Rattle.exact_model.specs.node_model.Moves.Deed.{takes}
-use Rattle.exact_model.proofs.of_node_model.Views.{found_passes}
-use Rattle.world_pipes.specs.world_base.declared.Connection.{Connection}
-use Rattle.world_pipes.specs.world_base.declared.Handed.{Handed}
-use Rattle.world_pipes.specs.world_base.declared.Handed.TheVariants as answers
-use Rattle.world_pipes.specs.world_base.declared.Port.{Port}
-use Rattle.world_pipes.specs.world_base.declared.item.Item.TheVariants.{Peer}
-use Rattle.world_pipes.specs.world_base.Connections.{is_open_named, is_over}
-use Rattle.world_pipes.specs.world_base.Core.{CountedCore, rules}
-use Rattle.world_pipes.specs.world_base.Handing.{answer_of, bytes_of}
+use Rattle.headline.specs.snapshots.Past.{Moment}
+use Rattle.headline.specs.node_moves.Moves.NodeCall.{takes}
+use Rattle.headline.proofs.of_node_moves.Views.{found_passes}
+use Rattle.headline.specs.world_base.declared.Connection.{Connection}
+use Rattle.headline.specs.world_base.declared.Handed.{Handed}
+use Rattle.headline.specs.world_base.declared.Handed.TheVariants as answers
+use Rattle.headline.specs.world_base.declared.Port.{Port}
+use Rattle.headline.specs.world_base.declared.item.Item.TheVariants.{Peer}
+use Rattle.headline.specs.world_base.Connections.{is_open_named, is_over}
+use Rattle.headline.specs.world_base.Core.{CountedCore, rules}
+use Rattle.headline.specs.world_base.Handing.{answer_of, bytes_of}
 use Rattle.escaping_nodes.specs.world_nodes.Goes.{behind_answer, behind_deed, node_of}
 use Rattle.escaping_nodes.specs.world_nodes.Nodes.{NodesState}
 use Rattle.world.specs.declared.event.Event.TheVariants as events
@@ -35,7 +35,7 @@ use Rattle.world.specs.Found.{port_of}
 use Rattle.world.specs.Gathering.{Gathers, is_more, is_told_open, put_out}
 use Rattle.world.specs.Goes.{LosesNothing}
 use Rattle.world.specs.Happening.{Run}
-use Rattle.world.specs.Housed.{AreHoused, leads_of}
+use Rattle.world.specs.SlotsAreValid.{AreHoused, leads_of}
 use Rattle.world.specs.World.{WorldState}
 use Rattle.world.proofs.DeliversOn.{at_master, at_master_is, at_node, can_ask, can_reach, sent_to}
 use Rattle.world.proofs.ExactRuns.{first_done}

@@ -4,11 +4,11 @@ use Rattle.std.proofs.Common.{◌≡◌, inl, inr, ◌⊎◌, ◌≤◌, ◌<◌
 use Rattle.std.proofs.lemmas.Bool.{eq-eqb, ne_eqb}
 use Rattle.std.proofs.lemmas.List.{length-set, take-set, take_all}
 use Rattle.std.proofs.lemmas.Option.{same_Some, slice_get_within}
-use Rattle.exact_model.proofs.of_model.Lists.{same_or_other}
-use Rattle.world.specs.declared.place.Place.{Place}
+use Rattle.headline.proofs.of_packet_world.Lists.{same_or_other}
+use Rattle.world.specs.declared.connection_slot.ConnectionSlot.{ConnectionSlot}
 use Rattle.world.specs.Found.{place_numbered}
 use Rattle.world.specs.Gathering.{AskedWhere, GathersAmong, is_open_at}
-use Rattle.world.specs.Housed.{open_from}
+use Rattle.world.specs.SlotsAreValid.{open_from}
 use Rattle.world.specs.Inside.Handing.{AsksAt, MayHandOn, marked}
 use Rattle.world.specs.Inside.Steps.{GoesOn}
 use Rattle.world.specs.World.{WorldState}
@@ -23,7 +23,7 @@ never : (b : Bool) → (b && false) ≡ false
 never true = refl
 never false = refl
 
-not_asked : (node number : ℕ) (w : WorldState) (p : Place) → slice_get w.connections number ≡ Some p → p.is_open ≡ false
+not_asked : (node number : ℕ) (w : WorldState) (p : ConnectionSlot) → slice_get w.connections number ≡ Some p → p.is_open ≡ false
     → is_open_at node (place_numbered (suc number) w.connections) ≡ false
 not_asked node number w p at shut =
     ap (is_open_at node)
@@ -41,7 +41,7 @@ passed node count number initial now shut g =
 
 -- from this one on all are closed
 abbrev AreShut : ℕ → ℕ → WorldState → Type 0
-AreShut low high w = (j : ℕ) (p : Place) → low ≤ j → j < high → slice_get w.connections j ≡ Some p → p.is_open ≡ false
+AreShut low high w = (j : ℕ) (p : ConnectionSlot) → low ≤ j → j < high → slice_get w.connections j ≡ Some p → p.is_open ≡ false
 
 all_passed : (node count number low : ℕ) (initial now : WorldState) → low ≤ number → number ≤ length now.connections → AreShut low number now
     → IsGathering node count number initial now → IsGathering node count low initial now
@@ -72,7 +72,7 @@ walk_begins node at w counted rests =
     record {
       number = length w.connections;
       within = omega arith;
-      many = ap (λ (l : List Place). length (open_from 1 l)) (take_all (length w.connections) w.connections (omega arith)) ∙ sym counted;
+      many = ap (λ (l : List ConnectionSlot). length (open_from 1 l)) (take_all (length w.connections) w.connections (omega arith)) ∙ sym counted;
       gathering = record { goes = rests; rest = λ later more. more };
     }
 
@@ -101,7 +101,7 @@ walk_on node at initial now new w goes a =
     record {
       number = r.i;
       within = omega (arith, low, within, many);
-      many = ap (λ (l : List Place). length (open_from 1 l)) (subst (λ (k : ℕ). take k new.connections ≡ take k now.connections) less a.others) ∙ r.before;
+      many = ap (λ (l : List ConnectionSlot). length (open_from 1 l)) (subst (λ (k : ℕ). take k new.connections ≡ take k now.connections) less a.others) ∙ r.before;
       gathering = gathering_on node (length initial.connections) (suc r.i) r.i initial now new (omega arith) (let e : r.i ≡ suc r.i - 1 = omega arith in e) g goes
           (subst (λ (k : ℕ). AskedWhere false (is_open_at node (place_numbered k now.connections)) k now new) same a.asks);
     }
@@ -124,7 +124,7 @@ walk_ends node at initial now end w =
 -- ---- one of those whose end is open
 
 -- it leads to another node
-pub asks_none : (node at number : ℕ) (place : Place) (w : WorldState) → slice_get (open_from 1 w.connections) at ≡ Some number → slice_get w.connections (number - 1) ≡ Some place
+pub asks_none : (node at number : ℕ) (place : ConnectionSlot) (w : WorldState) → slice_get (open_from 1 w.connections) at ≡ Some number → slice_get w.connections (number - 1) ≡ Some place
     → 0 < number → (place.node ≡ node → ⊥) → AsksAt node at w w
 asks_none node at number place w stands found positive other =
     record {
@@ -140,7 +140,7 @@ asks_none node at number place w stands found positive other =
         ap (is_open_at node) (numbered_at number w.connections (Some place) positive found) ∙ ap (λ (b : Bool). b && place.is_open) (ne_eqb place.node node other)
 
 -- it leads to the node, and this is known about its end
-pub asks_one : (node at number : ℕ) (place : Place) (is_open : Bool) (old mid new : WorldState) → slice_get (open_from 1 old.connections) at ≡ Some number
+pub asks_one : (node at number : ℕ) (place : ConnectionSlot) (is_open : Bool) (old mid new : WorldState) → slice_get (open_from 1 old.connections) at ≡ Some number
     → slice_get old.connections (number - 1) ≡ Some place → 0 < number → place.is_open ≡ true → place.node ≡ node → mid.connections ≡ old.connections
     → MayHandOn number place old is_open mid → new ≡ marked number place is_open mid → AsksAt node at old new
 asks_one node at number place is_open old mid new stands found positive up leads same hands is =

@@ -2,8 +2,8 @@
 use Rattle.std.proofs.Common.{◌≡◌, ℕ, zero, suc, List, [], ◌∷◌, Some, reverse, set, slice_get, refl, sym, ap, ◌∙◌, subst}
 use Rattle.std.proofs.lemmas.List.{length-set}
 use Rattle.std.proofs.lemmas.Option.{same_Some, none-some}
-use Rattle.world_pipes.specs.story.Sides.{Connection}
-use Rattle.exact_model.specs.world_model.World.{ClientPipes, Pipe, with_pipe}
+use Rattle.headline.specs.exactly_once.Sides.{Connection}
+use Rattle.headline.specs.byte_world.World.{ClientPipes, Pipe, with_pipe}
 use Rattle.world_pipes.specs.declared.way.Way.{Way}
 use Rattle.world_pipes.specs.Piped.{Piped}
 use Rattle.world_pipes.specs.Standing.{AreWays, IsHolding, IsWay, StandsFor}

@@ -5,25 +5,25 @@ use Rattle.std.specs.List.{list_all, list_any, position}
 use Rattle.std.proofs.lemmas.Bool.{and_parts, false≢true, leb-true}
 use Rattle.std.proofs.lemmas.List.{append_assoc, get_or_default, length-append, length-map}
 use Rattle.std.proofs.lemmas.Option.{none-some, same_Some}
-use Rattle.agreement.specs.MasterState.{MasterState, last_ballot, refusal}
-use Rattle.agreement.specs.MasterState.AssignRefusal.{bad_members, ballots_spent}
-use Rattle.ballot.specs.Config.{Config}
-use Rattle.ballot.specs.LawfulConfig.{are_rising, is_lawful}
-use Rattle.ballot.specs.Serving.{most_places}
-use Rattle.broker_base.specs.Commands.{past_from, past_of, usual_limits}
-use Rattle.broker_base.specs.Past.{session_of}
-use Rattle.broker_base.specs.Place.{Client}
-use Rattle.escaping_nodes.specs.cut_ways.ways_out.Deliveries.{asked_and_answered, way_out}
+use Rattle.headline.specs.agreement.MasterState.{MasterState, last_ballot, refusal}
+use Rattle.headline.specs.agreement.MasterState.AssignRefusal.{bad_members, ballots_spent}
+use Rattle.headline.specs.ballot.Config.{Config}
+use Rattle.headline.specs.ballot.LawfulConfig.{are_rising, is_lawful}
+use Rattle.headline.specs.ballot.Serving.{most_places}
+use Rattle.headline.specs.broker_base.Commands.{past_from, past_of, usual_limits}
+use Rattle.headline.specs.broker_base.Past.{session_of}
+use Rattle.headline.specs.broker_base.Place.{Client}
+use Rattle.escaping_nodes.specs.ways_out.Deliveries.{asked_and_answered, way_out}
 use Rattle.escaping_nodes.proofs.WelcomedKept.{welcomed_are_kept}
-use Rattle.way_numbers.specs.Lengths.{WaysAreShort}
-use Rattle.world_pipes.specs.world_base.Core.{CountedCore}
+use Rattle.escaping_nodes.specs.ways_out.Lengths.{WaysAreShort}
+use Rattle.headline.specs.world_base.Core.{CountedCore}
 use Rattle.escaping_nodes.specs.world_nodes.Asking.{log_in, log_of, welcomes_back}
 use Rattle.escaping_nodes.specs.world_nodes.Goes.{node_of}
 use Rattle.escaping_nodes.specs.world_nodes.Nodes.{NodesState}
 use Rattle.world.specs.declared.event.Event.{Event}
 use Rattle.world.specs.declared.event.Event.TheVariants as events
 use Rattle.world.specs.declared.world.WorldClient.{WorldClient}
-use Rattle.master.proofs.Counting.{get_there}
+use Rattle.escaping_nodes.proofs.of_master.Counting.{get_there}
 use Rattle.world.specs.Escaping.{CanEscape, configuration_of, held_in, is_running}
 use Rattle.world.specs.Found.{is_named}
 use Rattle.world.specs.Inside.Escaping.{IsFetchedFrom, answer_events, client_events, escaping_events, group_events, leaving, sent_then}

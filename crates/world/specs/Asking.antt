@@ -1,9 +1,9 @@
 -- What clients are asked to publish: the Publish events that were done, in order.
 use Rattle.std.specs.Prelude.{◌≡◌, ◌⊎◌, ℕ, false, List, [], ◌∷◌, ◌++◌, Result, Ok, Err}
-use Rattle.ballot.specs.Losses.{one_more}
-use Rattle.client_base.specs.Steps.{Call}
-use Rattle.master.specs.declared.event.Idle.{Idle}
-use Rattle.session_base.specs.declared.publication.Publication.{Publication}
+use Rattle.headline.specs.ballot.Losses.{one_more}
+use Rattle.escaping_client.specs.client_base.Steps.{Call}
+use Rattle.escaping_nodes.specs.master.declared.event.Idle.{Idle}
+use Rattle.escaping_client.specs.session_base.declared.publication.Publication.{Publication}
 use Rattle.world_pipes.specs.Piped.{Piped}
 use Rattle.world.specs.declared.event.Event.{Event}
 use Rattle.world.specs.declared.event.Event.TheVariants as events

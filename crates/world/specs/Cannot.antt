@@ -1,17 +1,17 @@
 -- When an event cannot happen: then it is idle.
 use Rattle.std.specs.Prelude.{◌≡◌, ◌⊎◌, ◌<◌, ℕ, suc, ◌==◌, ◌&&◌, Bool, true, false, List, [], Option, Some, None, length, slice_get}
 use Rattle.std.specs.List.{position}
-use Rattle.agreement.specs.MasterState.{refusal}
+use Rattle.headline.specs.agreement.MasterState.{refusal}
 use Rattle.escaping_client.specs.client.Core.{Core}
-use Rattle.client_base.specs.State.{is_open}
-use Rattle.client_base.specs.Steps.{Call, keeper_step}
-use Rattle.world_pipes.specs.world_base.Core.{CountedCore, serves}
+use Rattle.escaping_client.specs.client_base.State.{is_open}
+use Rattle.escaping_client.specs.client_base.Steps.{Call, keeper_step}
+use Rattle.headline.specs.world_base.Core.{CountedCore, serves}
 use Rattle.escaping_nodes.specs.world_nodes.Goes.{ComesToNobody, cutting, node_of, proposing, running}
 use Rattle.world_pipes.specs.declared.way.Way.{Way}
 use Rattle.world_pipes.specs.Piped.{is_holding}
 use Rattle.world.specs.declared.event.Event.{Event}
 use Rattle.world.specs.declared.event.Event.TheVariants as events
-use Rattle.world.specs.declared.place.Place.{Place}
+use Rattle.world.specs.declared.connection_slot.ConnectionSlot.{ConnectionSlot}
 use Rattle.world.specs.declared.world.WorldClient.{WorldClient}
 use Rattle.world.specs.Found.{core_named, is_named, place_numbered, way_of}
 use Rattle.world.specs.World.{WorldState}
@@ -36,7 +36,7 @@ is_serving None = false
 is_serving (Some node) = serves node.core
 
 -- the connection was never opened, its end at the node is closed, or the node has stopped
-abbrev pub IsClosed : Option Place → List CountedCore → Type 0
+abbrev pub IsClosed : Option ConnectionSlot → List CountedCore → Type 0
 IsClosed None nodes = Unit {0}
 IsClosed (Some place) nodes = (place.is_open ≡ false) ⊎ (running nodes place.node ≡ None)
 
@@ -45,7 +45,7 @@ abbrev pub is_held_by : Option WorldClient → ℕ → Bool
 is_held_by None at = false
 is_held_by (Some client) at = is_holding client.piped && (suc at == length client.piped.ways)
 
-abbrev pub is_held : Option Place → List WorldClient → Bool
+abbrev pub is_held : Option ConnectionSlot → List WorldClient → Bool
 is_held None clients = false
 is_held (Some place) clients = is_held_by (slice_get clients place.client) place.at
 

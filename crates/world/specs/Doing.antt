@@ -1,17 +1,17 @@
 -- What an event does: exactly, or, if losses are allowed (`whole` is false), perhaps with losses.
 use Rattle.std.specs.Prelude.{◌≡◌, ◌⊎◌, ℕ, suc, ◌-◌, Bool, true, false, not, List, [], ◌∷◌, ◌++◌, Option, Some, None, Result, Ok, Err, length, slice_get, take}
-use Rattle.ballot.specs.Config.{Config}
-use Rattle.ballot.specs.Message.{Message}
-use Rattle.broker_base.specs.Command.{Command}
-use Rattle.broker_base.specs.Connection.{is_connection_name}
+use Rattle.headline.specs.ballot.Config.{Config}
+use Rattle.headline.specs.ballot.Message.{Message}
+use Rattle.headline.specs.broker_base.Command.{Command}
+use Rattle.headline.specs.broker_base.Connection.{is_connection_name}
 use Rattle.escaping_client.specs.client.Core.{gone}
-use Rattle.client_base.specs.Steps.{Call, keeper_step}
-use Rattle.client_base.specs.declared.error.ClientError.{ClientError}
-use Rattle.client_base.specs.declared.error.ClientError.TheVariants as errors
-use Rattle.world_pipes.specs.world_base.Core.{CountedCore}
-use Rattle.world_pipes.specs.world_base.Step.{next_name}
-use Rattle.world_pipes.specs.world_base.declared.item.Item.TheVariants as items
-use Rattle.world_pipes.specs.world_base.declared.Port.{Port}
+use Rattle.escaping_client.specs.client_base.Steps.{Call, keeper_step}
+use Rattle.escaping_client.specs.client_base.declared.error.ClientError.{ClientError}
+use Rattle.escaping_client.specs.client_base.declared.error.ClientError.TheVariants as errors
+use Rattle.headline.specs.world_base.Core.{CountedCore}
+use Rattle.headline.specs.world_base.Step.{next_name}
+use Rattle.headline.specs.world_base.declared.item.Item.TheVariants as items
+use Rattle.headline.specs.world_base.declared.Port.{Port}
 use Rattle.escaping_nodes.specs.world_nodes.Goes.{Comes, CutsExactly, TakesExactly, behind_giving, node_of}
 use Rattle.escaping_nodes.specs.world_nodes.Nodes.{NodesState}
 use Rattle.escaping_nodes.specs.world_nodes.Steps.{ComesIn, CutsIn, ExpelsIn, GivesIn, TakesIn}

@@ -1,18 +1,18 @@
 -- A way out of a world: when there is one, and what it leads to.
 use Rattle.std.specs.Prelude.{◌≡◌, ◌≤◌, ℕ, ◌+◌, Bool, true, false, not, List, [], ◌∷◌, Option, Some, None, slice_get}
 use Rattle.std.specs.List.{list_all, position}
-use Rattle.lists.specs.Lists.{IsPrefixOf}
-use Rattle.agreement.specs.MasterState.{refusal}
-use Rattle.ballot.specs.Config.{Config}
-use Rattle.ballot.specs.Logs.{places}
-use Rattle.ballot.specs.Serving.{most_places}
-use Rattle.broker_base.specs.Command.{Command}
-use Rattle.broker_base.specs.Commands.{past_of, usual_limits}
-use Rattle.broker_base.specs.Past.{session_of}
-use Rattle.broker_base.specs.Place.{Client}
+use Rattle.escaping_client.specs.lists.Lists.{IsPrefixOf}
+use Rattle.headline.specs.agreement.MasterState.{refusal}
+use Rattle.headline.specs.ballot.Config.{Config}
+use Rattle.headline.specs.ballot.Logs.{places}
+use Rattle.headline.specs.ballot.Serving.{most_places}
+use Rattle.headline.specs.broker_base.Command.{Command}
+use Rattle.headline.specs.broker_base.Commands.{past_of, usual_limits}
+use Rattle.headline.specs.broker_base.Past.{session_of}
+use Rattle.headline.specs.broker_base.Place.{Client}
 use Rattle.escaping_client.specs.client.Core.{Core}
-use Rattle.client_base.specs.State.{is_online}
-use Rattle.world_pipes.specs.world_base.Core.{CountedCore}
+use Rattle.escaping_client.specs.client_base.State.{is_online}
+use Rattle.headline.specs.world_base.Core.{CountedCore}
 use Rattle.escaping_nodes.specs.world_nodes.Agreed.{AgreeOn}
 use Rattle.escaping_nodes.specs.world_nodes.Asking.{log_of}
 use Rattle.escaping_nodes.specs.world_nodes.Goes.{node_of}

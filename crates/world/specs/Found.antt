@@ -2,10 +2,10 @@
 use Rattle.std.specs.Prelude.{◌≡◌, ℕ, ◌-◌, ◌==◌, if◌then◌else◌, Bool, List, Option, Some, None, bytes_eq, drop, set, slice_get}
 use Rattle.std.specs.List.{position}
 use Rattle.escaping_client.specs.client.Core.{Core}
-use Rattle.world_pipes.specs.world_base.declared.Port.{Port}
+use Rattle.headline.specs.world_base.declared.Port.{Port}
 use Rattle.world_pipes.specs.declared.way.Way.{Way}
 use Rattle.world_pipes.specs.Piped.{Piped}
-use Rattle.world.specs.declared.place.Place.{Place}
+use Rattle.world.specs.declared.connection_slot.ConnectionSlot.{ConnectionSlot}
 use Rattle.world.specs.declared.world.WorldClient.{WorldClient}
 use Rattle.world.specs.World.{WorldState}
 
@@ -40,14 +40,14 @@ with_piped at client piped w = record w { clients = set w.clients at (record cli
 -- ---- a connection
 
 -- connections are numbered from 1
-abbrev pub place_numbered : ℕ → List Place → Option Place
+abbrev pub place_numbered : ℕ → List ConnectionSlot → Option ConnectionSlot
 place_numbered number connections = if number == 0 then None else slice_get connections (number - 1)
 
 abbrev pub way_in : Option WorldClient → ℕ → Option Way
 way_in None at = None
 way_in (Some client) at = slice_get client.piped.ways at
 
-abbrev pub way_at : Option Place → List WorldClient → Option Way
+abbrev pub way_at : Option ConnectionSlot → List WorldClient → Option Way
 way_at None clients = None
 way_at (Some place) clients = way_in (slice_get clients place.client) place.at
 
@@ -61,7 +61,7 @@ port_of number = record { 0 = number }
 
 -- A connection is found: its state, its client, and what is in transit on it.
 pub record Connected (number : ℕ) (w : WorldState) : Type 0 where
-  pub place : Place
+  pub place : ConnectionSlot
   pub numbered : place_numbered number w.connections ≡ Some place
   pub client : WorldClient
   pub owned : slice_get w.clients place.client ≡ Some client

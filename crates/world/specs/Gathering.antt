@@ -1,17 +1,17 @@
 -- What a node queued goes down on its connections: exactly, or, if losses are allowed (`whole` is
 -- false), perhaps with losses.
 use Rattle.std.specs.Prelude.{◌≡◌, ◌⊎◌, ℕ, zero, suc, ◌-◌, ◌==◌, ◌&&◌, Bool, true, false, List, [], ◌++◌, Option, Some, None, length, set}
-use Rattle.exact_model.specs.node_model.Moves.Deed.{gives}
-use Rattle.world_pipes.specs.world_base.Core.{CountedCore}
-use Rattle.world_pipes.specs.world_base.Handing.{answer_of, bytes_of, listed_at}
-use Rattle.world_pipes.specs.world_base.declared.Handed.{Handed}
-use Rattle.world_pipes.specs.world_base.declared.Handed.TheVariants as answers
-use Rattle.world_pipes.specs.world_base.declared.item.Item.{Item}
-use Rattle.world_pipes.specs.world_base.declared.Port.{Port}
+use Rattle.headline.specs.node_moves.Moves.NodeCall.{gives}
+use Rattle.headline.specs.world_base.Core.{CountedCore}
+use Rattle.headline.specs.world_base.Handing.{answer_of, bytes_of, listed_at}
+use Rattle.headline.specs.world_base.declared.Handed.{Handed}
+use Rattle.headline.specs.world_base.declared.Handed.TheVariants as answers
+use Rattle.headline.specs.world_base.declared.item.Item.{Item}
+use Rattle.headline.specs.world_base.declared.Port.{Port}
 use Rattle.escaping_nodes.specs.world_nodes.Goes.{TakesExactly, behind_deed, node_of}
 use Rattle.escaping_nodes.specs.world_nodes.Nodes.{NodesState}
 use Rattle.escaping_nodes.specs.world_nodes.Steps.{TakesIn, forgetful}
-use Rattle.world.specs.declared.place.Place.{Place}
+use Rattle.world.specs.declared.connection_slot.ConnectionSlot.{ConnectionSlot}
 use Rattle.world.specs.Found.{Connected, place_numbered, port_of, with_down, with_piped}
 use Rattle.world.specs.World.{WorldState}
 
@@ -53,7 +53,7 @@ pub record IsAsked (number : ℕ) (old new : WorldState) : Type 0 where
       }
 
 -- whether it leads to this node, and its end there is open
-abbrev pub is_open_at : ℕ → Option Place → Bool
+abbrev pub is_open_at : ℕ → Option ConnectionSlot → Bool
 is_open_at node None = false
 is_open_at node (Some place) = (place.node == node) && place.is_open
 

@@ -1,15 +1,15 @@
 -- What the nodes of a world do may happen in a group, and so they agree.
 use Rattle.std.specs.Prelude.{◌≡◌, ◌⊎◌, ◌<◌, ◌≤◌, ◌^◌, ◌-◌, ℕ, List, ◌∷◌}
-use Rattle.lists.specs.Lists.{IsPrefixOf}
-use Rattle.ballot.specs.Losses.{one_more}
-use Rattle.ballot.specs.Config.{Config}
-use Rattle.exact_model.specs.group_model.snapshots.Agreeing.{Agrees, Holds, LeftInOrder}
-use Rattle.exact_model.specs.group_model.snapshots.Past.{IsAgreed}
-use Rattle.broker_base.specs.Command.{Command}
-use Rattle.world_pipes.specs.world_base.Core.{rules}
-use Rattle.exact_model.specs.group_model.Group.{Group, moment_of}
-use Rattle.exact_model.specs.group_model.Goes.{MayGo, Went, all_put, groups_of}
-use Rattle.exact_model.specs.group_model.Order.{KeepsOrder}
+use Rattle.escaping_client.specs.lists.Lists.{IsPrefixOf}
+use Rattle.headline.specs.ballot.Losses.{one_more}
+use Rattle.headline.specs.ballot.Config.{Config}
+use Rattle.headline.specs.snapshots.Agreeing.{Agrees, Holds, LeftInOrder}
+use Rattle.headline.specs.snapshots.Past.{IsAgreed}
+use Rattle.headline.specs.broker_base.Command.{Command}
+use Rattle.headline.specs.world_base.Core.{rules}
+use Rattle.headline.specs.node_group.Group.{Group, moment_of}
+use Rattle.headline.specs.node_group.Goes.{MayGo, Went, all_put, groups_of}
+use Rattle.headline.specs.node_group.Order.{KeepsOrder}
 use Rattle.escaping_nodes.specs.world_nodes.Nodes.{NodesState, StandsFor}
 use Rattle.world.specs.World.{WorldState}
 

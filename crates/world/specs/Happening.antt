@@ -1,10 +1,10 @@
 -- What happens in a world: what one event and a list of events do, and how a world begins.
 use Rattle.std.specs.Prelude.{◌≡◌, ◌⊎◌, ◌<◌, ◌^◌, ◌-◌, ℕ, true, false, List, [], ◌∷◌, Result, Ok, Err, map}
-use Rattle.ballot.specs.Config.{Config}
-use Rattle.ballot.specs.Losses.{one_more}
-use Rattle.broker_base.specs.Place.{Client}
-use Rattle.exact_model.specs.group_model.Group.{opening_group}
-use Rattle.master.specs.declared.event.Idle.{Idle}
+use Rattle.headline.specs.ballot.Config.{Config}
+use Rattle.headline.specs.ballot.Losses.{one_more}
+use Rattle.headline.specs.broker_base.Place.{Client}
+use Rattle.headline.specs.node_group.Group.{opening_group}
+use Rattle.escaping_nodes.specs.master.declared.event.Idle.{Idle}
 use Rattle.escaping_nodes.specs.world_nodes.Nodes.{StandsFor}
 use Rattle.escaping_nodes.specs.world_nodes.Steps.{LosesNothing as NodesLoseNothing}
 use Rattle.world_pipes.specs.Piped.{new_piped}

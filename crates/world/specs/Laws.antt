@@ -1,6 +1,6 @@
 -- Laws about what events do. The calls of `laws.rt` prove them.
 use Rattle.std.specs.Prelude.{◌≡◌, ◌<◌, ◌≤◌, ◌^◌, ◌-◌, ℕ, false, List, Some, Ok}
-use Rattle.world_pipes.specs.world_base.Core.{CountedCore}
+use Rattle.headline.specs.world_base.Core.{CountedCore}
 use Rattle.escaping_nodes.specs.world_nodes.Goes.{node_of}
 use Rattle.world.specs.declared.event.Event.{Event}
 use Rattle.world.specs.declared.event.Event.TheVariants as events

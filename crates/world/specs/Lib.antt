@@ -1,7 +1,7 @@
 pub mod World
 pub mod Goes
 pub mod Standing
-pub mod Housed
+pub mod SlotsAreValid
 pub mod Inside
 pub mod Found
 pub mod Gathering
@@ -13,10 +13,8 @@ pub mod Asking
 pub mod Laws
 pub mod Escaping
 pub mod Refusals
-pub use Rattle.escaping_client.specs.client as client
-pub use Rattle.master.specs as master
+pub use Rattle.headline.specs.agreement as agreement
+pub use Rattle.headline.specs.ballot as ballot
+pub use Rattle.escaping_nodes.specs.master as master
+pub use Rattle.headline.specs.packet_world as packet_world
 pub use Rattle.escaping_nodes.specs.world_nodes as world_nodes
-pub use Rattle.world_pipes.specs as world_pipes
-pub use Rattle.exact_model.specs.model as model
-pub use Rattle.agreement.specs as agreement
-pub use Rattle.ballot.specs as ballot

@@ -1,17 +1,17 @@
 -- Which events take no memory, and so raise no count.
 use Rattle.std.specs.Prelude.{◌≡◌, ℕ, zero, suc, true, Option, Some, None, slice_get}
-use Rattle.ballot.specs.Message.{Message}
-use Rattle.broker_base.specs.Command.{Command}
-use Rattle.world_pipes.specs.world_base.Core.{CountedCore}
-use Rattle.world_pipes.specs.world_base.Losses.{WaitsNothing}
-use Rattle.world_pipes.specs.world_base.declared.item.Item.{Item}
-use Rattle.world_pipes.specs.world_base.declared.item.Item.TheVariants as items
+use Rattle.headline.specs.ballot.Message.{Message}
+use Rattle.headline.specs.broker_base.Command.{Command}
+use Rattle.headline.specs.world_base.Core.{CountedCore}
+use Rattle.headline.specs.world_base.Losses.{WaitsNothing}
+use Rattle.headline.specs.world_base.declared.item.Item.{Item}
+use Rattle.headline.specs.world_base.declared.item.Item.TheVariants as items
 use Rattle.escaping_nodes.specs.world_nodes.Goes.{node_of}
 use Rattle.escaping_nodes.specs.world_nodes.Nodes.{NodesState}
 use Rattle.escaping_nodes.specs.world_nodes.Quiet.{IsUnheeded, RestsAt}
 use Rattle.world.specs.declared.event.Event.{Event}
 use Rattle.world.specs.declared.event.Event.TheVariants as events
-use Rattle.world.specs.declared.place.Place.{Place}
+use Rattle.world.specs.declared.connection_slot.ConnectionSlot.{ConnectionSlot}
 use Rattle.world.specs.Doing.{is_full}
 use Rattle.world.specs.Found.{place_numbered, port_of}
 use Rattle.world.specs.World.{WorldState}
@@ -31,7 +31,7 @@ ComesQuietly (Some (zero, message)) n = IsUnheeded message.body
 ComesQuietly (Some (suc at, message)) n = IsQuietAt (suc at) (items.Peer message) n
 
 -- the same for the end of a connection
-abbrev pub EndsQuietly : ℕ → Option Place → NodesState → Type 0
+abbrev pub EndsQuietly : ℕ → Option ConnectionSlot → NodesState → Type 0
 EndsQuietly number None n = ⊥
 EndsQuietly number (Some place) n = IsQuietAt place.node (items.Ended (port_of number)) n
 

@@ -1,14 +1,14 @@
 -- Which worlds of the model a world in code corresponds to, and how these move.
 use Rattle.std.specs.Prelude.{◌≡◌, ℕ, List, [], ◌∷◌, ◌++◌, map, Option, Some, None, slice_get}
-use Rattle.ballot.specs.Config.{Config}
-use Rattle.broker_base.specs.Place.{Client}
-use Rattle.exact_model.specs.model.World.{AreApart}
-use Rattle.session_base.specs.declared.publication.Publication.{Publication}
-use Rattle.world_pipes.specs.story.Sides.{Connection}
-use Rattle.exact_model.specs.Exact.{IsExact}
-use Rattle.exact_model.specs.world_model.World.{ClientPipes, World}
-use Rattle.exact_model.specs.world_model.Goes.{Reached, WorldStep}
-use Rattle.exact_model.specs.world_model.Published.{published_in, published_on}
+use Rattle.headline.specs.ballot.Config.{Config}
+use Rattle.headline.specs.broker_base.Place.{Client}
+use Rattle.headline.specs.packet_world.World.{AreApart}
+use Rattle.escaping_client.specs.session_base.declared.publication.Publication.{Publication}
+use Rattle.headline.specs.exactly_once.Sides.{Connection}
+use Rattle.headline.specs.Exact.{IsExact}
+use Rattle.headline.specs.byte_world.World.{ClientPipes, World}
+use Rattle.headline.specs.byte_world.Goes.{Reached, WorldStep}
+use Rattle.headline.specs.byte_world.Published.{published_in, published_on}
 use Rattle.escaping_nodes.specs.world_nodes.Nodes.{StandsFor as NodesStand}
 use Rattle.world_pipes.specs.Standing.{StandsFor as ClientStands}
 use Rattle.world.specs.World.{WorldState}

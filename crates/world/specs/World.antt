@@ -1,6 +1,6 @@
 -- The model of a world.
 use Rattle.std.specs.Prelude.{ℕ, List}
-use Rattle.world.specs.declared.place.Place.{Place}
+use Rattle.world.specs.declared.connection_slot.ConnectionSlot.{ConnectionSlot}
 use Rattle.world.specs.declared.world.WorldClient.{WorldClient}
 use Rattle.escaping_nodes.specs.world_nodes.Nodes.{NodesState}
 
@@ -10,5 +10,5 @@ use Rattle.escaping_nodes.specs.world_nodes.Nodes.{NodesState}
 pub record WorldState : Type 0 where
   pub nodes : NodesState
   pub clients : List WorldClient
-  pub connections : List Place
+  pub connections : List ConnectionSlot
   pub losses : ℕ

@@ -1,7 +1,7 @@
 // What clients do in a world.
 
 ghost use Rattle.std.specs.Prelude.{◌≡◌, ◌<◌, if◌then◌else◌, true, false, [], ◌∷◌, length, slice_get, IfSome};
-ghost use Rattle.client_base.specs.Steps.{Call, keeper_step};
+ghost use Rattle.escaping_client.specs.client_base.Steps.{Call, keeper_step};
 ghost use Rattle.escaping_nodes.specs.world_nodes.Goes.{node_of};
 ghost use Rattle.world_pipes.specs.Following.{CallingFollows, FollowsAll};
 ghost use Rattle.world_pipes.specs.Piped.{TakesLeave, is_holding, taken_back};
@@ -9,19 +9,19 @@ ghost use Rattle.world.specs.Goes.{CountsOnce, NodesGoOn};
 ghost use Rattle.world.specs.Doing.{Loses, is_full};
 ghost use Rattle.world.specs.Quiet.{TakesNoMemory};
 ghost use Rattle.world.specs.Cannot.{is_serving};
-ghost use Rattle.world.specs.Housed.{leads};
+ghost use Rattle.world.specs.SlotsAreValid.{leads};
 ghost use Rattle.world.specs.Inside.Connecting.{Begins, ConnectsAt, HearsOfOne, MayOpenNone, Reaches};
 ghost use Rattle.world.specs.Inside.Calling.{Counts, IsCall};
 ghost use Rattle.world.specs.Inside.Steps.{GoesAsked, GoesOn, Meets};
 
+use crate::connection_slot::ConnectionSlot;
 use crate::event::Event;
-use crate::place::Place;
 use crate::world::World;
+use escaping_client::packet::{ClientId, QoS};
+use escaping_client::session_base::Publication;
+use escaping_client::topics::Filter;
 use escaping_nodes::world_nodes::{Idle, Nodes};
-use packet::{ClientId, QoS};
-use session_base::Publication;
-use topics::Filter;
-use world_pipes::world_base::Port;
+use headline::world_base::Port;
 use world_pipes::{ClientError, PipedClient, Sending};
 
 impl World {
@@ -91,7 +91,7 @@ impl World {
         if !reach(&mut self.nodes, piped, node, Port(number)) {
             return false;
         }
-        self.connections.push_reserved(Place {
+        self.connections.push_reserved(ConnectionSlot {
             client,
             at,
             node,

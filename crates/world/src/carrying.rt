@@ -4,17 +4,17 @@ ghost use Rattle.std.specs.Prelude.{◌≡◌, ◌⊎◌, ◌≤◌, ◌<◌, �
 ghost use Rattle.escaping_nodes.specs.world_nodes.Goes.{running};
 ghost use Rattle.world_pipes.specs.Following.{FollowsAll};
 ghost use Rattle.world.specs.Goes.{CountsOnce, NodesGoOn};
-ghost use Rattle.world.specs.Housed.{leads};
+ghost use Rattle.world.specs.SlotsAreValid.{leads};
 ghost use Rattle.world.specs.Inside.Carrying.{CannotHear, CannotTake, CannotTakeOn, HearsOn, TakesUpOnWhere, TakesUpWhere};
 ghost use Rattle.world.specs.Inside.Steps.{GoesOn, Meets};
 ghost use Rattle.world.specs.Inside.Calling.{forgetful};
 
+use crate::connection_slot::ConnectionSlot;
 use crate::event::Event;
-use crate::place::Place;
 use crate::world::World;
 use escaping_nodes::world_nodes::{Idle, Nodes};
+use headline::world_base::{Piece, Port};
 use std::alloc::Global;
-use world_pipes::world_base::{Piece, Port};
 use world_pipes::{ClientError, PipedClient};
 
 impl World {
@@ -31,7 +31,7 @@ impl World {
 
     // Carries this many bytes from the front of a connection to its node, and what the node then
     // queues goes down. If there is no memory for them, they keep waiting, and that is counted.
-    fn bring_up(&mut self, place: Place, number: u64, count: u64) -> Result<(), Idle>
+    fn bring_up(&mut self, place: ConnectionSlot, number: u64, count: u64) -> Result<(), Idle>
         requires stands { slice_get self.old.connections (number - 1) ≡ Some place }
         requires positive { 0 < number }
         requires up { place.is_open ≡ true }
@@ -50,7 +50,7 @@ impl World {
 
     // Carries this many bytes from the front of a connection to its node. Returns whether there was
     // memory for them: if not, they keep waiting.
-    fn take_up(&mut self, place: Place, number: u64, count: u64) -> Result<bool, Idle>
+    fn take_up(&mut self, place: ConnectionSlot, number: u64, count: u64) -> Result<bool, Idle>
         requires stands { slice_get self.old.connections (number - 1) ≡ Some place }
         requires positive { 0 < number }
         ensures goes { GoesOn self.old self.new }
@@ -103,7 +103,7 @@ fn take_up(
     alloc: Global,
     nodes: &mut Nodes,
     piped: &mut PipedClient,
-    place: Place,
+    place: ConnectionSlot,
     port: Port,
     count: u64,
 ) -> Result<bool, Idle>

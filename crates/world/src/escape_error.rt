@@ -3,10 +3,10 @@
 ghost use Rattle.std.specs.Prelude.{◌≡◌};
 ghost use Rattle.world.specs.Refusals.{escape_number};
 
+use headline::world_base::Memory;
 use std::alloc::{AllocError, AllocFailed};
 use std::error::Error;
 use std::fmt;
-use world_pipes::world_base::Memory;
 
 /// Why no way out of a world is returned.
 #[derive(Clone, Copy, Debug, PartialEq, Eq)]

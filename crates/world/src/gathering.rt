@@ -4,16 +4,16 @@ ghost use Rattle.std.specs.Prelude.{◌≡◌, ◌<◌, ◌-◌, true, false, So
 ghost use Rattle.escaping_nodes.specs.world_nodes.Nodes.{NodesState};
 ghost use Rattle.world.specs.Gathering.{Gathers, GathersAmong};
 ghost use Rattle.world.specs.Goes.{NodesGoOn};
-ghost use Rattle.world.specs.Housed.{leads, open_from};
+ghost use Rattle.world.specs.SlotsAreValid.{leads, open_from};
 ghost use Rattle.world.specs.Inside.Handing.{AsksAt, HandsDown, MayHandDown, MayHandOn, MayPutDown, PutsDown, StaysQuiet, marked, tells_open};
 ghost use Rattle.world.specs.Inside.Steps.{GoesOn};
 
-use crate::place::Place;
+use crate::connection_slot::ConnectionSlot;
 use crate::world::World;
 use escaping_nodes::world_nodes::{Idle, Nodes};
+use headline::world_base::{Handed, Port};
 use std::alloc::Global;
 use world_pipes::PipedClient;
-use world_pipes::world_base::{Handed, Port};
 
 impl World {
     // Carries down what a node queued, on each connection whose end there is open. The master, node
@@ -71,7 +71,7 @@ impl World {
 
     // Returns the connection at this index among those whose end is open: its number, and its
     // state.
-    fn open_at(&self, at: usize) -> (u64, Place)
+    fn open_at(&self, at: usize) -> (u64, ConnectionSlot)
         requires { at < length (open_from 1 self.now.connections) }
         ensures number { slice_get (open_from 1 self.now.connections) at ≡ Some result.0 }
         ensures positive { 0 < result.0 }
@@ -83,7 +83,7 @@ impl World {
     }
 
     // Closes the end of the connection at this index among those whose end is open.
-    fn close(&mut self, at: usize, place: Place, number: u64)
+    fn close(&mut self, at: usize, place: ConnectionSlot, number: u64)
         requires number { slice_get (open_from 1 self.old.connections) at ≡ Some number }
         requires place { slice_get self.old.connections (number - 1) ≡ Some place }
         ensures { self.new ≡ marked number place false self.old }
@@ -95,7 +95,7 @@ impl World {
     }
 
     // Carries down what its node queued for a connection. Returns whether its end there is open.
-    fn hand_on(&mut self, place: Place, number: u64) -> bool
+    fn hand_on(&mut self, place: ConnectionSlot, number: u64) -> bool
         requires stands { slice_get self.old.connections (number - 1) ≡ Some place }
         requires positive { 0 < number }
         ensures goes { GoesOn self.old self.new }

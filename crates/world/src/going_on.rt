@@ -6,12 +6,12 @@ ghost use Rattle.world.specs.Found.{port_of};
 ghost use Rattle.world.specs.Inside.Steps.{GoesOn, Meets};
 ghost use Rattle.world.specs.Quiet.{IsQuietAt, TakesNoMemory};
 
+use crate::connection_slot::ConnectionSlot;
 use crate::event::Event;
-use crate::place::Place;
 use crate::world::World;
+use escaping_client::packet::ClientId;
 use escaping_nodes::world_nodes::Idle;
-use packet::ClientId;
-use world_pipes::world_base::{Config, Item, Port};
+use headline::world_base::{Config, Item, Port};
 
 impl World {
     pub(crate) fn deliver(&mut self, number: u64) -> Result<(), Idle>
@@ -106,7 +106,7 @@ impl World {
     }
 
     // Lets a node notice the end of a connection.
-    fn end(&mut self, place: Place, number: u64) -> Result<(), Idle>
+    fn end(&mut self, place: ConnectionSlot, number: u64) -> Result<(), Idle>
         requires stands { slice_get self.old.connections (number - 1) ≡ Some place }
         requires up { place.is_open ≡ true }
         requires positive { 0 < number }

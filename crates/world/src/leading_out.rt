@@ -2,9 +2,9 @@
 
 ghost use Rattle.std.specs.Prelude.{ℕ, ◌≡◌, ◌≤◌, ◌<◌, ◌+◌, ◌*◌, ◌↔◌, true, false, None, Some, length, slice_get, IfOk, IfSome, IsErrOf, OnOk};
 ghost use Rattle.std.specs.List.{list_all, position};
-ghost use Rattle.agreement.specs.MasterState.{refusal};
-ghost use Rattle.broker_base.specs.Commands.{past_of, usual_limits};
-ghost use Rattle.broker_base.specs.Past.{session_of};
+ghost use Rattle.headline.specs.agreement.MasterState.{refusal};
+ghost use Rattle.headline.specs.broker_base.Commands.{past_of, usual_limits};
+ghost use Rattle.headline.specs.broker_base.Past.{session_of};
 ghost use Rattle.escaping_nodes.specs.world_nodes.Asking.{log_of};
 ghost use Rattle.world_pipes.specs.Piped.{is_holding};
 ghost use Rattle.world.specs.declared.world.WorldClient.{WorldClient};
@@ -16,11 +16,11 @@ use crate::escape_error::EscapeError;
 use crate::event::Event;
 use crate::scheduling::{push_answers, push_client, push_group};
 use crate::world::World;
-use ballot::MOST_PLACES;
-use packet::ClientId;
+use escaping_client::packet::ClientId;
+use escaping_nodes::ways_out::ways_are_short;
+use headline::ballot::MOST_PLACES;
+use headline::world_base::{Config, Members, Memory};
 use std::alloc::Global;
-use way_numbers::ways_are_short;
-use world_pipes::world_base::{Config, Members, Memory};
 
 // More messages than any memory holds.
 const MOST_MESSAGES: u64 = 4_611_686_018_427_387_904;

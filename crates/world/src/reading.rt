@@ -2,20 +2,20 @@
 
 ghost use Rattle.std.specs.Prelude.{ℕ, List, ◌≡◌, ◌<◌, ◌-◌, ◌++◌, length, [], None, Some, IfSome, slice_get};
 ghost use Rattle.std.specs.List.{position};
-ghost use Rattle.ballot.specs.Config.{Config};
-ghost use Rattle.broker_base.specs.Place.{Client};
+ghost use Rattle.headline.specs.ballot.Config.{Config};
+ghost use Rattle.headline.specs.broker_base.Place.{Client};
 ghost use Rattle.escaping_nodes.specs.world_nodes.Agreed.{AgreeOn, AgreeOnSoMany};
 ghost use Rattle.world.specs.Found.{core_named, is_named, place_numbered, way_of};
 ghost use Rattle.world.specs.Goes.{AreReached};
-ghost use Rattle.exact_model.specs.Promise.{Promise};
-ghost use Rattle.exact_model.specs.world_model.Published.{published_of, published_on};
+ghost use Rattle.headline.specs.Promise.{Promise};
+ghost use Rattle.headline.specs.byte_world.Published.{published_of, published_on};
 ghost use Rattle.world.specs.Standing.{IsReached, connections_at};
 
-use crate::place::Place;
+use crate::connection_slot::ConnectionSlot;
 use crate::world::{World, WorldClient};
-use packet::ClientId;
+use escaping_client::packet::ClientId;
+use headline::world_base::Command;
 use world_pipes::ClientCore;
-use world_pipes::world_base::Command;
 
 impl WorldClient {
     // Says whether it has this identifier.
@@ -120,7 +120,7 @@ impl World {
     }
 
     // Returns the state of a connection.
-    pub(crate) fn place(&self, number: u64) -> Option<Place>
+    pub(crate) fn place(&self, number: u64) -> Option<ConnectionSlot>
         ensures stands { IfSome result (λ place.
             (0 < number) × (slice_get self.now.connections (number - 1) ≡ Some place)) }
         ensures exact { result ≡ place_numbered number self.now.connections }

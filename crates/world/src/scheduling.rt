@@ -1,17 +1,17 @@
 // The events of a way out, in order.
 
 ghost use Rattle.std.specs.Prelude.{◌≡◌, ◌≤◌, ◌<◌, ◌+◌, ◌*◌, ◌^◌, ◌-◌, ◌∷◌, ◌++◌, length, map, OnOk};
-ghost use Rattle.escaping_nodes.specs.cut_ways.ways_out.Deliveries.{way_out};
+ghost use Rattle.escaping_nodes.specs.ways_out.Deliveries.{way_out};
 ghost use Rattle.world_pipes.specs.Piped.{is_holding};
 ghost use Rattle.world.specs.declared.event.Event.TheVariants as events;
 ghost use Rattle.world.specs.Inside.Escaping.{answer_events, client_events, leaving};
 
 use crate::event::Event;
-use packet::ClientId;
+use escaping_client::packet::ClientId;
+use escaping_nodes::ways_out::{answers, way_out};
+use headline::world_base::{Config, Memory};
 use std::alloc::Global;
-use way_numbers::{answers, way_out};
 use world_pipes::PipedClient;
-use world_pipes::world_base::{Config, Memory};
 
 /// Appends an Assign, and the deliveries that lead its ballot to the start. `sent` messages were
 /// sent before, and the member at `place` of this many `members` is asked for its log.

@@ -1,11 +1,11 @@
 // A world.
 
 ghost use Rattle.std.specs.Prelude.{ℕ, List, [], ◌≡◌, ◌≤◌, ◌<◌, ◌^◌, ◌-◌, ◌↔◌, true, false, Some, length, map, slice_get, IfOk, IfSome, IsErr, IsErrOf, OnErr};
-ghost use Rattle.session_base.specs.declared.publication.Publication.{Publication};
-ghost use Rattle.agreement.specs.World.{can_open};
-ghost use Rattle.ballot.specs.Losses.{one_more};
-ghost use Rattle.exact_model.specs.model.World.{AreApart};
-ghost use Rattle.exact_model.specs.world_model.World.{new_client};
+ghost use Rattle.escaping_client.specs.session_base.declared.publication.Publication.{Publication};
+ghost use Rattle.headline.specs.agreement.World.{can_open};
+ghost use Rattle.headline.specs.ballot.Losses.{one_more};
+ghost use Rattle.headline.specs.packet_world.World.{AreApart};
+ghost use Rattle.headline.specs.byte_world.World.{new_client};
 ghost use Rattle.world_pipes.specs.Standing.{StandsFor};
 ghost use Rattle.world.specs.Goes.{AgreedGrows, AreReached, CountsOnce, StaysReached, WorldGoesOn};
 ghost use Rattle.world.specs.Asking.{IsAsked, RunAsks};
@@ -15,14 +15,14 @@ ghost use Rattle.world.specs.Inside.Steps.{GoesAsked, IsCounted, Meets};
 ghost use Rattle.world.specs.Quiet.{TakesNoMemory};
 ghost use Rattle.world.specs.Standing.{ClientsStand, IsReached, KeepsReached, WorldGoesBy, asked_on, identifiers};
 
+use crate::connection_slot::ConnectionSlot;
 use crate::event::Event;
-use crate::place::Place;
+use escaping_client::packet::ClientId;
 use escaping_nodes::world_nodes::{Idle, Nodes};
-use packet::ClientId;
+use headline::world_base::{Config, Memory, OpeningError};
 use std::alloc::Global;
 use std::marker::Model;
 use world_pipes::PipedClient;
-use world_pipes::world_base::{Config, Memory, OpeningError};
 
 /// A client of a world, with its identifier.
 #[derive(Drop)]
@@ -42,7 +42,7 @@ pub struct World {
     pub(crate) nodes: Nodes,
     pub(crate) clients: Vec<WorldClient>,
     // Connection n + 1 is at index n.
-    pub(crate) connections: Vec<Place>,
+    pub(crate) connections: Vec<ConnectionSlot>,
     // The numbers of the connections whose end at the node is open, rising.
     pub(crate) open_ends: Vec<u64>,
     pub(crate) losses: u64,
@@ -50,7 +50,7 @@ pub struct World {
 
 impl Model for World {
     ghost use Rattle.std.specs.Prelude.{◌≡◌};
-    ghost use Rattle.world.specs.Housed.{AreHoused, leads_of, open_from};
+    ghost use Rattle.world.specs.SlotsAreValid.{AreHoused, leads_of, open_from};
     ghost use Rattle.world.specs.World.{WorldState};
 
     ghost Value = { WorldState };

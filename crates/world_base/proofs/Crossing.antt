@@ -2,7 +2,7 @@
 use denote.Param.Send.{IsSend, sendable}
 use Rattle.ballot.proofs.replica.Replica.TheSendSync as replica
 use Rattle.broker.proofs.Crossing.{machine_send}
-use Rattle.node_connections.proofs.of_broker_model.command.Command.TheSendSync as command
+use Rattle.node_connections.proofs.of_broker_spec.command.Command.TheSendSync as command
 use Rattle.std.proofs.Crossing.{crosses}
 use Rattle.node_connections.proofs.connection.Connection.TheSendSync as connection
 use Rattle.world_base.specs.contracts.node_core.NodeCore as NodeCore

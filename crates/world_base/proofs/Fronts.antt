@@ -1,17 +1,17 @@
 -- Fronts.antt: what is done by what the unread bytes of a connection begin with.
 use Rattle.std.proofs.Common.{◌≡◌, ℕ, Bool, true, false, if◌then◌else◌, List, [], ◌∷◌, Some, None, Result, Ok, Err, ◌⊎◌, inl, inr, refl, sym, ap, subst, ◌∙◌}
 use Rattle.std.specs.List.{find}
-use Rattle.packet.specs.Stop.{Stop}
-use Rattle.packet.specs.Stop.TheVariants as stops
-use Rattle.packet.specs.RefusalCode.{RefusalCode}
-use Rattle.packet.specs.declared.packet.Packet.{Packet}
-use Rattle.packet.specs.declared.packet.Packet.TheVariants as packets
-use Rattle.packet.specs.declared.connect.Connect.{Connect}
-use Rattle.packet.specs.Verdict.{verdict}
-use Rattle.node_connections.specs.broker_model.Connection.{ConnectionName}
-use Rattle.node_connections.specs.broker_model.declared.command.Command.{Command}
-use Rattle.node_connections.specs.broker_model.declared.command.Command.TheVariants as commands
-use Rattle.node_connections.specs.broker_model.declared.command.Output.{Output}
+use Rattle.node_connections.specs.packet.Stop.{Stop}
+use Rattle.node_connections.specs.packet.Stop.TheVariants as stops
+use Rattle.node_connections.specs.packet.RefusalCode.{RefusalCode}
+use Rattle.node_connections.specs.packet.declared.packet.Packet.{Packet}
+use Rattle.node_connections.specs.packet.declared.packet.Packet.TheVariants as packets
+use Rattle.node_connections.specs.packet.declared.connect.Connect.{Connect}
+use Rattle.node_connections.specs.packet.Verdict.{verdict}
+use Rattle.node_connections.specs.broker_spec.Connection.{ConnectionName}
+use Rattle.node_connections.specs.broker_spec.declared.command.Command.{Command}
+use Rattle.node_connections.specs.broker_spec.declared.command.Command.TheVariants as commands
+use Rattle.node_connections.specs.broker_spec.declared.command.Output.{Output}
 use Rattle.ballot.specs.Effect.{Effect}
 use Rattle.node_connections.specs.declared.port.Port.{Port}
 use Rattle.node_connections.specs.declared.front.Front.{Front}

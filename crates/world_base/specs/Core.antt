@@ -2,9 +2,9 @@
 use Rattle.std.specs.Prelude.{ℕ, Bool, not, ◌&&◌, List, []}
 use Rattle.ballot.specs.Machine.{Rules}
 use Rattle.broker.specs.broker_base.State.{State}
-use Rattle.node_connections.specs.broker_model.Connection.{ConnectionName}
-use Rattle.node_connections.specs.broker_model.declared.command.Command.{Command}
-use Rattle.node_connections.specs.broker_model.declared.command.Output.{Output}
+use Rattle.node_connections.specs.broker_spec.Connection.{ConnectionName}
+use Rattle.node_connections.specs.broker_spec.declared.command.Command.{Command}
+use Rattle.node_connections.specs.broker_spec.declared.command.Output.{Output}
 use Rattle.broker.specs.Standing.{broker_rules}
 use Rattle.ballot.specs.Config.{Config}
 use Rattle.ballot.specs.Effect.{Effect}

@@ -17,6 +17,9 @@ pub use Rattle.ballot.specs.Replica
 pub use Rattle.ballot.specs.Effect
 pub use Rattle.ballot.specs.Message
 pub use Rattle.ballot.specs.Config
-pub use Rattle.node_connections.specs.broker_model.declared.command.Command
-pub use Rattle.node_connections.specs.broker_model.declared.command.Output
+pub use Rattle.node_connections.specs.broker_spec.declared.command.Command
+pub use Rattle.node_connections.specs.broker_spec.declared.command.Output
 pub use Rattle.ballot.specs as ballot
+pub use Rattle.node_connections.specs.cutter as cutter
+pub use Rattle.ballot.specs.lists as lists
+pub use Rattle.node_connections.specs.packet as packet

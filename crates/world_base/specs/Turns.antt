@@ -2,10 +2,10 @@
 use Rattle.std.specs.Prelude.{ℕ, zero, suc, Bool, true, false, ◌&&◌, nat_lt, if◌then◌else◌, List, [], ◌++◌, length, filter}
 use Rattle.std.specs.List.{fold}
 use Rattle.broker.specs.broker_base.State.{State}
-use Rattle.node_connections.specs.broker_model.Connection.{ConnectionName}
-use Rattle.node_connections.specs.broker_model.declared.command.Command.{Command}
-use Rattle.node_connections.specs.broker_model.declared.command.Output.{Output}
-use Rattle.node_connections.specs.broker_model.declared.command.Output.TheVariants as outputs
+use Rattle.node_connections.specs.broker_spec.Connection.{ConnectionName}
+use Rattle.node_connections.specs.broker_spec.declared.command.Command.{Command}
+use Rattle.node_connections.specs.broker_spec.declared.command.Output.{Output}
+use Rattle.node_connections.specs.broker_spec.declared.command.Output.TheVariants as outputs
 use Rattle.ballot.specs.Logs.{places}
 use Rattle.ballot.specs.Effect.{Effect}
 use Rattle.ballot.specs.Effect.TheVariants.{To, Out}
@@ -16,7 +16,7 @@ use Rattle.ballot.specs.Serving.{proposed, most_places}
 use Rattle.node_connections.specs.declared.connection.Connection.{Connection}
 use Rattle.node_connections.specs.Connections.{is_open_named, closed, put_out, changed}
 use Rattle.world_base.specs.Core.{CoreState, Turn, rules, serves}
-use Rattle.packet.specs.Spelling.{spelling}
+use Rattle.node_connections.specs.packet.Spelling.{spelling}
 
 -- no message is sent
 abbrev pub quiet : CoreState → Turn

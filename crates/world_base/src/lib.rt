@@ -8,13 +8,17 @@ mod ignoring;
 mod item;
 mod laws;
 mod node_core;
-mod serving;
+mod node_in_step;
 mod taking;
 
-pub use ballot::{Body, Config, Effect, Members, Memory, Message, OpeningError, Status};
+pub use ballot;
+pub use ballot::{Body, Config, Effect, Members, Memory, Message, OpeningError, Status, machine};
+pub use broker;
 pub use broker::BrokerMachine;
 pub use item::Item;
 pub use laws::{a_gap_is_closed, proposals_are_steps};
-pub use node_connections::broker_model::{Command, ConnectionId, Output};
-pub use node_connections::{Connection, Handed, Piece, Port, Stage, Standing};
+pub use node_connections::broker_spec::{Command, ConnectionId, Output};
+pub use node_connections::{
+    Connection, Handed, Piece, Port, Stage, Standing, broker_spec, packet, topics,
+};
 pub use node_core::NodeCore;

@@ -7,7 +7,7 @@ ghost use Rattle.ballot.specs.Cutting.{can_cut};
 ghost use Rattle.ballot.specs.Logs.{places};
 ghost use Rattle.ballot.specs.Losses.{one_more};
 ghost use Rattle.ballot.specs.Replica.{status_of};
-ghost use Rattle.node_connections.specs.broker_model.Connection.{is_connection_name};
+ghost use Rattle.node_connections.specs.broker_spec.Connection.{is_connection_name};
 ghost use Rattle.world_base.specs.Core.{opening_core};
 ghost use Rattle.world_base.specs.Step.{next_name};
 ghost use Rattle.ballot.specs.lists.Lists.{IsPrefixOf};
@@ -17,9 +17,9 @@ ghost use Rattle.world_base.specs.Turns.{has_room};
 ghost use Rattle.world_base.specs.Losses.{DoesNothing, Stepped};
 
 use crate::item::Item;
-use crate::serving::Serving;
+use crate::node_in_step::NodeInStep;
 use ballot::{Config, Effect, Memory, Message, OpeningError, Status};
-use node_connections::broker_model::{Command, Output};
+use node_connections::broker_spec::{Command, Output};
 use node_connections::{Handed, Port, Standing};
 use std::alloc::Global;
 use std::marker::Model;
@@ -28,7 +28,7 @@ use std::marker::Model;
 /// bytes that it queues for each connection.
 #[derive(Drop)]
 pub struct NodeCore {
-    serving: Serving,
+    serving: NodeInStep,
     losses: u64,
 }
 
@@ -51,7 +51,7 @@ impl NodeCore {
             ↔ (is_lawful config.now.members config.now.primary ≡ false) }
     {
         Ok(NodeCore {
-            serving: Serving::new(alloc, id, config)?,
+            serving: NodeInStep::new(alloc, id, config)?,
             losses: 0,
         })
     }

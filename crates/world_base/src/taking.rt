@@ -2,8 +2,8 @@
 
 ghost use Rattle.std.specs.Prelude.{◌≡◌, false, if◌then◌else◌, None};
 ghost use Rattle.std.specs.List.{find};
-ghost use Rattle.node_connections.specs.broker_model.declared.command.Command.TheVariants as commands;
-ghost use Rattle.node_connections.specs.broker_model.Sized.{IsSized};
+ghost use Rattle.node_connections.specs.broker_spec.declared.command.Command.TheVariants as commands;
+ghost use Rattle.node_connections.specs.broker_spec.Sized.{IsSized};
 ghost use Rattle.node_connections.specs.Connections.{closed, has_failed, holding, is_first, is_proposed};
 ghost use Rattle.world_base.specs.Inside.{BeginsOrSays, IsCalm, Ran, TellsLost, Turns};
 ghost use Rattle.world_base.specs.declared.item.Item.TheVariants as items;
@@ -17,13 +17,13 @@ ghost use Rattle.world_base.specs.Step.{acts_on, takes_in};
 ghost use Rattle.world_base.specs.Turns.{proposes, quiet};
 
 use crate::item::Item;
-use crate::serving::Serving;
+use crate::node_in_step::NodeInStep;
 use ballot::{Effect, Message};
-use node_connections::broker_model::{Command, ConnectionId, Output, SizedPacket};
+use node_connections::broker_spec::{Command, ConnectionId, Output, SizedPacket};
+use node_connections::packet::{ClientId, Connect, Packet};
 use node_connections::{Front, Piece, Port, Stage};
-use packet::{ClientId, Connect, Packet};
 
-impl Serving {
+impl NodeInStep {
     /// Takes an item, and reports each connection that fails in it to the broker. `is_wanting` says
     /// whether memory ran out.
     pub fn act_on(&mut self, item: Item, effects: &mut Vec<Effect<Command, Output>>)

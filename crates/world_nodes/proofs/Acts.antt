@@ -3,26 +3,26 @@ use Rattle.std.proofs.Common.{◌≡◌, inl, inr, ◌<◌, ◌^◌, ℕ, zero, 
 use Rattle.std.specs.Prelude.{slice_get, slice_set, get_or, OnOk, Result, Ok, Err}
 use Rattle.std.specs.Result.{is_err}
 use Rattle.std.proofs.lemmas.Option.{get_or_from_slice_get}
-use Rattle.ballot.specs.Effect.{Effect}
-use Rattle.ballot.specs.Losses.{one_more}
-use Rattle.ballot.specs.Message.{Message}
-use Rattle.lists.specs.Lists.{In}
+use Rattle.master.specs.ballot.Effect.{Effect}
+use Rattle.master.specs.ballot.Losses.{one_more}
+use Rattle.master.specs.ballot.Message.{Message}
+use Rattle.master.specs.lists.Lists.{In}
 use Rattle.master.specs.snapshots.World.{messages}
-use Rattle.broker_base.specs.Command.{Command}
-use Rattle.broker_base.specs.Output.{Output}
-use Rattle.world_model.specs.world_base.declared.item.Item.{Item}
-use Rattle.world_model.specs.world_base.declared.item.Item.TheVariants.{Peer, Tick, Opened, Bytes, Ended, Expel, Cut, Crash}
-use Rattle.world_model.specs.world_base.Core.{CoreState, CountedCore}
-use Rattle.world_model.specs.world_base.Step.{node_step}
-use Rattle.world_model.specs.node_model.Moves.{Deed, done}
-use Rattle.world_model.specs.node_model.Moves.Deed.{takes}
-use Rattle.world_model.specs.group_model.Group.{Group, behind_turn, with_record}
-use Rattle.world_model.specs.group_model.Putting.{recorded_in}
-use Rattle.world_model.specs.group_model.Goes.{all_given}
-use Rattle.world_model.specs.group_model.Goes.MayGo.{node_acts}
-use Rattle.world_model.specs.Deeds.{DeedWasSent, recorded_after}
-use Rattle.world_model.proofs.DeedsCarry.{deeds_carry_their_bytes}
-use Rattle.world_model.proofs.of_group_model.Placed.{get_mapped, set_mapped}
+use Rattle.byte_world.specs.broker_base.Command.{Command}
+use Rattle.byte_world.specs.broker_base.Output.{Output}
+use Rattle.byte_world.specs.world_base.declared.item.Item.{Item}
+use Rattle.byte_world.specs.world_base.declared.item.Item.TheVariants.{Peer, Tick, Opened, Bytes, Ended, Expel, Cut, Crash}
+use Rattle.byte_world.specs.world_base.Core.{CoreState, CountedCore}
+use Rattle.byte_world.specs.world_base.Step.{node_step}
+use Rattle.byte_world.specs.node_moves.Moves.{NodeCall, done}
+use Rattle.byte_world.specs.node_moves.Moves.NodeCall.{takes}
+use Rattle.byte_world.specs.node_group.Group.{Group, behind_turn, with_record}
+use Rattle.byte_world.specs.node_group.Putting.{recorded_in}
+use Rattle.byte_world.specs.node_group.Goes.{all_given}
+use Rattle.byte_world.specs.node_group.Goes.MayGo.{node_acts}
+use Rattle.byte_world.specs.Deeds.{DeedWasSent, recorded_after}
+use Rattle.byte_world.proofs.DeedsCarry.{deeds_carry_their_bytes}
+use Rattle.byte_world.proofs.of_node_group.Placed.{get_mapped, set_mapped}
 use Rattle.world_nodes.specs.Nodes.{NodesState, StandsFor}
 use Rattle.world_nodes.specs.Goes.{Acts, behind_deed}
 use Rattle.world_nodes.specs.Steps.{TakesIn}
@@ -33,7 +33,7 @@ core_in c = c.core
 
 -- ---- a call
 
-pub acts : (old : NodesState) (at : ℕ) (node : CountedCore) (deed : Deed) → slice_get old.nodes at ≡ Some node
+pub acts : (old : NodesState) (at : ℕ) (node : CountedCore) (deed : NodeCall) → slice_get old.nodes at ≡ Some node
     → ((g : Group) → StandsFor g old → DeedWasSent g at node.core deed)
     → Acts at deed old (record (behind_deed at node deed old) { archive = recorded_after old.archive node.core deed })
 acts old at node deed there sent g s =

@@ -2,22 +2,22 @@
 -- do.
 use Rattle.std.proofs.Common.{◌≡◌, ◌-◌, ℕ, Bool, false, List, ◌++◌, Some, refl, sym, ap, ◌∙◌, subst}
 use Rattle.std.specs.Prelude.{slice_get, slice_set}
-use Rattle.ballot.specs.Message.{Message}
+use Rattle.master.specs.ballot.Message.{Message}
 use Rattle.master.specs.snapshots.World.{messages}
-use Rattle.broker_base.specs.Command.{Command}
-use Rattle.world_model.specs.world_base.declared.item.Item.{Item}
-use Rattle.world_model.specs.world_base.declared.item.Item.TheVariants.{Peer, Tick, Opened, Bytes, Ended, Expel, Cut, Crash}
-use Rattle.world_model.specs.world_base.Core.{CoreState, CountedCore, Turn}
-use Rattle.world_model.specs.node_model.LossyRuns.{IsRunOn, heard_with, is_cut}
-use Rattle.world_model.specs.node_model.Moves.Deed.{takes}
-use Rattle.world_model.proofs.of_node_model.LossesAreMoves.{losses_are_moves}
-use Rattle.world_model.specs.group_model.Group.{Group, behind_turn, with_record}
-use Rattle.world_model.specs.group_model.Goes.{keeping}
-use Rattle.world_model.specs.group_model.Goes.MayGo.{node_loses}
-use Rattle.world_model.specs.group_model.Losing.{WereSent, all_given, recorded_in}
-use Rattle.world_model.specs.Deeds.{DeedWasSent}
-use Rattle.world_model.proofs.of_group_model.Placed.{get_mapped, set_mapped}
-use Rattle.world_model.proofs.of_group_model.Recorded.{records_none, records_to}
+use Rattle.byte_world.specs.broker_base.Command.{Command}
+use Rattle.byte_world.specs.world_base.declared.item.Item.{Item}
+use Rattle.byte_world.specs.world_base.declared.item.Item.TheVariants.{Peer, Tick, Opened, Bytes, Ended, Expel, Cut, Crash}
+use Rattle.byte_world.specs.world_base.Core.{CoreState, CountedCore, Turn}
+use Rattle.byte_world.specs.node_moves.LossyRuns.{IsRunOn, heard_with, is_cut}
+use Rattle.byte_world.specs.node_moves.Moves.NodeCall.{takes}
+use Rattle.byte_world.proofs.of_node_moves.LossesAreMoves.{losses_are_moves}
+use Rattle.byte_world.specs.node_group.Group.{Group, behind_turn, with_record}
+use Rattle.byte_world.specs.node_group.Goes.{keeping}
+use Rattle.byte_world.specs.node_group.Goes.MayGo.{node_loses}
+use Rattle.byte_world.specs.node_group.Losing.{WereSent, all_given, recorded_in}
+use Rattle.byte_world.specs.Deeds.{DeedWasSent}
+use Rattle.byte_world.proofs.of_node_group.Placed.{get_mapped, set_mapped}
+use Rattle.byte_world.proofs.of_node_group.Recorded.{records_none, records_to}
 use Rattle.world_nodes.specs.Nodes.{NodesState, StandsFor}
 use Rattle.world_nodes.specs.Goes.{Acts}
 use Rattle.world_nodes.specs.Inside.{RunsAt, TookItem, WasSent}

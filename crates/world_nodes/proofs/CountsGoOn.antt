@@ -1,14 +1,14 @@
 -- What nodes count stays what their messages tell, after what nodes do.
 use Rattle.std.proofs.Common.{◌≡◌, ℕ, true, List, ◌++◌, length, take, get_or, sym, ap, ◌∙◌, subst}
-use Rattle.ballot.specs.Config.{Config}
-use Rattle.ballot.specs.Message.{Message}
-use Rattle.agreement.specs.MasterState.{MasterState}
-use Rattle.agreement.specs.World.{can_open}
-use Rattle.broker_base.specs.Command.{Command}
-use Rattle.world_model.specs.node_model.Moves.{Deed}
-use Rattle.world_model.specs.group_model.Group.{opening_group}
-use Rattle.world_model.specs.group_model.Goes.Went.{opened}
-use Rattle.world_model.proofs.of_group_model.GroupsArePasts.{goes_on, groups_are_pasts}
+use Rattle.master.specs.ballot.Config.{Config}
+use Rattle.master.specs.ballot.Message.{Message}
+use Rattle.master.specs.agreement.MasterState.{MasterState}
+use Rattle.master.specs.agreement.World.{can_open}
+use Rattle.byte_world.specs.broker_base.Command.{Command}
+use Rattle.byte_world.specs.node_moves.Moves.{NodeCall}
+use Rattle.byte_world.specs.node_group.Group.{opening_group}
+use Rattle.byte_world.specs.node_group.Goes.Went.{opened}
+use Rattle.byte_world.proofs.of_node_group.GroupsArePasts.{goes_on, groups_are_pasts}
 use Rattle.master.specs.Inside.{HasCounted, ToldIn}
 use Rattle.master.proofs.Groups.{front_of}
 use Rattle.world_nodes.specs.Nodes.{NodesState, StandsFor}
@@ -41,7 +41,7 @@ loses_counting n losses told next c =
     record { group = c.group; stands = record { master = c.stands.master; nodes = c.stands.nodes; archive = c.stands.archive; sent = c.stands.sent }; counts = c.counts }
 
 -- a node does something, and what it acknowledged is counted
-pub acts_counting : (old new : NodesState) (at : ℕ) (deed : Deed) (told next told' next' : ToldIn) → HaveCounted old told next → Acts at deed old new
+pub acts_counting : (old new : NodesState) (at : ℕ) (deed : NodeCall) (told next told' next' : ToldIn) → HaveCounted old told next → Acts at deed old new
     → new.master ≡ old.master → told'.ballot ≡ told.ballot → next'.ballot ≡ next.ballot
     → (HasCounted old.sent told → HasCounted new.sent told') → (HasCounted old.sent next → HasCounted new.sent next') → HaveCounted new told' next'
 acts_counting old new at deed told next told' next' c acts same one two counts counts_next =

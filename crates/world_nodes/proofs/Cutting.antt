@@ -2,21 +2,21 @@
 use Rattle.std.proofs.Common.{◌≡◌, inl, inr, ◌⊎◌, ◌<◌, ◌≤◌, ◌+◌, ◌-◌, ℕ, zero, suc, Bool, true, false, not, ◌&&◌, nat_lt, if◌then◌else◌, List, [], ◌∷◌, ◌++◌, length, take, drop, Option, Some, None, refl, sym, ap, ◌∙◌, subst, arith}
 use Rattle.std.specs.Prelude.{get_or, slice_get}
 use Rattle.std.proofs.lemmas.Bool.{and_parts, ltb-true, ltb-false}
-use Rattle.ballot.specs.Cutting.{can_cut}
-use Rattle.ballot.specs.Losses.{one_more}
-use Rattle.ballot.specs.Message.{Message}
-use Rattle.ballot.specs.Replica.{status_of}
-use Rattle.ballot.specs.Status.{Status}
-use Rattle.broker_base.specs.Command.{Command}
+use Rattle.master.specs.ballot.Cutting.{can_cut}
+use Rattle.master.specs.ballot.Losses.{one_more}
+use Rattle.master.specs.ballot.Message.{Message}
+use Rattle.master.specs.ballot.Replica.{status_of}
+use Rattle.master.specs.ballot.Status.{Status}
+use Rattle.byte_world.specs.broker_base.Command.{Command}
 use Rattle.master.specs.Inside.{ToldIn}
 use Rattle.master.specs.snapshots.World.{messages, recorded}
 use Rattle.master.proofs.Archived.{begins_by, recorded_by, taken_back}
-use Rattle.world_model.specs.world_base.declared.item.Item.TheVariants.{Cut}
-use Rattle.world_model.specs.world_base.Core.{CountedCore}
-use Rattle.world_model.specs.node_model.Moves.Deed.{takes}
-use Rattle.world_model.specs.group_model.Group.{replica_of}
-use Rattle.world_model.proofs.of_group_model.Placed.{get_mapped}
-use Rattle.world_model.proofs.of_node_model.BaseStays.{cut_step_base}
+use Rattle.byte_world.specs.world_base.declared.item.Item.TheVariants.{Cut}
+use Rattle.byte_world.specs.world_base.Core.{CountedCore}
+use Rattle.byte_world.specs.node_moves.Moves.NodeCall.{takes}
+use Rattle.byte_world.specs.node_group.Group.{replica_of}
+use Rattle.byte_world.proofs.of_node_group.Placed.{get_mapped}
+use Rattle.byte_world.proofs.of_node_moves.BaseStays.{cut_step_base}
 use Rattle.world_nodes.specs.Nodes.{NodesState, cores_of}
 use Rattle.world_nodes.specs.Goes.{CutsExactly, behind_deed, cutting, unless_stopped, unless_whole}
 use Rattle.world_nodes.specs.Inside.{HaveCounted, TookItem}

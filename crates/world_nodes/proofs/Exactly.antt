@@ -3,10 +3,10 @@
 use Rattle.std.proofs.Common.{◌≡◌, ◌⊎◌, inl, inr, ◌-◌, ℕ, zero, suc, List, Some, sym, ap, ◌∙◌, subst, arith}
 use Rattle.std.specs.Prelude.{slice_get}
 use Rattle.std.proofs.lemmas.Option.{none-some}
-use Rattle.world_model.specs.world_base.declared.item.Item.{Item}
-use Rattle.world_model.specs.world_base.declared.Port.{Port}
-use Rattle.world_model.specs.world_base.Core.{CountedCore}
-use Rattle.world_model.specs.node_model.Moves.Deed.{takes, gives}
+use Rattle.byte_world.specs.world_base.declared.item.Item.{Item}
+use Rattle.byte_world.specs.world_base.declared.Port.{Port}
+use Rattle.byte_world.specs.world_base.Core.{CountedCore}
+use Rattle.byte_world.specs.node_moves.Moves.NodeCall.{takes, gives}
 use Rattle.world_nodes.specs.Nodes.{NodesState}
 use Rattle.world_nodes.specs.Goes.{Acts, GivesExactly, TakesExactly, behind_deed, node_of}
 use Rattle.world_nodes.specs.Steps.{ActsWithLosses, LosesNothing, TakesIn}

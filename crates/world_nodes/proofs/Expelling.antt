@@ -1,10 +1,10 @@
 -- A node that runs and has room takes the item Expel, or there was no memory for it.
 use Rattle.std.proofs.Common.{◌≡◌, inl, inr, ◌-◌, ℕ, refl, subst}
 use Rattle.std.specs.Prelude.{OnOk, Result, Ok, Err}
-use Rattle.broker_base.specs.Place.{Client}
+use Rattle.byte_world.specs.broker_base.Place.{Client}
 use Rattle.master.specs.declared.event.Idle.{Idle}
-use Rattle.world_model.specs.world_base.declared.item.Item.TheVariants.{Expel}
-use Rattle.world_model.specs.node_model.Moves.Deed.{takes}
+use Rattle.byte_world.specs.world_base.declared.item.Item.TheVariants.{Expel}
+use Rattle.byte_world.specs.node_moves.Moves.NodeCall.{takes}
 use Rattle.world_nodes.specs.Nodes.{NodesState}
 use Rattle.world_nodes.specs.Goes.{Acts, TakesExactly}
 use Rattle.world_nodes.specs.Steps.{ActsOrRests, ExpelsIn, LosesNothing, TakesIn, forgetful}

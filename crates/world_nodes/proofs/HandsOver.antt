@@ -2,13 +2,13 @@
 use Rattle.std.proofs.Common.{◌≡◌, ◌<◌, ◌≤◌, ◌-◌, ℕ, zero, suc, List, [], ◌∷◌, ◌++◌, length, Option, Some, refl, sym, ap, ◌∙◌, subst, arith}
 use Rattle.std.specs.Prelude.{get_or, slice_get, slice_set}
 use Rattle.std.proofs.lemmas.List.{append-nil}
-use Rattle.ballot.specs.Message.{Message}
-use Rattle.broker_base.specs.Command.{Command}
-use Rattle.world_model.specs.world_base.declared.Handed.{Handed}
-use Rattle.world_model.specs.world_base.declared.Port.{Port}
-use Rattle.world_model.specs.world_base.Core.{CountedCore}
-use Rattle.world_model.specs.world_base.Handing.{answer_of, bytes_of, hands_over, listed_at}
-use Rattle.world_model.proofs.of_group_model.Placed.{set_same}
+use Rattle.master.specs.ballot.Message.{Message}
+use Rattle.byte_world.specs.broker_base.Command.{Command}
+use Rattle.byte_world.specs.world_base.declared.Handed.{Handed}
+use Rattle.byte_world.specs.world_base.declared.Port.{Port}
+use Rattle.byte_world.specs.world_base.Core.{CountedCore}
+use Rattle.byte_world.specs.world_base.Handing.{answer_of, bytes_of, hands_over, listed_at}
+use Rattle.byte_world.proofs.of_node_group.Placed.{set_same}
 use Rattle.world_nodes.specs.Nodes.{NodesState}
 use Rattle.world_nodes.specs.Goes.{AnswersFor, GivesExactly, HandsOver, node_of}
 

@@ -2,15 +2,15 @@
 use Rattle.std.proofs.Common.{◌≡◌, ℕ, Bool, true, false, List, [], ◌∷◌, ◌++◌, refl, sym, ap, ◌∙◌, subst, append_assoc}
 use Rattle.std.proofs.lemmas.List.{append-nil}
 use Rattle.std.specs.Bool.{OnFalse}
-use Rattle.ballot.specs.Effect.{Effect}
-use Rattle.ballot.specs.Effect.TheVariants.{To}
-use Rattle.ballot.specs.Losses.{Thinned}
-use Rattle.ballot.specs.Losses.Thinned.{none, keeps, loses}
-use Rattle.ballot.specs.Message.{Message}
+use Rattle.master.specs.ballot.Effect.{Effect}
+use Rattle.master.specs.ballot.Effect.TheVariants.{To}
+use Rattle.master.specs.ballot.Losses.{Thinned}
+use Rattle.master.specs.ballot.Losses.Thinned.{none, keeps, loses}
+use Rattle.master.specs.ballot.Message.{Message}
 use Rattle.master.specs.snapshots.World.{messages}
 use Rattle.master.proofs.of_snapshots.Effects.{messages-append}
-use Rattle.broker_base.specs.Command.{Command}
-use Rattle.broker_base.specs.Output.{Output}
+use Rattle.byte_world.specs.broker_base.Command.{Command}
+use Rattle.byte_world.specs.broker_base.Output.{Output}
 use Rattle.world_nodes.specs.Inside.{Keeps}
 
 abbrev Given : Type 0

@@ -12,3 +12,5 @@ pub mod MasterActs
 mod MasterCounts
 mod Welcomes
 pub mod Exactly
+pub use Rattle.master.proofs as of_master
+pub use Rattle.byte_world.proofs.of_node_group as of_node_group

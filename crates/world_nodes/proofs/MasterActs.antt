@@ -3,22 +3,22 @@
 use Rattle.std.proofs.Common.{◌≡◌, ◌⊎◌, inl, inr, ◌+◌, ◌-◌, ℕ, zero, suc, Bool, true, false, ◌&&◌, if◌then◌else◌, List, [], ◌∷◌, ◌++◌, Option, Some, None, refl, sym, ap, ◌∙◌, subst, arith}
 use Rattle.std.specs.Prelude.{slice_get, OnOk, Result, Ok, Err}
 use Rattle.std.specs.Bool.{OnTrue, OnFalse}
-use Rattle.lists.specs.Lists.{In}
-use Rattle.lists.proofs.Members.{in_at}
-use Rattle.ballot.specs.Body.{Body}
-use Rattle.ballot.specs.Body.TheVariants.{NewBallot, Join, State, Install, Installed, Activate, Activated, Superseded, Append, Held, Commit}
-use Rattle.ballot.specs.Config.{Config}
-use Rattle.ballot.specs.Losses.{one_more}
-use Rattle.ballot.specs.Message.{Message}
-use Rattle.agreement.specs.MasterState.{AssignRefusal, MasterState, activating, assigning, is_granted, master_behind, refusal}
+use Rattle.master.specs.lists.Lists.{In}
+use Rattle.master.proofs.of_lists.Members.{in_at}
+use Rattle.master.specs.ballot.Body.{Body}
+use Rattle.master.specs.ballot.Body.TheVariants.{NewBallot, Join, State, Install, Installed, Activate, Activated, Superseded, Append, Held, Commit}
+use Rattle.master.specs.ballot.Config.{Config}
+use Rattle.master.specs.ballot.Losses.{one_more}
+use Rattle.master.specs.ballot.Message.{Message}
+use Rattle.master.specs.agreement.MasterState.{AssignRefusal, MasterState, activating, assigning, is_granted, master_behind, refusal}
 use Rattle.master.specs.snapshots.Masters.{activated, assigned}
-use Rattle.broker_base.specs.Command.{Command}
-use Rattle.world_model.specs.world_base.declared.item.Item.TheVariants.{Peer}
-use Rattle.world_model.specs.node_model.Moves.Deed.{takes}
-use Rattle.world_model.specs.group_model.Group.{Group, told_by_master, with_master}
-use Rattle.world_model.specs.group_model.Goes.{MayGo, behind_assign}
-use Rattle.world_model.specs.group_model.Goes.MayGo.{master_assigns, master_hears, assigns_unheard, answers_unheard}
-use Rattle.world_model.specs.Goes.{Does, IsFaithful, deed_of}
+use Rattle.byte_world.specs.broker_base.Command.{Command}
+use Rattle.byte_world.specs.world_base.declared.item.Item.TheVariants.{Peer}
+use Rattle.byte_world.specs.node_moves.Moves.NodeCall.{takes}
+use Rattle.byte_world.specs.node_group.Group.{Group, told_by_master, with_master}
+use Rattle.byte_world.specs.node_group.Goes.{MayGo, behind_assign}
+use Rattle.byte_world.specs.node_group.Goes.MayGo.{master_assigns, master_hears, assigns_unheard, answers_unheard}
+use Rattle.byte_world.specs.Goes.{Does, IsFaithful, deed_of}
 use Rattle.world_nodes.specs.Nodes.{NodesState, StandsFor}
 use Rattle.world_nodes.specs.Goes.{Acts, Comes, GoesBy, HeardByMaster, behind_answer, behind_giving}
 use Rattle.world_nodes.specs.Steps.{ActsOrRests, ComesIn, ComesOrRests, GivesIn, HearsIn, LosesNothing, MasterGoes, MasterHears, TakesIn, forgetful, unheard}

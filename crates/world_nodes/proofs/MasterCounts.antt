@@ -3,15 +3,15 @@ use Rattle.std.proofs.Common.{◌≡◌, ◌⊎◌, inl, inr, ℕ, ◌+◌, Bool
 use Rattle.std.specs.Prelude.{◌↔◌, Result, Err}
 use Rattle.std.specs.Bool.{OnTrue, OnFalse}
 use Rattle.std.specs.Result.{IsErrOf}
-use Rattle.lists.specs.Lists.{In}
-use Rattle.ballot.specs.Body.{Body}
-use Rattle.ballot.specs.Body.TheVariants.{NewBallot, Activate, Activated, Superseded}
-use Rattle.ballot.specs.Config.{Config}
-use Rattle.agreement.specs.MasterState.AssignRefusal.{bad_members, ballots_spent}
-use Rattle.agreement.specs.MasterState.{AssignRefusal, MasterState, activating, assigning, is_granted, refusal}
-use Rattle.broker_base.specs.Command.{Command}
-use Rattle.world_model.specs.world_base.Core.{rules}
-use Rattle.world_model.specs.group_model.Group.{Group, moment_of, with_master}
+use Rattle.master.specs.lists.Lists.{In}
+use Rattle.master.specs.ballot.Body.{Body}
+use Rattle.master.specs.ballot.Body.TheVariants.{NewBallot, Activate, Activated, Superseded}
+use Rattle.master.specs.ballot.Config.{Config}
+use Rattle.master.specs.agreement.MasterState.AssignRefusal.{bad_members, ballots_spent}
+use Rattle.master.specs.agreement.MasterState.{AssignRefusal, MasterState, activating, assigning, is_granted, refusal}
+use Rattle.byte_world.specs.broker_base.Command.{Command}
+use Rattle.byte_world.specs.world_base.Core.{rules}
+use Rattle.byte_world.specs.node_group.Group.{Group, moment_of, with_master}
 use Rattle.master.specs.declared.error.AssignError.{AssignError}
 use Rattle.master.specs.declared.error.AssignError.TheVariants.{BadMembers, BallotsSpent}
 use Rattle.master.specs.Inside.{ToldIn}

@@ -1,12 +1,12 @@
 -- Nodes open as a group does.
 use Rattle.std.proofs.Common.{◌≡◌, ℕ, suc, ◌+◌, List, [], ◌∷◌, ◌++◌, sym, ap, ◌∙◌, subst, arith}
 use Rattle.std.proofs.lemmas.List.{map-append}
-use Rattle.agreement.specs.MasterState.{MasterState, opening_master}
-use Rattle.ballot.specs.Config.{Config}
-use Rattle.ballot.specs.Message.{Message}
-use Rattle.broker_base.specs.Command.{Command}
-use Rattle.world_model.specs.world_base.Core.{CoreState, CountedCore, opening_core}
-use Rattle.world_model.specs.group_model.Group.{opening_cores, opening_group}
+use Rattle.master.specs.agreement.MasterState.{MasterState, opening_master}
+use Rattle.master.specs.ballot.Config.{Config}
+use Rattle.master.specs.ballot.Message.{Message}
+use Rattle.byte_world.specs.broker_base.Command.{Command}
+use Rattle.byte_world.specs.world_base.Core.{CoreState, CountedCore, opening_core}
+use Rattle.byte_world.specs.node_group.Group.{opening_cores, opening_group}
 use Rattle.world_nodes.specs.Nodes.{StandsFor, cores_of}
 
 pub opened_more : (config : Config) (at : ℕ) (opened later : List CountedCore) (node : CountedCore) → cores_of opened ≡ opening_cores at config

@@ -3,33 +3,33 @@ use Rattle.std.proofs.Common.{◌≡◌, ◌⊎◌, inl, inr, ◌<◌, ◌^◌, 
 use Rattle.std.specs.Prelude.{slice_get, get_or, IfSome, OnOk, Result, Ok, Err}
 use Rattle.std.specs.List.{find}
 use Rattle.std.proofs.lemmas.Option.{same_Some, slice_get_within}
-use Rattle.ballot.specs.Body.{Body}
-use Rattle.ballot.specs.Body.TheVariants.{NewBallot, Join, State, Install, Installed, Activate, Activated, Superseded, Append, Held, Commit}
-use Rattle.ballot.specs.Effect.{Effect}
+use Rattle.master.specs.ballot.Body.{Body}
+use Rattle.master.specs.ballot.Body.TheVariants.{NewBallot, Join, State, Install, Installed, Activate, Activated, Superseded, Append, Held, Commit}
+use Rattle.master.specs.ballot.Effect.{Effect}
 use Rattle.master.specs.Copying.{has_numbers_alone}
 use Rattle.master.specs.Inside.{ToldIn, asks_for}
 use Rattle.master.proofs.EarlierMembers.{NamesSome, names_some, quiet_does_nothing}
-use Rattle.ballot.specs.Losses.{IsQuiet, one_more}
-use Rattle.ballot.specs.Message.{Message}
-use Rattle.ballot.specs.Protocol.{replica_step}
-use Rattle.ballot.specs.Protocol.Input.{Receives}
-use Rattle.ballot.specs.Replica.{ReplicaState}
-use Rattle.ballot.specs.Sending.{nothing_done}
-use Rattle.lists.specs.Lists.{In}
-use Rattle.lists.proofs.Members.{in_at}
-use Rattle.broker_base.specs.Command.{Command}
-use Rattle.broker_base.specs.Output.{Output}
-use Rattle.broker_base.specs.State.{State as BrokerState}
-use Rattle.world_model.specs.world_base.Connections.{has_failed}
-use Rattle.world_model.specs.world_base.declared.item.Item.{Item}
-use Rattle.world_model.specs.world_base.declared.item.Item.TheVariants.{Peer}
-use Rattle.world_model.specs.world_base.Core.{CoreState, CountedCore, rules}
-use Rattle.world_model.specs.world_base.Losses.{DoesNothing, IsExactly, IsHeardQuietly, IsIgnored, Stepped, TakesNoMemory}
-use Rattle.world_model.specs.world_base.LossyStep.{RunsOn}
-use Rattle.world_model.specs.world_base.Step.{node_step}
-use Rattle.world_model.proofs.of_world_base.Calmly.{says_nothing}
-use Rattle.world_model.specs.group_model.Group.{moment_of}
-use Rattle.world_model.specs.node_model.Moves.Deed.{takes}
+use Rattle.master.specs.ballot.Losses.{IsQuiet, one_more}
+use Rattle.master.specs.ballot.Message.{Message}
+use Rattle.master.specs.ballot.Protocol.{replica_step}
+use Rattle.master.specs.ballot.Protocol.Input.{Receives}
+use Rattle.master.specs.ballot.Replica.{ReplicaState}
+use Rattle.master.specs.ballot.Sending.{nothing_done}
+use Rattle.master.specs.lists.Lists.{In}
+use Rattle.master.proofs.of_lists.Members.{in_at}
+use Rattle.byte_world.specs.broker_base.Command.{Command}
+use Rattle.byte_world.specs.broker_base.Output.{Output}
+use Rattle.byte_world.specs.broker_base.State.{State as BrokerState}
+use Rattle.byte_world.specs.world_base.Connections.{has_failed}
+use Rattle.byte_world.specs.world_base.declared.item.Item.{Item}
+use Rattle.byte_world.specs.world_base.declared.item.Item.TheVariants.{Peer}
+use Rattle.byte_world.specs.world_base.Core.{CoreState, CountedCore, rules}
+use Rattle.byte_world.specs.world_base.Losses.{DoesNothing, IsExactly, IsHeardQuietly, IsIgnored, Stepped, TakesNoMemory}
+use Rattle.byte_world.specs.world_base.LossyStep.{RunsOn}
+use Rattle.byte_world.specs.world_base.Step.{node_step}
+use Rattle.byte_world.proofs.of_world_base.Calmly.{says_nothing}
+use Rattle.byte_world.specs.node_group.Group.{moment_of}
+use Rattle.byte_world.specs.node_moves.Moves.NodeCall.{takes}
 use Rattle.world_nodes.specs.Nodes.{NodesState}
 use Rattle.world_nodes.specs.Goes.{Acts, Comes, HeardByMaster, TakesExactly, behind_deed, running}
 use Rattle.world_nodes.specs.Quiet.{ComesUnheeded, IsUnheeded, RestsAt}

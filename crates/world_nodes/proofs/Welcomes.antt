@@ -3,19 +3,19 @@ use Rattle.std.proofs.Common.{◌≡◌, ◌<◌, ℕ, zero, suc, Bool, false, L
 use Rattle.std.specs.Prelude.{IfOk, Result, Ok, Err, slice_get}
 use Rattle.std.proofs.lemmas.List.{take_more}
 use Rattle.std.proofs.lemmas.Option.{same_Some}
-use Rattle.ballot.specs.Logs.{Log}
-use Rattle.ballot.specs.Machine.{replay, replay_from}
-use Rattle.ballot.specs.Replica.{ReplicaState}
-use Rattle.broker_base.specs.Command.{Command}
-use Rattle.broker_base.specs.Command.TheVariants as commands
-use Rattle.broker_base.specs.Place.{Client}
-use Rattle.broker_base.specs.State.{State}
+use Rattle.master.specs.ballot.Logs.{Log}
+use Rattle.master.specs.ballot.Machine.{replay, replay_from}
+use Rattle.master.specs.ballot.Replica.{ReplicaState}
+use Rattle.byte_world.specs.broker_base.Command.{Command}
+use Rattle.byte_world.specs.broker_base.Command.TheVariants as commands
+use Rattle.byte_world.specs.broker_base.Place.{Client}
+use Rattle.byte_world.specs.broker_base.State.{State}
 use Rattle.master.specs.Inside.{ToldIn}
 use Rattle.master.specs.snapshots.Laws.{IsCutRight}
 use Rattle.master.proofs.of_snapshots.PastsAgree.{logs_are_cut_right}
-use Rattle.world_model.specs.world_base.Core.{CoreState, CountedCore, rules}
-use Rattle.world_model.specs.group_model.Group.{moment_of, replica_of}
-use Rattle.world_model.proofs.of_group_model.Placed.{get_mapped}
+use Rattle.byte_world.specs.world_base.Core.{CoreState, CountedCore, rules}
+use Rattle.byte_world.specs.node_group.Group.{moment_of, replica_of}
+use Rattle.byte_world.proofs.of_node_group.Placed.{get_mapped}
 use Rattle.world_nodes.specs.Asking.{first_connection, is_welcome, log_in, log_of, welcomes_back}
 use Rattle.world_nodes.specs.Goes.{node_of}
 use Rattle.world_nodes.specs.Inside.{HaveCounted}

@@ -1,12 +1,12 @@
 -- The list on which nodes agree.
 use Rattle.std.specs.Prelude.{◌≡◌, ℕ, List, ◌∷◌, length}
-use Rattle.ballot.specs.Config.{Config}
+use Rattle.master.specs.ballot.Config.{Config}
 use Rattle.master.specs.snapshots.Past.{IsAgreed, Moment, Past}
-use Rattle.broker_base.specs.Command.{Command}
-use Rattle.broker_base.specs.Output.{Output}
-use Rattle.broker_base.specs.State.{State}
-use Rattle.world_model.specs.world_base.Core.{rules}
-use Rattle.world_model.specs.group_model.Group.{Group, moment_of}
+use Rattle.byte_world.specs.broker_base.Command.{Command}
+use Rattle.byte_world.specs.broker_base.Output.{Output}
+use Rattle.byte_world.specs.broker_base.State.{State}
+use Rattle.byte_world.specs.world_base.Core.{rules}
+use Rattle.byte_world.specs.node_group.Group.{Group, moment_of}
 use Rattle.world_nodes.specs.Nodes.{NodesState, StandsFor}
 
 -- whatever the history of a group that corresponds to the nodes, this is its agreed list

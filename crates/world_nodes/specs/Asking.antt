@@ -1,17 +1,17 @@
 -- What is asked of nodes before they are led out: the whole log of a node, and whether a client's
 -- session is found after it.
 use Rattle.std.specs.Prelude.{ℕ, Bool, false, List, [], ◌∷◌, ◌++◌, Option, Some, None}
-use Rattle.ballot.specs.Machine.{replay}
+use Rattle.master.specs.ballot.Machine.{replay}
 use Rattle.master.specs.snapshots.Whole.{whole_log}
-use Rattle.packet.specs.declared.connack.Connack.TheVariants.{Accepted}
-use Rattle.packet.specs.declared.packet.Packet.TheVariants.{Connack}
-use Rattle.broker_base.specs.Command.{Command}
-use Rattle.broker_base.specs.Command.TheVariants as commands
-use Rattle.broker_base.specs.Connection.{ConnectionName}
-use Rattle.broker_base.specs.Output.{Output}
-use Rattle.broker_base.specs.Output.TheVariants.{Send}
-use Rattle.broker_base.specs.Place.{Client}
-use Rattle.world_model.specs.world_base.Core.{CountedCore, rules}
+use Rattle.byte_world.specs.packet.declared.connack.Connack.TheVariants.{Accepted}
+use Rattle.byte_world.specs.packet.declared.packet.Packet.TheVariants.{Connack}
+use Rattle.byte_world.specs.broker_base.Command.{Command}
+use Rattle.byte_world.specs.broker_base.Command.TheVariants as commands
+use Rattle.byte_world.specs.broker_base.Connection.{ConnectionName}
+use Rattle.byte_world.specs.broker_base.Output.{Output}
+use Rattle.byte_world.specs.broker_base.Output.TheVariants.{Send}
+use Rattle.byte_world.specs.broker_base.Place.{Client}
+use Rattle.byte_world.specs.world_base.Core.{CountedCore, rules}
 use Rattle.world_nodes.specs.Goes.{node_of}
 use Rattle.world_nodes.specs.Nodes.{NodesState}
 

@@ -1,25 +1,25 @@
 -- What nodes and their master do, exactly, and how a group that corresponds to them then moves.
 use Rattle.std.specs.Prelude.{◌≡◌, ℕ, zero, suc, ◌-◌, [], ◌∷◌, ◌++◌, if◌then◌else◌, List, Option, Some, None, slice_get, slice_set}
-use Rattle.ballot.specs.Body.{Body}
-use Rattle.ballot.specs.Body.TheVariants.{Activate}
-use Rattle.ballot.specs.Config.{Config}
-use Rattle.ballot.specs.Message.{Message}
-use Rattle.ballot.specs.Sending.{master}
-use Rattle.ballot.specs.Cutting.{can_cut}
+use Rattle.master.specs.ballot.Body.{Body}
+use Rattle.master.specs.ballot.Body.TheVariants.{Activate}
+use Rattle.master.specs.ballot.Config.{Config}
+use Rattle.master.specs.ballot.Message.{Message}
+use Rattle.master.specs.ballot.Sending.{master}
+use Rattle.master.specs.ballot.Cutting.{can_cut}
 use Rattle.master.specs.snapshots.Masters.{MasterOutcome, activated, assigned}
 use Rattle.master.specs.snapshots.World.{messages, recorded}
-use Rattle.broker_base.specs.Command.{Command}
-use Rattle.world_model.specs.world_base.Core.{CountedCore}
-use Rattle.world_model.specs.world_base.declared.Handed.{Handed}
-use Rattle.world_model.specs.world_base.declared.item.Item.{Item}
-use Rattle.world_model.specs.world_base.declared.item.Item.TheVariants.{Cut, Peer}
-use Rattle.world_model.specs.world_base.declared.Port.{Port}
-use Rattle.world_model.specs.world_base.Handing.{answer_of, bytes_of, listed_at}
-use Rattle.world_model.specs.world_base.Turns.{has_room}
-use Rattle.world_model.specs.node_model.Moves.{Deed, done}
-use Rattle.world_model.specs.node_model.Moves.Deed.{takes, gives}
-use Rattle.world_model.specs.group_model.Group.{Group}
-use Rattle.world_model.specs.Goes.{Does}
+use Rattle.byte_world.specs.broker_base.Command.{Command}
+use Rattle.byte_world.specs.world_base.Core.{CountedCore}
+use Rattle.byte_world.specs.world_base.declared.Handed.{Handed}
+use Rattle.byte_world.specs.world_base.declared.item.Item.{Item}
+use Rattle.byte_world.specs.world_base.declared.item.Item.TheVariants.{Cut, Peer}
+use Rattle.byte_world.specs.world_base.declared.Port.{Port}
+use Rattle.byte_world.specs.world_base.Handing.{answer_of, bytes_of, listed_at}
+use Rattle.byte_world.specs.world_base.Turns.{has_room}
+use Rattle.byte_world.specs.node_moves.Moves.{NodeCall, done}
+use Rattle.byte_world.specs.node_moves.Moves.NodeCall.{takes, gives}
+use Rattle.byte_world.specs.node_group.Group.{Group}
+use Rattle.byte_world.specs.Goes.{Does}
 use Rattle.world_nodes.specs.Nodes.{NodesState, StandsFor}
 
 -- ---- which nodes run
@@ -49,7 +49,7 @@ cutting nodes node = unless_whole (running nodes node)
 -- ---- a call of a node
 
 -- the nodes after a call of the one at this place
-abbrev pub behind_deed : ℕ → CountedCore → Deed → NodesState → NodesState
+abbrev pub behind_deed : ℕ → CountedCore → NodeCall → NodesState → NodesState
 behind_deed at node deed n =
     record n {
       nodes = slice_set n.nodes at (record node { core = (done deed node.core).core });
@@ -88,12 +88,12 @@ pub record GivesExactly (node : ℕ) (port : Port) (old new : NodesState) : Type
 
 -- a group does a call of a node, or of the master, exactly or with losses, and then corresponds to
 -- these nodes
-pub record GoesBy (deed : Option (ℕ × Deed)) (g : Group) (new : NodesState) : Type 0 where
+pub record GoesBy (deed : Option (ℕ × NodeCall)) (g : Group) (new : NodesState) : Type 0 where
   pub does : Does g deed
   pub stands : StandsFor does.behind new
 
 -- each group that corresponds to the nodes before does so: the node at this place does this call
-abbrev pub Acts : ℕ → Deed → NodesState → NodesState → Type 0
+abbrev pub Acts : ℕ → NodeCall → NodesState → NodesState → Type 0
 Acts at deed old new = (g : Group) → StandsFor g old → GoesBy (Some (at, deed)) g new
 
 -- ---- what is handed over

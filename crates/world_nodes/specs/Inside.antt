@@ -1,24 +1,24 @@
 -- What the helpers of nodes say.
 use Rattle.std.specs.Prelude.{◌≡◌, ◌<◌, ◌^◌, ℕ, Bool, true, ◌-◌, ◌++◌, List, [], Some, None, length, map, slice_get}
 use Rattle.std.specs.List.{find}
-use Rattle.lists.specs.Lists.{In}
-use Rattle.ballot.specs.Replica.{ReplicaState}
-use Rattle.broker_base.specs.State.{State}
+use Rattle.master.specs.lists.Lists.{In}
+use Rattle.master.specs.ballot.Replica.{ReplicaState}
+use Rattle.byte_world.specs.broker_base.State.{State}
 use Rattle.master.specs.snapshots.World.{messages}
-use Rattle.ballot.specs.Effect.{Effect}
-use Rattle.ballot.specs.Losses.{Thinned}
-use Rattle.ballot.specs.Message.{Message}
-use Rattle.broker_base.specs.Command.{Command}
-use Rattle.broker_base.specs.Output.{Output}
-use Rattle.world_model.specs.world_base.declared.item.Item.{Item}
-use Rattle.world_model.specs.world_base.declared.item.Item.TheVariants.{Cut, Peer}
-use Rattle.world_model.specs.world_base.Core.{CountedCore, rules}
-use Rattle.world_model.specs.world_base.Connections.{has_failed}
-use Rattle.world_model.specs.world_base.Losses.{DoesNothing, TakesNoMemory}
-use Rattle.world_model.specs.world_base.LossyStep.{RunsOn}
-use Rattle.world_model.specs.world_base.Step.{node_step}
+use Rattle.master.specs.ballot.Effect.{Effect}
+use Rattle.master.specs.ballot.Losses.{Thinned}
+use Rattle.master.specs.ballot.Message.{Message}
+use Rattle.byte_world.specs.broker_base.Command.{Command}
+use Rattle.byte_world.specs.broker_base.Output.{Output}
+use Rattle.byte_world.specs.world_base.declared.item.Item.{Item}
+use Rattle.byte_world.specs.world_base.declared.item.Item.TheVariants.{Cut, Peer}
+use Rattle.byte_world.specs.world_base.Core.{CountedCore, rules}
+use Rattle.byte_world.specs.world_base.Connections.{has_failed}
+use Rattle.byte_world.specs.world_base.Losses.{DoesNothing, TakesNoMemory}
+use Rattle.byte_world.specs.world_base.LossyStep.{RunsOn}
+use Rattle.byte_world.specs.world_base.Step.{node_step}
 use Rattle.master.specs.Inside.{IsGroup, ToldIn, held_by}
-use Rattle.world_model.specs.group_model.Group.{Group, moment_of, replica_of}
+use Rattle.byte_world.specs.node_group.Group.{Group, moment_of, replica_of}
 use Rattle.world_nodes.specs.Goes.{running}
 use Rattle.world_nodes.specs.Nodes.{NodesState, StandsFor, cores_of}
 

@@ -5,3 +5,5 @@ pub mod Quiet
 pub mod Agreed
 pub mod Asking
 pub mod Inside
+pub use Rattle.master.specs as master
+pub use Rattle.byte_world.specs.node_group as node_group

@@ -1,10 +1,10 @@
 -- Nodes with their master and all messages that were sent, and which groups of the model they are.
 use Rattle.std.specs.Prelude.{◌≡◌, ℕ, List, map}
-use Rattle.ballot.specs.Message.{Message}
-use Rattle.agreement.specs.MasterState.{MasterState}
-use Rattle.broker_base.specs.Command.{Command}
-use Rattle.world_model.specs.world_base.Core.{CoreState, CountedCore}
-use Rattle.world_model.specs.group_model.Group.{Group}
+use Rattle.master.specs.ballot.Message.{Message}
+use Rattle.master.specs.agreement.MasterState.{MasterState}
+use Rattle.byte_world.specs.broker_base.Command.{Command}
+use Rattle.byte_world.specs.world_base.Core.{CoreState, CountedCore}
+use Rattle.byte_world.specs.node_group.Group.{Group}
 
 -- Node n + 1 is at place n; all messages that were ever sent stay, each with its receiver. The
 -- record has the places below the bases of all logs. Losses count the steps in which memory ran

@@ -1,17 +1,17 @@
 -- What takes no memory at nodes: no loss is counted for it.
 use Rattle.std.specs.Prelude.{◌≡◌, ◌<◌, ◌^◌, ◌-◌, ℕ, zero, suc, [], Option, Some, None}
 use Rattle.std.specs.List.{find}
-use Rattle.ballot.specs.Body.{Body}
-use Rattle.ballot.specs.Body.TheVariants.{Activate}
-use Rattle.ballot.specs.Message.{Message}
-use Rattle.broker_base.specs.Command.{Command}
-use Rattle.world_model.specs.world_base.Connections.{has_failed}
-use Rattle.world_model.specs.world_base.declared.item.Item.{Item}
-use Rattle.world_model.specs.world_base.declared.item.Item.TheVariants.{Peer}
-use Rattle.world_model.specs.world_base.declared.Port.{Port}
-use Rattle.world_model.specs.world_base.Core.{CountedCore}
-use Rattle.world_model.specs.world_base.Handing.{bytes_of, listed_at}
-use Rattle.world_model.specs.world_base.Losses.{TakesNoMemory}
+use Rattle.master.specs.ballot.Body.{Body}
+use Rattle.master.specs.ballot.Body.TheVariants.{Activate}
+use Rattle.master.specs.ballot.Message.{Message}
+use Rattle.byte_world.specs.broker_base.Command.{Command}
+use Rattle.byte_world.specs.world_base.Connections.{has_failed}
+use Rattle.byte_world.specs.world_base.declared.item.Item.{Item}
+use Rattle.byte_world.specs.world_base.declared.item.Item.TheVariants.{Peer}
+use Rattle.byte_world.specs.world_base.declared.Port.{Port}
+use Rattle.byte_world.specs.world_base.Core.{CountedCore}
+use Rattle.byte_world.specs.world_base.Handing.{bytes_of, listed_at}
+use Rattle.byte_world.specs.world_base.Losses.{TakesNoMemory}
 use Rattle.world_nodes.specs.Goes.{node_of, running}
 use Rattle.world_nodes.specs.Nodes.{NodesState}
 

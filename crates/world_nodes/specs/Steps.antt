@@ -1,24 +1,24 @@
 -- Steps of nodes in which memory may have run out, and how these are counted.
 use Rattle.std.specs.Prelude.{◌≡◌, ◌⊎◌, ◌<◌, ◌^◌, ◌-◌, ◌++◌, ℕ, zero, suc, nat_lt, if◌then◌else◌, List, Option, Some, None, slice_set}
 use Rattle.master.specs.snapshots.World.{messages, recorded}
-use Rattle.ballot.specs.Effect.{Effect}
-use Rattle.ballot.specs.Body.{Body}
-use Rattle.ballot.specs.Body.TheVariants.{Activate}
-use Rattle.ballot.specs.Config.{Config}
-use Rattle.ballot.specs.Losses.{Thinned, one_more}
-use Rattle.ballot.specs.Message.{Message}
-use Rattle.broker_base.specs.Command.{Command}
-use Rattle.broker_base.specs.Output.{Output}
-use Rattle.world_model.specs.world_base.declared.Handed.{Handed}
-use Rattle.world_model.specs.world_base.declared.Handed.TheVariants as answers
-use Rattle.world_model.specs.world_base.declared.item.Item.{Item}
-use Rattle.world_model.specs.world_base.declared.item.Item.TheVariants.{Cut, Expel, Peer}
-use Rattle.world_model.specs.world_base.declared.Port.{Port}
-use Rattle.world_model.specs.world_base.Core.{CountedCore}
-use Rattle.world_model.specs.world_base.LossyStep.{RunsOn}
-use Rattle.world_model.specs.node_model.Moves.{Deed}
-use Rattle.world_model.specs.node_model.Moves.Deed.{takes}
-use Rattle.world_model.specs.group_model.Group.{Group}
+use Rattle.master.specs.ballot.Effect.{Effect}
+use Rattle.master.specs.ballot.Body.{Body}
+use Rattle.master.specs.ballot.Body.TheVariants.{Activate}
+use Rattle.master.specs.ballot.Config.{Config}
+use Rattle.master.specs.ballot.Losses.{Thinned, one_more}
+use Rattle.master.specs.ballot.Message.{Message}
+use Rattle.byte_world.specs.broker_base.Command.{Command}
+use Rattle.byte_world.specs.broker_base.Output.{Output}
+use Rattle.byte_world.specs.world_base.declared.Handed.{Handed}
+use Rattle.byte_world.specs.world_base.declared.Handed.TheVariants as answers
+use Rattle.byte_world.specs.world_base.declared.item.Item.{Item}
+use Rattle.byte_world.specs.world_base.declared.item.Item.TheVariants.{Cut, Expel, Peer}
+use Rattle.byte_world.specs.world_base.declared.Port.{Port}
+use Rattle.byte_world.specs.world_base.Core.{CountedCore}
+use Rattle.byte_world.specs.world_base.LossyStep.{RunsOn}
+use Rattle.byte_world.specs.node_moves.Moves.{NodeCall}
+use Rattle.byte_world.specs.node_moves.Moves.NodeCall.{takes}
+use Rattle.byte_world.specs.node_group.Group.{Group}
 use Rattle.world_nodes.specs.Goes.{Acts, AnswersFor, GivesExactly, GoesBy, HandsOver, behind_answer, behind_deed, behind_giving, cutting, running}
 use Rattle.world_nodes.specs.Nodes.{NodesState, StandsFor}
 
@@ -123,7 +123,7 @@ HandsIn node port old new before behind handed =
 -- then corresponds to the nodes after
 
 -- by a call of the node at this place; or nothing happened
-abbrev pub ActsOrRests : ℕ → Deed → NodesState → NodesState → Type 0
+abbrev pub ActsOrRests : ℕ → NodeCall → NodesState → NodesState → Type 0
 ActsOrRests at deed old new = Acts at deed old new ⊎ (new ≡ forgetful old)
 
 -- by a step of the master, whose message may be lost; or nothing happened

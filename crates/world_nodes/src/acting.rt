@@ -1,25 +1,25 @@
 // What nodes and their master do in a step.
 
 ghost use Rattle.std.specs.Prelude.{◌≡◌, ◌+◌, ◌-◌, ◌↔◌, ◌≤◌, true, false, None, Some, length, slice_get, IfSome, OnOk, OnErr, IsErr};
-ghost use Rattle.ballot.specs.Body.TheVariants.{Activate};
-ghost use Rattle.ballot.specs.Cutting.{can_cut};
-ghost use Rattle.ballot.specs.Losses.{one_more};
-ghost use Rattle.lists.specs.Lists.{In};
-ghost use Rattle.agreement.specs.MasterState.{refusal};
-ghost use Rattle.world_model.specs.node_model.Moves.Deed.{takes};
+ghost use Rattle.master.specs.ballot.Body.TheVariants.{Activate};
+ghost use Rattle.master.specs.ballot.Cutting.{can_cut};
+ghost use Rattle.master.specs.ballot.Losses.{one_more};
+ghost use Rattle.master.specs.lists.Lists.{In};
+ghost use Rattle.master.specs.agreement.MasterState.{refusal};
+ghost use Rattle.byte_world.specs.node_moves.Moves.NodeCall.{takes};
 ghost use Rattle.world_nodes.specs.Goes.{Acts, Comes, CutsExactly, TakesExactly, running};
 ghost use Rattle.world_nodes.specs.Quiet.{ComesUnheeded, RestsAt};
 ghost use Rattle.world_nodes.specs.Steps.{ActsOrRests, ComesIn, ComesOrRests, CutsIn, GivesIn, HearsIn, LosesNothing, MasterGoes, TakesIn, forgetful};
-ghost use Rattle.world_model.specs.world_base.Core.{CountedCore};
+ghost use Rattle.byte_world.specs.world_base.Core.{CountedCore};
 ghost use Rattle.world_nodes.specs.Inside.{IsPassedOver, RunsAt, WasSent};
 
 use crate::keeping::counted;
 use crate::nodes::Nodes;
 use crate::turning::{cut_back, pass_over, take_in};
-use master::{Idle, answer_of, config_of, record, tell};
-use world_model::world_base::{
+use byte_world::world_base::{
     Body, BrokerMachine, Command, Config, Item, Members, Memory, Message,
 };
+use master::{Idle, answer_of, config_of, record, tell};
 
 impl Nodes {
     // Lets a node that runs take an item.

@@ -1,17 +1,17 @@
 // What is asked of nodes before they are led out of their state.
 
 ghost use Rattle.std.specs.Prelude.{◌≡◌, ◌<◌, ◌++◌, ◌↔◌, [], ◌∷◌, None, Some, true, false, IfOk, OnOk};
-ghost use Rattle.agreement.specs.MasterState.{refusal};
-ghost use Rattle.ballot.specs.Machine.{replay_from};
-ghost use Rattle.world_model.specs.world_base.Core.{CountedCore, rules};
+ghost use Rattle.master.specs.agreement.MasterState.{refusal};
+ghost use Rattle.master.specs.ballot.Machine.{replay_from};
+ghost use Rattle.byte_world.specs.world_base.Core.{CountedCore, rules};
 ghost use Rattle.world_nodes.specs.Asking.{first_connection, is_present, is_welcome, log_of, welcomes_back};
 ghost use Rattle.world_nodes.specs.Goes.{node_of};
 
 use crate::nodes::Nodes;
-use ballot::Machine;
-use packet::{ClientId, Connack, Packet};
+use byte_world::packet::{ClientId, Connack, Packet};
+use byte_world::world_base::{BrokerMachine, Command, Config, ConnectionId, Memory, Output};
+use master::ballot::Machine;
 use std::alloc::Global;
-use world_model::world_base::{BrokerMachine, Command, Config, ConnectionId, Memory, Output};
 
 impl Nodes {
     /// Says whether the master gives the next ballot to a configuration when [`Nodes::assign`] asks

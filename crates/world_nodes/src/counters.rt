@@ -1,12 +1,12 @@
 // How many places nodes acknowledged in the ballots that matter.
 
 ghost use Rattle.std.specs.Prelude.{ℕ, ◌≡◌, ◌≤◌, ◌<◌, ◌-◌, ◌^◌, IfOk, get_or, length, take};
-ghost use Rattle.lists.specs.Lists.{In};
+ghost use Rattle.master.specs.lists.Lists.{In};
 ghost use Rattle.master.specs.Inside.{HasCounted, least_but_one};
 
+use byte_world::world_base::{Command, Memory, Message};
 use master::{Told, turn_over};
 use std::alloc::Global;
-use world_model::world_base::{Command, Memory, Message};
 
 /// What was acknowledged in the active ballot, and in the one that waits. Its calls take no memory,
 /// except `new`.

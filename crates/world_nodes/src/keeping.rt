@@ -3,10 +3,10 @@
 ghost use Rattle.std.specs.Prelude.{◌≡◌, ◌++◌, ◌∷◌, [], ◌&&◌, if◌then◌else◌};
 ghost use Rattle.std.specs.Bool.{OnTrue, OnFalse};
 ghost use Rattle.master.specs.snapshots.World.{messages};
-ghost use Rattle.ballot.specs.Losses.{Thinned, one_more};
+ghost use Rattle.master.specs.ballot.Losses.{Thinned, one_more};
 ghost use Rattle.world_nodes.specs.Inside.{Keeps};
 
-use world_model::world_base::{Command, Effect, Message, Output};
+use byte_world::world_base::{Command, Effect, Message, Output};
 
 /// Puts the messages among effects after those that were sent. A message for which there is no
 /// memory is lost. Returns whether none was lost.

@@ -10,5 +10,6 @@ mod nodes;
 mod opening;
 mod turning;
 
+pub use master;
 pub use master::Idle;
 pub use nodes::Nodes;

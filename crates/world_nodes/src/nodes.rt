@@ -1,11 +1,11 @@
 // Nodes and their master.
 
 ghost use Rattle.std.specs.Prelude.{◌≡◌, ◌≤◌, ◌-◌, ◌↔◌, ◌++◌, true, false, None, Some, length, slice_get, IfOk, IfSome, OnOk, OnErr, IsErr, IsErrOf};
-ghost use Rattle.ballot.specs.Losses.{one_more};
-ghost use Rattle.agreement.specs.MasterState.{refusal};
-ghost use Rattle.agreement.specs.World.{can_open};
-ghost use Rattle.world_model.specs.group_model.Group.{Group, opening_group};
-ghost use Rattle.world_model.specs.node_model.Moves.Deed.{takes};
+ghost use Rattle.master.specs.ballot.Losses.{one_more};
+ghost use Rattle.master.specs.agreement.MasterState.{refusal};
+ghost use Rattle.master.specs.agreement.World.{can_open};
+ghost use Rattle.byte_world.specs.node_group.Group.{Group, opening_group};
+ghost use Rattle.byte_world.specs.node_moves.Moves.NodeCall.{takes};
 ghost use Rattle.world_nodes.specs.Nodes.{NodesState, StandsFor};
 ghost use Rattle.world_nodes.specs.Goes.{Acts, AnswersFor, Comes, ComesToNobody, CutsExactly, GivesExactly, HandsOver, TakesExactly, behind_giving, cutting, node_of, proposing, running};
 ghost use Rattle.world_nodes.specs.Quiet.{ComesUnheeded, RestsAt, WaitsAtNone};
@@ -13,13 +13,13 @@ ghost use Rattle.world_nodes.specs.Steps.{ActsOrRests, ComesIn, ComesOrRests, Cu
 
 use crate::counters::Counters;
 use crate::opening::can_open;
-use master::{Idle, Master, asks_for, copy_of};
-use packet::ClientId;
-use std::alloc::Global;
-use std::marker::Model;
-use world_model::world_base::{
+use byte_world::packet::ClientId;
+use byte_world::world_base::{
     BrokerMachine, Command, Config, Handed, Item, Message, NodeCore, OpeningError, Piece, Port,
 };
+use master::{Idle, Master, asks_for, copy_of};
+use std::alloc::Global;
+use std::marker::Model;
 
 /// Nodes with the connections of their clients, their master, and all messages that they ever sent:
 /// any may come late, again or never. Nodes are numbered from 1, messages from 0 in the order of

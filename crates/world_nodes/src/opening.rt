@@ -2,9 +2,9 @@
 
 ghost use Rattle.std.specs.Prelude.{◌≡◌, nat_le};
 ghost use Rattle.std.specs.List.{list_all};
-ghost use Rattle.agreement.specs.World.{can_open};
+ghost use Rattle.master.specs.agreement.World.{can_open};
 
-use world_model::world_base::Config;
+use byte_world::world_base::Config;
 
 /// Says whether this many nodes may open in a configuration.
 pub fn can_open(nodes: u8, config: &Config) -> bool

@@ -4,27 +4,27 @@ use Rattle.std.specs.List.{list_any}
 use Rattle.std.proofs.lemmas.Bool.{both_ways}
 use Rattle.std.proofs.lemmas.List.{append-nil, map-append}
 use Rattle.std.proofs.lemmas.List.Elements.{filter-append}
-use Rattle.packet.specs.declared.connack.Connack.TheVariants as connacks
-use Rattle.packet.specs.declared.delivery.Delivery.{Delivery}
-use Rattle.packet.specs.declared.delivery.Delivery.TheVariants as deliveries
-use Rattle.packet.specs.declared.packet.Packet.{Packet}
-use Rattle.packet.specs.declared.packet.Packet.TheVariants as packets
-use Rattle.packet.specs.declared.publish.Publish.{Publish}
-use Rattle.packet.specs.declared.qos.QoS.{QoS}
-use Rattle.session_base.specs.declared.publication.Publication.{Publication}
-use Rattle.session_base.specs.Publication.{is_answered, publication_of}
-use Rattle.lists.specs.Lists.{has_id}
-use Rattle.client_base.specs.declared.accepted.Accepted.{Accepted}
-use Rattle.client_base.specs.declared.error.ClientError.{ClientError}
-use Rattle.client_base.specs.declared.stage.Stage.{Stage}
-use Rattle.client_base.specs.declared.stage.Stage.TheVariants as stages
-use Rattle.client_base.specs.State.{ClientState, is_online, is_open}
-use Rattle.client_base.specs.Answered.{Turn, accepted_of, accepting, awaits_pubrec, on_publish, on_pubrec}
-use Rattle.client_base.specs.Calls.{confirmed, discarded, loses_session, numbered, on_first, on_later, publish_refusal, published, received}
-use Rattle.client_base.specs.Handled.{handled, handled_first, handled_online, is_sent_with, releasing, takes_in}
-use Rattle.client_base.specs.Steps.{Call, disconnected, keeper_step, request_refusal, subscribed, unless_refused, unsubscribed}
-use Rattle.world_model.specs.story.Sides.{Side}
-use Rattle.world_model.specs.Accepted.{accepted_once, is_accepted_once, publication_accepted}
+use Rattle.client.specs.packet.declared.connack.Connack.TheVariants as connacks
+use Rattle.client.specs.packet.declared.delivery.Delivery.{Delivery}
+use Rattle.client.specs.packet.declared.delivery.Delivery.TheVariants as deliveries
+use Rattle.client.specs.packet.declared.packet.Packet.{Packet}
+use Rattle.client.specs.packet.declared.packet.Packet.TheVariants as packets
+use Rattle.client.specs.packet.declared.publish.Publish.{Publish}
+use Rattle.client.specs.packet.declared.qos.QoS.{QoS}
+use Rattle.client.specs.session_base.declared.publication.Publication.{Publication}
+use Rattle.client.specs.session_base.Publication.{is_answered, publication_of}
+use Rattle.client.specs.lists.Lists.{has_id}
+use Rattle.client.specs.client_base.declared.accepted.Accepted.{Accepted}
+use Rattle.client.specs.client_base.declared.error.ClientError.{ClientError}
+use Rattle.client.specs.client_base.declared.stage.Stage.{Stage}
+use Rattle.client.specs.client_base.declared.stage.Stage.TheVariants as stages
+use Rattle.client.specs.client_base.State.{ClientState, is_online, is_open}
+use Rattle.client.specs.client_base.Answered.{Turn, accepted_of, accepting, awaits_pubrec, on_publish, on_pubrec}
+use Rattle.client.specs.client_base.Calls.{confirmed, discarded, loses_session, numbered, on_first, on_later, publish_refusal, published, received}
+use Rattle.client.specs.client_base.Handled.{handled, handled_first, handled_online, is_sent_with, releasing, takes_in}
+use Rattle.client.specs.client_base.Steps.{Call, disconnected, keeper_step, request_refusal, subscribed, unless_refused, unsubscribed}
+use Rattle.byte_world.specs.exactly_once.Sides.{Side}
+use Rattle.byte_world.specs.Accepted.{accepted_once, is_accepted_once, publication_accepted}
 
 -- one more
 more_accepted : (accepted : List Accepted) (one : Accepted) → accepted_once (accepted ++ one ∷ []) ≡ accepted_once accepted ++ accepted_once (one ∷ [])

@@ -3,20 +3,20 @@
 use Rattle.std.proofs.Common.{◌≡◌, suc, true, false, List, [], ◌∷◌, ◌++◌, length, reverse, Ok, refl, ap, ap₂, sym, subst, ◌∙◌, arith}
 use Rattle.std.proofs.lemmas.Bool.{both_ways}
 use Rattle.std.proofs.lemmas.List.{append-nil}
-use Rattle.packet.specs.Spelling.{IsPacket}
-use Rattle.lists.specs.Lists.{Each}
-use Rattle.client_base.specs.State.{ClientState, is_open}
-use Rattle.client_base.specs.Answered.{Turn}
-use Rattle.client_base.specs.History as history
-use Rattle.client_base.specs.Written.{writes, writes_first}
+use Rattle.client.specs.packet.Spelling.{IsPacket}
+use Rattle.client.specs.lists.Lists.{Each}
+use Rattle.client.specs.client_base.State.{ClientState, is_open}
+use Rattle.client.specs.client_base.Answered.{Turn}
+use Rattle.client.specs.client_base.History as history
+use Rattle.client.specs.client_base.Written.{writes, writes_first}
 use Rattle.client.specs.Core.{AppendsAll, Core, gone}
-use Rattle.world_model.specs.node_model.Puts.{spelled}
-use Rattle.session_base.specs.declared.publication.Publication.{Publication}
-use Rattle.world_model.specs.story.Sides.{Connection}
-use Rattle.world_model.specs.World.{ClientPipes, Pipe, after_writing, newly_written, sent_up}
-use Rattle.world_model.specs.Goes.{CanBeSpelled}
-use Rattle.world_model.specs.Published.{published_by}
-use Rattle.world_model.proofs.OnTheWay.{newly_is}
+use Rattle.byte_world.specs.node_moves.Puts.{spelled}
+use Rattle.client.specs.session_base.declared.publication.Publication.{Publication}
+use Rattle.byte_world.specs.exactly_once.Sides.{Connection}
+use Rattle.byte_world.specs.World.{ClientPipes, Pipe, after_writing, newly_written, sent_up}
+use Rattle.byte_world.specs.Goes.{CanBeSpelled}
+use Rattle.byte_world.specs.Published.{published_by}
+use Rattle.byte_world.proofs.OnTheWay.{newly_is}
 use Rattle.world_pipes.specs.declared.sending.Sending.{Sending}
 use Rattle.world_pipes.specs.declared.sending.Sending.TheVariants as sendings
 use Rattle.world_pipes.specs.declared.way.Way.{Way}
@@ -24,9 +24,9 @@ use Rattle.world_pipes.specs.Following.{CallingFollows, after_losing}
 use Rattle.world_pipes.specs.Goes.{ClientGoes, ClientStep}
 use Rattle.world_pipes.specs.Piped.{Calls, GoesUp, GoesUpWhere, Piped, TakesLeave, broken, is_holding, piped}
 use Rattle.world_pipes.specs.Piped as pipings
-use Rattle.world_model.specs.story.Headline.{accepted_on}
+use Rattle.byte_world.specs.exactly_once.Headline.{accepted_on}
 use Rattle.world_pipes.specs.Standing.{AreWays, CanGoOut, StandsFor}
-use Rattle.world_model.specs.Accepted.{accepted_once}
+use Rattle.byte_world.specs.Accepted.{accepted_once}
 use Rattle.world_pipes.proofs.HearingFollows.{IsLeft, finished, left_lost, way_up}
 use Rattle.world_pipes.proofs.ModelsCalls.{IsCalled}
 use Rattle.world_pipes.proofs.PacketsHandled.{appended}

@@ -2,34 +2,34 @@
 -- the model's client may reach by a call of its own.
 use Rattle.std.proofs.Common.{◌≡◌, ℕ, Bool, true, false, not, if◌then◌else◌, List, [], ◌∷◌, length, reverse, Option, Some, None, Ok, refl, ap, sym, subst, ◌∙◌}
 use Rattle.std.proofs.lemmas.Bool.{both_ways}
-use Rattle.packet.specs.Spelling.{IsPacket}
-use Rattle.packet.specs.declared.qos.QoS.{QoS}
-use Rattle.session_base.specs.declared.publication.Publication.{Publication}
-use Rattle.session_base.specs.Publication.{is_answered}
-use Rattle.lists.specs.Lists.{Each}
-use Rattle.client_base.specs.declared.error.ClientError.{ClientError}
-use Rattle.client_base.specs.declared.error.ClientError.TheVariants as errors
-use Rattle.client_base.specs.declared.stage.Stage.{Stage}
-use Rattle.client_base.specs.declared.stage.Stage.TheVariants as stages
-use Rattle.client_base.specs.State.{ClientState, is_online, is_open}
-use Rattle.client_base.specs.Answered.{Turn}
-use Rattle.client_base.specs.Calls.{has_free_id, next_id, publish_refusal, published}
-use Rattle.client_base.specs.History as history
-use Rattle.client_base.specs.Keeper.{Written}
-use Rattle.client_base.specs.Steps.{Call, keeper_step, subscribed, unless_refused, unsubscribed}
-use Rattle.client_base.specs.Written.{writes, writes_first}
-use Rattle.client_base.proofs.FollowsCalls.{turn_of}
+use Rattle.client.specs.packet.Spelling.{IsPacket}
+use Rattle.client.specs.packet.declared.qos.QoS.{QoS}
+use Rattle.client.specs.session_base.declared.publication.Publication.{Publication}
+use Rattle.client.specs.session_base.Publication.{is_answered}
+use Rattle.client.specs.lists.Lists.{Each}
+use Rattle.client.specs.client_base.declared.error.ClientError.{ClientError}
+use Rattle.client.specs.client_base.declared.error.ClientError.TheVariants as errors
+use Rattle.client.specs.client_base.declared.stage.Stage.{Stage}
+use Rattle.client.specs.client_base.declared.stage.Stage.TheVariants as stages
+use Rattle.client.specs.client_base.State.{ClientState, is_online, is_open}
+use Rattle.client.specs.client_base.Answered.{Turn}
+use Rattle.client.specs.client_base.Calls.{has_free_id, next_id, publish_refusal, published}
+use Rattle.client.specs.client_base.History as history
+use Rattle.client.specs.client_base.Keeper.{Written}
+use Rattle.client.specs.client_base.Steps.{Call, keeper_step, subscribed, unless_refused, unsubscribed}
+use Rattle.client.specs.client_base.Written.{writes, writes_first}
+use Rattle.client.proofs.of_client_base.FollowsCalls.{turn_of}
 use Rattle.client.specs.Core.{Core}
-use Rattle.world_model.specs.story.Sides.{Connection}
-use Rattle.world_model.specs.World.{after_writing, newly_written, packets_of, sent_up}
-use Rattle.world_model.proofs.OnTheWay.{newly_is}
+use Rattle.byte_world.specs.exactly_once.Sides.{Connection}
+use Rattle.byte_world.specs.World.{after_writing, newly_written, packets_of, sent_up}
+use Rattle.byte_world.proofs.OnTheWay.{newly_is}
 use Rattle.world_pipes.specs.declared.sending.Sending.{Sending}
 use Rattle.world_pipes.specs.declared.sending.Sending.TheVariants as sendings
 use Rattle.world_pipes.specs.Following.{CallingFollows}
 use Rattle.world_pipes.specs.Piped.{GoesUpWhere, Piped, is_holding, piped}
-use Rattle.world_model.specs.story.Headline.{accepted_on}
+use Rattle.byte_world.specs.exactly_once.Headline.{accepted_on}
 use Rattle.world_pipes.specs.Standing.{AreWays, CanGoOut, StandsFor}
-use Rattle.world_model.specs.Accepted.{accepted_once}
+use Rattle.byte_world.specs.Accepted.{accepted_once}
 use Rattle.world_pipes.proofs.CallsFollow.{HasCall, up_follows}
 use Rattle.world_pipes.proofs.Ways.{none_sent}
 

@@ -2,30 +2,30 @@
 use Rattle.std.proofs.Common.{◌≡◌, ℕ, suc, true, false, inl, inr, List, [], ◌∷◌, length, reverse, Result, Ok, Err, IsTrue, refl, ap, ap₂, sym, subst, ◌∙◌, arith}
 use Rattle.std.proofs.lemmas.Bool.{both_ways}
 use Rattle.std.proofs.lemmas.List.{append-nil}
-use Rattle.packet.specs.ClientId.{is_client}
-use Rattle.packet.proofs.Clients.{client_short}
-use Rattle.packet.specs.Spelling.{IsPacket}
-use Rattle.packet.specs.declared.packet.Packet.TheVariants as packets
-use Rattle.world_model.specs.broker_base.Connection.{ConnectionName}
-use Rattle.client_base.specs.declared.error.ClientError.{ClientError}
-use Rattle.client_base.specs.State.{ClientState, is_open}
-use Rattle.client_base.specs.Called as called
-use Rattle.client_base.specs.Handled as handling
-use Rattle.client_base.specs.History as history
-use Rattle.client_base.specs.Keeper.{Keeper}
-use Rattle.client_base.specs.Steps.{Call, keeper_step}
+use Rattle.client.specs.packet.ClientId.{is_client}
+use Rattle.client.proofs.of_packet.Clients.{client_short}
+use Rattle.client.specs.packet.Spelling.{IsPacket}
+use Rattle.client.specs.packet.declared.packet.Packet.TheVariants as packets
+use Rattle.byte_world.specs.broker_base.Connection.{ConnectionName}
+use Rattle.client.specs.client_base.declared.error.ClientError.{ClientError}
+use Rattle.client.specs.client_base.State.{ClientState, is_open}
+use Rattle.client.specs.client_base.Called as called
+use Rattle.client.specs.client_base.Handled as handling
+use Rattle.client.specs.client_base.History as history
+use Rattle.client.specs.client_base.Keeper.{Keeper}
+use Rattle.client.specs.client_base.Steps.{Call, keeper_step}
 use Rattle.client.specs.Core.{AppendsAll, Core, Opens}
-use Rattle.world_model.specs.node_model.Puts.{spelled}
-use Rattle.world_model.specs.world_base.declared.Port.{Port}
-use Rattle.world_model.specs.World.{ClientPipes, new_client}
-use Rattle.world_model.specs.Goes.{after_connecting}
+use Rattle.byte_world.specs.node_moves.Puts.{spelled}
+use Rattle.byte_world.specs.world_base.declared.Port.{Port}
+use Rattle.byte_world.specs.World.{ClientPipes, new_client}
+use Rattle.byte_world.specs.Goes.{after_connecting}
 use Rattle.world_pipes.specs.declared.way.Way.{Way}
 use Rattle.world_pipes.specs.Following.{ConnectingFollows, FollowsAll}
 use Rattle.world_pipes.specs.Goes.{ClientGoes}
 use Rattle.world_pipes.specs.Piped.{Connects, Piped, is_holding, new_piped, new_way, piped, sent_up}
-use Rattle.world_model.specs.story.Headline.{accepted_on}
+use Rattle.byte_world.specs.exactly_once.Headline.{accepted_on}
 use Rattle.world_pipes.specs.Standing.{AreWays, CanGoOut, StandsFor}
-use Rattle.world_model.specs.Accepted.{accepted_once}
+use Rattle.byte_world.specs.Accepted.{accepted_once}
 use Rattle.world_pipes.proofs.PacketsHandled.{appended}
 use Rattle.world_pipes.proofs.TakenBack.{opened_and_lost}
 use Rattle.world_pipes.proofs.Ways.{with_newest}

@@ -3,24 +3,24 @@ use Rattle.std.proofs.Common.{◌≡◌, ℕ, suc, true, false, ◌⊎◌, inl, 
 use Rattle.std.proofs.lemmas.Bool.{both_ways}
 use Rattle.std.proofs.lemmas.List.{append-nil, take-append-drop}
 use Rattle.client.specs.cutter.Stream.{Stream}
-use Rattle.client_base.specs.declared.error.ClientError.{ClientError}
-use Rattle.client_base.specs.declared.error.ClientError.TheVariants as errors
-use Rattle.client_base.specs.declared.stage.Stage.{Stage}
-use Rattle.client_base.specs.declared.stage.Stage.TheVariants as stages
-use Rattle.client_base.specs.State.{ClientState, is_open}
-use Rattle.client_base.specs.History as history
-use Rattle.client_base.proofs.FollowsHandled.{lost_stands}
+use Rattle.client.specs.client_base.declared.error.ClientError.{ClientError}
+use Rattle.client.specs.client_base.declared.error.ClientError.TheVariants as errors
+use Rattle.client.specs.client_base.declared.stage.Stage.{Stage}
+use Rattle.client.specs.client_base.declared.stage.Stage.TheVariants as stages
+use Rattle.client.specs.client_base.State.{ClientState, is_open}
+use Rattle.client.specs.client_base.History as history
+use Rattle.client.proofs.of_client_base.FollowsHandled.{lost_stands}
 use Rattle.client.specs.Core.{Core, gone}
 use Rattle.client.specs.Reading.{EndsWith, Handles, OnBytes, fed}
-use Rattle.world_model.specs.story.Sides.{Connection}
-use Rattle.world_model.specs.World.{ClientPipes, Pipe, with_pipe}
+use Rattle.byte_world.specs.exactly_once.Sides.{Connection}
+use Rattle.byte_world.specs.World.{ClientPipes, Pipe, with_pipe}
 use Rattle.world_pipes.specs.declared.way.Way.{Way}
 use Rattle.world_pipes.specs.Following.{Follows, HearingFollows, after_losing}
 use Rattle.world_pipes.specs.Goes.{ClientGoes, ClientStep, published_along, published_with}
 use Rattle.world_pipes.specs.Piped.{Hears, Piped, broken, come_down, piped, sent_up}
-use Rattle.world_model.specs.story.Headline.{accepted_on}
+use Rattle.byte_world.specs.exactly_once.Headline.{accepted_on}
 use Rattle.world_pipes.specs.Standing.{AreWays, CanGoOut, IsWay, StandsFor}
-use Rattle.world_model.specs.Accepted.{accepted_once}
+use Rattle.byte_world.specs.Accepted.{accepted_once}
 use Rattle.world_pipes.proofs.PacketsHandled.{GoFar, IsInMidst, all_go, one_goes}
 use Rattle.world_pipes.proofs.StaysOpen.{handled_stays}
 use Rattle.world_pipes.proofs.Ways.{last_same, losing, losing_silent, lost_fits, newest_way, same_pipes, with_newest}

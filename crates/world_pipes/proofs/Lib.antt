@@ -19,5 +19,3 @@ pub mod CallingFollows
 pub mod WaysApart
 pub mod WayChanged
 pub mod LeadsStay
-pub use Rattle.world_model.proofs.of_story as of_story
-pub use Rattle.world_model.proofs.of_world_base as of_world_base

@@ -2,32 +2,32 @@
 use Rattle.std.proofs.Common.{◌≡◌, ℕ, Bool, true, false, if◌then◌else◌, List, [], ◌∷◌, None, refl, ap, sym, ◌∙◌}
 use Rattle.std.proofs.lemmas.List.{append-nil}
 use Rattle.std.proofs.lemmas.Option.{none-some}
-use Rattle.packet.specs.declared.packet.Packet.TheVariants as packets
-use Rattle.packet.specs.declared.qos.QoS.{QoS}
-use Rattle.session_base.specs.declared.publication.Publication.{Publication}
-use Rattle.session_base.specs.Identifiers.{least_free}
-use Rattle.session_base.proofs.IdentifiersOfFills.{least_free_is}
-use Rattle.world_model.specs.broker_base.Commands.{usual_limits}
-use Rattle.client_base.specs.declared.request.Request.TheVariants as requests
-use Rattle.client_base.specs.declared.stage.Stage.{Stage}
-use Rattle.client_base.specs.declared.stage.Stage.TheVariants as stages
-use Rattle.client_base.specs.State.{ClientState, is_online, is_open}
-use Rattle.client_base.specs.Answered.{Turn}
-use Rattle.client_base.specs.Called as called
-use Rattle.client_base.specs.Calls.{has_free_id, publish_refusal, published}
-use Rattle.client_base.specs.Handled as handling
-use Rattle.client_base.specs.History as history
-use Rattle.client_base.specs.Keeper as keepers
-use Rattle.client_base.specs.Keeper.{Keeper, Written, ids_in_use}
-use Rattle.client_base.specs.Steps.{Call, disconnected, keeper_step, request_refusal, subscribed, unsubscribed}
-use Rattle.client_base.specs.Written.{plain, writes_first}
-use Rattle.client_base.proofs.Follows.{calls_follow}
-use Rattle.world_model.specs.model.Goes.{is_call}
-use Rattle.world_model.specs.story.Sides.{Connection}
-use Rattle.world_model.specs.story.Story.{Happens}
-use Rattle.world_model.specs.World.{ClientPipes, packets_of}
-use Rattle.world_model.specs.Goes.{story_alone}
-use Rattle.world_model.specs.Published.{published_by}
+use Rattle.client.specs.packet.declared.packet.Packet.TheVariants as packets
+use Rattle.client.specs.packet.declared.qos.QoS.{QoS}
+use Rattle.client.specs.session_base.declared.publication.Publication.{Publication}
+use Rattle.client.specs.session_base.Identifiers.{least_free}
+use Rattle.client.proofs.of_session_base.IdentifiersOfFills.{least_free_is}
+use Rattle.byte_world.specs.broker_base.Commands.{usual_limits}
+use Rattle.client.specs.client_base.declared.request.Request.TheVariants as requests
+use Rattle.client.specs.client_base.declared.stage.Stage.{Stage}
+use Rattle.client.specs.client_base.declared.stage.Stage.TheVariants as stages
+use Rattle.client.specs.client_base.State.{ClientState, is_online, is_open}
+use Rattle.client.specs.client_base.Answered.{Turn}
+use Rattle.client.specs.client_base.Called as called
+use Rattle.client.specs.client_base.Calls.{has_free_id, publish_refusal, published}
+use Rattle.client.specs.client_base.Handled as handling
+use Rattle.client.specs.client_base.History as history
+use Rattle.client.specs.client_base.Keeper as keepers
+use Rattle.client.specs.client_base.Keeper.{Keeper, Written, ids_in_use}
+use Rattle.client.specs.client_base.Steps.{Call, disconnected, keeper_step, request_refusal, subscribed, unsubscribed}
+use Rattle.client.specs.client_base.Written.{plain, writes_first}
+use Rattle.client.proofs.of_client_base.Follows.{calls_follow}
+use Rattle.byte_world.specs.packet_world.Goes.{is_call}
+use Rattle.byte_world.specs.exactly_once.Sides.{Connection}
+use Rattle.byte_world.specs.exactly_once.Story.{Happens}
+use Rattle.byte_world.specs.World.{ClientPipes, packets_of}
+use Rattle.byte_world.specs.Goes.{story_alone}
+use Rattle.byte_world.specs.Published.{published_by}
 use Rattle.world_pipes.proofs.NotRefused.{asked_so, is_published, not_refused}
 
 -- a call of the model's client, and what it writes on its newest connection

@@ -1,29 +1,29 @@
 -- PacketsHandled.antt: a client that handles the packets that came goes as the model's, packet by packet.
 use Rattle.std.proofs.Common.{◌≡◌, ℕ, true, List, [], ◌∷◌, ◌++◌, Some, Ok, refl, ap, ap₂, sym, subst, ◌∙◌, append_assoc}
 use Rattle.std.proofs.lemmas.List.{append-nil}
-use Rattle.packet.specs.Spelling.{IsPacket, spelling}
-use Rattle.packet.specs.declared.packet.Packet.{Packet}
-use Rattle.packet.proofs.OneSpelling.{spelling_is}
+use Rattle.client.specs.packet.Spelling.{IsPacket, spelling}
+use Rattle.client.specs.packet.declared.packet.Packet.{Packet}
+use Rattle.client.proofs.of_packet.OneSpelling.{spelling_is}
 use Rattle.client.specs.cutter.Stream.{Stream, Takes}
-use Rattle.lists.specs.Lists.{Each}
-use Rattle.client_base.specs.State.{ClientState, is_open}
-use Rattle.client_base.specs.Answered.{Turn}
-use Rattle.client_base.specs.Handled.{handled}
-use Rattle.client_base.specs.History as history
-use Rattle.client_base.specs.Keeper as keepers
-use Rattle.client_base.proofs.FollowsHandled.{handled_follows}
-use Rattle.client_base.proofs.FollowsPackets.{Same}
+use Rattle.client.specs.lists.Lists.{Each}
+use Rattle.client.specs.client_base.State.{ClientState, is_open}
+use Rattle.client.specs.client_base.Answered.{Turn}
+use Rattle.client.specs.client_base.Handled.{handled}
+use Rattle.client.specs.client_base.History as history
+use Rattle.client.specs.client_base.Keeper as keepers
+use Rattle.client.proofs.of_client_base.FollowsHandled.{handled_follows}
+use Rattle.client.proofs.of_client_base.FollowsPackets.{Same}
 use Rattle.client.specs.Core.{AppendsAll, Core, IsDone}
 use Rattle.client.specs.Reading.{Handles, Reads, turn_of}
-use Rattle.world_model.specs.node_model.Puts.{spelled}
-use Rattle.world_model.specs.story.Sides.{Connection, Side}
-use Rattle.world_model.specs.World.{ClientPipes, Pipe, newly_written}
-use Rattle.world_model.specs.Goes.{after_packet}
-use Rattle.world_model.proofs.OnTheWay.{newly_is}
+use Rattle.byte_world.specs.node_moves.Puts.{spelled}
+use Rattle.byte_world.specs.exactly_once.Sides.{Connection, Side}
+use Rattle.byte_world.specs.World.{ClientPipes, Pipe, newly_written}
+use Rattle.byte_world.specs.Goes.{after_packet}
+use Rattle.byte_world.proofs.OnTheWay.{newly_is}
 use Rattle.world_pipes.specs.Goes.{ClientGoes, ClientStep, published_along, published_with}
-use Rattle.world_model.specs.story.Headline.{accepted_on}
+use Rattle.byte_world.specs.exactly_once.Headline.{accepted_on}
 use Rattle.world_pipes.specs.Standing.{CanGoOut}
-use Rattle.world_model.specs.Accepted.{accepted_once}
+use Rattle.byte_world.specs.Accepted.{accepted_once}
 use Rattle.world_pipes.proofs.AcceptedAlike.{accepts_alike}
 use Rattle.world_pipes.proofs.Renamed.{handled_renamed, renamed}
 use Rattle.world_pipes.proofs.StaysOpen.{handled_stays}

@@ -1,16 +1,16 @@
 -- Renamed.antt: what a client does to a packet does not depend on the names of its connections.
 use Rattle.std.proofs.Common.{◌≡◌, ℕ, suc, Bool, true, false, if◌then◌else◌, refl}
-use Rattle.packet.specs.declared.connack.Connack.TheVariants as connacks
-use Rattle.packet.specs.declared.delivery.Delivery.{Delivery}
-use Rattle.packet.specs.declared.delivery.Delivery.TheVariants as deliveries
-use Rattle.packet.specs.declared.packet.Packet.{Packet}
-use Rattle.packet.specs.declared.packet.Packet.TheVariants as packets
-use Rattle.session_base.specs.declared.publication.Publication.{Publication}
-use Rattle.session_base.specs.Publication.{publication_of}
-use Rattle.lists.specs.Lists.{has_id}
-use Rattle.client_base.specs.Keeper as keepers
-use Rattle.client_base.specs.Handled.{handled, handled_first, handled_online, is_sent_with, releasing, takes_in}
-use Rattle.world_model.specs.story.Sides.{Connection, Side}
+use Rattle.client.specs.packet.declared.connack.Connack.TheVariants as connacks
+use Rattle.client.specs.packet.declared.delivery.Delivery.{Delivery}
+use Rattle.client.specs.packet.declared.delivery.Delivery.TheVariants as deliveries
+use Rattle.client.specs.packet.declared.packet.Packet.{Packet}
+use Rattle.client.specs.packet.declared.packet.Packet.TheVariants as packets
+use Rattle.client.specs.session_base.declared.publication.Publication.{Publication}
+use Rattle.client.specs.session_base.Publication.{publication_of}
+use Rattle.client.specs.lists.Lists.{has_id}
+use Rattle.client.specs.client_base.Keeper as keepers
+use Rattle.client.specs.client_base.Handled.{handled, handled_first, handled_online, is_sent_with, releasing, takes_in}
+use Rattle.byte_world.specs.exactly_once.Sides.{Connection, Side}
 
 -- a side whose connection has a number for a name
 abbrev pub renamed_connection : Connection → keepers.Connection ℕ

@@ -1,24 +1,24 @@
 -- Spellable.antt: all that a client writes can be spelled, and so can what it keeps then.
 use Rattle.std.proofs.Common.{ℕ, Bool, true, false, not, if◌then◌else◌, List, [], ◌∷◌, ◌++◌, map, filter, None, arith}
 use Rattle.std.specs.List.{list_any}
-use Rattle.packet.specs.packet_base.Spelling.{IsId}
-use Rattle.packet.specs.declared.connack.Connack.TheVariants as connacks
-use Rattle.packet.specs.declared.delivery.Delivery.{Delivery}
-use Rattle.packet.specs.declared.delivery.Delivery.TheVariants as deliveries
-use Rattle.packet.specs.declared.publish.Publish.{Publish}
-use Rattle.packet.specs.declared.qos.QoS.{QoS}
-use Rattle.packet.specs.declared.qos.QoS.TheVariants as levels
-use Rattle.packet.specs.declared.packet.Packet.{Packet}
-use Rattle.packet.specs.declared.packet.Packet.TheVariants as packets
-use Rattle.packet.specs.Spelling.{Fits, IsPacket}
-use Rattle.lists.specs.Lists.{Each, has_id}
-use Rattle.lists.proofs.OfEach.{each_append, each_then}
-use Rattle.client_base.specs.declared.kept_publication.KeptPublication.{KeptPublication}
-use Rattle.client_base.specs.declared.stage.Stage.{Stage}
-use Rattle.client_base.specs.declared.stage.Stage.TheVariants as stages
-use Rattle.client_base.specs.State.{ClientState, lost, publish_kept, resent}
-use Rattle.client_base.specs.Answered.{Turn, awaits_pubrec, on_publish, on_pubrec}
-use Rattle.client_base.specs.Calls.{confirmed, discarded, numbered, loses_session, on_first, on_later, received}
+use Rattle.client.specs.packet_base.Spelling.{IsId}
+use Rattle.client.specs.packet.declared.connack.Connack.TheVariants as connacks
+use Rattle.client.specs.packet.declared.delivery.Delivery.{Delivery}
+use Rattle.client.specs.packet.declared.delivery.Delivery.TheVariants as deliveries
+use Rattle.client.specs.packet.declared.publish.Publish.{Publish}
+use Rattle.client.specs.packet.declared.qos.QoS.{QoS}
+use Rattle.client.specs.packet.declared.qos.QoS.TheVariants as levels
+use Rattle.client.specs.packet.declared.packet.Packet.{Packet}
+use Rattle.client.specs.packet.declared.packet.Packet.TheVariants as packets
+use Rattle.client.specs.packet.Spelling.{Fits, IsPacket}
+use Rattle.client.specs.lists.Lists.{Each, has_id}
+use Rattle.client.proofs.of_lists.OfEach.{each_append, each_then}
+use Rattle.client.specs.client_base.declared.kept_publication.KeptPublication.{KeptPublication}
+use Rattle.client.specs.client_base.declared.stage.Stage.{Stage}
+use Rattle.client.specs.client_base.declared.stage.Stage.TheVariants as stages
+use Rattle.client.specs.client_base.State.{ClientState, lost, publish_kept, resent}
+use Rattle.client.specs.client_base.Answered.{Turn, awaits_pubrec, on_publish, on_pubrec}
+use Rattle.client.specs.client_base.Calls.{confirmed, discarded, numbered, loses_session, on_first, on_later, received}
 use Rattle.world_pipes.specs.Standing.{CanGoOut}
 
 -- what a step writes, and what it leaves

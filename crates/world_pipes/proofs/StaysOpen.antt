@@ -2,26 +2,26 @@
 use Rattle.std.proofs.Common.{◌≡◌, ℕ, Bool, true, false, if◌then◌else◌, List, Option, Some, None, Result, Ok, Err, refl, ap, sym, ◌∙◌}
 use Rattle.std.specs.List.{list_any}
 use Rattle.std.proofs.lemmas.Bool.{both_ways}
-use Rattle.packet.specs.declared.packet.Packet.{Packet}
-use Rattle.packet.specs.declared.packet.Packet.TheVariants as packets
-use Rattle.packet.specs.declared.connack.Connack.TheVariants as connacks
-use Rattle.packet.specs.declared.delivery.Delivery.{Delivery}
-use Rattle.packet.specs.declared.delivery.Delivery.TheVariants as deliveries
-use Rattle.packet.specs.declared.publish.Publish.{Publish}
-use Rattle.packet.specs.declared.qos.QoS.{QoS}
-use Rattle.session_base.specs.declared.publication.Publication.{Publication}
-use Rattle.session_base.specs.Publication.{is_answered}
-use Rattle.client_base.specs.declared.error.ClientError.{ClientError}
-use Rattle.client_base.specs.declared.error.ClientError.TheVariants as errors
-use Rattle.client_base.specs.declared.stage.Stage.{Stage}
-use Rattle.client_base.specs.declared.stage.Stage.TheVariants as stages
-use Rattle.client_base.specs.State.{ClientState, is_open, is_online}
-use Rattle.client_base.specs.Answered.{Turn, on_publish, on_pubrec, awaits_pubrec}
-use Rattle.client_base.specs.Calls.{on_first, on_later, received, publish_refusal, published}
-use Rattle.client_base.specs.Steps.{Call, keeper_step, request_refusal, subscribed, unsubscribed, unless_refused}
+use Rattle.client.specs.packet.declared.packet.Packet.{Packet}
+use Rattle.client.specs.packet.declared.packet.Packet.TheVariants as packets
+use Rattle.client.specs.packet.declared.connack.Connack.TheVariants as connacks
+use Rattle.client.specs.packet.declared.delivery.Delivery.{Delivery}
+use Rattle.client.specs.packet.declared.delivery.Delivery.TheVariants as deliveries
+use Rattle.client.specs.packet.declared.publish.Publish.{Publish}
+use Rattle.client.specs.packet.declared.qos.QoS.{QoS}
+use Rattle.client.specs.session_base.declared.publication.Publication.{Publication}
+use Rattle.client.specs.session_base.Publication.{is_answered}
+use Rattle.client.specs.client_base.declared.error.ClientError.{ClientError}
+use Rattle.client.specs.client_base.declared.error.ClientError.TheVariants as errors
+use Rattle.client.specs.client_base.declared.stage.Stage.{Stage}
+use Rattle.client.specs.client_base.declared.stage.Stage.TheVariants as stages
+use Rattle.client.specs.client_base.State.{ClientState, is_open, is_online}
+use Rattle.client.specs.client_base.Answered.{Turn, on_publish, on_pubrec, awaits_pubrec}
+use Rattle.client.specs.client_base.Calls.{on_first, on_later, received, publish_refusal, published}
+use Rattle.client.specs.client_base.Steps.{Call, keeper_step, request_refusal, subscribed, unsubscribed, unless_refused}
 use Rattle.client.specs.Core.{Core}
 use Rattle.client.specs.Reading.{Handles, OnBytes, EndsWith}
-use Rattle.lists.specs.Lists.{has_id}
+use Rattle.client.specs.lists.Lists.{has_id}
 use Rattle.world_pipes.specs.Inside.{stays_open}
 
 -- ---- calls

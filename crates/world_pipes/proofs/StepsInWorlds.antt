@@ -1,6 +1,6 @@
 -- StepsInWorlds.antt: a client's step is one of its world.
 use Rattle.std.proofs.Common.{refl}
-use Rattle.world_model.specs.Goes.{WorldStep}
+use Rattle.byte_world.specs.Goes.{WorldStep}
 use Rattle.world_pipes.specs.Goes.{ClientStep, ClientsStepInWorlds}
 
 pub steps_in_worlds : ClientsStepInWorlds

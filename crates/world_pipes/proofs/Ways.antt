@@ -2,15 +2,15 @@
 use Rattle.std.proofs.Common.{◌≡◌, List, [], ◌∷◌, ◌++◌, length, false, reverse, refl, ap, sym, subst, ◌∙◌, slice_index_or, ◌-◌}
 use Rattle.std.proofs.lemmas.List.{append-nil, reverse-append}
 use Rattle.std.proofs.lemmas.Bool.{both_ways}
-use Rattle.lists.specs.Lists.{Each}
-use Rattle.packet.specs.Spelling.{IsPacket}
-use Rattle.client_base.specs.Handled.{lost}
-use Rattle.client_base.proofs.FollowsHandled.{lost_stands}
+use Rattle.client.specs.lists.Lists.{Each}
+use Rattle.client.specs.packet.Spelling.{IsPacket}
+use Rattle.client.specs.client_base.Handled.{lost}
+use Rattle.client.proofs.of_client_base.FollowsHandled.{lost_stands}
 use Rattle.client.specs.Core.{Core, gone}
-use Rattle.world_model.specs.story.Sides.{Connection}
-use Rattle.world_model.specs.story.Story.{Happens}
-use Rattle.world_model.specs.World.{ClientPipes, Pipe, newly_written, sent_up}
-use Rattle.world_model.proofs.OnTheWay.{newly_is}
+use Rattle.byte_world.specs.exactly_once.Sides.{Connection}
+use Rattle.byte_world.specs.exactly_once.Story.{Happens}
+use Rattle.byte_world.specs.World.{ClientPipes, Pipe, newly_written, sent_up}
+use Rattle.byte_world.proofs.OnTheWay.{newly_is}
 use Rattle.world_pipes.specs.declared.way.Way.{Way}
 use Rattle.world_pipes.specs.Following.{FollowsLosing, after_losing}
 use Rattle.world_pipes.specs.Goes.{ClientGoes, ClientStep, published_along, published_with}

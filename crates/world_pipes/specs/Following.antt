@@ -1,19 +1,19 @@
 -- What a `PipedClient` does is what clients of the model of worlds may do.
 use Rattle.std.specs.Prelude.{◌≡◌, ◌-◌, ℕ, true, false, List, [], ◌++◌, length, take, slice_get, IfSome, Some, Result, Ok, Err}
-use Rattle.packet.specs.Spelling.{IsPacket}
-use Rattle.packet.specs.declared.packet.Packet.TheVariants as packets
-use Rattle.world_model.specs.broker_base.Commands.{usual_limits}
-use Rattle.world_model.specs.broker_base.Connection.{ConnectionName}
-use Rattle.client_base.specs.declared.error.ClientError.{ClientError}
-use Rattle.client_base.specs.Handled.{lost}
-use Rattle.world_model.specs.model.Goes.{is_call}
-use Rattle.session_base.specs.declared.publication.Publication.{Publication}
-use Rattle.world_model.specs.story.Sides.{Connection}
-use Rattle.world_model.specs.story.Story.{Happens, Story}
-use Rattle.world_model.specs.world_base.declared.Port.{Port}
-use Rattle.world_model.specs.World.{ClientPipes, Pipe, after_writing, with_pipe}
-use Rattle.world_model.specs.Goes.{CanBeSpelled, after_connecting, story_alone}
-use Rattle.world_model.specs.Published.{published_by}
+use Rattle.client.specs.packet.Spelling.{IsPacket}
+use Rattle.client.specs.packet.declared.packet.Packet.TheVariants as packets
+use Rattle.byte_world.specs.broker_base.Commands.{usual_limits}
+use Rattle.byte_world.specs.broker_base.Connection.{ConnectionName}
+use Rattle.client.specs.client_base.declared.error.ClientError.{ClientError}
+use Rattle.client.specs.client_base.Handled.{lost}
+use Rattle.byte_world.specs.packet_world.Goes.{is_call}
+use Rattle.client.specs.session_base.declared.publication.Publication.{Publication}
+use Rattle.byte_world.specs.exactly_once.Sides.{Connection}
+use Rattle.byte_world.specs.exactly_once.Story.{Happens, Story}
+use Rattle.byte_world.specs.world_base.declared.Port.{Port}
+use Rattle.byte_world.specs.World.{ClientPipes, Pipe, after_writing, with_pipe}
+use Rattle.byte_world.specs.Goes.{CanBeSpelled, after_connecting, story_alone}
+use Rattle.byte_world.specs.Published.{published_by}
 use Rattle.world_pipes.specs.declared.sending.Sending.{Sending}
 use Rattle.world_pipes.specs.declared.sending.Sending.TheVariants as sendings
 use Rattle.world_pipes.specs.declared.way.Way.{Way}

@@ -1,16 +1,16 @@
 -- What one client of a world does without the nodes.
 use Rattle.std.specs.Prelude.{◌≡◌, ℕ, true, List, [], ◌∷◌, ◌++◌, Some, Ok, slice_get}
-use Rattle.packet.specs.declared.packet.Packet.{Packet}
+use Rattle.client.specs.packet.declared.packet.Packet.{Packet}
 use Rattle.client.specs.cutter.Stream.{Stream, Takes}
-use Rattle.world_model.specs.broker_base.Commands.{usual_limits}
-use Rattle.session_base.specs.declared.publication.Publication.{Publication}
-use Rattle.client_base.specs.Handled.{handled}
-use Rattle.world_model.specs.story.Sides.{Connection}
-use Rattle.world_model.specs.story.Story.{Story, Happens}
-use Rattle.world_model.specs.model.Goes.{is_call}
-use Rattle.world_model.specs.World.{ClientPipes, Pipe, World, after_writing, with_client, with_pipe}
-use Rattle.world_model.specs.Goes.{CanBeSpelled, WorldStep, after_packet, story_alone}
-use Rattle.world_model.specs.Published.{from_client, published_by, published_in}
+use Rattle.byte_world.specs.broker_base.Commands.{usual_limits}
+use Rattle.client.specs.session_base.declared.publication.Publication.{Publication}
+use Rattle.client.specs.client_base.Handled.{handled}
+use Rattle.byte_world.specs.exactly_once.Sides.{Connection}
+use Rattle.byte_world.specs.exactly_once.Story.{Story, Happens}
+use Rattle.byte_world.specs.packet_world.Goes.{is_call}
+use Rattle.byte_world.specs.World.{ClientPipes, Pipe, World, after_writing, with_client, with_pipe}
+use Rattle.byte_world.specs.Goes.{CanBeSpelled, WorldStep, after_packet, story_alone}
+use Rattle.byte_world.specs.Published.{from_client, published_by, published_in}
 
 -- a step of a world, as the client that takes it sees it
 pub data ClientStep (c : ClientPipes) : ClientPipes → Type 0 where

@@ -1,11 +1,11 @@
 -- What a `PipedClient` shows: the client, and its connections with the bytes in transit, the oldest
 -- first.
 use Rattle.std.specs.Prelude.{◌≡◌, ℕ, ◌-◌, Bool, true, false, ◌⊎◌, List, [], ◌∷◌, ◌++◌, length, take, drop, Result, Ok, Err}
-use Rattle.world_model.specs.world_base.declared.Port.{Port}
-use Rattle.client_base.specs.declared.error.ClientError.{ClientError}
-use Rattle.client_base.specs.declared.error.ClientError.TheVariants as errors
-use Rattle.client_base.specs.State.{is_open}
-use Rattle.client_base.specs.Answered.{Turn}
+use Rattle.byte_world.specs.world_base.declared.Port.{Port}
+use Rattle.client.specs.client_base.declared.error.ClientError.{ClientError}
+use Rattle.client.specs.client_base.declared.error.ClientError.TheVariants as errors
+use Rattle.client.specs.client_base.State.{is_open}
+use Rattle.client.specs.client_base.Answered.{Turn}
 use Rattle.client.specs.Core.{Core, Does, Leaves, Opens, gone, new_core}
 use Rattle.client.specs.Reading.{OnBytes}
 use Rattle.world_pipes.specs.declared.way.Way.{Way}

@@ -1,16 +1,16 @@
 -- Which client of the model of worlds a `PipedClient` corresponds to. History is only in the model.
 use Rattle.std.specs.Prelude.{◌≡◌, true, false, IsTrue, List, [], ◌∷◌, ◌++◌, length, reverse}
-use Rattle.packet.specs.packet_base.Spelling.{IsId}
-use Rattle.packet.specs.ClientId.{is_client}
-use Rattle.packet.specs.Spelling.{IsPacket}
-use Rattle.lists.specs.Lists.{Each, IsPrefixOf}
-use Rattle.client_base.specs.declared.kept_publication.KeptPublication.{KeptPublication}
-use Rattle.client_base.specs.State.{ClientState, publish_kept}
-use Rattle.client_base.specs.History as history
-use Rattle.world_model.specs.story.Headline.{accepted_on}
-use Rattle.world_model.specs.story.Sides.{Connection}
-use Rattle.world_model.specs.Accepted.{accepted_once}
-use Rattle.world_model.specs.World.{ClientPipes, Pipe}
+use Rattle.client.specs.packet_base.Spelling.{IsId}
+use Rattle.client.specs.packet.ClientId.{is_client}
+use Rattle.client.specs.packet.Spelling.{IsPacket}
+use Rattle.client.specs.lists.Lists.{Each, IsPrefixOf}
+use Rattle.client.specs.client_base.declared.kept_publication.KeptPublication.{KeptPublication}
+use Rattle.client.specs.client_base.State.{ClientState, publish_kept}
+use Rattle.client.specs.client_base.History as history
+use Rattle.byte_world.specs.exactly_once.Headline.{accepted_on}
+use Rattle.byte_world.specs.exactly_once.Sides.{Connection}
+use Rattle.byte_world.specs.Accepted.{accepted_once}
+use Rattle.byte_world.specs.World.{ClientPipes, Pipe}
 use Rattle.world_pipes.specs.declared.way.Way.{Way}
 use Rattle.world_pipes.specs.Piped.{Piped, is_holding}
 

@@ -1,15 +1,15 @@
 // The beginning and the end of a client's connections.
 
 ghost use Rattle.std.specs.Prelude.{◌≡◌, false, []};
-ghost use Rattle.client_base.specs.Steps.{Call, keeper_step};
+ghost use Rattle.client.specs.client_base.Steps.{Call, keeper_step};
 ghost use Rattle.world_pipes.specs.Following.{CallingFollows, ConnectingFollows};
 ghost use Rattle.world_pipes.specs.Piped.{Connects, TakesLeave, is_holding, taken_back};
 
 use crate::piped_client::PipedClient;
 use crate::sending::{Sending, send_up};
 use crate::way::Way;
+use byte_world::world_base::Port;
 use client::ClientError;
-use world_model::world_base::Port;
 
 impl PipedClient {
     /// Opens a connection to the node at this place, which is to know it by this port: CONNECT is

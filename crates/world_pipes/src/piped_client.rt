@@ -2,17 +2,17 @@
 
 ghost use Rattle.std.specs.Prelude.{◌≡◌, ◌<◌, ◌≤◌, drop, length, set, slice_get, IfSome};
 ghost use Rattle.client.specs.Core.{gone};
-ghost use Rattle.world_model.specs.World.{new_client};
+ghost use Rattle.byte_world.specs.World.{new_client};
 ghost use Rattle.world_pipes.specs.Following.{FollowsLosing, SwappingFollows, TakingUpFollows};
 ghost use Rattle.world_pipes.specs.Piped.{is_holding, new_piped};
 ghost use Rattle.world_pipes.specs.Standing.{StandsFor};
 
 use crate::way::Way;
+use byte_world::world_base::Port;
 use client::ClientCore;
-use packet::ClientId;
+use client::packet::ClientId;
 use std::alloc::Global;
 use std::marker::Model;
-use world_model::world_base::Port;
 
 /// A client with all its connections, the oldest first, and the bytes in transit on each. It holds
 /// at most the newest one; what is in transit to nodes on the others still comes up, and the client

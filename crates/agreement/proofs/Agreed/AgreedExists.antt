@@ -3,17 +3,17 @@
 use Rattle.std.proofs.Common.{◌≡◌, ℕ, ◌<◌, ◌≤◌, ◌⊎◌, inl, inr, List, [], ◌∷◌, length, take, Some, refl, ap, sym, ◌∙◌, subst, arith}
 use Rattle.std.proofs.lemmas.Bool.{cases_lt}
 use Rattle.std.proofs.lemmas.List.{length-take-le}
-use Rattle.machine.specs.Machine.{Rules}
+use Rattle.whole.specs.machine.Machine.{Rules}
 use Rattle.agreement.specs.World.{World}
-use Rattle.lists.specs.Lists.{In, IsPrefixOf}
-use Rattle.lists.specs.Lists.In.{here, there}
+use Rattle.whole.specs.lists.Lists.{In, IsPrefixOf}
+use Rattle.whole.specs.lists.Lists.In.{here, there}
 use Rattle.agreement.specs.Inside.Chosen.{IsAgreedIn}
 use Rattle.agreement.specs.Inside.Ballots.{Given, Line, History, Told, IsChosenIn, IsChain}
 use Rattle.agreement.specs.MasterState.{MasterState}
 use Rattle.agreement.specs.Inside.Masters.{IsMaster}
 use Rattle.agreement.specs.Inside.Sound.{IsSound}
 use Rattle.agreement.specs.Inside.ToldLengths.{told_length, least_of, chosen_length}
-use Rattle.lists.proofs.Beginnings.{prefix_then, prefix_take, take_prefix}
+use Rattle.whole.proofs.of_lists.Beginnings.{prefix_then, prefix_take, take_prefix}
 use Rattle.agreement.proofs.Frame.Apart.{chosen_within}
 use Rattle.agreement.proofs.Masters.Assigned.{at_most_newest}
 use Rattle.agreement.proofs.Frame.Framing.{within_of}

@@ -2,16 +2,16 @@
 use Rattle.std.proofs.Common.{◌≡◌, ℕ, ◌+◌, ◌<◌, ◌≤◌, ◌⊎◌, inl, inr, List, [], ◌∷◌, length, take, Some, refl, ap, sym, ◌∙◌, subst, arith}
 use Rattle.std.specs.Prelude.{slice_get}
 use Rattle.std.proofs.lemmas.Bool.{cases_lt}
-use Rattle.machine.specs.Machine.{Rules}
+use Rattle.whole.specs.machine.Machine.{Rules}
 use Rattle.whole.specs.Replica.{ReplicaState}
 use Rattle.agreement.specs.World.{World}
-use Rattle.lists.specs.Lists.{In, IsPrefixOf}
-use Rattle.lists.specs.Lists.In.{here}
+use Rattle.whole.specs.lists.Lists.{In, IsPrefixOf}
+use Rattle.whole.specs.lists.Lists.In.{here}
 use Rattle.agreement.specs.Inside.Chosen.{ChosenList, IsAgreedIn}
 use Rattle.agreement.specs.Inside.Ballots.{Given, Line, History, Told, Sealed, IsChosenIn, IsChain, Applied}
 use Rattle.agreement.specs.Inside.Ballots.Applied.{nothing, in_ballot}
 use Rattle.agreement.specs.Inside.Sound.{IsSoundNode, IsSound}
-use Rattle.lists.proofs.Beginnings.{prefix_then, prefix_take, take_prefix}
+use Rattle.whole.proofs.of_lists.Beginnings.{prefix_then, prefix_take, take_prefix}
 use Rattle.agreement.proofs.Masters.Assigned.{at_most_newest}
 use Rattle.agreement.proofs.Frame.Bases.{chosen_told, sealed_bounds, base_is, one_line}
 use Rattle.agreement.proofs.Frame.Taking.{activated_base}

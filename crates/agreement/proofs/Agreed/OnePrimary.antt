@@ -1,7 +1,7 @@
 -- OnePrimary.antt: a ballot has one active primary at most, over all moments of a past.
 use Rattle.std.proofs.Common.{◌≡◌, ℕ, ◌+◌, List, ◌∷◌, Some, Option, ap, sym, ◌∙◌, arith}
-use Rattle.machine.specs.Machine.{Rules}
-use Rattle.lists.specs.Lists.{In}
+use Rattle.whole.specs.machine.Machine.{Rules}
+use Rattle.whole.specs.lists.Lists.{In}
 use Rattle.whole.specs.Config.{Config}
 use Rattle.agreement.specs.Inside.Ballots.{Given}
 use Rattle.agreement.specs.Laws.{OnePrimaryABallot}

@@ -1,7 +1,7 @@
 -- PastAgrees.antt: the nodes agree on the list that is agreed by the past.
 use Rattle.std.proofs.Common.{◌≡◌, ℕ, ◌⊎◌, inl, inr, List, [], ◌∷◌, refl, sym, subst}
-use Rattle.machine.specs.Machine.{Rules}
-use Rattle.lists.specs.Lists.{IsPrefixOf}
+use Rattle.whole.specs.machine.Machine.{Rules}
+use Rattle.whole.specs.lists.Lists.{IsPrefixOf}
 use Rattle.whole.specs.Config.{Config}
 use Rattle.agreement.specs.Inside.Chosen.{ChosenList, IsAgreedIn}
 use Rattle.agreement.specs.Laws.{HasAgreed, NodesAgree, MachinesReplay}

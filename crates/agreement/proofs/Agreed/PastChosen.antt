@@ -1,8 +1,8 @@
 -- PastChosen.antt: what is chosen by the past is so by the history, and the other way round.
 use Rattle.std.proofs.Common.{◌≡◌, ℕ, zero, suc, ◌+◌, ◌<◌, ◌≤◌, ◌⊎◌, inl, inr, List, [], ◌∷◌, length, take, Some, refl, ap, sym, ◌∙◌, subst, arith}
-use Rattle.machine.specs.Machine.{Rules}
-use Rattle.lists.specs.Lists.{In, IsPrefixOf}
-use Rattle.lists.proofs.Beginnings.{prefix_then, prefix_take, prefix_length, take_prefix}
+use Rattle.whole.specs.machine.Machine.{Rules}
+use Rattle.whole.specs.lists.Lists.{In, IsPrefixOf}
+use Rattle.whole.proofs.of_lists.Beginnings.{prefix_then, prefix_take, prefix_length, take_prefix}
 use Rattle.whole.specs.Config.{Config}
 use Rattle.agreement.specs.Inside.Chosen.{ChosenList}
 use Rattle.agreement.specs.Inside.Ballots.{Given, Line, Told}

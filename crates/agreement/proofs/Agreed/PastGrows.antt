@@ -1,10 +1,10 @@
 -- PastGrows.antt: what was acknowledged, chosen and active stays so after a further moment, so the
 -- agreed list only grows.
 use Rattle.std.proofs.Common.{◌≡◌, ℕ, ◌⊎◌, inl, inr, List, [], ◌∷◌, refl, sym, subst}
-use Rattle.lists.specs.Lists.{IsPrefixOf}
-use Rattle.lists.specs.Lists.In.{there}
+use Rattle.whole.specs.lists.Lists.{IsPrefixOf}
+use Rattle.whole.specs.lists.Lists.In.{there}
 use Rattle.whole.specs.Config.{Config}
-use Rattle.machine.specs.Machine.{Rules}
+use Rattle.whole.specs.machine.Machine.{Rules}
 use Rattle.agreement.specs.Laws.{AgreedGrows}
 use Rattle.agreement.specs.Past.{Moment, HasConfig, WasActive, HasTold, IsChosen, IsAgreed}
 use Rattle.agreement.specs.Past.HasConfig.{opened_with, was_assigned}

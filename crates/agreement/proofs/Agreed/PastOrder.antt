@@ -2,12 +2,12 @@
 use Rattle.std.proofs.Common.{◌≡◌, ℕ, ◌⊎◌, inl, inr, List, [], ◌∷◌, ◌++◌, Some, ap, sym, ◌∙◌, subst}
 use Rattle.std.specs.Prelude.{filter, slice_get}
 use Rattle.std.proofs.lemmas.List.{append-nil}
-use Rattle.machine.specs.Machine.{Rules}
+use Rattle.whole.specs.machine.Machine.{Rules}
 use Rattle.whole.specs.Applying.{applied_to}
 use Rattle.whole.specs.Config.{Config}
 use Rattle.whole.specs.Replica.{ReplicaState}
-use Rattle.lists.specs.Lists.{In}
-use Rattle.lists.specs.Lists.In.{here, there}
+use Rattle.whole.specs.lists.Lists.{In}
+use Rattle.whole.specs.lists.Lists.In.{here, there}
 use Rattle.agreement.specs.Inside.Ballots.{Applied, Line}
 use Rattle.agreement.specs.Inside.OpeningHistory.{opening_history}
 use Rattle.agreement.specs.Inside.Own.{OwnLines}

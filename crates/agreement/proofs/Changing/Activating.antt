@@ -2,7 +2,7 @@
 use Rattle.std.proofs.Common.{◌≡◌, ℕ, ◌+◌, ◌≤◌, ◌⊎◌, inl, inr, true, false, List, [], ◌∷◌, length, take, Some, refl, ap, sym, ◌∙◌, subst, arith}
 use Rattle.std.specs.Prelude.{slice_get, nat_lt, nat_le, ◌&&◌, ◌==◌}
 use Rattle.std.proofs.lemmas.Bool.{cases_Bool, and_parts, leb-true, eqb-true}
-use Rattle.machine.specs.Machine.{Rules, replay}
+use Rattle.whole.specs.machine.Machine.{Rules, replay}
 use Rattle.whole.proofs.AppliesInOrder.{replay_goes_on}
 use Rattle.whole.specs.Applying.{applied_to}
 use Rattle.whole.specs.Messages.Body.{Activated}
@@ -13,8 +13,8 @@ use Rattle.whole.specs.Sending.{Outcome}
 use Rattle.whole.specs.Serving.{most_places}
 use Rattle.whole.specs.Changing.{on_activated}
 use Rattle.agreement.specs.World.{World}
-use Rattle.lists.specs.Lists.{In, IsPrefixOf}
-use Rattle.lists.specs.Lists.In.{here, there}
+use Rattle.whole.specs.lists.Lists.{In, IsPrefixOf}
+use Rattle.whole.specs.lists.Lists.In.{here, there}
 use Rattle.agreement.specs.Inside.Ballots.{Given, History, Told}
 use Rattle.agreement.specs.Inside.Ballots.Applied.{in_ballot}
 use Rattle.agreement.specs.Inside.Keeps.{KeepsAdding}

@@ -2,19 +2,19 @@
 use Rattle.std.proofs.Common.{◌≡◌, ℕ, zero, suc, ◌+◌, ◌≤◌, List, [], ◌∷◌, length, take, Some, refl, ap, sym, ◌∙◌, subst, arith}
 use Rattle.std.specs.Prelude.{slice_get}
 use Rattle.std.proofs.lemmas.List.{length-take-le}
-use Rattle.machine.specs.Machine.{Rules}
+use Rattle.whole.specs.machine.Machine.{Rules}
 use Rattle.whole.specs.Messages.{Message, Effect}
 use Rattle.whole.specs.Messages.Body.{Install, Installed}
 use Rattle.whole.specs.Losses.{Thinned}
 use Rattle.whole.specs.Replica.{ReplicaState}
 use Rattle.whole.specs.Sending.{message_to}
 use Rattle.agreement.specs.World.{World, messages, outputs}
-use Rattle.lists.specs.Lists.{In, IsPrefixOf}
-use Rattle.lists.specs.Lists.In.{here, there}
+use Rattle.whole.specs.lists.Lists.{In, IsPrefixOf}
+use Rattle.whole.specs.lists.Lists.In.{here, there}
 use Rattle.agreement.specs.Inside.Ballots.{Given, Line, History, Extends}
 use Rattle.agreement.specs.Inside.Moves.{Moves}
 use Rattle.agreement.specs.Inside.Sound.{Says, IsOf, IsSound}
-use Rattle.lists.proofs.Beginnings.{prefix_length, take_prefix}
+use Rattle.whole.proofs.of_lists.Beginnings.{prefix_length, take_prefix}
 use Rattle.agreement.proofs.Effects.{thinned_messages, thinned_outputs}
 use Rattle.agreement.proofs.Frame.SaysLater.{of_kept}
 use Rattle.agreement.proofs.Frame.Telling.{TellsWithin, same_moves}

@@ -1,14 +1,14 @@
 -- InstalledCounts.antt: an Installed that counts: one member fewer lacks the log.
 use Rattle.std.proofs.Common.{◌≡◌, ℕ, ◌+◌, ◌⊎◌, inl, inr, true, List, [], ◌∷◌, length, Some, refl, ap, sym, ◌∙◌, subst, arith}
 use Rattle.std.specs.Prelude.{slice_get}
-use Rattle.machine.specs.Machine.{Rules}
+use Rattle.whole.specs.machine.Machine.{Rules}
 use Rattle.whole.specs.Messages.{Message, Effect}
 use Rattle.whole.specs.Messages.Body.{Installed}
 use Rattle.whole.specs.Replica.{ReplicaState, is_installing, others}
 use Rattle.whole.specs.Changing.{activates}
 use Rattle.agreement.specs.World.{World, messages, outputs, moved}
-use Rattle.lists.specs.Lists.{In}
-use Rattle.lists.specs.Lists.In.{here, there}
+use Rattle.whole.specs.lists.Lists.{In}
+use Rattle.whole.specs.lists.Lists.In.{here, there}
 use Rattle.agreement.specs.Inside.Ballots.{Given, Line, History, Told, Applied, Extends}
 use Rattle.agreement.specs.Inside.Ballots.Told.{told_by_installed}
 use Rattle.agreement.specs.Inside.Ballots.Applied.{nothing, in_ballot}

@@ -2,7 +2,7 @@
 use Rattle.std.proofs.Common.{◌≡◌, ℕ, ◌+◌, ◌<◌, ◌≤◌, ◌⊎◌, inl, inr, List, [], ◌∷◌, Some, None, Option, refl, sym, ◌∙◌, subst, arith}
 use Rattle.std.specs.Prelude.{slice_get}
 use Rattle.std.proofs.lemmas.Bool.{cases_lt}
-use Rattle.machine.specs.Machine.{Rules}
+use Rattle.whole.specs.machine.Machine.{Rules}
 use Rattle.whole.specs.Messages.{Message, Body, Effect}
 use Rattle.whole.specs.Messages.Body.{NewBallot, Join}
 use Rattle.whole.specs.Role.TheVariants.{Fetching}
@@ -10,14 +10,14 @@ use Rattle.whole.specs.Replica.{ReplicaState}
 use Rattle.whole.specs.Sending.{Outcome, message_to_each}
 use Rattle.whole.specs.Changing.{on_new_ballot}
 use Rattle.agreement.specs.World.{World, messages, outputs, moved}
-use Rattle.lists.specs.Lists.{In}
-use Rattle.lists.specs.Lists.In.{here, there}
+use Rattle.whole.specs.lists.Lists.{In}
+use Rattle.whole.specs.lists.Lists.In.{here, there}
 use Rattle.agreement.specs.Inside.Ballots.{Given, Line, History, Applied}
 use Rattle.agreement.specs.Inside.Ballots.Told.{told_as_primary}
 use Rattle.agreement.specs.Inside.Ballots.Applied.{nothing, in_ballot}
 use Rattle.agreement.specs.Inside.Keeps.{Keeps}
 use Rattle.agreement.specs.Inside.Sound.{Says, IsSoundNode, IsSound}
-use Rattle.lists.proofs.Places.{get_set}
+use Rattle.whole.proofs.of_lists.Places.{get_set}
 use Rattle.agreement.proofs.Frame.Joining.{IsSilent, MovesQuietly}
 use Rattle.agreement.proofs.Frame.Quiet.{before_quiet, quiet_keeps, keeps_nothing}
 use Rattle.whole.proofs.ChangeRows.{on_new_ballot-joins, on_new_ballot-stays}

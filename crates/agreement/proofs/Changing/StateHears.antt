@@ -3,7 +3,7 @@ use Rattle.std.proofs.Common.{◌≡◌, ℕ, ◌+◌, ◌<◌, inl, inr, List, 
 use Rattle.whole.specs.Messages.Body.{State}
 use Rattle.whole.specs.Replica.{ReplicaState}
 use Rattle.agreement.specs.World.{World}
-use Rattle.lists.specs.Lists.{IsPrefixOf}
+use Rattle.whole.specs.lists.Lists.{IsPrefixOf}
 use Rattle.agreement.specs.Inside.Ballots.{Given, Line, History, Sealed}
 use Rattle.agreement.specs.Inside.Sound.{Says, IsOf, IsOffered, IsFetching}
 

@@ -4,10 +4,10 @@ use Rattle.std.proofs.Common.{◌≡◌, ℕ, ◌<◌, ◌≤◌, ◌⊎◌, inl
 use Rattle.std.proofs.lemmas.Bool.{cases_lt}
 use Rattle.std.proofs.lemmas.List.{length-take-le}
 use Rattle.agreement.specs.World.{World}
-use Rattle.lists.specs.Lists.{In}
+use Rattle.whole.specs.lists.Lists.{In}
 use Rattle.agreement.specs.Inside.Ballots.{Line, History, IsChosenIn, AreBallots, AreLines, IsWithin}
 use Rattle.agreement.specs.Leaving.{Segment}
-use Rattle.lists.proofs.Beginnings.{prefix_length}
+use Rattle.whole.proofs.of_lists.Beginnings.{prefix_length}
 use Rattle.agreement.proofs.Frame.Bases.{chosen_told}
 use Rattle.agreement.proofs.Frame.Taking.{activated_base}
 

@@ -1,10 +1,10 @@
 -- Bases.antt: a ballot has one list, and what is chosen before it lies within its base.
 use Rattle.std.proofs.Common.{◌≡◌, ℕ, ◌+◌, List, [], ◌∷◌, length, take, Some, Option, refl, ap, ◌∙◌, subst, arith}
 use Rattle.agreement.specs.World.{World}
-use Rattle.lists.specs.Lists.{In, IsPrefixOf}
-use Rattle.lists.specs.Lists.In.{here, there}
+use Rattle.whole.specs.lists.Lists.{In, IsPrefixOf}
+use Rattle.whole.specs.lists.Lists.In.{here, there}
 use Rattle.agreement.specs.Inside.Ballots.{Given, Line, History, Told, IsChosenIn, Sealed, IsChain, AreLines}
-use Rattle.lists.proofs.Beginnings.{prefix_then, take_prefix}
+use Rattle.whole.proofs.of_lists.Beginnings.{prefix_then, take_prefix}
 
 -- there is one list of a ballot
 pub one_line : {C : Type 0} (o : Option (Line C)) (l m : Line C) → o ≡ Some l → o ≡ Some m → l ≡ m

@@ -2,16 +2,16 @@
 use Rattle.std.proofs.Common.{◌≡◌, ℕ, ◌+◌, ◌≤◌, ◌⊎◌, inl, inr, List, length, set, Some, Option, ap, sym, ◌∙◌, subst, arith}
 use Rattle.std.specs.Prelude.{slice_get}
 use Rattle.std.proofs.lemmas.Bool.{cases_eq}
-use Rattle.machine.specs.Machine.{Rules}
+use Rattle.whole.specs.machine.Machine.{Rules}
 use Rattle.whole.specs.Messages.{Effect}
 use Rattle.whole.specs.Replica.{ReplicaState}
 use Rattle.agreement.specs.World.{World, messages, moved}
 use Rattle.agreement.specs.Inside.Ballots.{Line, History, Told, Extends, IsWithin}
 use Rattle.agreement.specs.Inside.Moves.{Moves, with_lines, TellsNow}
 use Rattle.agreement.specs.Inside.Sound.{IsSound}
-use Rattle.lists.proofs.Beginnings.{prefix_length}
-use Rattle.lists.proofs.Places.{get_set, get_set_other}
-use Rattle.lists.proofs.Members.{in_left}
+use Rattle.whole.proofs.of_lists.Beginnings.{prefix_length}
+use Rattle.whole.proofs.of_lists.Places.{get_set, get_set_other}
+use Rattle.whole.proofs.of_lists.Members.{in_left}
 
 -- what is acknowledged of a ballot with a list lies within it
 pub within_of : {S C O : Type 0} (rules : Rules S C O) (w : World S C O) (h : History C) → IsSound rules w h → IsWithin w h

@@ -1,13 +1,13 @@
 -- Going.antt: going on is nothing, or one step after another.
 use Rattle.std.proofs.Common.{◌≡◌, ℕ, ◌+◌, ◌≤◌, ◌⊎◌, inl, inr, Some, refl, ◌∙◌, arith}
 use Rattle.std.specs.Prelude.{slice_get}
-use Rattle.machine.specs.Machine.{Rules}
+use Rattle.whole.specs.machine.Machine.{Rules}
 use Rattle.whole.specs.Replica.{ReplicaState}
 use Rattle.agreement.specs.World.{World}
 use Rattle.agreement.specs.Inside.Ballots.{History, Told, Extends}
 use Rattle.agreement.specs.Inside.Keeps.{GoesOn}
 use Rattle.agreement.specs.Inside.Sound.{IsSound}
-use Rattle.lists.proofs.Beginnings.{prefix_same, prefix_then}
+use Rattle.whole.proofs.of_lists.Beginnings.{prefix_same, prefix_then}
 
 -- nothing happened
 abbrev pub goes_same : {S C O : Type 0} (rules : Rules S C O) (w : World S C O) (h : History C) → IsSound rules w h → GoesOn rules w h w

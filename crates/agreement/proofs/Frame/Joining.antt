@@ -7,13 +7,13 @@ use Rattle.whole.specs.Messages.{Message, Body, Effect}
 use Rattle.whole.specs.Messages.Body.{Installed, Held}
 use Rattle.whole.specs.Replica.{ReplicaState}
 use Rattle.agreement.specs.World.{World, messages, outputs, moved}
-use Rattle.lists.specs.Lists.{In}
+use Rattle.whole.specs.lists.Lists.{In}
 use Rattle.agreement.specs.Inside.Ballots.{Line, History, Told, Extends, IsWithin}
 use Rattle.agreement.specs.Inside.Ballots.Told.{told_at_opening, told_by_held, told_by_installed, told_as_primary}
 use Rattle.agreement.specs.Inside.Sound.{IsSoundNode}
-use Rattle.lists.proofs.Beginnings.{prefix_same}
-use Rattle.lists.proofs.Places.{get_set, get_set_other}
-use Rattle.lists.proofs.Members.{in_left, in_append}
+use Rattle.whole.proofs.of_lists.Beginnings.{prefix_same}
+use Rattle.whole.proofs.of_lists.Places.{get_set, get_set_other}
+use Rattle.whole.proofs.of_lists.Members.{in_left, in_append}
 use Rattle.agreement.proofs.Frame.Later.{told_kept, applied_kept}
 
 -- a body that says nothing

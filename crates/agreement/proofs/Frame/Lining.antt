@@ -6,11 +6,11 @@ use Rattle.whole.specs.Messages.{Message, Body, Effect}
 use Rattle.whole.specs.Messages.Body.{NewBallot, Join, State, Install, Installed, Activate, Activated, Superseded, Append, Held, Commit}
 use Rattle.whole.specs.Replica.{ReplicaState}
 use Rattle.agreement.specs.World.{World, messages}
-use Rattle.lists.specs.Lists.{In, IsPrefixOf}
+use Rattle.whole.specs.lists.Lists.{In, IsPrefixOf}
 use Rattle.agreement.specs.Inside.Ballots.{Given, Line, History}
 use Rattle.agreement.specs.Inside.Moves.{Moves, LineGoesOn, TellsNow, lined_at}
 use Rattle.agreement.specs.Inside.Moves.LineGoesOn.{stays}
-use Rattle.lists.proofs.Beginnings.{prefix_same}
+use Rattle.whole.proofs.of_lists.Beginnings.{prefix_same}
 use Rattle.agreement.proofs.Frame.Joining.{IsSilent}
 use Rattle.agreement.proofs.Frame.Telling.{TellsWithin, tells_of}
 

@@ -4,12 +4,12 @@ use Rattle.std.proofs.Common.{◌≡◌, ℕ, ◌+◌, ◌<◌, ◌⊎◌, inl, 
 use Rattle.whole.specs.Messages.{Effect}
 use Rattle.whole.specs.Replica.{ReplicaState}
 use Rattle.agreement.specs.World.{World, moved}
-use Rattle.lists.specs.Lists.{In, IsPrefixOf}
+use Rattle.whole.specs.lists.Lists.{In, IsPrefixOf}
 use Rattle.agreement.specs.Inside.Ballots.{TellsHere, Given, Line, History, Told, IsChosenIn, Sealed, AreLines, IsWithin}
 use Rattle.agreement.specs.Inside.Moves.{Moves, with_lines, LineGoesOn, TellsNow}
 use Rattle.agreement.specs.Inside.Moves.LineGoesOn.{stays, grows, begins}
-use Rattle.lists.proofs.Beginnings.{prefix_same, prefix_then}
-use Rattle.lists.proofs.Places.{get_set}
+use Rattle.whole.proofs.of_lists.Beginnings.{prefix_same, prefix_then}
+use Rattle.whole.proofs.of_lists.Places.{get_set}
 use Rattle.agreement.proofs.Frame.Later.{sealed_kept, chosen_kept}
 use Rattle.agreement.proofs.Frame.Framing.{move_extends}
 

@@ -3,16 +3,16 @@
 use Rattle.std.proofs.Common.{◌≡◌, ℕ, ◌⊎◌, inl, inr, List, [], ◌∷◌, set, Some, Option, ap, sym, ◌∙◌, subst}
 use Rattle.std.specs.Prelude.{slice_get}
 use Rattle.std.proofs.lemmas.Bool.{cases_eq}
-use Rattle.machine.specs.Machine.{Rules}
+use Rattle.whole.specs.machine.Machine.{Rules}
 use Rattle.whole.specs.Messages.{Message, Effect}
 use Rattle.whole.specs.Replica.{ReplicaState}
 use Rattle.agreement.specs.World.{World, messages, moved}
-use Rattle.lists.specs.Lists.{In}
+use Rattle.whole.specs.lists.Lists.{In}
 use Rattle.agreement.specs.Inside.Ballots.{Line, History, AreBallots, IsChain}
 use Rattle.agreement.specs.Inside.Moves.{Moves, with_lines}
 use Rattle.agreement.specs.Inside.Sound.{Says, IsSoundNode, LeftIs, IsSound}
-use Rattle.lists.proofs.Places.{get_set, get_set_other}
-use Rattle.lists.proofs.Members.{in_append}
+use Rattle.whole.proofs.of_lists.Places.{get_set, get_set_other}
+use Rattle.whole.proofs.of_lists.Members.{in_append}
 use Rattle.agreement.proofs.Frame.SaysLater.{says_kept}
 use Rattle.agreement.proofs.Frame.Framing.{within_of, move_extends, move_within}
 use Rattle.agreement.proofs.Frame.MoveLines.{move_lines}

@@ -3,16 +3,16 @@ use Rattle.std.proofs.Common.{◌≡◌, ℕ, ◌+◌, ◌≤◌, ◌⊎◌, inl
 use Rattle.std.specs.Prelude.{slice_get}
 use Rattle.std.proofs.lemmas.Bool.{cases_eq}
 use Rattle.std.proofs.lemmas.List.{append-nil}
-use Rattle.machine.specs.Machine.{Rules}
+use Rattle.whole.specs.machine.Machine.{Rules}
 use Rattle.whole.specs.Messages.{Message, Effect}
 use Rattle.whole.specs.Replica.{ReplicaState}
 use Rattle.agreement.specs.World.{World, messages, moved}
-use Rattle.lists.specs.Lists.{In}
+use Rattle.whole.specs.lists.Lists.{In}
 use Rattle.agreement.specs.Inside.Ballots.{Given, History, AreLines, Extends, IsWithin}
 use Rattle.agreement.specs.Inside.Sound.{Says, IsSoundNode, IsSound}
 use Rattle.agreement.specs.Leaving.{Segment}
-use Rattle.lists.proofs.Places.{get_set, get_set_other}
-use Rattle.lists.proofs.Members.{in_append}
+use Rattle.whole.proofs.of_lists.Places.{get_set, get_set_other}
+use Rattle.whole.proofs.of_lists.Members.{in_append}
 use Rattle.agreement.proofs.Frame.Later.{chosen_kept, sealed_kept}
 use Rattle.agreement.proofs.Frame.SaysLater.{says_kept}
 use Rattle.agreement.proofs.Frame.Joining.{MovesQuietly, told_back, quiet_extends, quiet_node}

@@ -7,13 +7,13 @@ use Rattle.whole.specs.Messages.{Message, Body, Effect}
 use Rattle.whole.specs.Messages.Body.{Held, Installed}
 use Rattle.whole.specs.Replica.{ReplicaState}
 use Rattle.agreement.specs.World.{World, messages, moved}
-use Rattle.lists.specs.Lists.{In}
+use Rattle.whole.specs.lists.Lists.{In}
 use Rattle.agreement.specs.Inside.Ballots.{Given, Line, History, Told, IsPlaced}
 use Rattle.agreement.specs.Inside.Ballots.Told.{told_at_opening, told_by_held, told_by_installed, told_as_primary}
 use Rattle.agreement.specs.Inside.Moves.{Moves, with_lines, TellsNow}
 use Rattle.agreement.specs.Inside.Moves.LineGoesOn.{stays}
-use Rattle.lists.proofs.Members.{in_append}
-use Rattle.lists.proofs.Beginnings.{prefix_same}
+use Rattle.whole.proofs.of_lists.Members.{in_append}
+use Rattle.whole.proofs.of_lists.Beginnings.{prefix_same}
 
 -- a body says what the node may tell now
 abbrev pub TellsWithin : {S C : Type 0} → (ℕ → Option (Line C)) → ReplicaState S C → ReplicaState S C → Body C → Type 0

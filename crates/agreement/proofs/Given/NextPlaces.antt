@@ -3,9 +3,9 @@ use Rattle.std.proofs.Common.{◌≡◌, ℕ, ◌≤◌, ◌⊎◌, inl, inr, tr
 use Rattle.std.specs.Prelude.{◌==◌, Option, None, slice_get}
 use Rattle.std.proofs.lemmas.Bool.{cases_eq, eq-eqb, ne_eqb}
 use Rattle.std.proofs.lemmas.List.{length-take-le}
-use Rattle.machine.specs.Machine.{Rules, replay}
-use Rattle.lists.proofs.Beginnings.{prefix_length}
-use Rattle.lists.proofs.Places.{get_set, get_set_other}
+use Rattle.whole.specs.machine.Machine.{Rules, replay}
+use Rattle.whole.proofs.of_lists.Beginnings.{prefix_length}
+use Rattle.whole.proofs.of_lists.Places.{get_set, get_set_other}
 use Rattle.whole.specs.Applying.{outputs_between}
 use Rattle.whole.specs.Messages.{Effect}
 use Rattle.whole.specs.Losses.{Loses, halted}

@@ -3,9 +3,9 @@ use Rattle.std.proofs.Common.{◌≡◌, ℕ, ◌≤◌, ◌⊎◌, inl, inr, tr
 use Rattle.std.specs.Prelude.{Option, slice_get}
 use Rattle.std.proofs.lemmas.Bool.{cases_eq}
 use Rattle.std.proofs.lemmas.List.{append-nil, length-take-le}
-use Rattle.machine.specs.Machine.{Rules}
-use Rattle.lists.proofs.Beginnings.{prefix_length, take_prefix}
-use Rattle.lists.proofs.Places.{get_set_other}
+use Rattle.whole.specs.machine.Machine.{Rules}
+use Rattle.whole.proofs.of_lists.Beginnings.{prefix_length, take_prefix}
+use Rattle.whole.proofs.of_lists.Places.{get_set_other}
 use Rattle.whole.specs.Applying.{applied_to, outputs_between}
 use Rattle.whole.specs.Config.{Config}
 use Rattle.whole.specs.Replica.{ReplicaState, is_active}

@@ -2,7 +2,7 @@
 use Rattle.std.proofs.Common.{◌≡◌, ℕ, ◌⊎◌, inl, inr, false, List, set, Some, ap, sym, ◌∙◌, subst}
 use Rattle.std.specs.Prelude.{slice_get}
 use Rattle.std.proofs.lemmas.Bool.{cases_eq}
-use Rattle.machine.specs.Machine.{Rules, replay}
+use Rattle.whole.specs.machine.Machine.{Rules, replay}
 use Rattle.whole.specs.Messages.{Effect}
 use Rattle.whole.specs.Losses.{Loses}
 use Rattle.whole.specs.Protocol.{Input, replica_step}
@@ -13,7 +13,7 @@ use Rattle.agreement.specs.Inside.Ballots.{History}
 use Rattle.agreement.specs.Inside.Keeps.{NodeGoesOn}
 use Rattle.agreement.specs.Replays.{IsReplay, AreReplays}
 use Rattle.agreement.specs.Inside.Sound.{IsSound}
-use Rattle.lists.proofs.Places.{get_set, get_set_other}
+use Rattle.whole.proofs.of_lists.Places.{get_set, get_set_other}
 use Rattle.agreement.proofs.Machines.Applies.{Applies}
 use Rattle.agreement.proofs.Machines.Comparing.{applied_stays}
 use Rattle.agreement.proofs.Machines.StepApplies.{step_applies}

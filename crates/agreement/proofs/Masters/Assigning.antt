@@ -1,10 +1,10 @@
 -- Assigning.antt: the master gives the next ballot to a configuration.
 use Rattle.std.proofs.Common.{◌≡◌, ℕ, ◌+◌, ◌<◌, ◌≤◌, ◌⊎◌, inl, inr, Some, Option, refl, ap, sym, ◌∙◌, subst, arith}
-use Rattle.machine.specs.Machine.{Rules}
+use Rattle.whole.specs.machine.Machine.{Rules}
 use Rattle.whole.specs.Config.{Config}
 use Rattle.agreement.specs.World.{World}
-use Rattle.lists.specs.Lists.{In}
-use Rattle.lists.specs.Lists.In.{here}
+use Rattle.whole.specs.lists.Lists.{In}
+use Rattle.whole.specs.lists.Lists.In.{here}
 use Rattle.agreement.specs.Inside.Ballots.{Given, History, IsChain, AreBallots, Extends}
 use Rattle.agreement.specs.MasterState.{MasterState, assigned}
 use Rattle.agreement.specs.Inside.Masters.{IsMaster}

@@ -6,8 +6,8 @@ use Rattle.std.proofs.lemmas.Bool.{and_parts, cases_Bool, eqb-true, leb-true, le
 use Rattle.whole.specs.LawfulConfig.{is_lawful}
 use Rattle.whole.specs.Config.{Config}
 use Rattle.agreement.specs.World.{can_open}
-use Rattle.lists.specs.Lists.{In}
-use Rattle.lists.specs.Lists.In.{here, there}
+use Rattle.whole.specs.lists.Lists.{In}
+use Rattle.whole.specs.lists.Lists.In.{here, there}
 use Rattle.agreement.specs.MasterState.{AssignRefusal, refusal, last_ballot, master_behind, MasterState, activated}
 use Rattle.agreement.specs.Inside.Masters.{AreNodes, IsServing}
 use Rattle.agreement.specs.MasterState.AssignRefusal.{bad_members, ballots_spent}

@@ -2,11 +2,11 @@
 use Rattle.std.proofs.Common.{◌≡◌, ℕ, inl, Bool, true, false, cond, None, refl, sym, subst}
 use Rattle.std.specs.Prelude.{◌==◌}
 use Rattle.std.proofs.lemmas.Bool.{eqb-true}
-use Rattle.machine.specs.Machine.{Rules}
+use Rattle.whole.specs.machine.Machine.{Rules}
 use Rattle.whole.specs.Messages.Body.{Activate, Activated, Superseded}
 use Rattle.agreement.specs.World.{World}
-use Rattle.lists.specs.Lists.{In}
-use Rattle.lists.specs.Lists.In.{here}
+use Rattle.whole.specs.lists.Lists.{In}
+use Rattle.whole.specs.lists.Lists.In.{here}
 use Rattle.agreement.specs.Inside.Ballots.{History, Extends}
 use Rattle.agreement.specs.MasterState.{MasterState, activated}
 use Rattle.agreement.specs.Inside.Masters.{IsMaster}

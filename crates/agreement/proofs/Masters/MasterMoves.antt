@@ -1,11 +1,11 @@
 -- MasterMoves.antt: a world after a message of the master, or one that was lost.
 use Rattle.std.proofs.Common.{◌≡◌, ℕ, ◌<◌, List, [], ◌∷◌, length, Some, Option, subst}
 use Rattle.std.proofs.lemmas.List.{append-nil}
-use Rattle.machine.specs.Machine.{Rules}
+use Rattle.whole.specs.machine.Machine.{Rules}
 use Rattle.whole.specs.Messages.{Message}
 use Rattle.agreement.specs.World.{World}
-use Rattle.lists.specs.Lists.{In}
-use Rattle.lists.specs.Lists.In.{here, there}
+use Rattle.whole.specs.lists.Lists.{In}
+use Rattle.whole.specs.lists.Lists.In.{here, there}
 use Rattle.agreement.specs.Inside.Ballots.{Given, Line, History, IsChosenIn, AreBallots, Extends}
 use Rattle.agreement.specs.MasterState.{MasterOutcome}
 use Rattle.agreement.specs.Steps.{tells_from_master}

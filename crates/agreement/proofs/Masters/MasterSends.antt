@@ -1,16 +1,16 @@
 -- MasterSends.antt: messages of the master keep a world sound.
 use Rattle.std.proofs.Common.{◌≡◌, ℕ, ◌+◌, ◌<◌, ◌⊎◌, inl, inr, List, [], ◌∷◌, ◌++◌, length, Some, Option, refl, ap, sym, ◌∙◌, subst, arith}
-use Rattle.machine.specs.Machine.{Rules}
+use Rattle.whole.specs.machine.Machine.{Rules}
 use Rattle.whole.specs.Messages.{Message}
 use Rattle.whole.specs.Messages.Body.{Held, Installed}
 use Rattle.agreement.specs.World.{World}
-use Rattle.lists.specs.Lists.{In}
-use Rattle.lists.specs.Lists.In.{here, there}
+use Rattle.whole.specs.lists.Lists.{In}
+use Rattle.whole.specs.lists.Lists.In.{here, there}
 use Rattle.agreement.specs.Inside.Ballots.{Given, Line, History, Told, IsChosenIn, IsChain, AreBallots, Extends, IsWithin}
 use Rattle.agreement.specs.Inside.Ballots.Told.{told_at_opening, told_by_held, told_by_installed, told_as_primary}
 use Rattle.agreement.specs.Inside.Sound.{Says, IsSound}
-use Rattle.lists.proofs.Beginnings.{prefix_same}
-use Rattle.lists.proofs.Members.{in_left, in_append}
+use Rattle.whole.proofs.of_lists.Beginnings.{prefix_same}
+use Rattle.whole.proofs.of_lists.Members.{in_left, in_append}
 use Rattle.agreement.proofs.Frame.Framing.{within_of}
 use Rattle.agreement.proofs.Frame.Joining.{IsSilent, AreSilent}
 use Rattle.agreement.proofs.Frame.Later.{chosen_kept, sealed_kept}

@@ -4,13 +4,13 @@ use Rattle.std.proofs.Common.{◌≡◌, ℕ, ◌<◌, ◌≤◌, ◌⊎◌, inl
 use Rattle.std.specs.Prelude.{slice_get, filter}
 use Rattle.std.proofs.lemmas.Bool.{cases_lt}
 use Rattle.std.proofs.lemmas.List.Elements.{filter-append}
-use Rattle.machine.specs.Machine.{Rules}
+use Rattle.whole.specs.machine.Machine.{Rules}
 use Rattle.whole.specs.Protocol.{Input}
 use Rattle.whole.specs.Protocol.Input.{Receives, Proposes, Ticks}
 use Rattle.whole.specs.Replica.{ReplicaState}
 use Rattle.agreement.specs.Proposals.{proposal_by}
 use Rattle.agreement.specs.World.{World}
-use Rattle.lists.specs.Lists.{IsPrefixOf}
+use Rattle.whole.specs.lists.Lists.{IsPrefixOf}
 use Rattle.agreement.specs.Inside.Ballots.{Line, History}
 use Rattle.agreement.specs.Inside.GroupSteps.{AddsBy}
 use Rattle.agreement.specs.Inside.Keeps.{NodeGoesOn, LineAdds}
@@ -18,7 +18,7 @@ use Rattle.agreement.specs.Inside.Keeps.LineAdds.{as_it_was, begins_behind, adds
 use Rattle.agreement.specs.Proposals.{commands_of, IsOfBallot}
 use Rattle.agreement.specs.Inside.Own.{OwnLines}
 use Rattle.agreement.specs.Inside.Sound.{IsSound}
-use Rattle.lists.proofs.Beginnings.{prefix_then}
+use Rattle.whole.proofs.of_lists.Beginnings.{prefix_then}
 use Rattle.agreement.proofs.Orders.Owning.{own_starts, own_proposed}
 use Rattle.agreement.proofs.Frame.Bases.{one_line}
 

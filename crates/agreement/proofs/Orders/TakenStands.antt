@@ -2,10 +2,10 @@
 use Rattle.std.proofs.Common.{◌≡◌, ℕ, ◌⊎◌, inl, inr, false, cond, List, [], ◌∷◌, ◌++◌, length, set, Some, refl, ap, sym, ◌∙◌, subst}
 use Rattle.std.specs.Prelude.{slice_get, nat_lt, ◌==◌}
 use Rattle.std.proofs.lemmas.Bool.{cases_eq, eq-eqb, ne_eqb}
-use Rattle.machine.specs.Machine.{Rules}
-use Rattle.lists.specs.Lists.{In}
-use Rattle.lists.specs.Lists.In.{here, there}
-use Rattle.lists.proofs.Places.{get_set, get_set_other}
+use Rattle.whole.specs.machine.Machine.{Rules}
+use Rattle.whole.specs.lists.Lists.{In}
+use Rattle.whole.specs.lists.Lists.In.{here, there}
+use Rattle.whole.proofs.of_lists.Places.{get_set, get_set_other}
 use Rattle.whole.specs.Messages.{Effect}
 use Rattle.whole.specs.Losses.{Loses}
 use Rattle.whole.specs.Protocol.{Input, replica_step}

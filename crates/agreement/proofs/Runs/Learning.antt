@@ -3,7 +3,7 @@
 use Rattle.std.proofs.Common.{inl, ◌≡◌, ℕ, ◌≤◌, false, List, [], length, take, Some, refl, ap, sym, ◌∙◌, subst, arith}
 use Rattle.std.specs.Prelude.{slice_get}
 use Rattle.std.proofs.lemmas.List.{length-set, take-take}
-use Rattle.machine.specs.Machine.{Rules}
+use Rattle.whole.specs.machine.Machine.{Rules}
 use Rattle.whole.specs.Applying.{applied_to}
 use Rattle.whole.specs.Messages.{Effect}
 use Rattle.whole.specs.Losses.Thinned.{none}
@@ -11,8 +11,8 @@ use Rattle.whole.specs.Protocol.Input.{Ticks}
 use Rattle.whole.specs.Replica.{ReplicaState, is_active}
 use Rattle.whole.specs.Role.TheVariants.{Active}
 use Rattle.whole.proofs.AppliesInOrder.{replay_goes_on}
-use Rattle.lists.specs.Lists.{In, IsPrefixOf}
-use Rattle.lists.proofs.Beginnings.{prefix_take, prefix_then}
+use Rattle.whole.specs.lists.Lists.{In, IsPrefixOf}
+use Rattle.whole.proofs.of_lists.Beginnings.{prefix_take, prefix_then}
 use Rattle.agreement.specs.Inside.Ballots.{History, Applied}
 use Rattle.agreement.specs.Inside.Ballots.Applied.{nothing, in_ballot}
 use Rattle.agreement.specs.Inside.Keeps.{Keeps}

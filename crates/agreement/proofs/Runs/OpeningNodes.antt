@@ -3,21 +3,21 @@ use Rattle.std.proofs.Common.{◌≡◌, ℕ, ◌+◌, ◌<◌, ◌≤◌, ◌�
 use Rattle.std.specs.Prelude.{◌==◌}
 use Rattle.std.specs.List.{list_any}
 use Rattle.std.proofs.lemmas.Bool.{cases_eq, eq-eqb, ne_eqb}
-use Rattle.machine.specs.Machine.{Rules}
+use Rattle.whole.specs.machine.Machine.{Rules}
 use Rattle.agreement.proofs.LawfulConfigs.{any_in}
 use Rattle.whole.specs.Config.{Config}
 use Rattle.whole.specs.Progress.{Progress}
 use Rattle.whole.specs.Role.TheVariants.{Backup, Active}
 use Rattle.whole.specs.Replica.{ReplicaState, opening, others, progress_at}
 use Rattle.agreement.specs.World.{opening_world}
-use Rattle.lists.specs.Lists.{In, IsPrefixOf}
-use Rattle.lists.specs.Lists.In.{here}
+use Rattle.whole.specs.lists.Lists.{In, IsPrefixOf}
+use Rattle.whole.specs.lists.Lists.In.{here}
 use Rattle.agreement.specs.Inside.Ballots.{Given, Line}
 use Rattle.agreement.specs.Inside.Ballots.Told.{told_at_opening}
 use Rattle.agreement.specs.Inside.Ballots.Applied.{nothing}
 use Rattle.agreement.specs.Inside.OpeningHistory.{first_ballot, first_line, opening_history}
 use Rattle.agreement.specs.Inside.Sound.{IsSoundNode}
-use Rattle.lists.proofs.Beginnings.{prefix_same}
+use Rattle.whole.proofs.of_lists.Beginnings.{prefix_same}
 use Rattle.agreement.proofs.Changing.Activating.{reached_of, followed_in}
 use Rattle.agreement.proofs.Changing.OtherMembers.{in_others, others_in, not_others}
 use Rattle.agreement.proofs.Runs.OpeningTold.{in_any, first_given, first_lined, told_opens}

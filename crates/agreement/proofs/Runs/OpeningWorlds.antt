@@ -2,19 +2,19 @@
 use Rattle.std.proofs.Common.{◌≡◌, ℕ, zero, suc, ◌+◌, ◌<◌, ◌⊎◌, inl, inr, [], ◌∷◌, length, Some, refl, ap, sym, ◌∙◌, subst, arith}
 use Rattle.std.specs.Prelude.{slice_get}
 use Rattle.std.proofs.lemmas.List.{length-append}
-use Rattle.machine.specs.Machine.{Rules}
+use Rattle.whole.specs.machine.Machine.{Rules}
 use Rattle.whole.specs.Config.{Config}
 use Rattle.whole.specs.Replica.{ReplicaState, opening}
 use Rattle.agreement.specs.World.{opening_nodes, opening_world}
-use Rattle.lists.specs.Lists.{In, IsPrefixOf}
-use Rattle.lists.specs.Lists.In.{here, there}
+use Rattle.whole.specs.lists.Lists.{In, IsPrefixOf}
+use Rattle.whole.specs.lists.Lists.In.{here, there}
 use Rattle.agreement.specs.Inside.Ballots.{Given, Line, IsChosenIn}
 use Rattle.agreement.specs.Inside.Ballots.Told.{told_at_opening}
 use Rattle.agreement.specs.Inside.Masters.{IsMaster}
 use Rattle.agreement.specs.Inside.OpeningHistory.{first_ballot, first_line, opening_history}
 use Rattle.agreement.specs.MasterState.{opening_master}
 use Rattle.agreement.specs.Inside.Sound.{IsSoundNode, IsSound}
-use Rattle.lists.proofs.Beginnings.{prefix_same}
+use Rattle.whole.proofs.of_lists.Beginnings.{prefix_same}
 use Rattle.agreement.proofs.Frame.Giving.{get_pushed_to}
 use Rattle.agreement.proofs.Runs.OpeningTold.{first_given, first_lined, told_opens}
 use Rattle.agreement.proofs.Runs.OpeningNodes.{node_opens}

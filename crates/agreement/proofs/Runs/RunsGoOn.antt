@@ -1,12 +1,12 @@
 -- RunsGoOn.antt: every run of a sound group keeps it sound: its history continues, its machines are
 -- replays, its ballots begin with their starts.
 use Rattle.std.proofs.Common.{List, ◌≡◌, ◌⊎◌, ℕ, inl, subst, [], Option, refl, ap, sym, ◌∙◌}
-use Rattle.machine.specs.Machine.{Rules}
+use Rattle.whole.specs.machine.Machine.{Rules}
 use Rattle.whole.specs.Config.{Config}
 use Rattle.whole.specs.Losses.Thinned.{none}
 use Rattle.whole.specs.Protocol.Input.{Ticks}
 use Rattle.whole.specs.Protocol.{replica_step}
-use Rattle.lists.specs.Lists.{In}
+use Rattle.whole.specs.lists.Lists.{In}
 use Rattle.agreement.specs.Proposals.{proposal_by}
 use Rattle.agreement.specs.World.{World}
 use Rattle.agreement.specs.Inside.Ballots.{Line, History, Told, TellsHere}

@@ -3,7 +3,7 @@ use Rattle.std.proofs.Common.{◌≡◌, ℕ, ◌<◌, ◌≤◌, ◌+◌, ◌�
 use Rattle.std.specs.Prelude.{nat_lt, nat_le, ◌&&◌, ◌||◌, ◌==◌, slice_get}
 use Rattle.std.specs.List.{list_any}
 use Rattle.std.proofs.lemmas.Bool.{cases_Bool, cases_lt}
-use Rattle.machine.specs.Machine.{Rules}
+use Rattle.whole.specs.machine.Machine.{Rules}
 use Rattle.whole.specs.Applying.{outputs_from}
 use Rattle.whole.specs.Messages.{Body, Effect, Message}
 use Rattle.whole.specs.Messages.Body.{NewBallot, Join, State, Install, Installed, Activate, Activated, Superseded, Append, Held, Commit}
@@ -19,8 +19,8 @@ use Rattle.whole.specs.Sending.{Outcome, message_to_each, message_to_followed}
 use Rattle.whole.specs.Serving.{append_at, appends_behind, follows, leads, commit_at, commit, most_places, added, proposed, on_append, on_held, on_commit, on_tick_active}
 use Rattle.whole.proofs.StepRows.{commit_at-stays, commit_at-goes}
 use Rattle.agreement.specs.World.{messages}
-use Rattle.lists.specs.Lists.{In}
-use Rattle.lists.specs.Lists.In.{here, there}
+use Rattle.whole.specs.lists.Lists.{In}
+use Rattle.whole.specs.lists.Lists.In.{here, there}
 
 -- the messages among effects are from one node
 pub data AreFrom {C O : Type 0} (id : ℕ) : List (Effect C O) → Type 0 where

@@ -2,7 +2,7 @@
 use Rattle.std.proofs.Common.{◌≡◌, ℕ, zero, suc, ◌<◌, ◌⊎◌, inl, inr, List, [], ◌∷◌, length, Some, None, Option, refl, ap, sym, ◌∙◌, subst, arith}
 use Rattle.std.specs.Prelude.{slice_get}
 use Rattle.std.proofs.lemmas.List.{length-set}
-use Rattle.machine.specs.Machine.{Rules}
+use Rattle.whole.specs.machine.Machine.{Rules}
 use Rattle.whole.specs.Messages.{Body, Effect, Message}
 use Rattle.whole.specs.Messages.Body.{Activate}
 use Rattle.whole.specs.Config.{Config}
@@ -10,9 +10,9 @@ use Rattle.whole.specs.Losses.{Loses, halted}
 use Rattle.whole.specs.Protocol.{Input, replica_step}
 use Rattle.whole.specs.Replica.{ReplicaState}
 use Rattle.agreement.specs.World.{World, messages, moved}
-use Rattle.lists.specs.Lists.{In}
-use Rattle.lists.specs.Lists.In.{here, there}
-use Rattle.lists.proofs.Members.{in_append}
+use Rattle.whole.specs.lists.Lists.{In}
+use Rattle.whole.specs.lists.Lists.In.{here, there}
+use Rattle.whole.proofs.of_lists.Members.{in_append}
 use Rattle.agreement.specs.MasterState.{MasterState, MasterOutcome, AssignRefusal, activated, assigned, refusal, master_behind}
 use Rattle.agreement.specs.Steps.{MayHappen, tells_from_master, world_behind}
 use Rattle.agreement.specs.Steps.MayHappen.{node_takes, node_stops, master_assigns, master_hears, assignment_lost, answer_lost}

@@ -1,10 +1,10 @@
 -- Serves.antt: in a group whose master answers each Assign, some member of the active ballot is a node that holds the agreed list.
 use Rattle.std.proofs.Common.{◌⊎◌, inl, inr, ◌≡◌, ℕ, zero, suc, ◌+◌, ◌<◌, List, [], ◌∷◌, length, Some, None, Option, refl, subst, arith}
 use Rattle.std.specs.Prelude.{slice_get}
-use Rattle.machine.specs.Machine.{Rules}
+use Rattle.whole.specs.machine.Machine.{Rules}
 use Rattle.agreement.specs.Proposals.{proposal_of}
 use Rattle.agreement.specs.World.{World}
-use Rattle.lists.specs.Lists.{In}
+use Rattle.whole.specs.lists.Lists.{In}
 use Rattle.agreement.specs.Inside.Chosen.{IsAgreedIn}
 use Rattle.agreement.specs.MasterState.{AssignRefusal, refusal, master_behind, MasterState}
 use Rattle.agreement.specs.Steps.{world_behind, MayHappen}

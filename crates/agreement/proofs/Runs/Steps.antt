@@ -2,14 +2,14 @@
 -- its master.
 use Rattle.std.proofs.Common.{[], inl, ◌≡◌, ℕ, ◌+◌, List, Some, Option, refl, ap, sym, ◌∙◌, subst}
 use Rattle.std.specs.Prelude.{slice_get}
-use Rattle.machine.specs.Machine.{Rules}
+use Rattle.whole.specs.machine.Machine.{Rules}
 use Rattle.whole.specs.Messages.{Body}
 use Rattle.whole.specs.Messages.Body.{NewBallot, Join, State, Install, Installed, Activate, Activated, Superseded, Append, Held, Commit}
 use Rattle.whole.specs.Protocol.{Input, received, replica_step}
 use Rattle.whole.specs.Protocol.Input.{Receives, Proposes, Ticks}
 use Rattle.whole.specs.Replica.{ReplicaState}
 use Rattle.agreement.specs.World.{World}
-use Rattle.lists.specs.Lists.{In}
+use Rattle.whole.specs.lists.Lists.{In}
 use Rattle.agreement.specs.Inside.Ballots.{Line, History}
 use Rattle.agreement.specs.Inside.GroupSteps.{AddsBy}
 use Rattle.agreement.specs.Steps.{MayTake, tells_from_master}

@@ -1,22 +1,22 @@
 -- AppendTaken.antt: an Append that is taken.
 use Rattle.std.proofs.Common.{◌≡◌, ℕ, ◌+◌, ◌≤◌, inr, List, [], ◌∷◌, length, take, Some, refl, ap, sym, ◌∙◌, subst, arith}
 use Rattle.std.specs.Prelude.{slice_get}
-use Rattle.machine.specs.Machine.{Rules}
+use Rattle.whole.specs.machine.Machine.{Rules}
 use Rattle.whole.specs.Messages.{Message}
 use Rattle.whole.specs.Messages.Body.{Append, Held}
 use Rattle.whole.specs.Replica.{ReplicaState}
 use Rattle.whole.specs.Sending.{message_to}
 use Rattle.whole.specs.Serving.{extended}
 use Rattle.agreement.specs.World.{World, messages, moved}
-use Rattle.lists.specs.Lists.{In, IsPrefixOf}
-use Rattle.lists.specs.Lists.In.{here, there}
+use Rattle.whole.specs.lists.Lists.{In, IsPrefixOf}
+use Rattle.whole.specs.lists.Lists.In.{here, there}
 use Rattle.agreement.specs.Inside.Ballots.{Given, Line, History, Applied, Extends}
 use Rattle.agreement.specs.Inside.Ballots.Applied.{nothing, in_ballot}
 use Rattle.agreement.specs.Inside.Keeps.LineAdds.{as_it_was}
 use Rattle.agreement.specs.Inside.Keeps.{Keeps}
 use Rattle.agreement.specs.Inside.Moves.{Moves, with_lines}
 use Rattle.agreement.specs.Inside.Sound.{Says, IsSoundNode, IsSound}
-use Rattle.lists.proofs.Beginnings.{prefix_then, prefix_length, take_prefix}
+use Rattle.whole.proofs.of_lists.Beginnings.{prefix_then, prefix_length, take_prefix}
 use Rattle.agreement.proofs.Effects.{thinned_messages, thinned_outputs}
 use Rattle.agreement.proofs.Serving.Committing.{Follows}
 use Rattle.agreement.proofs.Frame.MoveLines.{tells_here}

@@ -1,20 +1,20 @@
 -- CommandAdded.antt: a command is added, sent and committed.
 use Rattle.std.proofs.Common.{◌≡◌, ℕ, ◌+◌, ◌≤◌, List, [], ◌∷◌, ◌++◌, length, take, Some, ap, sym, ◌∙◌, subst, arith}
 use Rattle.std.specs.Prelude.{slice_get}
-use Rattle.machine.specs.Machine.{Rules, replay}
+use Rattle.whole.specs.machine.Machine.{Rules, replay}
 use Rattle.whole.specs.Messages.Body.{Append}
 use Rattle.whole.specs.Replica.{ReplicaState}
 use Rattle.whole.specs.Sending.{Outcome, message_to_followed}
 use Rattle.whole.specs.Serving.{added}
 use Rattle.whole.proofs.StepRows.{added-is}
 use Rattle.agreement.specs.World.{World, moved}
-use Rattle.lists.specs.Lists.{In}
+use Rattle.whole.specs.lists.Lists.{In}
 use Rattle.agreement.specs.Inside.Ballots.{History}
 use Rattle.agreement.specs.Inside.Keeps.{KeepsAdding}
 use Rattle.agreement.specs.Inside.Moves.{with_lines, lined_at}
 use Rattle.agreement.specs.Inside.Sound.{Says, IsSound}
-use Rattle.lists.proofs.Beginnings.{prefix_push, take_prefix}
-use Rattle.lists.proofs.Places.{get_pushed}
+use Rattle.whole.proofs.of_lists.Beginnings.{prefix_push, take_prefix}
+use Rattle.whole.proofs.of_lists.Places.{get_pushed}
 use Rattle.agreement.proofs.Effects.{outputs_of_messages}
 use Rattle.agreement.proofs.Serving.ActiveTicks.{said_to_progress}
 use Rattle.agreement.proofs.Frame.Joining.{IsSilent}

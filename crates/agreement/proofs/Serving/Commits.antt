@@ -2,7 +2,7 @@
 use Rattle.std.proofs.Common.{◌≡◌, ℕ, ◌+◌, ◌<◌, ◌≤◌, ◌⊎◌, inl, inr, List, [], ◌++◌, length, take, drop, Option, refl, ap, sym, ◌∙◌, subst, arith}
 use Rattle.std.proofs.lemmas.Bool.{cases_lt}
 use Rattle.std.proofs.lemmas.List.{append-nil}
-use Rattle.machine.specs.Machine.{Rules, replay}
+use Rattle.whole.specs.machine.Machine.{Rules, replay}
 use Rattle.whole.specs.Messages.{Message, Effect}
 use Rattle.whole.specs.Messages.Body.{Commit}
 use Rattle.whole.specs.Progress.{Progress}
@@ -12,12 +12,12 @@ use Rattle.whole.specs.Applying.{applied_to, outputs_from, outputs_to, outputs_b
 use Rattle.whole.specs.Serving.{least, commit_at}
 use Rattle.whole.proofs.StepRows.{commit_at-goes, commit_at-stays, least-le}
 use Rattle.agreement.specs.World.{World, messages, outputs, moved}
-use Rattle.lists.specs.Lists.{In}
+use Rattle.whole.specs.lists.Lists.{In}
 use Rattle.agreement.specs.Inside.Ballots.{Line, History, IsChosenIn}
 use Rattle.agreement.specs.Inside.Keeps.{KeepsAdding}
 use Rattle.agreement.specs.Inside.Moves.{Moves, with_lines}
 use Rattle.agreement.specs.Inside.Sound.{Says, IsActive, IsSoundNode, IsSound}
-use Rattle.lists.proofs.Members.{in_append}
+use Rattle.whole.proofs.of_lists.Members.{in_append}
 use Rattle.agreement.proofs.Effects.{messages-append, outputs-append, outputs_of_messages, thinned_messages, thinned_outputs}
 use Rattle.agreement.proofs.Serving.ActiveTicks.{said_to_progress, active_chosen, active_log, followed_other}
 use Rattle.agreement.proofs.Frame.MoveLines.{tells_here}

@@ -2,7 +2,7 @@
 use Rattle.std.proofs.Common.{◌≡◌, ℕ, ◌+◌, ◌<◌, ◌≤◌, ◌⊎◌, inl, inr, true, false, max, List, [], length, take, Some, refl, ap, sym, ◌∙◌, subst, arith}
 use Rattle.std.specs.Prelude.{slice_get, ◌&&◌, ◌==◌}
 use Rattle.std.proofs.lemmas.Bool.{cases_Bool, cases_lt, and_parts, eqb-true}
-use Rattle.machine.specs.Machine.{Rules}
+use Rattle.whole.specs.machine.Machine.{Rules}
 use Rattle.whole.specs.Applying.{applied_to}
 use Rattle.whole.specs.Messages.Body.{Commit}
 use Rattle.whole.specs.Messages.{Effect}
@@ -11,7 +11,7 @@ use Rattle.whole.specs.Sending.{Outcome}
 use Rattle.whole.specs.Serving.{follows, on_commit}
 use Rattle.whole.proofs.MessageRows.{on_commit-elsewhere, on_commit-past, on_commit-takes}
 use Rattle.agreement.specs.World.{World, moved}
-use Rattle.lists.specs.Lists.{In, IsPrefixOf}
+use Rattle.whole.specs.lists.Lists.{In, IsPrefixOf}
 use Rattle.agreement.specs.Inside.Ballots.{Given, Line, History, Applied}
 use Rattle.agreement.specs.Inside.Ballots.Applied.{nothing, in_ballot}
 use Rattle.agreement.specs.Inside.Keeps.{Keeps}

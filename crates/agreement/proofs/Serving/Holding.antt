@@ -2,7 +2,7 @@
 use Rattle.std.proofs.Common.{◌≡◌, ℕ, ◌+◌, ◌≤◌, ◌⊎◌, inl, inr, true, false, List, [], length, take, Some, refl, ap, sym, ◌∙◌, subst, arith}
 use Rattle.std.specs.Prelude.{slice_get, ◌==◌}
 use Rattle.std.proofs.lemmas.Bool.{cases_Bool, and_parts, eqb-true}
-use Rattle.machine.specs.Machine.{Rules, replay}
+use Rattle.whole.specs.machine.Machine.{Rules, replay}
 use Rattle.whole.specs.Messages.Body.{Held}
 use Rattle.whole.specs.Messages.{Effect}
 use Rattle.whole.specs.Progress.{Progress}
@@ -12,7 +12,7 @@ use Rattle.whole.specs.Sending.{Outcome}
 use Rattle.whole.specs.Serving.{raised, raised_progress, leads, on_held}
 use Rattle.whole.proofs.MessageRows.{raised_progress-member, on_held-elsewhere, on_held-raises}
 use Rattle.agreement.specs.World.{World, moved}
-use Rattle.lists.specs.Lists.{In}
+use Rattle.whole.specs.lists.Lists.{In}
 use Rattle.agreement.specs.Inside.Ballots.{History, Told, Applied}
 use Rattle.agreement.specs.Inside.Ballots.Told.{told_by_held}
 use Rattle.agreement.specs.Inside.Ballots.Applied.{nothing, in_ballot}

@@ -4,7 +4,7 @@ use Rattle.whole.specs.Progress.{Progress}
 use Rattle.whole.specs.Role.TheVariants.{Active}
 use Rattle.whole.specs.Replica.{ReplicaState}
 use Rattle.agreement.specs.World.{World}
-use Rattle.lists.specs.Lists.{In}
+use Rattle.whole.specs.lists.Lists.{In}
 use Rattle.agreement.specs.Inside.Ballots.{Given, Line, History, Told, Applied}
 use Rattle.agreement.specs.Inside.Sound.{IsActive, IsSoundNode}
 use Rattle.agreement.proofs.Serving.ActiveTicks.{active_log}

@@ -1,13 +1,13 @@
 -- Ready.antt: a primary whose log or progress has changed, and that has not committed yet.
 use Rattle.std.proofs.Common.{◌≡◌, ℕ, ◌+◌, ◌≤◌, List, length, Some, Option, ap, arith}
-use Rattle.machine.specs.Machine.{Rules}
+use Rattle.whole.specs.machine.Machine.{Rules}
 use Rattle.whole.specs.Messages.{Message, Effect}
 use Rattle.whole.specs.Progress.{Progress}
 use Rattle.whole.specs.Role.TheVariants.{Active}
 use Rattle.whole.specs.Replica.{ReplicaState}
 use Rattle.whole.specs.Applying.{applied_to}
 use Rattle.agreement.specs.World.{World, messages, moved}
-use Rattle.lists.specs.Lists.{In}
+use Rattle.whole.specs.lists.Lists.{In}
 use Rattle.agreement.specs.Inside.Ballots.{Line, History}
 use Rattle.agreement.specs.Inside.Ballots.Applied.{in_ballot}
 use Rattle.agreement.specs.Inside.Keeps.{LineAdds}

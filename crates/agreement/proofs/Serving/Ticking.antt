@@ -1,7 +1,7 @@
 -- Ticking.antt: a tick of a node in each role.
 use Rattle.std.proofs.Common.{◌≡◌, ℕ, ◌+◌, List, [], ◌∷◌, Some, Option, refl, ap, sym, ◌∙◌, subst, arith}
 use Rattle.std.specs.Prelude.{slice_get}
-use Rattle.machine.specs.Machine.{Rules}
+use Rattle.whole.specs.machine.Machine.{Rules}
 use Rattle.whole.specs.Messages.{Message, Effect}
 use Rattle.whole.specs.Messages.Body.{Join, Install}
 use Rattle.whole.specs.Role.{Role}
@@ -12,8 +12,8 @@ use Rattle.whole.specs.Changing.{on_tick_fetching, installs}
 use Rattle.whole.specs.Serving.{on_tick_active}
 use Rattle.whole.specs.Protocol.{ticked}
 use Rattle.agreement.specs.World.{World, messages, outputs, moved}
-use Rattle.lists.specs.Lists.{In}
-use Rattle.lists.specs.Lists.In.{here, there}
+use Rattle.whole.specs.lists.Lists.{In}
+use Rattle.whole.specs.lists.Lists.In.{here, there}
 use Rattle.agreement.specs.Inside.Ballots.{Given, History}
 use Rattle.agreement.specs.Inside.Keeps.{Keeps}
 use Rattle.agreement.specs.Inside.Sound.{Says, IsFetching, IsInstalling, IsActive, IsSound}

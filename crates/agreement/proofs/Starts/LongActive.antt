@@ -3,7 +3,7 @@ use Rattle.std.proofs.Common.{◌≡◌, ℕ, ◌<◌, ◌⊎◌, inl, inr, List
 use Rattle.std.specs.Prelude.{slice_get}
 use Rattle.std.proofs.lemmas.Bool.{cases_eq}
 use Rattle.std.proofs.lemmas.List.{length-append}
-use Rattle.machine.specs.Machine.{Rules}
+use Rattle.whole.specs.machine.Machine.{Rules}
 use Rattle.whole.specs.Messages.{Effect}
 use Rattle.whole.specs.Losses.{Loses}
 use Rattle.whole.specs.Protocol.{Input, replica_step}
@@ -13,8 +13,8 @@ use Rattle.agreement.specs.Inside.Ballots.{Line, History}
 use Rattle.agreement.specs.Inside.Begun.{AreLong}
 use Rattle.agreement.specs.Inside.Keeps.{NodeGoesOn}
 use Rattle.agreement.specs.Inside.Sound.{IsSound}
-use Rattle.lists.proofs.Places.{get_set, get_set_other}
-use Rattle.lists.proofs.Beginnings.{prefix_length}
+use Rattle.whole.proofs.of_lists.Places.{get_set, get_set_other}
+use Rattle.whole.proofs.of_lists.Beginnings.{prefix_length}
 use Rattle.agreement.proofs.Frame.Bases.{one_line}
 use Rattle.agreement.proofs.Starts.StaysActive.{StaysActive}
 use Rattle.agreement.proofs.Starts.StepActive.{Begins, step_begins}

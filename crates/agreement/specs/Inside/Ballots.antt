@@ -4,7 +4,7 @@ use Rattle.whole.specs.Messages.{Message}
 use Rattle.whole.specs.Messages.Body.{Held, Installed}
 use Rattle.whole.specs.Replica.{ReplicaState}
 use Rattle.agreement.specs.World.{World}
-use Rattle.lists.specs.Lists.{In, IsPrefixOf}
+use Rattle.whole.specs.lists.Lists.{In, IsPrefixOf}
 
 -- a ballot as the master gave it; ballot 1 has the previous ballot 0
 pub record Given : Type 0 where

@@ -1,6 +1,6 @@
 -- GroupSteps.antt: what may happen in a group, if an Assign is not refused.
 use Rattle.std.specs.Prelude.{ℕ, ◌≡◌, false, List, [], slice_get, Some}
-use Rattle.machine.specs.Machine.{Rules}
+use Rattle.whole.specs.machine.Machine.{Rules}
 use Rattle.whole.specs.Config.{Config}
 use Rattle.whole.specs.Messages.Body.{Activate}
 use Rattle.whole.specs.Messages.{Effect}
@@ -10,7 +10,7 @@ use Rattle.whole.specs.Protocol.Input.{Receives, Proposes, Ticks}
 use Rattle.whole.specs.Replica.{ReplicaState}
 use Rattle.agreement.specs.Proposals.{proposal_by}
 use Rattle.agreement.specs.World.{World, moved}
-use Rattle.lists.specs.Lists.{In}
+use Rattle.whole.specs.lists.Lists.{In}
 use Rattle.agreement.specs.MasterState.{MasterState, assigned, activated}
 use Rattle.agreement.specs.Steps.{tells_from_master, MayTake}
 

@@ -2,12 +2,12 @@
 -- missing or not.
 use Rattle.agreement.specs.Inside.Moves.{with_lines}
 use Rattle.std.specs.Prelude.{◌⊎◌, ℕ, ◌≡◌, List, [], ◌∷◌, ◌++◌, Some, None}
-use Rattle.machine.specs.Machine.{Rules}
+use Rattle.whole.specs.machine.Machine.{Rules}
 use Rattle.whole.specs.Messages.{Effect}
 use Rattle.whole.specs.Losses.{Thinned}
 use Rattle.whole.specs.Sending.{Outcome}
 use Rattle.agreement.specs.World.{World, moved}
-use Rattle.lists.specs.Lists.{In, IsPrefixOf}
+use Rattle.whole.specs.lists.Lists.{In, IsPrefixOf}
 use Rattle.agreement.specs.Inside.Ballots.{Told, TellsHere, Given, Line, History, Extends}
 use Rattle.agreement.specs.Inside.Sound.{IsSound}
 

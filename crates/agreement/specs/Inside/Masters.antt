@@ -2,7 +2,7 @@
 use Rattle.std.specs.Prelude.{ℕ, ◌+◌, ◌<◌, ◌≤◌, ◌≡◌, List, ◌∷◌, Some}
 use Rattle.whole.specs.Config.{Config}
 use Rattle.agreement.specs.Inside.Ballots.{Given, History}
-use Rattle.lists.specs.Lists.{In}
+use Rattle.whole.specs.lists.Lists.{In}
 use Rattle.agreement.specs.MasterState.{MasterState, last_ballot}
 
 -- the master's fields are those of the history

@@ -1,6 +1,6 @@
 -- Serves.antt: all that holds for a group at each of its moments, with the history of its ballots.
 use Rattle.std.specs.Prelude.{ℕ, ◌+◌, ◌<◌, ◌≡◌, ◌⊎◌, length, Some}
-use Rattle.machine.specs.Machine.{Rules}
+use Rattle.whole.specs.machine.Machine.{Rules}
 use Rattle.agreement.specs.Inside.Masters.{IsServing, IsMaster}
 use Rattle.agreement.specs.Inside.Ballots.{Given, History}
 use Rattle.agreement.specs.Inside.Begun.{AreBegun, AreLong}
@@ -9,7 +9,7 @@ use Rattle.agreement.specs.Replays.{AreReplays}
 use Rattle.agreement.specs.Inside.Sound.{IsSound}
 use Rattle.agreement.specs.World.{World}
 use Rattle.whole.specs.Messages.{Message}
-use Rattle.lists.specs.Lists.{In}
+use Rattle.whole.specs.lists.Lists.{In}
 
 -- the number of a node that there is
 abbrev pub IsNode : ℕ → ℕ → Type 0

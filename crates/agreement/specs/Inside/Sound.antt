@@ -1,7 +1,7 @@
 -- Sound.antt: what holds in every world that a group comes to, of its messages, nodes and outputs.
 use Rattle.std.specs.Prelude.{ℕ, ◌+◌, ◌<◌, ◌≤◌, ◌≡◌, ◌⊎◌, List, [], length, take, slice_get, Some, None}
 use Rattle.std.specs.List.{flat_map}
-use Rattle.machine.specs.Machine.{Rules}
+use Rattle.whole.specs.machine.Machine.{Rules}
 use Rattle.whole.specs.Messages.{Message, Body}
 use Rattle.whole.specs.Messages.Body.{NewBallot, Join, State, Install, Installed, Activate, Activated, Superseded, Append, Held, Commit}
 use Rattle.whole.specs.Progress.{Progress}
@@ -9,7 +9,7 @@ use Rattle.whole.specs.Role.TheVariants.{Fetching, Installing, Active}
 use Rattle.whole.specs.Replica.{ReplicaState}
 use Rattle.whole.specs.Applying.{outputs_between}
 use Rattle.agreement.specs.World.{World, outputs}
-use Rattle.lists.specs.Lists.{In, IsPrefixOf}
+use Rattle.whole.specs.lists.Lists.{In, IsPrefixOf}
 use Rattle.agreement.specs.Inside.Ballots.{Given, Line, History, Told, IsChosenIn, Sealed, AreBallots, AreLines, IsPlaced, Applied}
 use Rattle.agreement.specs.Leaving.{AreInOrder, Segment}
 

@@ -2,8 +2,8 @@
 
 use super::replicas::*;
 use super::stories::{Story, goes};
+use ballot::machine::{Tally, TallyCommand};
 use ballot::{Body, Effect, ProposeError, Replica, Role};
-use machine::{Tally, TallyCommand};
 
 // Says whether a replica takes these commands.
 fn take(

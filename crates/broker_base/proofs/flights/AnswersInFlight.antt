@@ -3,11 +3,11 @@ use Rattle.std.proofs.Common.{◌≡◌, ℕ, zero, suc, Bool, true, false, not,
 use Rattle.std.proofs.lemmas.List.Elements.{filter-append}
 use Rattle.session_base.specs.Publication.{is_acknowledged}
 use Rattle.session_base.specs.Queue.{awaited, awaits_puback, awaits_pubcomp, on_puback, on_pubcomp}
-use Rattle.broker_model.specs.Entries.{Entry}
-use Rattle.broker_model.specs.Readings.{released_at, released_below}
-use Rattle.broker_model.specs.Times.{at_puback, at_pubcomp}
+use Rattle.broker_spec.specs.Entries.{Entry}
+use Rattle.broker_spec.specs.Readings.{released_at, released_below}
+use Rattle.broker_spec.specs.Times.{at_puback, at_pubcomp}
 use Rattle.broker_base.specs.ClientSession.{sent_flights, released_flight, flights_below}
-use Rattle.broker_model.proofs.WhatFlightsAwait.{filter_out, filter_map_is, awaits_puback_is, and_no, and_yes, awaits_no_pubcomp}
+use Rattle.broker_spec.proofs.WhatFlightsAwait.{filter_out, filter_map_is, awaits_puback_is, and_no, and_yes, awaits_no_pubcomp}
 
 -- ---- PUBACK
 

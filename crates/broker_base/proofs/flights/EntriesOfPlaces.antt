@@ -2,12 +2,12 @@
 use Rattle.std.proofs.Common.{◌≡◌, ℕ, ◌<◌, ◌≤◌, Bool, true, false, ◌⊎◌, inl, inr, ◌==◌, nat_lt, if◌then◌else◌, List, [], ◌∷◌, ◌++◌, length, map, refl, ap, ◌∙◌, sym, arith}
 use Rattle.session_base.specs.declared.publication.Publication.{Publication}
 use Rattle.session_base.specs.Identifiers.{least_free}
-use Rattle.broker_model.specs.Entries.{Entry}
-use Rattle.broker_model.specs.Readings.{made_at, waiting_of, busy_ids}
-use Rattle.broker_model.specs.Times.{start_all}
+use Rattle.broker_spec.specs.Entries.{Entry}
+use Rattle.broker_spec.specs.Readings.{made_at, waiting_of, busy_ids}
+use Rattle.broker_spec.specs.Times.{start_all}
 use Rattle.session_base.proofs.CountedIdentifiers.{count, SameIds}
-use Rattle.broker_model.proofs.SoundEntries.{IsBelow, AllWait, InOrder}
-use Rattle.broker_model.proofs.SoundStarts.{busy_waits}
+use Rattle.broker_spec.proofs.SoundEntries.{IsBelow, AllWait, InOrder}
+use Rattle.broker_spec.proofs.SoundStarts.{busy_waits}
 use Rattle.broker_base.proofs.flights.StartsInFlight.{moved}
 use Rattle.broker_base.proofs.flights.SendsOfCopies.{starts_full, this_place}
 

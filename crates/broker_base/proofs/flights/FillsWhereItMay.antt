@@ -2,22 +2,22 @@
 -- start: at a Connect, after PUBACK and PUBCOMP, and after each copy that is enqueued.
 use Rattle.std.proofs.Common.{◌≡◌, ℕ, ◌≤◌, Bool, true, false, not, ◌&&◌, ◌||◌, inl, inr, if◌then◌else◌, Option, Some, None, List, [], ◌++◌, length, refl, ap, ◌∙◌, sym, subst}
 use Rattle.session_base.specs.packet.declared.packet.Packet.TheVariants as packets
-use Rattle.broker_model.specs.retained.Retained.{RetainedTopics}
+use Rattle.broker_spec.specs.retained.Retained.{RetainedTopics}
 use Rattle.session_base.specs.declared.publication.Publication.{Publication}
 use Rattle.session_base.specs.Laws.{IsQuietQueue}
 use Rattle.session_base.specs.Subscriptions.{HeldFilter}
 use Rattle.session_base.specs.Queue.{Flight, on_puback, on_pubrec, on_pubcomp, fill}
 use Rattle.session_base.proofs.CopiesOneByOne.{fill_quiet, copies_are_one_fill}
-use Rattle.broker_model.specs.Connection.{ConnectionName}
-use Rattle.broker_model.specs.Place.{Client, same_client, Mark, Place, only_if}
-use Rattle.broker_model.specs.Past.{expels, ends_any}
-use Rattle.broker_model.specs.Subscriptions.{subscribed}
-use Rattle.broker_model.specs.Received.{received_by}
-use Rattle.broker_model.specs.Entries.{queued}
+use Rattle.broker_spec.specs.Connection.{ConnectionName}
+use Rattle.broker_spec.specs.Place.{Client, same_client, Mark, Place, only_if}
+use Rattle.broker_spec.specs.Past.{expels, ends_any}
+use Rattle.broker_spec.specs.Subscriptions.{subscribed}
+use Rattle.broker_spec.specs.Received.{received_by}
+use Rattle.broker_spec.specs.Entries.{queued}
 use Rattle.broker_base.specs.ClientSession.{ClientSession}
 use Rattle.broker_base.specs.SessionStep.{copies_with, filled_on, answered_queue, copied_queue, kept_anew, kept_resumed, kept_by, kept_later, kept_after}
-use Rattle.broker_model.specs.declared.command.Command.{Command}
-use Rattle.broker_model.specs.declared.command.Command.TheVariants as commands
+use Rattle.broker_spec.specs.declared.command.Command.{Command}
+use Rattle.broker_spec.specs.declared.command.Command.TheVariants as commands
 use Rattle.broker_base.proofs.flights.IdentifiersInFlight.{append_none}
 use Rattle.broker_base.proofs.flights.FillingAlways.{answered_flights, filled_kept, filled_by, filled_later, filled_after}
 

@@ -3,11 +3,11 @@ use Rattle.std.proofs.Common.{◌≡◌, ℕ, ◌+◌, ◌<◌, zero, suc, Bool,
 use Rattle.std.proofs.lemmas.List.{map-append}
 use Rattle.session_base.specs.declared.publication.Publication.{Publication}
 use Rattle.session_base.specs.Queue.{Flight, ids_of}
-use Rattle.broker_model.specs.Entries.{Entry}
-use Rattle.broker_model.specs.Readings.{released_at, released_below, busy_ids}
+use Rattle.broker_spec.specs.Entries.{Entry}
+use Rattle.broker_spec.specs.Readings.{released_at, released_below, busy_ids}
 use Rattle.broker_base.specs.ClientSession.{sent_flights, released_flight, flights_below}
 use Rattle.session_base.proofs.CountedIdentifiers.{one_if, count, count-append, SameIds}
-use Rattle.broker_model.proofs.SoundEntries.{IsBelow}
+use Rattle.broker_spec.proofs.SoundEntries.{IsBelow}
 
 pub append_none : {A : Type 0} (xs : List A) → xs ++ [] ≡ xs
 append_none [] = refl

@@ -7,15 +7,15 @@ use Rattle.std.proofs.lemmas.List.Elements.{filter-append}
 use Rattle.std.proofs.lemmas.List.Folds.{list_any-append}
 use Rattle.session_base.specs.declared.awaits.Awaits.TheVariants as waits_for
 use Rattle.session_base.specs.Queue.{awaits_pubrec, is_released, ids_of, released_with, on_pubrec}
-use Rattle.broker_model.specs.Entries.{Entry}
-use Rattle.broker_model.specs.Readings.{released_below, busy_ids}
-use Rattle.broker_model.specs.Times.{at_pubrec}
+use Rattle.broker_spec.specs.Entries.{Entry}
+use Rattle.broker_spec.specs.Readings.{released_below, busy_ids}
+use Rattle.broker_spec.specs.Times.{at_pubrec}
 use Rattle.broker_base.specs.ClientSession.{sent_flights, released_flight, flights_below}
 use Rattle.session_base.proofs.CountedIdentifiers.{count}
 use Rattle.session_base.proofs.PubrecAlone.{Found, find}
-use Rattle.broker_model.proofs.SoundEntries.{Sound}
+use Rattle.broker_spec.proofs.SoundEntries.{Sound}
 use Rattle.broker_base.proofs.flights.IdentifiersInFlight.{append_none}
-use Rattle.broker_model.proofs.WhatFlightsAwait.{not_released}
+use Rattle.broker_spec.proofs.WhatFlightsAwait.{not_released}
 use Rattle.broker_base.proofs.flights.ReleasesInFlight.{sent_pubrec, released_before, released_now}
 
 -- ---- the queue

@@ -7,17 +7,17 @@ use Rattle.session_base.specs.packet.declared.packet.Packet.TheVariants as packe
 use Rattle.session_base.specs.lists.Lists.{has_id}
 use Rattle.session_base.specs.Queue.{awaits_pubcomp, on_pubrec}
 use Rattle.session_base.specs.Sending.{pubrec_sends}
-use Rattle.broker_model.specs.Connection.{ConnectionName}
-use Rattle.broker_model.specs.Place.{Client, Place, Past, Limits}
-use Rattle.broker_model.specs.Past.{accepts, ends_any, current_connection, session_of}
-use Rattle.broker_model.specs.Subscriptions.{subscriptions_of}
-use Rattle.broker_model.specs.Received.{received_of}
-use Rattle.broker_model.specs.Entries.{Entry, copies_at, queued}
-use Rattle.broker_model.specs.Readings.{released_below}
-use Rattle.broker_model.specs.Times.{at_pubrec, answered_by, started, window_at, entries_of}
+use Rattle.broker_spec.specs.Connection.{ConnectionName}
+use Rattle.broker_spec.specs.Place.{Client, Place, Past, Limits}
+use Rattle.broker_spec.specs.Past.{accepts, ends_any, current_connection, session_of}
+use Rattle.broker_spec.specs.Subscriptions.{subscriptions_of}
+use Rattle.broker_spec.specs.Received.{received_of}
+use Rattle.broker_spec.specs.Entries.{Entry, copies_at, queued}
+use Rattle.broker_spec.specs.Readings.{released_below}
+use Rattle.broker_spec.specs.Times.{at_pubrec, answered_by, started, window_at, entries_of}
 use Rattle.broker_base.specs.ClientSession.{ClientSession, sent_flights, released_flight, flights_below, client_session}
-use Rattle.broker_model.specs.declared.command.Output.TheVariants.{Send}
-use Rattle.broker_model.proofs.WhatFlightsAwait.{awaits_no_pubcomp}
+use Rattle.broker_spec.specs.declared.command.Output.TheVariants.{Send}
+use Rattle.broker_spec.proofs.WhatFlightsAwait.{awaits_no_pubcomp}
 use Rattle.broker_base.proofs.flights.PubrecInFlight.{flights_pubrec}
 use Rattle.broker_base.proofs.flights.IdentifiersInFlight.{append_none}
 use Rattle.broker_base.proofs.flights.StartsInFlight.{released_started}

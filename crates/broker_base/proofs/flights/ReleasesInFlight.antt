@@ -3,13 +3,13 @@ use Rattle.std.proofs.Common.{◌≡◌, ℕ, ◌<◌, ◌≤◌, zero, suc, Boo
 use Rattle.session_base.specs.Publication.{is_acknowledged}
 use Rattle.session_base.specs.Queue.{awaited, awaits_pubrec, ids_of}
 use Rattle.session_base.proofs.PubrecAlone.{ids_if}
-use Rattle.broker_model.specs.Entries.{Entry}
-use Rattle.broker_model.specs.Readings.{released_at, released_below}
-use Rattle.broker_model.specs.Times.{at_pubrec}
+use Rattle.broker_spec.specs.Entries.{Entry}
+use Rattle.broker_spec.specs.Readings.{released_at, released_below}
+use Rattle.broker_spec.specs.Times.{at_pubrec}
 use Rattle.broker_base.specs.ClientSession.{sent_flights, released_flight, flights_below}
-use Rattle.broker_model.proofs.SoundEntries.{IsBelow}
+use Rattle.broker_spec.proofs.SoundEntries.{IsBelow}
 use Rattle.broker_base.proofs.flights.IdentifiersInFlight.{append_none}
-use Rattle.broker_model.proofs.WhatFlightsAwait.{filter_out, awaits_pubrec_is}
+use Rattle.broker_spec.proofs.WhatFlightsAwait.{filter_out, awaits_pubrec_is}
 
 other_place : (release n : ℕ) → release < n → (release == n) ≡ false
 other_place release n h = grind arith

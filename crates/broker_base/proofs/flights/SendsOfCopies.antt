@@ -9,11 +9,11 @@ use Rattle.session_base.specs.Publication.{publish_of, is_answered}
 use Rattle.session_base.specs.Identifiers.{least_free}
 use Rattle.session_base.specs.Queue.{Flight, ids_of, started_flight, fill}
 use Rattle.session_base.specs.Sending.{fill_sends, copies_sent}
-use Rattle.broker_model.specs.Connection.{ConnectionName}
-use Rattle.broker_model.specs.Entries.{Entry, queued}
-use Rattle.broker_model.specs.Times.{start_all}
-use Rattle.broker_model.specs.Sends.{publish, all_started, handed}
-use Rattle.broker_model.specs.declared.command.Output.TheVariants.{Send}
+use Rattle.broker_spec.specs.Connection.{ConnectionName}
+use Rattle.broker_spec.specs.Entries.{Entry, queued}
+use Rattle.broker_spec.specs.Times.{start_all}
+use Rattle.broker_spec.specs.Sends.{publish, all_started, handed}
+use Rattle.broker_spec.specs.declared.command.Output.TheVariants.{Send}
 use Rattle.session_base.proofs.CountedIdentifiers.{SameIds, same_length, same_least}
 use Rattle.broker_base.proofs.flights.StartsInFlight.{same_next}
 

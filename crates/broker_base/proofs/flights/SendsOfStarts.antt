@@ -10,19 +10,19 @@ use Rattle.session_base.specs.Publication.{is_acknowledged, publish_of}
 use Rattle.session_base.specs.Identifiers.{least_free}
 use Rattle.session_base.specs.Queue.{Flight, ids_of, started_flight}
 use Rattle.session_base.specs.Sending.{fill_sends, sent_anew, resend}
-use Rattle.broker_model.specs.Connection.{ConnectionName}
-use Rattle.broker_model.specs.Entries.{Entry}
-use Rattle.broker_model.specs.Readings.{released_below, waiting_of, busy_ids}
-use Rattle.broker_model.specs.Times.{start_all}
-use Rattle.broker_model.specs.Sends.{publish, all_started, sent_again, resent}
+use Rattle.broker_spec.specs.Connection.{ConnectionName}
+use Rattle.broker_spec.specs.Entries.{Entry}
+use Rattle.broker_spec.specs.Readings.{released_below, waiting_of, busy_ids}
+use Rattle.broker_spec.specs.Times.{start_all}
+use Rattle.broker_spec.specs.Sends.{publish, all_started, sent_again, resent}
 use Rattle.broker_base.specs.ClientSession.{sent_flights, released_flight, flights_below}
-use Rattle.broker_model.specs.declared.command.Output.TheVariants.{Send}
+use Rattle.broker_spec.specs.declared.command.Output.TheVariants.{Send}
 use Rattle.session_base.proofs.CountedIdentifiers.{count, SameIds, same_length, same_least}
-use Rattle.broker_model.proofs.SoundEntries.{IsBelow, AllWait, InOrder}
-use Rattle.broker_model.proofs.SoundStarts.{busy_waits}
+use Rattle.broker_spec.proofs.SoundEntries.{IsBelow, AllWait, InOrder}
+use Rattle.broker_spec.proofs.SoundStarts.{busy_waits}
 use Rattle.broker_base.proofs.flights.IdentifiersInFlight.{append_none, same_ids}
 use Rattle.broker_base.proofs.flights.StartsInFlight.{same_next, moved, released_started}
-use Rattle.broker_model.proofs.EntriesStartedBefore.{StartedBefore, before_below}
+use Rattle.broker_spec.proofs.EntriesStartedBefore.{StartedBefore, before_below}
 
 -- ---- what starts
 

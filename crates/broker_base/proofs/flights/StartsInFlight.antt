@@ -4,15 +4,15 @@ use Rattle.std.proofs.lemmas.List.{map-append, append_assoc, length-map}
 use Rattle.session_base.specs.declared.publication.Publication.{Publication}
 use Rattle.session_base.specs.Identifiers.{least_free}
 use Rattle.session_base.specs.Queue.{Flight, awaited, ids_of, started_flight, fill}
-use Rattle.broker_model.specs.Connection.{ConnectionName}
-use Rattle.broker_model.specs.Entries.{Entry}
-use Rattle.broker_model.specs.Readings.{released_at, released_below, waiting_of, busy_ids}
-use Rattle.broker_model.specs.Times.{start_all, started}
+use Rattle.broker_spec.specs.Connection.{ConnectionName}
+use Rattle.broker_spec.specs.Entries.{Entry}
+use Rattle.broker_spec.specs.Readings.{released_at, released_below, waiting_of, busy_ids}
+use Rattle.broker_spec.specs.Times.{start_all, started}
 use Rattle.broker_base.specs.ClientSession.{sent_flights, released_flight, flights_below, queue_of}
 use Rattle.broker_base.specs.SessionStep.{filled_on}
 use Rattle.session_base.proofs.CountedIdentifiers.{one_if, count, count-append, SameIds, same_length, same_least}
-use Rattle.broker_model.proofs.SoundEntries.{IsBelow, AllWait, InOrder}
-use Rattle.broker_model.proofs.SoundStarts.{busy_waits}
+use Rattle.broker_spec.proofs.SoundEntries.{IsBelow, AllWait, InOrder}
+use Rattle.broker_spec.proofs.SoundStarts.{busy_waits}
 use Rattle.broker_base.proofs.flights.IdentifiersInFlight.{append_none, same_ids}
 
 -- ---- what starts

@@ -3,7 +3,7 @@ use Rattle.std.proofs.Common.{◌≡◌, ℕ, Bool, true, false, ◌&&◌, if◌
 use Rattle.std.specs.Prelude.{bytes_eq}
 use Rattle.std.specs.Cmp.Lexicographic.{bytes_decides, texts_ties}
 use Rattle.subs.specs.packet.declared.qos.QoS.{QoS}
-use Rattle.broker_model.specs.session_base.Subscriptions.{HeldFilter, with_subscription, with_subscriptions, without_filter, without_filters}
+use Rattle.broker_spec.specs.session_base.Subscriptions.{HeldFilter, with_subscription, with_subscriptions, without_filter, without_filters}
 use Rattle.broker_base.specs.Place.{Client, same_client}
 use Rattle.broker_base.specs.ClientSession.{ClientSession}
 use Rattle.broker_base.specs.State.{Sessions, session_in}

@@ -3,7 +3,7 @@ use Rattle.std.proofs.Common.{◌≡◌, ℕ, Bool, true, false, not, if◌then�
 use Rattle.std.specs.Prelude.{bytes_eq}
 use Rattle.std.specs.Cmp.Lexicographic.{bytes_decides}
 use Rattle.subs.specs.packet.declared.qos.QoS.{QoS}
-use Rattle.broker_model.specs.session_base.Subscriptions.{HeldFilter, with_subscription, without_filter}
+use Rattle.broker_spec.specs.session_base.Subscriptions.{HeldFilter, with_subscription, without_filter}
 use Rattle.broker_rows.specs.Indexed.{qos_at}
 
 -- bytes that are tested equal, either way round

@@ -3,8 +3,8 @@ use Rattle.std.proofs.Common.{◌≡◌, ℕ, Bool, true, false, ◌&&◌, if◌
 use Rattle.std.specs.Prelude.{bytes_eq}
 use Rattle.std.specs.List.Sorted.{IsStrictlySortedBy}
 use Rattle.std.specs.Cmp.Lexicographic.{bytes_decides}
-use Rattle.broker_model.specs.session_base.Subscriptions.{HeldFilter}
-use Rattle.broker_model.specs.session_base.KeepingLaws.{AreFiltersApart}
+use Rattle.broker_spec.specs.session_base.Subscriptions.{HeldFilter}
+use Rattle.broker_spec.specs.session_base.KeepingLaws.{AreFiltersApart}
 use Rattle.broker_base.specs.Connection.{ConnectionName, same_connection}
 use Rattle.broker_base.specs.Place.{Client, same_client}
 use Rattle.broker_base.specs.Past.{any_connection}

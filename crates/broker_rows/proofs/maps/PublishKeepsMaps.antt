@@ -1,6 +1,6 @@
 -- A taken PUBLISH leaves every connection its owner, and every subscription.
 use Rattle.std.proofs.Common.{◌≡◌, ℕ, List, [], ◌∷◌, refl, ap, ◌∙◌}
-use Rattle.broker_model.specs.session_base.declared.publication.Publication.{Publication}
+use Rattle.broker_spec.specs.session_base.declared.publication.Publication.{Publication}
 use Rattle.broker_base.specs.Connection.{ConnectionName}
 use Rattle.broker_base.specs.Place.{Client}
 use Rattle.broker_base.specs.ClientSession.{ClientSession}

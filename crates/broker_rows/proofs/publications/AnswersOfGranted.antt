@@ -4,12 +4,12 @@ use Rattle.std.specs.Prelude.{flat_map, option_map}
 use Rattle.subs.specs.packet.declared.qos.QoS.{QoS}
 use Rattle.subs.specs.packet.declared.publish.Publish.{Publish}
 use Rattle.subs.specs.packet.declared.packet.Packet.TheVariants as packets
-use Rattle.broker_model.specs.retained.Retained.{RetainedTopics}
-use Rattle.broker_model.specs.session_base.Publication.{publication_of, lower_qos}
-use Rattle.broker_model.specs.session_base.Sending.{copies_sent}
+use Rattle.broker_spec.specs.retained.Retained.{RetainedTopics}
+use Rattle.broker_spec.specs.session_base.Publication.{publication_of, lower_qos}
+use Rattle.broker_spec.specs.session_base.Sending.{copies_sent}
 use Rattle.broker_base.specs.Connection.{ConnectionName}
 use Rattle.broker_base.specs.Place.{Client, Mark, Place}
-use Rattle.broker_model.specs.session_base.Subscriptions.{granted_qos}
+use Rattle.broker_spec.specs.session_base.Subscriptions.{granted_qos}
 use Rattle.broker_base.specs.Entries.{copy_of}
 use Rattle.broker_base.specs.ClientSession.{ClientSession}
 use Rattle.broker_base.specs.State.{Sessions, session_in}

@@ -9,7 +9,7 @@ use Rattle.subs.proofs.of_topics.MatchingIsTested.{tested}
 use Rattle.subs.specs.packet.declared.qos.QoS.{QoS}
 use Rattle.subs.specs.packet.QoS.{qos_number}
 use Rattle.broker_base.specs.Place.{Client, by_bytes, same_client}
-use Rattle.broker_model.specs.session_base.Subscriptions.{granted_qos}
+use Rattle.broker_spec.specs.session_base.Subscriptions.{granted_qos}
 use Rattle.broker_base.specs.ClientSession.{ClientSession}
 use Rattle.broker_base.specs.State.{Sessions, session_in}
 use Rattle.broker_base.proofs.SessionsStayByClient.{ComesBefore}
@@ -20,7 +20,7 @@ use Rattle.subs.specs.Granted.{Row, clients_of, IsGreatest, IsGranted, row_of}
 use Rattle.subs.proofs.GrantsOneList.{one_list}
 use Rattle.broker_rows.specs.Published.{granted_rows}
 use Rattle.broker_rows.specs.Indexed.{subscribed_in, content_in}
-use Rattle.broker_model.specs.session_base.KeepingLaws.{AreFiltersApart}
+use Rattle.broker_spec.specs.session_base.KeepingLaws.{AreFiltersApart}
 use Rattle.broker_base.specs.StateLaws.{AllSound}
 use Rattle.broker_rows.proofs.FindsEach.{Finds, finds_each}
 use Rattle.broker_rows.proofs.publications.GreatestGranted.{reaches, comes}

@@ -7,10 +7,10 @@ use Rattle.std.proofs.lemmas.Bool.{or_parts}
 use Rattle.subs.specs.topics.Matching.{is_match}
 use Rattle.subs.specs.packet.declared.qos.QoS.{QoS}
 use Rattle.subs.specs.packet.QoS.{qos_number}
-use Rattle.broker_model.specs.session_base.Publication.{greater_qos}
-use Rattle.broker_model.specs.session_base.Subscriptions.{HeldFilter, is_held, granted_qos}
+use Rattle.broker_spec.specs.session_base.Publication.{greater_qos}
+use Rattle.broker_spec.specs.session_base.Subscriptions.{HeldFilter, is_held, granted_qos}
 use Rattle.broker_rows.specs.Indexed.{qos_at}
-use Rattle.broker_model.specs.session_base.KeepingLaws.{AreFiltersApart}
+use Rattle.broker_spec.specs.session_base.KeepingLaws.{AreFiltersApart}
 
 -- ---- the greater of two
 

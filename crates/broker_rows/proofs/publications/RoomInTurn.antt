@@ -4,7 +4,7 @@ use Rattle.std.specs.List.{list_any}
 use Rattle.std.specs.Ordering.{is_eq}
 use Rattle.std.proofs.lemmas.Bool.{or_parts}
 use Rattle.subs.specs.packet.declared.delivery.Delivery.{Delivery}
-use Rattle.broker_model.specs.session_base.declared.publication.Publication.{Publication}
+use Rattle.broker_spec.specs.session_base.declared.publication.Publication.{Publication}
 use Rattle.broker_base.specs.Place.{Client, Limits}
 use Rattle.broker_base.specs.ClientSession.{ClientSession}
 use Rattle.broker_base.specs.State.{Sessions, session_in}

@@ -5,11 +5,11 @@ use Rattle.subs.specs.packet.declared.qos.QoS.{QoS}
 use Rattle.subs.specs.packet.declared.delivery.Delivery.{Delivery}
 use Rattle.subs.specs.packet.declared.publish.Publish.{Publish}
 use Rattle.subs.specs.packet.declared.packet.Packet.TheVariants as packets
-use Rattle.broker_model.specs.retained.Retained.{RetainedTopics}
-use Rattle.broker_model.specs.session_base.declared.publication.Publication.{Publication}
-use Rattle.broker_model.specs.session_base.Publication.{publication_of, lower_qos}
-use Rattle.broker_model.specs.session_base.Subscriptions.{granted_qos}
-use Rattle.broker_model.specs.session_base.Queue.{Queue}
+use Rattle.broker_spec.specs.retained.Retained.{RetainedTopics}
+use Rattle.broker_spec.specs.session_base.declared.publication.Publication.{Publication}
+use Rattle.broker_spec.specs.session_base.Publication.{publication_of, lower_qos}
+use Rattle.broker_spec.specs.session_base.Subscriptions.{granted_qos}
+use Rattle.broker_spec.specs.session_base.Queue.{Queue}
 use Rattle.broker_base.specs.Connection.{ConnectionName}
 use Rattle.broker_base.specs.Place.{Client, Mark, same_client, only_if}
 use Rattle.broker_base.specs.EntryLaws.{taken}

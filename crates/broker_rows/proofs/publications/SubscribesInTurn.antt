@@ -3,11 +3,11 @@ use Rattle.std.proofs.Common.{◌≡◌, ℕ, ◌-◌, Bool, true, false, not, �
 use Rattle.std.specs.Prelude.{map}
 use Rattle.std.proofs.lemmas.List.{append-nil}
 use Rattle.subs.specs.packet.declared.subscribe.Subscription.{Subscription}
-use Rattle.broker_model.specs.retained.Retained.{RetainedTopics}
-use Rattle.broker_model.specs.session_base.Session.{SessionState, with_filters, with_queue}
-use Rattle.broker_model.specs.session_base.Subscriptions.{with_subscription, with_subscriptions}
-use Rattle.broker_model.specs.session_base.Queue.{room, copies_left}
-use Rattle.broker_model.specs.session_base.Sending.{copies_sent}
+use Rattle.broker_spec.specs.retained.Retained.{RetainedTopics}
+use Rattle.broker_spec.specs.session_base.Session.{SessionState, with_filters, with_queue}
+use Rattle.broker_spec.specs.session_base.Subscriptions.{with_subscription, with_subscriptions}
+use Rattle.broker_spec.specs.session_base.Queue.{room, copies_left}
+use Rattle.broker_spec.specs.session_base.Sending.{copies_sent}
 use Rattle.broker_base.specs.Place.{Limits}
 use Rattle.broker_base.specs.Subscriptions.{as_held, granted_of}
 use Rattle.broker_base.specs.Entries.{copies_for, copies_for_all}

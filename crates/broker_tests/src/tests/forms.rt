@@ -4,7 +4,7 @@ use super::handshakes::{PUBLISH, SUBSCRIBE};
 use crate::row::{Answer, CLOSED, Event, NOTHING, Row, is_answered};
 use crate::story::{Start, Story, first_fault};
 use broker::BrokerMachine;
-use machine::Machine;
+use broker::machine::Machine;
 use std::alloc::Global;
 use std::test::*;
 

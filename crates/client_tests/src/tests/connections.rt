@@ -1,10 +1,10 @@
 // The beginning and the end of connections, and bytes in pieces of any size.
 
 use super::row::*;
-use client::ClientError;
 use std::alloc::{AllocError, Global};
 use std::test::*;
-use topics::MalformedKind;
+use user_client::client::ClientError;
+use user_client::topics::MalformedKind;
 
 /// Returns a PUBLISH, and after it these bytes.
 fn behind_publish(alloc: Global, bytes: &[u8]) -> Result<Vec<u8>, AllocError> {

@@ -1,12 +1,12 @@
 // What the parts of a client share: refusals, requests and laws.
 
-use client_base::{
+use std::test::Fail;
+use user_client::client_base::{
     ClientError, Request, Stage, accepted_once_an_identifier, history_is_followed,
     identifiers_are_distinct, publishing_order_is_kept,
 };
-use packet::PacketId;
-use std::test::Fail;
-use topics::MalformedKind;
+use user_client::packet::PacketId;
+use user_client::topics::MalformedKind;
 
 // Each refusal has its number in the table of refusals.
 #[test]

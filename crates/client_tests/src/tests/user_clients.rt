@@ -1,11 +1,11 @@
 // Two clients over servers in memory, which send what the test says.
 
-use packet::QoS;
 use std::alloc::Global;
 use std::cell::RefCell;
 use std::io;
 use std::io::{ErrorKind, Read, Write};
 use std::test::Fail;
+use user_client::packet::QoS;
 use user_client::{ClientFault, Publisher, Servers, Subscriber, print_text};
 
 // The pieces that a server sends on a connection, one a read. Then it closes.

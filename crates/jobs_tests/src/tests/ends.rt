@@ -1,7 +1,7 @@
 // How each job ends: its exit status, and what it writes.
 
 use crate::tests::hand::{does, ends};
-use command_line::LineFault;
+use jobs::command_line::LineFault;
 use jobs::{Fault, refuse, serve_table, tell};
 use std::alloc::Global;
 use std::net::{Net, TcpListener, TcpStream};

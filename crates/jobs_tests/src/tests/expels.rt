@@ -1,9 +1,9 @@
 // The order to end the session of a client.
 
 use super::orders::{Served, free_port, serve};
-use command_line::Subscribe;
+use jobs::command_line::Subscribe;
+use jobs::packet::QoS;
 use jobs::{Fault, subscribe};
-use packet::QoS;
 use std::io::{PipeWriter, Write};
 use std::net::{Net, TcpListener, TcpStream};
 use std::rt::Files;

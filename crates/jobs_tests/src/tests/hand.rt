@@ -1,6 +1,6 @@
 // Doing a job by the words of a command line.
 
-use command_line::line;
+use jobs::command_line::line;
 use jobs::{perform, refuse};
 use std::io::BufRead;
 use std::net::{Net, TcpListener, TcpStream};

@@ -1,8 +1,8 @@
 // Orders to the nodes of a server, while its two clients run.
 
-use command_line::{Publish, Subscribe};
+use jobs::command_line::{Publish, Subscribe};
+use jobs::packet::QoS;
 use jobs::{publish, serve_table, subscribe};
-use packet::QoS;
 use std::alloc::{AllocError, Global};
 use std::io::{BufReader, PipeReader, PipeWriter, Write};
 use std::net::{Net, TcpListener, TcpStream};

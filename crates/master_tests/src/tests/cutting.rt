@@ -2,7 +2,7 @@
 
 use super::groups::*;
 use super::stories::{Story, goes};
-use machine::{Tally, TallyCommand};
+use master::machine::{Tally, TallyCommand};
 use master::{Event, Group};
 use std::alloc::Global;
 

@@ -3,8 +3,8 @@
 
 use super::groups::*;
 use super::stories::{Story, goes};
-use ballot::Effect;
-use machine::{Tally, TallyCommand};
+use master::ballot::Effect;
+use master::machine::{Tally, TallyCommand};
 use master::{Event, Group};
 use std::alloc::Global;
 

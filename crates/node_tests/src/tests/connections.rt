@@ -4,10 +4,10 @@
 ghost use Rattle.std.specs.Prelude.{◌≡◌};
 
 use super::fakes::{Sink, Source};
+use connection::node_base::Counted;
 use connection::{Ending, Flow, Hearer, Outflow, Outlet, Tap, Unwritten, listen, write_out};
-use mailbox::{Inbox, Lane, Naming, Receiver};
+use node::mailbox::{Inbox, Lane, Naming, Receiver};
 use node::{Config, Handed, Item, Members, Memory, NodeCore, Piece, Port};
-use node_base::Counted;
 use std::alloc::Global;
 use std::io::ErrorKind;
 use std::marker::Brand;
@@ -24,12 +24,12 @@ const PORT: Port = Port(7);
 
 // A lane to which a connection is reported, which accepts it or not.
 #[derive(Drop)]
-struct Ear<J: Naming> {
+struct LaneReporter<J: Naming> {
     lane: Lane<Item, J>,
     is_open: bool,
 }
 
-impl<J: Naming> Hearer for Ear<J> {
+impl<J: Naming> Hearer for LaneReporter<J> {
     ghost heard = { λ ear. ear.lane.sent };
 
     fn now<R: Clock>(&self, _rt: &R) -> u64 {
@@ -119,7 +119,13 @@ fn ends<J: Naming, R: Wait + Clock>(
     match lane {
         Some(lane) => {
             let mut source = Counted::new(Source::new(CONNECT, 4, bad_call));
-            let ended = listen(rt, alloc, PORT, &mut source, &mut Ear { lane, is_open });
+            let ended = listen(
+                rt,
+                alloc,
+                PORT,
+                &mut source,
+                &mut LaneReporter { lane, is_open },
+            );
             ended == ending && source.faults() == u64::from(ending == Ending::Fault)
         }
         None => false,
@@ -248,7 +254,7 @@ fn write_all<R: Wait>(
     let mut left = Unwritten::from_slice(alloc, LEFT).ok()?;
     for times in 0..9u64 {
         match write_out(rt, &mut left, &mut OneTap, spring, sink) {
-            Flow::Late => {}
+            Flow::Blocked => {}
             flow => return Some((times, flow)),
         }
     }
@@ -303,5 +309,5 @@ fn stream_ends<R: Wait>(rt: &R, alloc: Global) -> Option<(Flow, Flow, Flow)> {
 #[test]
 fn a_stream_goes_on_where_it_was_full(rt: HostRuntime) {
     let ends = stream_ends(&rt, rt.alloc());
-    assert_eq!(rt; ends, Some((Flow::Late, Flow::Open, Flow::Open)));
+    assert_eq!(rt; ends, Some((Flow::Blocked, Flow::Open, Flow::Open)));
 }

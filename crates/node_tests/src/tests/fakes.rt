@@ -1,6 +1,6 @@
 // Devices in memory of which one call fails.
 
-use node_base::Counted;
+use connection::node_base::Counted;
 use std::alloc::Global;
 use std::io;
 use std::io::{ErrorKind, Read, Write};

@@ -2,7 +2,7 @@
 
 ghost use Rattle.std.specs.Prelude.{◌≡◌, ◌≤◌};
 
-use mailbox::{INBOX_ITEMS, Inbox, Lane, Naming, Receiver};
+use node::mailbox::{INBOX_ITEMS, Inbox, Lane, Naming, Receiver};
 use std::alloc::Global;
 use std::marker::Brand;
 use std::process::Abort;

@@ -1,8 +1,8 @@
 // What `decode` answers to bytes.
 
-use packet::*;
+use cutter::packet::*;
+use cutter::topics::MalformedKind;
 use std::alloc::Global;
-use topics::MalformedKind;
 
 /// What bytes are.
 #[derive(Clone, Copy, PartialEq)]

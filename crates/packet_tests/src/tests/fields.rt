@@ -1,6 +1,6 @@
 // Fields that several packets share.
 
-use packet_base::{PacketId, RefusalCode, length_size, put_length, take_length};
+use cutter::packet_base::{PacketId, RefusalCode, length_size, put_length, take_length};
 use std::alloc::Global;
 
 // MQTT 2.2.3, table 2.4: the least and the greatest Remaining Length of each number of bytes.

@@ -1,8 +1,8 @@
 // Packets, and the bytes that spell them.
 
-use packet::*;
+use cutter::packet::*;
+use cutter::topics::{Filter, TopicName};
 use std::alloc::Global;
-use topics::{Filter, TopicName};
 
 /// A packet to make.
 #[derive(Clone, Copy)]

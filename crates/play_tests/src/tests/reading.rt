@@ -1,11 +1,11 @@
 // The result of a text: whether it is a script, and what its lines order.
 
 use crate::tests::worlds::World;
-use packet::{ClientId, Payload, QoS};
-use script::{Amount, Numbers, Opening, Order, Script, ScriptError, read};
-use session_base::Publication;
+use play::packet::{ClientId, Payload, QoS};
+use play::script::{Amount, Numbers, Opening, Order, Script, ScriptError, read};
+use play::session_base::Publication;
+use play::topics::Filter;
 use std::alloc::{AllocError, Global};
-use topics::Filter;
 
 /// The result of a text.
 #[derive(Clone, Copy)]

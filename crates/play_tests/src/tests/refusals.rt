@@ -2,7 +2,7 @@
 
 use crate::tests::hand::is_refused;
 use crate::tests::reading::{Outcome, comes};
-use script::ScriptError;
+use play::script::ScriptError;
 use std::alloc::{AllocError, Global};
 
 // First lines that open no world.

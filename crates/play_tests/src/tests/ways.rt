@@ -3,7 +3,7 @@
 use crate::tests::scripts::{
     ANSWER_WAITS_FOR_THE_BACKUP, CLIENT_IS_EXPELLED, PRIMARY_CRASHES, SNAPSHOT_TRAVELS,
 };
-use packet::ClientId;
+use play::packet::ClientId;
 use play::{PlayError, escape, play};
 use std::alloc::Global;
 

@@ -3,7 +3,7 @@
 use super::client::{connect, fills, join, open};
 use super::nodes::fault_in;
 use super::row::{Row, Table};
-use server::Place;
+use server::Listener;
 use std::alloc::{AllocError, Global};
 use std::io::{Read, Write};
 use std::net::{Net, TcpStream};
@@ -45,7 +45,7 @@ fn one_client_is_answered(rt: HostRuntime) {
 
 /// Says whether a client with keep alive 1 that falls silent is closed after one and a half seconds
 /// (MQTT 3.1.2.10), and nothing more was sent to it.
-pub(super) fn is_silence_ended<R>(rt: &R, place: Option<&Place>) -> bool
+pub(super) fn is_silence_ended<R>(rt: &R, place: Option<&Listener>) -> bool
 where
     R: Clock + Net<Stream = TcpStream>,
 {
@@ -113,7 +113,7 @@ fn packets(alloc: Global, first: u8) -> Result<Vec<u8>, AllocError> {
 }
 
 /// Says whether 32,768 PINGREQ in one write are answered by as many PINGRESP and nothing else.
-pub(super) fn is_flood_answered<R>(rt: &R, place: Option<&Place>) -> bool
+pub(super) fn is_flood_answered<R>(rt: &R, place: Option<&Listener>) -> bool
 where
     R: AllocGlobal + Net<Stream = TcpStream>,
 {
@@ -123,7 +123,7 @@ where
     }
 }
 
-fn floods<R>(rt: &R, place: Option<&Place>, flood: &mut Flood) -> bool
+fn floods<R>(rt: &R, place: Option<&Listener>, flood: &mut Flood) -> bool
 where
     R: Net<Stream = TcpStream>,
 {

@@ -1,6 +1,6 @@
 // Clients over real sockets: their bytes, and those that MQTT 3.1.1 answers.
 
-use server::Place;
+use server::Listener;
 use std::io::{Read, Write};
 use std::net::{Net, TcpStream};
 use std::time::Duration;
@@ -24,7 +24,7 @@ pub(super) fn publish(first: u8, id: u8, payload: u8) -> [u8; 10] {
 }
 
 /// Opens a stream to a place. A read of it ends after ten seconds.
-pub(super) fn open<R>(rt: &R, place: Option<&Place>) -> Option<TcpStream>
+pub(super) fn open<R>(rt: &R, place: Option<&Listener>) -> Option<TcpStream>
 where
     R: Net<Stream = TcpStream>,
 {
@@ -54,7 +54,7 @@ pub(super) fn waits_to_write(stream: &TcpStream, milliseconds: u64) -> bool {
 /// the CONNACK says this of its session.
 pub(super) fn join<R>(
     rt: &R,
-    place: Option<&Place>,
+    place: Option<&Listener>,
     letter: u8,
     has_session: bool,
 ) -> Option<TcpStream>
@@ -79,7 +79,7 @@ pub(super) struct Pair {
 
 impl Pair {
     /// Opens both, as `join` does.
-    pub(super) fn join<R>(rt: &R, place: Option<&Place>, has_session: bool) -> Option<Pair>
+    pub(super) fn join<R>(rt: &R, place: Option<&Listener>, has_session: bool) -> Option<Pair>
     where
         R: Net<Stream = TcpStream>,
     {

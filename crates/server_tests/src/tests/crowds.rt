@@ -5,7 +5,7 @@ use super::client::{
 };
 use super::nodes::fault_in;
 use super::row::{Row, Table};
-use server::Place;
+use server::Listener;
 use std::alloc::{AllocError, Global};
 use std::io::{Read, Write};
 use std::net::{Net, TcpStream};
@@ -59,7 +59,7 @@ fn a_client_that_never_reads_keeps_nobody_waiting(rt: HostRuntime) {
 
 /// Says whether sixty clients are answered by PINGRESP while they are connected and one more has
 /// come.
-pub(super) fn are_sixty_answered<R>(rt: &R, place: Option<&Place>) -> bool
+pub(super) fn are_sixty_answered<R>(rt: &R, place: Option<&Listener>) -> bool
 where
     R: AllocGlobal + Net<Stream = TcpStream>,
 {
@@ -72,7 +72,7 @@ where
 }
 
 // Says whether the client of this letter joins those of the streams.
-fn joins<R>(rt: &R, place: Option<&Place>, letter: u8, streams: &mut Vec<TcpStream>) -> bool
+fn joins<R>(rt: &R, place: Option<&Listener>, letter: u8, streams: &mut Vec<TcpStream>) -> bool
 where
     R: Net<Stream = TcpStream>,
 {
@@ -83,7 +83,7 @@ where
 }
 
 // Says whether the next connection is closed within two seconds.
-fn is_turned_away<R>(rt: &R, place: Option<&Place>) -> bool
+fn is_turned_away<R>(rt: &R, place: Option<&Listener>) -> bool
 where
     R: Net<Stream = TcpStream>,
 {
@@ -95,7 +95,7 @@ where
 
 /// Says whether sixty clients that say nothing keep their places for six seconds, and not for
 /// fourteen. Then another is accepted.
-pub(super) fn are_silent_ones_ended<R>(rt: &R, place: Option<&Place>) -> bool
+pub(super) fn are_silent_ones_ended<R>(rt: &R, place: Option<&Listener>) -> bool
 where
     R: AllocGlobal + Net<Stream = TcpStream>,
 {
@@ -108,7 +108,7 @@ where
 }
 
 // Says whether a stream is opened, and joins these.
-fn opens<R>(rt: &R, place: Option<&Place>, streams: &mut Vec<TcpStream>) -> bool
+fn opens<R>(rt: &R, place: Option<&Listener>, streams: &mut Vec<TcpStream>) -> bool
 where
     R: Net<Stream = TcpStream>,
 {
@@ -120,7 +120,7 @@ where
 
 /// Says whether 200 clients that come one after another, each once the one before has left, are all
 /// accepted.
-pub(super) fn are_all_accepted<R>(rt: &R, place: Option<&Place>) -> bool
+pub(super) fn are_all_accepted<R>(rt: &R, place: Option<&Listener>) -> bool
 where
     R: Net<Stream = TcpStream>,
 {
@@ -128,7 +128,7 @@ where
 }
 
 // Says whether the client of this letter, which wants no session, is accepted. Then it leaves.
-fn is_accepted<R>(rt: &R, place: Option<&Place>, letter: u8) -> bool
+fn is_accepted<R>(rt: &R, place: Option<&Listener>, letter: u8) -> bool
 where
     R: Net<Stream = TcpStream>,
 {
@@ -176,7 +176,7 @@ pub(super) fn large_publish(alloc: Global) -> Result<Vec<u8>, AllocError> {
 
 /// Says whether a subscriber gets 50 MB while another one has the same subscription and never
 /// reads.
-pub(super) fn is_heard_beside<R>(rt: &R, place: Option<&Place>) -> bool
+pub(super) fn is_heard_beside<R>(rt: &R, place: Option<&Listener>) -> bool
 where
     R: AllocGlobal + Net<Stream = TcpStream>,
 {
@@ -187,7 +187,7 @@ where
 }
 
 // Says whether a subscriber gets 50 MB.
-fn is_heard<R>(rt: &R, place: Option<&Place>) -> bool
+fn is_heard<R>(rt: &R, place: Option<&Listener>) -> bool
 where
     R: AllocGlobal + Net<Stream = TcpStream>,
 {
@@ -206,7 +206,7 @@ fn are_fifty_heard(alloc: Global, pair: &mut Pair) -> bool {
 
 /// Says whether a subscriber with keep alive 4 that never reads, and says nothing more, keeps its
 /// place for a while, and then loses it to another client.
-pub(super) fn is_deaf_one_ended<R>(rt: &R, place: Option<&Place>) -> bool
+pub(super) fn is_deaf_one_ended<R>(rt: &R, place: Option<&Listener>) -> bool
 where
     R: AllocGlobal + Wait + Clock + Net<Stream = TcpStream>,
 {
@@ -224,7 +224,7 @@ where
 }
 
 // Returns a subscriber with keep alive 4.
-fn deaf<R>(rt: &R, place: Option<&Place>) -> Option<TcpStream>
+fn deaf<R>(rt: &R, place: Option<&Listener>) -> Option<TcpStream>
 where
     R: Net<Stream = TcpStream>,
 {
@@ -251,7 +251,7 @@ fn are_twenty_sent(alloc: Global, stream: Option<&mut TcpStream>) -> bool {
 }
 
 // Says whether client `a` is accepted within ten seconds.
-fn is_accepted_in_time<R>(rt: &R, place: Option<&Place>) -> bool
+fn is_accepted_in_time<R>(rt: &R, place: Option<&Listener>) -> bool
 where
     R: Wait + Clock + Net<Stream = TcpStream>,
 {

@@ -3,7 +3,7 @@
 use super::client::{is_answered, join};
 use super::crowds::large_publish;
 use super::nodes::listen_all;
-use server::{Config, Members, NoGate, NodeReport, Place, serve_gated};
+use server::{Config, Listener, Members, NoGate, NodeReport, serve_gated};
 use std::io::Write;
 use std::net::{Net, TcpListener, TcpStream};
 use std::sync::Wait;
@@ -76,7 +76,7 @@ where
     listen_all(rt, row.members, &mut places) && serve(rt, row, places.as_slice())
 }
 
-fn serve<R>(rt: &R, row: &Row, places: &[Place]) -> bool
+fn serve<R>(rt: &R, row: &Row, places: &[Listener]) -> bool
 where
     R: AllocGlobal + Threads + Wait + Clock + Sync + Net<Stream = TcpStream>,
 {
@@ -105,7 +105,7 @@ where
 }
 
 // Says whether the publications are sent and taken, and then it waits.
-fn sends<R>(rt: &R, row: &Row, place: Option<&Place>) -> bool
+fn sends<R>(rt: &R, row: &Row, place: Option<&Listener>) -> bool
 where
     R: AllocGlobal + Wait + Clock + Net<Stream = TcpStream>,
 {

@@ -6,8 +6,8 @@ use super::client::{
 use super::heard::Heard;
 use super::nodes::fault_in;
 use super::row::{Row, Table};
-use packet::ClientId;
-use server::{Peers, Place};
+use server::packet::ClientId;
+use server::{Cluster, Listener};
 use std::net::{Net, TcpStream};
 use std::sync::Wait;
 use std::thread;
@@ -34,7 +34,7 @@ fn sessions_are_expelled(rt: HostRuntime) {
 /// Says whether client `h` finds no session and nothing of before each time that its session is
 /// ended, while it is connected and while it is away; and whether another client that is away gets
 /// all that was published.
-pub(super) fn expels<R>(rt: &R, peers: &Peers, place: Option<&Place>) -> bool
+pub(super) fn expels<R>(rt: &R, peers: &Cluster, place: Option<&Listener>) -> bool
 where
     R: AllocGlobal + Wait + Clock + Net<Stream = TcpStream>,
 {
@@ -50,7 +50,7 @@ where
 }
 
 // Says whether client `q` subscribes, and then is away.
-fn leaves_a_queue<R>(rt: &R, place: Option<&Place>) -> bool
+fn leaves_a_queue<R>(rt: &R, place: Option<&Listener>) -> bool
 where
     R: Net<Stream = TcpStream>,
 {
@@ -62,7 +62,7 @@ where
 
 // Says whether the subscriber's connection is closed after it was sent `x`, which it has not
 // acknowledged.
-fn is_ended_while_connected<R>(rt: &R, peers: &Peers, pair: &mut Pair) -> bool
+fn is_ended_while_connected<R>(rt: &R, peers: &Cluster, pair: &mut Pair) -> bool
 where
     R: AllocGlobal + Wait + Clock,
 {
@@ -79,8 +79,8 @@ where
 // `z` waits for it.
 fn is_ended_while_away<R>(
     rt: &R,
-    peers: &Peers,
-    place: Option<&Place>,
+    peers: &Cluster,
+    place: Option<&Listener>,
     speaker: &mut TcpStream,
 ) -> bool
 where
@@ -95,7 +95,7 @@ where
 
 // Says whether the subscriber finds no session and gets nothing, subscribes again, and then is
 // away.
-fn begins_anew<R>(rt: &R, place: Option<&Place>) -> bool
+fn begins_anew<R>(rt: &R, place: Option<&Listener>) -> bool
 where
     R: Wait + Clock + Net<Stream = TcpStream>,
 {
@@ -108,7 +108,7 @@ where
 }
 
 // Says whether the order to end the subscriber's session is taken.
-fn is_ordered<R>(rt: &R, peers: &Peers) -> bool
+fn is_ordered<R>(rt: &R, peers: &Cluster) -> bool
 where
     R: AllocGlobal + Wait + Clock,
 {
@@ -125,7 +125,7 @@ fn has_time<R: Clock>(rt: &R) -> bool {
 }
 
 // Says whether client `q` finds its session, and gets all three publications.
-fn is_heard_whole<R>(rt: &R, place: Option<&Place>) -> bool
+fn is_heard_whole<R>(rt: &R, place: Option<&Listener>) -> bool
 where
     R: AllocGlobal + Net<Stream = TcpStream>,
 {

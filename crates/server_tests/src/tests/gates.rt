@@ -5,7 +5,7 @@ use super::heard::Heard;
 use super::lagging::{are_bytes_bounded, are_places_bounded};
 use super::nodes::{listen_all, opening};
 use super::visits::visits;
-use server::{Gate, NodeReport, Peers, Place, serve_gated};
+use server::{Cluster, Gate, Listener, NodeReport, serve_gated};
 use std::io::Write;
 use std::net::{Net, TcpListener, TcpStream};
 use std::sync::{Mutex, Wait};
@@ -15,7 +15,7 @@ use std::time::{Clock, Duration};
 
 // A gate, and what is done while nodes ask it.
 trait Watched: Gate {
-    fn attend<R>(&self, rt: &R, peers: &Peers, place: Option<&Place>) -> bool
+    fn attend<R>(&self, rt: &R, peers: &Cluster, place: Option<&Listener>) -> bool
     where
         R: AllocGlobal + Wait + Clock + Net<Stream = TcpStream>;
 }
@@ -36,7 +36,7 @@ where
     listen_all(rt, members, &mut places) && serve(rt, members, places.as_slice(), gate)
 }
 
-fn serve<R, G>(rt: &R, members: &[u8], places: &[Place], gate: &G) -> bool
+fn serve<R, G>(rt: &R, members: &[u8], places: &[Listener], gate: &G) -> bool
 where
     R: AllocGlobal + Threads + Wait + Clock + Sync + Net<Stream = TcpStream>,
     G: Watched + Sync,
@@ -145,7 +145,7 @@ impl Gate for Meeting {
 impl Watched for Meeting {
     // Says whether the nodes meet within ten seconds, client `a` is answered then, and each taking
     // was asked for by its number.
-    fn attend<R>(&self, rt: &R, _peers: &Peers, place: Option<&Place>) -> bool
+    fn attend<R>(&self, rt: &R, _peers: &Cluster, place: Option<&Listener>) -> bool
     where
         R: AllocGlobal + Wait + Clock + Net<Stream = TcpStream>,
     {
@@ -194,7 +194,7 @@ impl Bar {
     }
 
     // Says whether `holds` holds for a subscriber and a publisher.
-    fn passes<R>(&self, rt: &R, place: Option<&Place>) -> bool
+    fn passes<R>(&self, rt: &R, place: Option<&Listener>) -> bool
     where
         R: AllocGlobal + Wait + Net<Stream = TcpStream>,
     {
@@ -235,7 +235,7 @@ impl Gate for Bar {
 }
 
 impl Watched for Bar {
-    fn attend<R>(&self, rt: &R, peers: &Peers, place: Option<&Place>) -> bool
+    fn attend<R>(&self, rt: &R, peers: &Cluster, place: Option<&Listener>) -> bool
     where
         R: AllocGlobal + Wait + Clock + Net<Stream = TcpStream>,
     {

@@ -5,7 +5,7 @@ use super::client::{join, waits_to_write};
 use super::crowds::large_publish;
 use super::gates::Bar;
 use super::visits::visits;
-use server::{Peers, Place};
+use server::{Cluster, Listener};
 use std::io::Write;
 use std::net::{Net, TcpStream};
 use std::sync::Wait;
@@ -14,7 +14,12 @@ use std::time::{Clock, Duration};
 
 /// Says whether, of 98,304 PINGREQ that come while a member is held, no more than 37,000 become
 /// places until it continues, and whether all are answered then.
-pub(super) fn are_places_bounded<R>(rt: &R, bar: &Bar, peers: &Peers, place: Option<&Place>) -> bool
+pub(super) fn are_places_bounded<R>(
+    rt: &R,
+    bar: &Bar,
+    peers: &Cluster,
+    place: Option<&Listener>,
+) -> bool
 where
     R: AllocGlobal + Wait + Clock + Net<Stream = TcpStream>,
 {
@@ -27,7 +32,7 @@ where
 fn waits<R: Wait + Clock>(
     rt: &R,
     bar: &Bar,
-    peers: &Peers,
+    peers: &Cluster,
     flood: &mut Flood,
     stream: &mut TcpStream,
 ) -> bool {
@@ -40,7 +45,7 @@ fn waits<R: Wait + Clock>(
 }
 
 // Returns how many places of the primary's log are not known to be held by all.
-fn open_places<R: Wait + Clock>(rt: &R, peers: &Peers) -> u64 {
+fn open_places<R: Wait + Clock>(rt: &R, peers: &Cluster) -> u64 {
     match peers.status(rt, 1) {
         Some(status) => status.held.saturating_sub(status.committed),
         None => u64::MAX,
@@ -49,7 +54,12 @@ fn open_places<R: Wait + Clock>(rt: &R, peers: &Peers) -> u64 {
 
 /// Says whether, of 150 MB that a client sends while a member is held, no more than 64 MiB become
 /// places and the rest is not read. Once the member continues, another client is answered.
-pub(super) fn are_bytes_bounded<R>(rt: &R, bar: &Bar, peers: &Peers, place: Option<&Place>) -> bool
+pub(super) fn are_bytes_bounded<R>(
+    rt: &R,
+    bar: &Bar,
+    peers: &Cluster,
+    place: Option<&Listener>,
+) -> bool
 where
     R: AllocGlobal + Wait + Clock + Net<Stream = TcpStream>,
 {
@@ -65,7 +75,7 @@ where
 fn is_held_back<R: Wait + Clock>(
     rt: &R,
     bar: &Bar,
-    peers: &Peers,
+    peers: &Cluster,
     large: &[u8],
     stream: &mut TcpStream,
 ) -> bool {

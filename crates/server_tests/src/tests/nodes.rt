@@ -1,7 +1,7 @@
 // Nodes on free ports of the loopback interface, and the rows that run with them.
 
 use super::row::{Row, Table, holds};
-use server::{Config, Members, Memory, Peers, Place, serve_while};
+use server::{Cluster, Config, Listener, Members, Memory, serve_while};
 use std::alloc::Global;
 use std::net::{Net, TcpListener, TcpStream};
 use std::sync::Wait;
@@ -18,7 +18,7 @@ pub(super) fn opening(alloc: Global, members: &[u8]) -> Result<Config, Memory> {
 }
 
 /// Adds a place for each of these nodes, on a free port. False if there is no free port.
-pub(super) fn listen_all<R>(rt: &R, numbers: &[u8], places: &mut Vec<Place>) -> bool
+pub(super) fn listen_all<R>(rt: &R, numbers: &[u8], places: &mut Vec<Listener>) -> bool
 where
     R: AllocGlobal + Net<Listener = TcpListener, Stream = TcpStream>,
 {
@@ -30,14 +30,14 @@ where
     true
 }
 
-fn listens<R>(rt: &R, number: u8, places: &mut Vec<Place>) -> bool
+fn listens<R>(rt: &R, number: u8, places: &mut Vec<Listener>) -> bool
 where
     R: AllocGlobal + Net<Listener = TcpListener, Stream = TcpStream>,
 {
     let Ok(listener) = TcpListener::bind(rt, "127.0.0.1:0") else {
         return false;
     };
-    match Place::new(rt.alloc(), number, listener) {
+    match Listener::new(rt.alloc(), number, listener) {
         Ok(place) => places.push(place).is_ok(),
         Err(_) => false,
     }
@@ -76,7 +76,7 @@ where
     listen_all(rt, members, &mut places) && serve(rt, members, places.as_slice(), row)
 }
 
-fn serve<R>(rt: &R, members: &[u8], places: &[Place], row: Row) -> bool
+fn serve<R>(rt: &R, members: &[u8], places: &[Listener], row: Row) -> bool
 where
     R: AllocGlobal
         + Threads
@@ -100,7 +100,7 @@ where
 
 /// Says whether the next ballot is given to these members, and their primary becomes the active
 /// one.
-pub(super) fn moves_to<R>(rt: &R, peers: &Peers, members: &[u8], primary: u8) -> bool
+pub(super) fn moves_to<R>(rt: &R, peers: &Cluster, members: &[u8], primary: u8) -> bool
 where
     R: AllocGlobal + Wait + Clock,
 {
@@ -111,7 +111,7 @@ where
 }
 
 // Says whether a node becomes the active primary within two seconds.
-fn is_primary<R: Wait + Clock>(rt: &R, peers: &Peers, number: u8) -> bool {
+fn is_primary<R: Wait + Clock>(rt: &R, peers: &Cluster, number: u8) -> bool {
     for _ in 0..200 {
         if peers
             .status(rt, number)

@@ -7,7 +7,7 @@ use super::crowds::{
 use super::expulsions::expels;
 use super::takeovers::{moves, takes_over};
 use super::visits::visits;
-use server::{Peers, Place};
+use server::{Cluster, Listener};
 use std::net::{Net, TcpStream};
 use std::sync::Wait;
 use std::time::Clock;
@@ -47,7 +47,7 @@ pub(super) struct Table {
 }
 
 /// Says whether a row holds with the nodes of these places.
-pub(super) fn holds<R>(rt: &R, peers: &Peers, places: &[Place], row: Row) -> bool
+pub(super) fn holds<R>(rt: &R, peers: &Cluster, places: &[Listener], row: Row) -> bool
 where
     R: AllocGlobal + Wait + Clock + Net<Stream = TcpStream>,
 {

@@ -5,7 +5,7 @@ use super::heard::Heard;
 use super::nodes::{fault_in, moves_to};
 use super::row::{Row, Table};
 use super::visits::visits;
-use server::{Peers, Place};
+use server::{Cluster, Listener};
 use std::io::Write;
 use std::net::{Net, TcpStream};
 use std::sync::Wait;
@@ -34,7 +34,7 @@ const FOUND: [u8; 14] = [0x20, 2, 1, 0, 0x3C, 8, 0, 3, 0x74, 0x2F, 0x31, 0, 1, 0
 
 /// Says whether client `a`, which has not finished a handshake with node 1 when ballot 2 with node
 /// 2 as sole member is given, finds its session at node 2, and is sent the publication again.
-pub(super) fn moves<R>(rt: &R, peers: &Peers, places: &[Place]) -> bool
+pub(super) fn moves<R>(rt: &R, peers: &Cluster, places: &[Listener]) -> bool
 where
     R: AllocGlobal + Wait + Clock + Net<Stream = TcpStream>,
 {
@@ -44,7 +44,7 @@ where
         && finds(rt, places.get(1))
 }
 
-fn finds<R>(rt: &R, place: Option<&Place>) -> bool
+fn finds<R>(rt: &R, place: Option<&Listener>) -> bool
 where
     R: Net<Stream = TcpStream>,
 {
@@ -57,7 +57,7 @@ where
 
 /// Says whether the subscriber gets each of four publications once, in order, if node 1 crashes
 /// between them and node 2 takes over.
-pub(super) fn takes_over<R>(rt: &R, peers: &Peers, places: &[Place]) -> bool
+pub(super) fn takes_over<R>(rt: &R, peers: &Cluster, places: &[Listener]) -> bool
 where
     R: AllocGlobal + Wait + Clock + Net<Stream = TcpStream>,
 {
@@ -69,7 +69,7 @@ where
 }
 
 // Says whether two clients begin at node 1, which then crashes.
-fn begins<R>(rt: &R, peers: &Peers, place: Option<&Place>, heard: &mut Heard) -> bool
+fn begins<R>(rt: &R, peers: &Cluster, place: Option<&Listener>, heard: &mut Heard) -> bool
 where
     R: Wait + Clock + Net<Stream = TcpStream>,
 {
@@ -93,7 +93,7 @@ fn is_begun(pair: &mut Pair, heard: &mut Heard) -> bool {
 }
 
 // Says whether both find their sessions at another node, and end there what they began.
-fn goes_on<R>(rt: &R, place: Option<&Place>, heard: &mut Heard) -> bool
+fn goes_on<R>(rt: &R, place: Option<&Listener>, heard: &mut Heard) -> bool
 where
     R: Net<Stream = TcpStream>,
 {

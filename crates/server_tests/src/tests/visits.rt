@@ -1,7 +1,7 @@
 // A client that sends all that it has at once.
 
 use super::client::{fills, open};
-use server::Place;
+use server::Listener;
 use std::net::{Net, TcpStream};
 
 // CONNECT of client `a`, SUBSCRIBE to `t/#` and PUBLISH of `x` on `t/1`, both at QoS 2.
@@ -22,7 +22,7 @@ fn are_answers(got: &[u8]) -> bool {
 }
 
 /// Says whether client `a` is answered if it sends all at once.
-pub(super) fn visits<R>(rt: &R, place: Option<&Place>) -> bool
+pub(super) fn visits<R>(rt: &R, place: Option<&Listener>) -> bool
 where
     R: Net<Stream = TcpStream>,
 {

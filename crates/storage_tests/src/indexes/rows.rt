@@ -2,9 +2,9 @@
 
 use crate::indexes::calls::Call::{self, Clear, DropClient, Granted, Set};
 use crate::indexes::calls::first_fault;
-use packet::QoS::{AtLeastOnce, AtMostOnce, ExactlyOnce};
+use broker_form::subs::{ListIndex, SubIndex, TreeIndex, grants_one_list};
+use session::packet::QoS::{AtLeastOnce, AtMostOnce, ExactlyOnce};
 use std::alloc::Global;
-use subs::{ListIndex, SubIndex, TreeIndex, grants_one_list};
 
 const PLUS_32: &str = "+/+/+/+/+/+/+/+/+/+/+/+/+/+/+/+/+/+/+/+/+/+/+/+/+/+/+/+/+/+/+/+";
 

@@ -3,10 +3,10 @@
 // is made again.
 
 use crate::retaining::row::put;
-use packet::QoS;
-use retained::{RetainedError, RetainedStore};
+use broker_form::retained::{RetainedError, RetainedStore};
+use session::packet::QoS;
+use session::topics::Filter;
 use std::alloc::Global;
-use topics::Filter;
 
 // Puts a publication, again if memory was refused: whether as many topics are kept then as
 // expected, and as many as before in between.

@@ -1,15 +1,15 @@
 -- Bytes reach a node, or a client.
 use Rattle.std.specs.Prelude.{◌≡◌, ◌⊎◌, ◌-◌, ◌==◌, ◌&&◌, ◌≤◌, ◌<◌, ℕ, suc, Bool, true, false, Some, None, Err, length, slice_get, take}
-use Rattle.world_pipes.specs.world_base.declared.Port.{Port}
-use Rattle.world_pipes.specs.world_base.declared.item.Item.TheVariants.{Bytes}
-use Rattle.exact_model.specs.node_model.Moves.Deed.{takes}
+use Rattle.headline.specs.world_base.declared.Port.{Port}
+use Rattle.headline.specs.world_base.declared.item.Item.TheVariants.{Bytes}
+use Rattle.headline.specs.node_moves.Moves.NodeCall.{takes}
 use Rattle.escaping_nodes.specs.world_nodes.Goes.{Acts, running}
 use Rattle.escaping_nodes.specs.world_nodes.Nodes.{NodesState}
 use Rattle.escaping_nodes.specs.world_nodes.Steps.{TakesIn}
 use Rattle.world_pipes.specs.declared.way.Way.{Way}
-use Rattle.client_base.specs.declared.error.ClientError.TheVariants as errors
+use Rattle.escaping_client.specs.client_base.declared.error.ClientError.TheVariants as errors
 use Rattle.world_pipes.specs.Piped.{Hears, Piped, is_holding}
-use Rattle.world.specs.declared.place.Place.{Place}
+use Rattle.world.specs.declared.connection_slot.ConnectionSlot.{ConnectionSlot}
 use Rattle.world.specs.declared.world.WorldClient.{WorldClient}
 use Rattle.world.specs.Found.{port_of, with_less, with_piped}
 use Rattle.world.specs.Cannot.{IsNoPart}
@@ -20,7 +20,7 @@ use Rattle.world.specs.World.{WorldState}
 
 -- this many bytes in transit up on this connection reach its node, which runs, and are removed from
 -- it
-pub record TakesUp (place : Place) (port : Port) (count : ℕ) (old : NodesState) (client : Piped) (new : NodesState) (later : Piped) : Type 0 where
+pub record TakesUp (place : ConnectionSlot) (port : Port) (count : ℕ) (old : NodesState) (client : Piped) (new : NodesState) (later : Piped) : Type 0 where
   pub way : Way
   pub found : slice_get client.ways place.at ≡ Some way
   pub some : 0 < count
@@ -31,7 +31,7 @@ pub record TakesUp (place : Place) (port : Port) (count : ℕ) (old : NodesState
   pub is : later ≡ with_less place.at count way client
 
 -- that many bytes wait, and the node runs
-pub record CanTake (place : Place) (count : ℕ) (nodes : NodesState) (client : Piped) : Type 0 where
+pub record CanTake (place : ConnectionSlot) (count : ℕ) (nodes : NodesState) (client : Piped) : Type 0 where
   pub way : Way
   pub found : slice_get client.ways place.at ≡ Some way
   pub some : 0 < count
@@ -39,17 +39,17 @@ pub record CanTake (place : Place) (count : ℕ) (nodes : NodesState) (client : 
   pub runs : running nodes.nodes place.node ≡ None → ⊥
 
 -- if there is no memory for them, nothing happens
-abbrev pub TakesUpWhere : Bool → Place → Port → ℕ → NodesState → Piped → NodesState → Piped → Type 0
+abbrev pub TakesUpWhere : Bool → ConnectionSlot → Port → ℕ → NodesState → Piped → NodesState → Piped → Type 0
 TakesUpWhere true place port count old client new later = TakesUp place port count old client new later
 TakesUpWhere false place port count old client new later = (new ≡ old) × (later ≡ client) × CanTake place count old client
 
 -- they cannot: too few wait, or the node has stopped
-abbrev pub CannotTake : Place → ℕ → NodesState → Piped → Type 0
+abbrev pub CannotTake : ConnectionSlot → ℕ → NodesState → Piped → Type 0
 CannotTake place count nodes client =
     (way : Way) → slice_get client.ways place.at ≡ Some way → (running nodes.nodes place.node ≡ None) ⊎ IsNoPart count way.up
 
 -- the same in a world
-pub record TakesUpOn (number : ℕ) (place : Place) (count : ℕ) (old new : WorldState) : Type 0 where
+pub record TakesUpOn (number : ℕ) (place : ConnectionSlot) (count : ℕ) (old new : WorldState) : Type 0 where
   pub client : WorldClient
   pub owned : slice_get old.clients place.client ≡ Some client
   pub between : NodesState
@@ -58,12 +58,12 @@ pub record TakesUpOn (number : ℕ) (place : Place) (count : ℕ) (old new : Wor
   pub is : new ≡ record (with_piped place.client client piped old) { nodes = between }
 
 -- if there is no memory for them, nothing happens
-abbrev pub TakesUpOnWhere : Bool → ℕ → Place → ℕ → WorldState → WorldState → Type 0
+abbrev pub TakesUpOnWhere : Bool → ℕ → ConnectionSlot → ℕ → WorldState → WorldState → Type 0
 TakesUpOnWhere true number place count old new = TakesUpOn number place count old new
 TakesUpOnWhere false number place count old new =
     (new ≡ old) × (client : WorldClient) × (slice_get old.clients place.client ≡ Some client) × CanTake place count old.nodes client.piped
 
-abbrev pub CannotTakeOn : Place → ℕ → WorldState → Type 0
+abbrev pub CannotTakeOn : ConnectionSlot → ℕ → WorldState → Type 0
 CannotTakeOn place count w =
     (client : WorldClient) → slice_get w.clients place.client ≡ Some client → CannotTake place count w.nodes client.piped
 

@@ -1,13 +1,13 @@
 -- A new connection.
 use Rattle.std.specs.Prelude.{◌≡◌, ◌⊎◌, ◌-◌, ℕ, Bool, true, false, [], ◌∷◌, ◌++◌, Some, Ok, length, slice_get}
 use Rattle.std.specs.Option.{is_some}
-use Rattle.ballot.specs.Losses.{one_more}
-use Rattle.client_base.specs.Steps.{Call, keeper_step}
-use Rattle.world_pipes.specs.world_base.Core.{CountedCore}
-use Rattle.world_pipes.specs.world_base.Handing.{listed_at}
-use Rattle.world_pipes.specs.world_base.declared.Port.{Port}
-use Rattle.world_pipes.specs.world_base.declared.item.Item.TheVariants.{Opened}
-use Rattle.exact_model.specs.node_model.Moves.Deed.{takes}
+use Rattle.headline.specs.ballot.Losses.{one_more}
+use Rattle.escaping_client.specs.client_base.Steps.{Call, keeper_step}
+use Rattle.headline.specs.world_base.Core.{CountedCore}
+use Rattle.headline.specs.world_base.Handing.{listed_at}
+use Rattle.headline.specs.world_base.declared.Port.{Port}
+use Rattle.headline.specs.world_base.declared.item.Item.TheVariants.{Opened}
+use Rattle.headline.specs.node_moves.Moves.NodeCall.{takes}
 use Rattle.escaping_nodes.specs.world_nodes.Goes.{Acts, node_of}
 use Rattle.escaping_nodes.specs.world_nodes.Nodes.{NodesState}
 use Rattle.escaping_nodes.specs.world_nodes.Steps.{LosesNothing as NodesLoseNothing, TakesIn}

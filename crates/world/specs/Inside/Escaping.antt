@@ -1,8 +1,8 @@
 -- The events of a way out, by arithmetic, and the member whose log is fetched.
 use Rattle.std.specs.Prelude.{◌≡◌, ◌≤◌, ℕ, suc, ◌+◌, ◌-◌, ◌*◌, Bool, true, false, List, [], ◌∷◌, ◌++◌, Some, length, map, slice_get}
 use Rattle.std.specs.List.{position}
-use Rattle.ballot.specs.Serving.{most_places}
-use Rattle.escaping_nodes.specs.cut_ways.ways_out.Deliveries.{asked_and_answered, way_out}
+use Rattle.headline.specs.ballot.Serving.{most_places}
+use Rattle.escaping_nodes.specs.ways_out.Deliveries.{asked_and_answered, way_out}
 use Rattle.escaping_nodes.specs.world_nodes.Goes.{node_of}
 use Rattle.world.specs.declared.event.Event.{Event}
 use Rattle.world.specs.declared.event.Event.TheVariants as events

@@ -1,19 +1,19 @@
 -- What a node queued goes down.
 use Rattle.std.specs.Prelude.{◌≡◌, ◌⊎◌, ◌-◌, ℕ, Bool, true, false, List, ◌++◌, Some, Result, Ok, Err, length, set, slice_get, take}
-use Rattle.master.specs.declared.event.Idle.{Idle}
-use Rattle.world_pipes.specs.world_base.declared.Handed.{Handed}
-use Rattle.world_pipes.specs.world_base.declared.Port.{Port}
-use Rattle.exact_model.specs.node_model.Moves.Deed.{gives}
+use Rattle.escaping_nodes.specs.master.declared.event.Idle.{Idle}
+use Rattle.headline.specs.world_base.declared.Handed.{Handed}
+use Rattle.headline.specs.world_base.declared.Port.{Port}
+use Rattle.headline.specs.node_moves.Moves.NodeCall.{gives}
 use Rattle.escaping_nodes.specs.world_nodes.Goes.{Acts, HandsOver, node_of}
 use Rattle.escaping_nodes.specs.world_nodes.Nodes.{NodesState}
 use Rattle.escaping_nodes.specs.world_nodes.Steps.{forgetful as nodes_forgetful}
 use Rattle.world_pipes.specs.declared.way.Way.{Way}
 use Rattle.world_pipes.specs.Piped.{Piped}
-use Rattle.world.specs.declared.place.Place.{Place}
+use Rattle.world.specs.declared.connection_slot.ConnectionSlot.{ConnectionSlot}
 use Rattle.world.specs.declared.world.WorldClient.{WorldClient}
 use Rattle.world.specs.Found.{place_numbered, port_of, with_down, with_piped}
 use Rattle.world.specs.Gathering.{AskedWhere, Gives, is_more, is_open_at, is_told_open, put_out}
-use Rattle.world.specs.Housed.{open_from}
+use Rattle.world.specs.SlotsAreValid.{open_from}
 use Rattle.world.specs.Quiet.{HoldsNothing}
 use Rattle.world.specs.World.{WorldState}
 use Rattle.world.specs.Inside.Steps.{NodesStay}
@@ -48,7 +48,7 @@ MayPutDown at node port old client new later =
     (bytes : List ℕ) × MayHandDown node port old way.down new bytes × (later ≡ with_down at way bytes client)
 
 -- on the connection of this number, and this is said about its end
-pub record HandsOn (number : ℕ) (place : Place) (old : WorldState) (is_open : Bool) (new : WorldState) : Type 0 where
+pub record HandsOn (number : ℕ) (place : ConnectionSlot) (old : WorldState) (is_open : Bool) (new : WorldState) : Type 0 where
   pub client : WorldClient
   pub owned : slice_get old.clients place.client ≡ Some client
   pub way : Way
@@ -60,7 +60,7 @@ pub record HandsOn (number : ℕ) (place : Place) (old : WorldState) (is_open : 
       (with_down place.at way (way.down ++ put_out (port_of number) (node_of old.nodes.nodes place.node)) client.piped) old) { nodes = between }
 
 -- or its node ran out of memory: nothing changes, its end is open, and that is counted
-abbrev pub MayHandOn : ℕ → Place → WorldState → Bool → WorldState → Type 0
+abbrev pub MayHandOn : ℕ → ConnectionSlot → WorldState → Bool → WorldState → Type 0
 MayHandOn number place old is_open new =
     HandsOn number place old is_open new ⊎ ((is_open ≡ true) × (new ≡ record old { nodes = nodes_forgetful old.nodes }))
 
@@ -69,7 +69,7 @@ abbrev pub StaysQuiet : ℕ → NodesState → NodesState → Type 0
 StaysQuiet node old new = HoldsNothing node old → HoldsNothing node new × (new.losses ≡ old.losses)
 
 -- its end counts as open, or as closed
-abbrev pub marked : ℕ → Place → Bool → WorldState → WorldState
+abbrev pub marked : ℕ → ConnectionSlot → Bool → WorldState → WorldState
 marked number place is_open w = record w { connections = set w.connections (number - 1) (record place { is_open = is_open }) }
 
 -- ---- a walk over the connections whose end is open

@@ -1,9 +1,9 @@
 -- What the parts of a step do, and how a step is counted.
 use Rattle.std.specs.Prelude.{◌≡◌, ◌⊎◌, ◌-◌, ◌≤◌, ◌<◌, ◌^◌, ℕ, true, false, List, [], Result, Ok, Err}
-use Rattle.ballot.specs.Losses.{one_more}
-use Rattle.master.specs.declared.event.Idle.{Idle}
-use Rattle.exact_model.specs.group_model.Group.{Group}
-use Rattle.session_base.specs.declared.publication.Publication.{Publication}
+use Rattle.headline.specs.ballot.Losses.{one_more}
+use Rattle.escaping_nodes.specs.master.declared.event.Idle.{Idle}
+use Rattle.headline.specs.node_group.Group.{Group}
+use Rattle.escaping_client.specs.session_base.declared.publication.Publication.{Publication}
 use Rattle.escaping_nodes.specs.world_nodes.Nodes.{NodesState, StandsFor as NodesStand}
 use Rattle.escaping_nodes.specs.world_nodes.Steps.{LosesNothing as NodesLoseNothing}
 use Rattle.world.specs.declared.event.Event.{Event}

@@ -1,8 +1,8 @@
 // Nodes that cut their logs, and a snapshot that goes over to another node, byte by byte.
 
 use super::handling::{ACCEPTED, Effects, PRESENT, bring, give, hands_over, node_of, take, tell};
-use ballot::Log;
 use std::alloc::Global;
+use world_base::ballot::Log;
 use world_base::{Body, Command, Effect, Item, Members, NodeCore, Port};
 
 // CONNECT of client `a` with keep alive 0 and CleanSession 0 (MQTT 3.1).

@@ -1,9 +1,9 @@
 // Rows of what happens in a world, and of what is seen of it.
 
-use packet::{ClientId, Payload, QoS};
-use session_base::Publication;
 use std::alloc::Global;
-use topics::{Filter, TopicName};
+use world::packet::{ClientId, Payload, QoS};
+use world::session_base::Publication;
+use world::topics::{Filter, TopicName};
 use world::{Command, Config, Event, Members, Memory, World};
 
 /// What happens.

@@ -7,8 +7,8 @@ use crate::tests::put_out::PUT_OUT;
 use crate::tests::row::{Deed, Row, does, is_right, named, opened};
 use crate::tests::stale::STALE;
 use crate::tests::travelling::TRAVELLED;
-use packet::ClientId;
 use std::alloc::Global;
+use world::packet::ClientId;
 use world::{Command, EscapeError, Event, World};
 
 // The primary answers a CONNECT once its backup holds it.

@@ -1,5 +1,5 @@
 use Rattle.std.proofs.lemmas.Result.{err_from_is_err_and}
-use Rattle.session_form.proofs.ReadingLoops.{ends, goes_on, stops_so, refused_so}
+use Rattle.session_base.proofs.ReadingLoops.{ends, goes_on, stops_so, refused_so}
 use Rattle.broker_form.specs.Form.{row_follows, row_at}
 use Rattle.broker.proofs.rows.read_rows.Goals as goal
 

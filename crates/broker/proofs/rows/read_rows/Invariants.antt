@@ -1,5 +1,5 @@
 use Rattle.std.proofs.Common.{◌≡◌, ◌-◌, []}
-use Rattle.session_form.specs.Counted.{items_behind}
+use Rattle.session_base.specs.Counted.{items_behind}
 use Rattle.broker_form.specs.Form.{row_follows, row_at}
 use Rattle.broker.specs.Inside.{AreOwned}
 use Rattle.broker.proofs.rows.read_rows.Given as goal

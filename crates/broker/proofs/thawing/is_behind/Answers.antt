@@ -1,6 +1,6 @@
 use Rattle.std.proofs.Common.{◌∙◌, ap, sym, None}
-use Rattle.session_form.specs.Counted.{last_of}
-use Rattle.session_form.proofs.Follows.{last_is}
+use Rattle.session_base.specs.Counted.{last_of}
+use Rattle.session_base.proofs.Follows.{last_is}
 use Rattle.broker_form.specs.Form.{is_behind}
 use Rattle.broker.proofs.thawing.is_behind.Goals as goal
 

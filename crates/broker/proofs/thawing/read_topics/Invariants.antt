@@ -1,5 +1,5 @@
 use Rattle.std.proofs.Common.{◌≡◌, ◌-◌, [], length}
-use Rattle.session_form.specs.Counted.{items_behind}
+use Rattle.session_base.specs.Counted.{items_behind}
 use Rattle.broker_form.specs.Form.{topic_follows, retained_at}
 use Rattle.broker.proofs.thawing.read_topics.Given as goal
 

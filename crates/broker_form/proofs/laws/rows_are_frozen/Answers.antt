@@ -1,6 +1,6 @@
 use Rattle.std.proofs.Common.{refl}
 use Rattle.packet_base.specs.Reading.{number_at}
-use Rattle.session_form.specs.Counted.{counted_at, items_behind}
+use Rattle.session_base.specs.Counted.{counted_at, items_behind}
 use Rattle.broker_form.specs.Form.{size_at, head_at, broker_at}
 use Rattle.broker_form.proofs.laws.rows_are_frozen.Goals as goal
 

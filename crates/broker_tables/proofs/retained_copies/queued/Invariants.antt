@@ -1,6 +1,6 @@
 use Rattle.std.proofs.Common.{◌≡◌, ◌≤◌, length}
 use Rattle.std.specs.Prelude.{take}
-use Rattle.broker_model.specs.Entries.{queued}
+use Rattle.broker_rows.specs.broker_spec.Entries.{queued}
 use Rattle.broker_tables.proofs.retained_copies.queued.Given as goal
 
 abbrev pub invariant-loop-copy : goal.invariant-loop-copy

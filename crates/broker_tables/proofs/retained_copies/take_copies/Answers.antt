@@ -1,9 +1,9 @@
 -- A copy takes one place at most, and the others find theirs.
 use Rattle.std.proofs.Common.{rules, ◌≡◌, ◌≤◌, ◌∷◌, ◌∙◌, ap, sym, subst, List, length}
-use Rattle.broker_model.specs.session_base.declared.publication.Publication.{Publication}
-use Rattle.broker_model.specs.session_base.Queue.{Queue, room}
-use Rattle.broker_model.specs.session_base.Session.{SessionState}
-use Rattle.broker_model.specs.Entries.{queued}
+use Rattle.session.specs.session_base.declared.publication.Publication.{Publication}
+use Rattle.session.specs.session_base.Queue.{Queue, room}
+use Rattle.session.specs.session_base.Session.{SessionState}
+use Rattle.broker_rows.specs.broker_spec.Entries.{queued}
 use Rattle.broker_tables.proofs.RoomForCopies.{others_find_room, sent_first}
 use Rattle.broker_tables.proofs.retained_copies.take_copies.Goals as goal
 

@@ -1,9 +1,9 @@
 -- What came so far, and what is still to come, make the whole.
 use Rattle.std.proofs.Common.{◌≡◌, ◌≤◌, ◌++◌, length}
-use Rattle.broker_model.specs.session_base.Queue.{copies_left, room}
-use Rattle.broker_model.specs.Entries.{queued}
-use Rattle.broker_model.specs.session_base.Sending.{copies_sent}
-use Rattle.broker_model.specs.session_base.Session.{with_queue}
+use Rattle.session.specs.session_base.Queue.{copies_left, room}
+use Rattle.broker_rows.specs.broker_spec.Entries.{queued}
+use Rattle.session.specs.session_base.Sending.{copies_sent}
+use Rattle.session.specs.session_base.Session.{with_queue}
 use Rattle.broker_tables.proofs.retained_copies.take_copies.Given as goal
 
 abbrev pub invariant-loop-copy : goal.invariant-loop-copy

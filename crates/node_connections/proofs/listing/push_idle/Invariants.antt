@@ -1,5 +1,5 @@
 use Rattle.std.proofs.Common.{◌≡◌, ◌++◌, map, filter, drop}
-use Rattle.broker_model.specs.lists.Lists.{IsPrefixOf}
+use Rattle.broker_spec.specs.lists.Lists.{IsPrefixOf}
 use Rattle.node_connections.specs.declared.connection.Connection.{Connection}
 use Rattle.node_connections.specs.Pending.{is_idle}
 use Rattle.node_connections.proofs.listing.push_idle.Given as goal

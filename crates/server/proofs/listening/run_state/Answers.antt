@@ -1,5 +1,5 @@
 use denote.Param.Send.{sendable}
-use Rattle.node.proofs.Crossing.{state_send}
+use Rattle.post.proofs.of_node.Crossing.{state_send}
 use Rattle.server.proofs.listening.run_state.Goals as goal
 
 pub run-requires-send-S : goal.run-requires-send-S

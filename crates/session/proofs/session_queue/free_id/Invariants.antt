@@ -1,6 +1,6 @@
 use Rattle.std.proofs.Common.{◌≡◌, ℕ, ◌+◌, suc, length}
-use Rattle.session_form.specs.session_base.Identifiers.{least_free, free_from}
-use Rattle.session_form.specs.session_base.Queue.{ids_of}
+use Rattle.session_base.specs.Identifiers.{least_free, free_from}
+use Rattle.session_base.specs.Queue.{ids_of}
 use Rattle.session.proofs.session_queue.free_id.Given as goal
 
 abbrev pub invariant-loop : goal.invariant-loop

@@ -1,6 +1,6 @@
 use Rattle.std.proofs.lemmas.Result.{err_from_is_err_and}
-use Rattle.session_form.proofs.ReadingLoops.{ends, goes_on, stops_so, refused_so}
-use Rattle.session_form.specs.Form.{is_new_filter, held_at}
+use Rattle.session_base.proofs.ReadingLoops.{ends, goes_on, stops_so, refused_so}
+use Rattle.session_base.specs.Form.{is_new_filter, held_at}
 use Rattle.session.proofs.thawing.read_filters.Goals as goal
 
 pub returns-in_err-filter : goal.returns-in_err-filter

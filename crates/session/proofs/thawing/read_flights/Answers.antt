@@ -1,6 +1,6 @@
 use Rattle.std.proofs.lemmas.Result.{err_from_is_err_and}
-use Rattle.session_form.proofs.ReadingLoops.{ends, goes_on, stops_so, refused_so}
-use Rattle.session_form.specs.Form.{may_follow, flight_at}
+use Rattle.session_base.proofs.ReadingLoops.{ends, goes_on, stops_so, refused_so}
+use Rattle.session_base.specs.Form.{may_follow, flight_at}
 use Rattle.session.proofs.thawing.read_flights.Goals as goal
 
 pub returns-in_err-id : goal.returns-in_err-id

@@ -1,6 +1,6 @@
 use Rattle.std.proofs.Common.{◌≡◌, ◌-◌, []}
-use Rattle.session_form.specs.Counted.{items_behind}
-use Rattle.session_form.specs.Form.{anything, waiting_at}
+use Rattle.session_base.specs.Counted.{items_behind}
+use Rattle.session_base.specs.Form.{anything, waiting_at}
 use Rattle.session.proofs.thawing.read_publications.Given as goal
 
 abbrev pub invariant-loop : goal.invariant-loop

@@ -1,12 +1,12 @@
 use Rattle.std.proofs.Common.{refl}
-use Rattle.broker_model.specs.Past.{current_connection, session_of}
-use Rattle.broker_model.specs.Owner.{named}
-use Rattle.broker_model.specs.Subscriptions.{subscriptions_of}
-use Rattle.broker_model.specs.Received.{received_of}
-use Rattle.broker_model.specs.Retained.{retained_publications}
-use Rattle.broker_model.specs.Times.{entries_of}
-use Rattle.broker_model.specs.Commands.{past_from}
-use Rattle.broker_model.specs.Answers.{answers_from}
+use Rattle.broker_form.specs.broker_spec.Past.{current_connection, session_of}
+use Rattle.broker_form.specs.broker_spec.Owner.{named}
+use Rattle.broker_form.specs.broker_spec.Subscriptions.{subscriptions_of}
+use Rattle.broker_form.specs.broker_spec.Received.{received_of}
+use Rattle.broker_form.specs.broker_spec.Retained.{retained_publications}
+use Rattle.broker_form.specs.broker_spec.Times.{entries_of}
+use Rattle.broker_form.specs.broker_spec.Commands.{past_from}
+use Rattle.broker_form.specs.broker_spec.Answers.{answers_from}
 use Rattle.storage_tests.proofs.QoSOfEntries.{entries_fit_their_qos}
 use Rattle.storage_tests.proofs.readings.answers_fit_the_qos.Goals as goal
 

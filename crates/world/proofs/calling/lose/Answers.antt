@@ -1,6 +1,6 @@
 use Rattle.std.proofs.Common.{ap}
 use Rattle.world_pipes.specs.Piped.{Piped}
-use Rattle.world.specs.Housed.{leads}
+use Rattle.world.specs.SlotsAreValid.{leads}
 use Rattle.world.proofs.ClientGoes.{losing_goes}
 use Rattle.world.proofs.calling.lose.Goals as goal
 

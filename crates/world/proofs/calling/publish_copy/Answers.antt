@@ -1,7 +1,7 @@
 use Rattle.std.proofs.Common.{subst}
 use Rattle.escaping_client.specs.client.Core.{publication_with}
-use Rattle.client_base.specs.Steps.{Call}
-use Rattle.session_base.specs.declared.publication.Publication.{Publication}
+use Rattle.escaping_client.specs.client_base.Steps.{Call}
+use Rattle.escaping_client.specs.session_base.declared.publication.Publication.{Publication}
 use Rattle.world.specs.Inside.Calling.{IsCall}
 use Rattle.world.proofs.CallsMet.{is_call, same_publication}
 use Rattle.world.proofs.calling.publish_copy.Goals as goal

@@ -1,5 +1,5 @@
 use Rattle.std.proofs.Common.{refl, ap}
-use Rattle.ballot.specs.Status.{Status}
+use Rattle.headline.specs.ballot.Status.{Status}
 use Rattle.world.proofs.QuietEvents.{runs_exactly, runs_none}
 use Rattle.world.proofs.carrying.runs.Goals as goal
 

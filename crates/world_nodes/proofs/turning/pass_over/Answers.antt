@@ -1,9 +1,9 @@
 use Rattle.std.proofs.Common.{Bool, ℕ, Option, ◌&&◌, sym, ap, subst, ◌∙◌}
 use Rattle.std.specs.Prelude.{IfSome}
-use Rattle.ballot.specs.Message.{Message}
-use Rattle.broker_base.specs.Command.{Command}
+use Rattle.master.specs.ballot.Message.{Message}
+use Rattle.byte_world.specs.broker_base.Command.{Command}
 use Rattle.master.proofs.Counting.{get_there}
-use Rattle.world_model.specs.world_base.declared.item.Item.TheVariants.{Peer}
+use Rattle.byte_world.specs.world_base.declared.item.Item.TheVariants.{Peer}
 use Rattle.world_nodes.specs.Inside.{TookItem}
 use Rattle.world_nodes.proofs.Resting.{took_in}
 use Rattle.world_nodes.proofs.turning.pass_over.Goals as goal

@@ -1,8 +1,8 @@
 -- The tables step as the state does, and a step keeps a state in its ranges.
 use Rattle.std.proofs.Common.{◌≡◌, ◌∙◌, ◌++◌, ap, sym, subst, false}
 use Rattle.std.specs.Prelude.{is_err}
-use Rattle.broker_base.specs.broker_model.Commands.{usual_limits}
-use Rattle.broker_base.specs.Step.{step}
+use Rattle.broker_tables.specs.broker_spec.Commands.{usual_limits}
+use Rattle.broker_tables.specs.broker_base.Step.{step}
 use Rattle.broker_form.specs.FormLaws.{IsUsualState}
 use Rattle.broker_form.proofs.UsualStates.{stays_usual}
 use Rattle.broker_tables.specs.Tables.{state_in, stepped}

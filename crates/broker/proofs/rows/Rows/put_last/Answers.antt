@@ -1,6 +1,6 @@
 use Rattle.std.proofs.Common.{◌∙◌, ap, sym}
-use Rattle.broker_base.specs.ClientSession.{ClientSession}
-use Rattle.broker_form.specs.broker_rows.Owners.{owners_in, owned_by}
+use Rattle.broker_tables.specs.broker_base.ClientSession.{ClientSession}
+use Rattle.broker_tables.specs.broker_rows.Owners.{owners_in, owned_by}
 use Rattle.broker_tables.specs.Tables.{owners_at}
 use Rattle.broker.proofs.LastRows.{insert_last}
 use Rattle.broker.proofs.OwnersOfLast.{owners_of_last, may_stand}

@@ -5,13 +5,13 @@ use Rattle.std.specs.Prelude.{map}
 use Rattle.std.specs.Option.{option_copied_mut}
 use Rattle.std.specs.BTreeMap.{is_at}
 use Rattle.std.specs.Map.{set_value}
-use Rattle.packet.specs.declared.packet.Packet.TheVariants as packets
+use Rattle.session.specs.packet.declared.packet.Packet.TheVariants as packets
 use Rattle.broker_rows.specs.subs_base.ListIndex.{content_of}
-use Rattle.broker_model.specs.Place.{by_bytes}
-use Rattle.broker_model.specs.Answers.{codes_of}
-use Rattle.broker_model.specs.Commands.{usual_limits}
-use Rattle.broker_model.specs.Subscriptions.{as_held, granted_of}
-use Rattle.broker_model.specs.declared.command.Output.TheVariants as outputs
+use Rattle.broker_rows.specs.broker_spec.Place.{by_bytes}
+use Rattle.broker_rows.specs.broker_spec.Answers.{codes_of}
+use Rattle.broker_rows.specs.broker_spec.Commands.{usual_limits}
+use Rattle.broker_rows.specs.broker_spec.Subscriptions.{as_held, granted_of}
+use Rattle.broker_rows.specs.broker_spec.declared.command.Output.TheVariants as outputs
 use Rattle.broker_rows.specs.broker_base.ClientSession.{ClientSession}
 use Rattle.broker_rows.specs.broker_base.State.{Sessions, session_in}
 use Rattle.broker_rows.specs.CopyLaws.{granted_in_turn, subscribed_in_turn, sent_in_turn}

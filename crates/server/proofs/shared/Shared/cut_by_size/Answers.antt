@@ -1,6 +1,6 @@
 use Rattle.std.proofs.Common.{ap}
-use Rattle.mailbox.specs.Ends.{Sender}
-use Rattle.node.specs.declared.Item.{Item}
+use Rattle.post.specs.mailbox.Ends.{Sender}
+use Rattle.post.specs.node.declared.Item.{Item}
 use Rattle.server.specs.Serving.SendsOwn.{starts}
 use Rattle.server.proofs.OwnSendsJoin.{own_cut}
 use Rattle.server.proofs.shared.Shared.cut_by_size.Goals as goal

@@ -1,5 +1,5 @@
 use Rattle.std.proofs.Common.{◌≡◌}
-use Rattle.mailbox.specs.Ends.{unmet}
+use Rattle.post.specs.mailbox.Ends.{unmet}
 use Rattle.server.proofs.shared.Shared.put.Given as goal
 
 abbrev pub invariant-loop : goal.invariant-loop

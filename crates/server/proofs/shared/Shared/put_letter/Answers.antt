@@ -1,6 +1,6 @@
 use Rattle.std.proofs.Common.{ap}
-use Rattle.mailbox.specs.Ends.{Sender}
-use Rattle.node.specs.declared.Item.{Item}
+use Rattle.post.specs.mailbox.Ends.{Sender}
+use Rattle.post.specs.node.declared.Item.{Item}
 use Rattle.server.proofs.OwnSendsJoin.{own_letter}
 use Rattle.server.proofs.shared.Shared.put_letter.Goals as goal
 

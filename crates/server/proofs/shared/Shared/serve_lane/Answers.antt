@@ -1,5 +1,5 @@
 use Rattle.std.proofs.Common.{ℕ, ◌∙◌, ap, subst}
-use Rattle.node.specs.declared.Port.{Port}
+use Rattle.post.specs.node.declared.Port.{Port}
 use Rattle.server.specs.Serving.{TellsOne, port_of}
 use Rattle.server.specs.Serving.TellsEach.{begins, goes_on}
 use Rattle.server.proofs.shared.Shared.serve_lane.Goals as goal

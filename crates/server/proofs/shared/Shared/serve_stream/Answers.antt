@@ -1,7 +1,7 @@
 use Rattle.std.proofs.Common.{sym, subst}
-use Rattle.mailbox.specs.Ends.{Sender}
-use Rattle.node.specs.declared.Item.{Item}
-use Rattle.node.specs.declared.Port.{Port}
+use Rattle.post.specs.mailbox.Ends.{Sender}
+use Rattle.post.specs.node.declared.Item.{Item}
+use Rattle.post.specs.node.declared.Port.{Port}
 use Rattle.server.specs.Serving.{SendsWhole, TellsOne}
 use Rattle.server.specs.Serving.TellsOne.{closed_at_once, served}
 use Rattle.server.proofs.shared.Shared.serve_stream.Goals as goal

@@ -1,5 +1,5 @@
 use Rattle.std.specs.Vec.Iter.{into_iter_items}
-use Rattle.node.specs.Lists.{Each}
+use Rattle.post.specs.node.Lists.{Each}
 use Rattle.post.specs.Letters.{IsLeft}
 use Rattle.server.specs.Serving.{SendsOwn}
 use Rattle.server.proofs.shared.Shared.take_letters.Given as goal

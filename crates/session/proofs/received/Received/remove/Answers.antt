@@ -1,5 +1,5 @@
 use Rattle.std.proofs.Common.{◌∙◌, ap}
-use Rattle.session_form.specs.session_base.Identifiers.{without_id}
+use Rattle.session_base.specs.Identifiers.{without_id}
 use Rattle.session.proofs.OneIsRemoved.{one_removed}
 use Rattle.session.proofs.received.Received.remove.Goals as goal
 

@@ -1,6 +1,6 @@
 use Rattle.std.proofs.Common.{sym, subst}
-use Rattle.session_form.specs.FormLaws.{HasForm}
-use Rattle.session_form.proofs.Writable.{received_fit, flights_are_writable, waiting_have_lengths}
+use Rattle.session_base.specs.FormLaws.{HasForm}
+use Rattle.session_base.proofs.Writable.{received_fit, flights_are_writable, waiting_have_lengths}
 use Rattle.session.proofs.session.Session.write.Goals as goal
 
 pub write-requires-2 : goal.write-requires-2

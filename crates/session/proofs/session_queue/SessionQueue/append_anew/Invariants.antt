@@ -1,6 +1,6 @@
 -- What is sent again so far comes after what was there.
 use Rattle.std.proofs.Common.{◌≡◌, ◌++◌, take, length}
-use Rattle.session_form.specs.session_base.Sending.{resend}
+use Rattle.session_base.specs.Sending.{resend}
 use Rattle.session.proofs.session_queue.SessionQueue.append_anew.Given as goal
 
 abbrev pub invariant-loop-id : goal.invariant-loop-id

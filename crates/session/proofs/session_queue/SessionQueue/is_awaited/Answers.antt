@@ -1,7 +1,7 @@
 use Rattle.std.proofs.Common.{◌≡◌, ◌∙◌, ap, sym, subst, ◌==◌, Some, None, List}
 use Rattle.std.specs.List.{IsDistinct as IsDistinctBy}
 use Rattle.std.specs.Map.{lookup}
-use Rattle.session_form.specs.session_base.Queue.{Flight, Queue, is_pubrec, ids_of}
+use Rattle.session_base.specs.Queue.{Flight, Queue, is_pubrec, ids_of}
 use Rattle.session.proofs.ReleasedInPlace.{apart}
 use Rattle.session.proofs.AnswersToPubrec.{only_one, nothing, pubrec_only}
 use Rattle.session.proofs.session_queue.SessionQueue.is_awaited.Goals as goal

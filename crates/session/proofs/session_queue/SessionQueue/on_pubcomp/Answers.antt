@@ -1,6 +1,6 @@
 use Rattle.std.proofs.Common.{rules, refl, not, sym}
 use Rattle.std.proofs.lemmas.Map.Made.{filter_same_pairs}
-use Rattle.session_form.specs.session_base.Queue.{awaits_pubcomp}
+use Rattle.session_base.specs.Queue.{awaits_pubcomp}
 use Rattle.session.proofs.session_queue.SessionQueue.on_pubcomp.Goals as goal
 
 pub returns : goal.returns

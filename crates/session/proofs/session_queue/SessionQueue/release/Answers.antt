@@ -3,7 +3,7 @@ use Rattle.std.specs.Prelude.{position}
 use Rattle.std.specs.List.{IsDistinct as IsDistinctBy}
 use Rattle.std.specs.Map.{keys_of}
 use Rattle.indexmap.specs.IndexMap.{move_index}
-use Rattle.session_form.specs.session_base.Queue.{Flight, Queue, ids_of}
+use Rattle.session_base.specs.Queue.{Flight, Queue, ids_of}
 use Rattle.session.specs.Inside.{with_released}
 use Rattle.session.proofs.ReleasedInPlace.{few_released, never_missing, released_in_place, apart}
 use Rattle.session.proofs.session_queue.SessionQueue.release.Goals as goal

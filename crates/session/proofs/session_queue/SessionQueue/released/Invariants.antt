@@ -1,6 +1,6 @@
 -- The released ones so far are counted, and are no more than there are.
 use Rattle.std.proofs.Common.{◌≡◌, ◌≤◌, ◌+◌, length, filter}
-use Rattle.session_form.specs.session_base.Queue.{is_released}
+use Rattle.session_base.specs.Queue.{is_released}
 use Rattle.session.proofs.session_queue.SessionQueue.released.Given as goal
 
 abbrev pub invariant-loop-awaits : goal.invariant-loop-awaits

@@ -1,8 +1,8 @@
 use Rattle.std.proofs.Common.{◌∙◌, ap, sym, subst}
-use Rattle.session_form.specs.session_base.Publication.{is_acknowledged}
-use Rattle.session_form.specs.session_base.Queue.{Queue, is_pubcomp}
-use Rattle.session_form.specs.session_base.OrderLaws.{IsReleasedFirst}
-use Rattle.session_form.proofs.of_session_base.OrderInFlight.{first_more, not_yet}
+use Rattle.session_base.specs.Publication.{is_acknowledged}
+use Rattle.session_base.specs.Queue.{Queue, is_pubcomp}
+use Rattle.session_base.specs.OrderLaws.{IsReleasedFirst}
+use Rattle.session_base.proofs.OrderInFlight.{first_more, not_yet}
 use Rattle.session.proofs.session_queue.SessionQueue.start.Goals as goal
 
 -- what starts is not released, and comes last

@@ -1,8 +1,8 @@
 -- What was started so far, and what is still to start, make the whole fill.
 use Rattle.std.proofs.Common.{◌≡◌, ◌++◌, take, drop, length}
-use Rattle.session_form.specs.session_base.OrderLaws.{IsReleasedFirst}
-use Rattle.session_form.specs.session_base.Queue.{filled, fill}
-use Rattle.session_form.specs.session_base.Sending.{fill_sends}
+use Rattle.session_base.specs.OrderLaws.{IsReleasedFirst}
+use Rattle.session_base.specs.Queue.{filled, fill}
+use Rattle.session_base.specs.Sending.{fill_sends}
 use Rattle.session.proofs.session_queue.SessionQueue.start_all.Given as goal
 
 abbrev pub invariant-loop-place : goal.invariant-loop-place

@@ -1,6 +1,6 @@
 use Rattle.std.proofs.Common.{◌≡◌, ◌++◌}
 use Rattle.std.specs.List.{flat_map, AllByRecursion}
-use Rattle.session_form.specs.Form.{flight_bytes}
+use Rattle.session_base.specs.Form.{flight_bytes}
 use Rattle.session.specs.Inside.{AreWritable}
 use Rattle.session.proofs.session_queue.SessionQueue.write_flights.Given as goal
 

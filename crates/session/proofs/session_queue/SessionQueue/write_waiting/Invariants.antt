@@ -1,6 +1,6 @@
 use Rattle.std.proofs.Common.{◌≡◌, ◌++◌, drop}
 use Rattle.std.specs.List.{flat_map, AllByRecursion}
-use Rattle.session_form.specs.Form.{publication_bytes, HasLength}
+use Rattle.session_base.specs.Form.{publication_bytes, HasLength}
 use Rattle.session.proofs.session_queue.SessionQueue.write_waiting.Given as goal
 
 abbrev pub invariant-loop-place : goal.invariant-loop-place

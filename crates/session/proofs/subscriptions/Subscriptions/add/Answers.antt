@@ -1,6 +1,6 @@
 -- A filter that was not held comes last.
 use Rattle.std.proofs.Common.{◌≡◌, ◌∙◌, ap, sym, not, true}
-use Rattle.session_form.specs.session_base.Subscriptions.{is_held}
+use Rattle.session_base.specs.Subscriptions.{is_held}
 use Rattle.session.proofs.FilterSet.{kept_where, not_held, new_comes_last}
 use Rattle.session.proofs.subscriptions.Subscriptions.add.Goals as goal
 

@@ -1,5 +1,5 @@
 use Rattle.std.proofs.Common.{◌∙◌, ap}
-use Rattle.session_form.specs.session_base.Subscriptions.{is_held}
+use Rattle.session_base.specs.Subscriptions.{is_held}
 use Rattle.session.proofs.FilterSet.{held_is_found}
 use Rattle.session.proofs.subscriptions.Subscriptions.contains.Goals as goal
 

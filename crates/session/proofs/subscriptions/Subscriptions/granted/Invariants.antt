@@ -1,6 +1,6 @@
 -- What matched so far goes into the rest.
 use Rattle.std.proofs.Common.{◌≡◌}
-use Rattle.session_form.specs.session_base.Subscriptions.{granted_qos}
+use Rattle.session_base.specs.Subscriptions.{granted_qos}
 use Rattle.session.specs.Inside.{greater_of}
 use Rattle.session.proofs.subscriptions.Subscriptions.granted.Given as goal
 

@@ -1,7 +1,7 @@
 use Rattle.std.proofs.Common.{rules, ◌∙◌, ap, not}
 use Rattle.std.specs.Prelude.{bytes_eq}
 use Rattle.std.proofs.lemmas.Map.Made.{filter_same_pairs}
-use Rattle.session_form.specs.session_base.Subscriptions.{HeldFilter, without_filter}
+use Rattle.session_base.specs.Subscriptions.{HeldFilter, without_filter}
 use Rattle.session.proofs.subscriptions.Subscriptions.remove.Goals as goal
 
 pub returns : goal.returns

@@ -1,6 +1,6 @@
 -- A map sets an entry in its place or last, and is refused memory only for a key that it does not have.
 use Rattle.std.proofs.Common.{◌∙◌, ap}
-use Rattle.session_form.specs.session_base.Subscriptions.{is_held, with_subscription}
+use Rattle.session_base.specs.Subscriptions.{is_held, with_subscription}
 use Rattle.session.proofs.FilterSet.{set_as_entry, never_missed}
 use Rattle.session.proofs.subscriptions.Subscriptions.set.Goals as goal
 

@@ -1,6 +1,6 @@
 use Rattle.std.proofs.Common.{◌≡◌, ◌++◌}
 use Rattle.std.specs.List.{flat_map}
-use Rattle.session_form.specs.Form.{held_bytes}
+use Rattle.session_base.specs.Form.{held_bytes}
 use Rattle.session.proofs.subscriptions.Subscriptions.write_each.Given as goal
 
 abbrev pub invariant-loop-filter : goal.invariant-loop-filter

@@ -1,5 +1,5 @@
 use Rattle.std.proofs.Common.{◌≡◌, Bool, ◌||◌, sym, ap, ◌∙◌}
-use Rattle.client_base.specs.State.{is_online}
+use Rattle.client.specs.client_base.State.{is_online}
 use Rattle.user_client.proofs.CallsAreSteps.{heard}
 use Rattle.user_client.proofs.caller.Caller.take_in.Goals as goal
 use Rattle.user_client.proofs.caller.Caller.take_in.Goals.{then-self, else-self}

@@ -2,7 +2,7 @@ use Rattle.std.proofs.Common.{inl, ◌<◌, length, refl, sym, ◌∙◌, ◌≡
 use Rattle.std.proofs.lemmas.Option.{same_Some}
 use Rattle.world_pipes.specs.Piped.{is_holding}
 use Rattle.world.specs.declared.world.WorldClient.{WorldClient}
-use Rattle.master.proofs.Counting.{get_there}
+use Rattle.escaping_nodes.proofs.of_master.Counting.{get_there}
 use Rattle.world.specs.World.{WorldState}
 use Rattle.world.proofs.CallsMet.{abandon_meets}
 use Rattle.world.proofs.ClientGoes.{client_goes_on, housed_still}

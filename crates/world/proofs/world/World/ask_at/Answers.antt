@@ -1,5 +1,5 @@
 use Rattle.std.proofs.Common.{◌-◌, ℕ, Bool, true, false, List, slice_get, refl, ap, ◌∙◌, subst, arith}
-use Rattle.world.specs.declared.place.Place.{Place}
+use Rattle.world.specs.declared.connection_slot.ConnectionSlot.{ConnectionSlot}
 use Rattle.world.specs.Inside.Handing.{MayHandOn, StaysQuiet}
 use Rattle.world.specs.World.{WorldState}
 use Rattle.world.proofs.Joined.{goes_on_join, goes_on_rest, goes_on_still}
@@ -25,7 +25,7 @@ returns-else-not-hand_on-clause-asks c =
     c.open_at-number.ensures.place c.open_at-number.ensures.positive c.open_at-number.ensures.up c.if-place-node.false c.hand_on.ensures.connections
     (subst (λ (b : Bool). MayHandOn c.open_at-number.result.0 c.open_at-number.result.1 c.args.self.now b c.hand_on.new.self) c.if-not-hand_on.false c.hand_on.ensures.hands)
     (stays_open c.open_at-number.result.0 c.open_at-number.result.1 c.hand_on.new.self
-    (ap (λ (l : List Place). slice_get l (c.open_at-number.result.0 - 1)) c.hand_on.ensures.connections ∙ c.open_at-number.ensures.place) c.open_at-number.ensures.up)
+    (ap (λ (l : List ConnectionSlot). slice_get l (c.open_at-number.result.0 - 1)) c.hand_on.ensures.connections ∙ c.open_at-number.ensures.place) c.open_at-number.ensures.up)
 
 pub returns-then-not-hand_on-clause-goes : goal.returns-then-not-hand_on-clause-goes
 returns-then-not-hand_on-clause-goes c =

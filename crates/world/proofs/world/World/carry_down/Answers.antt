@@ -1,5 +1,5 @@
 use Rattle.std.proofs.Common.{◌≤◌, refl, arith}
-use Rattle.master.proofs.Counting.{get_there}
+use Rattle.escaping_nodes.proofs.of_master.Counting.{get_there}
 use Rattle.world.specs.Inside.Calling.{forgetful}
 use Rattle.world.specs.World.{WorldState}
 use Rattle.world.proofs.CallsCounted.{hearing_counted}

@@ -1,8 +1,8 @@
 use Rattle.std.proofs.Common.{◌≡◌, ℕ, List, Some, slice_get, sym, subst, ◌∙◌}
 use Rattle.escaping_client.specs.client.Core.{Core}
-use Rattle.exact_model.specs.Promise.{Promise}
-use Rattle.exact_model.specs.world_model.Published.{published_of, published_on}
-use Rattle.master.proofs.Counting.{get_there}
+use Rattle.headline.specs.Promise.{Promise}
+use Rattle.headline.specs.byte_world.Published.{published_of, published_on}
+use Rattle.escaping_nodes.proofs.of_master.Counting.{get_there}
 use Rattle.world.specs.declared.world.WorldClient.{WorldClient}
 use Rattle.world.specs.Standing.{connections_at}
 use Rattle.world.specs.World.{WorldState}

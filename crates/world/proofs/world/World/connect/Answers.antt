@@ -1,9 +1,9 @@
 use Rattle.std.proofs.Common.{◌≡◌, inl, inr, ◌<◌, ◌-◌, ℕ, List, [], ◌∷◌, ◌++◌, Bool, true, false, suc, length, refl, sym, ap, ◌∙◌, subst, arith}
-use Rattle.master.proofs.Counting.{get_there}
+use Rattle.escaping_nodes.proofs.of_master.Counting.{get_there}
 use Rattle.world.specs.Found.{port_of}
-use Rattle.world.specs.Housed.{open_from}
+use Rattle.world.specs.SlotsAreValid.{open_from}
 use Rattle.world.specs.Inside.Connecting.{HearsOfOne, Reaches}
-use Rattle.world.specs.declared.place.Place.{Place}
+use Rattle.world.specs.declared.connection_slot.ConnectionSlot.{ConnectionSlot}
 use Rattle.world.specs.World.{WorldState}
 use Rattle.world.proofs.ClientGoes.{housed_still}
 use Rattle.world.proofs.HousedOpened.{housed_opened}
@@ -85,14 +85,14 @@ invariant_of-self-2 c =
     let counted : c.saturating_add-number.result ≡ suc (length c.self.inside.connections.items) = omega arith in
     let one = subst (λ (b : Bool). Reaches b c.args.node (port_of c.saturating_add-number.result) c.self.inside.nodes c.index_mut.result.now.piped c.reach.new.nodes c.reach.new.piped)
     c.if-not-reach.false c.reach.ensures.reaches in
-    let place : Place = record { client = c.args.client; at = c.len-at.result; node = c.args.node; is_open = true } in (
+    let place : ConnectionSlot = record { client = c.args.client; at = c.len-at.result; node = c.args.node; is_open = true } in (
       rw (c.push_reserved.ensures.items, c.reserve.ensures.items)
           (housed_opened c.self.inside.clients.items c.self.inside.connections.items c.args.client c.index_mut.result.now c.reach.new.piped (c.args.node - 1) c.saturating_add-number.result place
           one.opens.0 found one.opens.2 counted refl c.len-at.ensures
           (let high = c.requires.node in let e : suc (c.args.node - 1) ≡ c.args.node = omega (arith, high) in e) c.self.invariant.0),
       c.push_reserved-2.ensures.items ∙ ap (λ (l : List ℕ). l ++ c.saturating_add-number.result ∷ []) (c.reserve-2.ensures.items ∙ c.self.invariant.1)
           ∙ one_opened c.self.inside.connections.items c.saturating_add-number.result place counted refl
-          ∙ ap (λ (l : List Place). open_from 1 (l ++ place ∷ [])) (sym c.reserve.ensures.items)
+          ∙ ap (λ (l : List ConnectionSlot). open_from 1 (l ++ place ∷ [])) (sym c.reserve.ensures.items)
           ∙ ap (open_from 1) (sym c.push_reserved.ensures.items),
     )
 
@@ -109,9 +109,9 @@ returns-clause-connects c =
       connections = c.self.inside.connections.items;
       losses = c.self.inside.losses;
     } in
-    let place : Place = record { client = c.args.client; at = c.len-at.result; node = c.args.node; is_open = true } in
+    let place : ConnectionSlot = record { client = c.args.client; at = c.len-at.result; node = c.args.node; is_open = true } in
     let at = connects_at c.args.client c.args.node c.saturating_add-number.result c.len-at.result old c.index_mut.result.now c.reach.new.nodes c.reach.new.piped c.push_reserved.new.self.items
-    found counted c.len-at.ensures (c.push_reserved.ensures.items ∙ ap (λ (l : List Place). l ++ place ∷ []) c.reserve.ensures.items) one in
+    found counted c.len-at.ensures (c.push_reserved.ensures.items ∙ ap (λ (l : List ConnectionSlot). l ++ place ∷ []) c.reserve.ensures.items) one in
     rw (← c.self.view_is) (λ yes. at)
 
 pub returns-clause-goes : goal.returns-clause-goes
@@ -127,9 +127,9 @@ returns-clause-goes c =
       connections = c.self.inside.connections.items;
       losses = c.self.inside.losses;
     } in
-    let place : Place = record { client = c.args.client; at = c.len-at.result; node = c.args.node; is_open = true } in
+    let place : ConnectionSlot = record { client = c.args.client; at = c.len-at.result; node = c.args.node; is_open = true } in
     let at = connects_at c.args.client c.args.node c.saturating_add-number.result c.len-at.result old c.index_mut.result.now c.reach.new.nodes c.reach.new.piped c.push_reserved.new.self.items
-    found counted c.len-at.ensures (c.push_reserved.ensures.items ∙ ap (λ (l : List Place). l ++ place ∷ []) c.reserve.ensures.items) one in
+    found counted c.len-at.ensures (c.push_reserved.ensures.items ∙ ap (λ (l : List ConnectionSlot). l ++ place ∷ []) c.reserve.ensures.items) one in
     rw (← c.self.view_is) (connects_on c.args.client c.args.node old _ c.self.invariant.0 refl c.reach.ensures.nodes at)
 
 pub returns-then-is_err-clause-none : goal.returns-then-is_err-clause-none

@@ -3,7 +3,7 @@ use Rattle.std.proofs.lemmas.Bool.{both_ways}
 use Rattle.std.proofs.lemmas.Option.{same_Some}
 use Rattle.world_pipes.specs.Piped.{is_holding}
 use Rattle.world.specs.declared.world.WorldClient.{WorldClient}
-use Rattle.master.proofs.Counting.{get_there}
+use Rattle.escaping_nodes.proofs.of_master.Counting.{get_there}
 use Rattle.world.specs.Cannot.{HoldsNone}
 use Rattle.world.specs.Doing.{Leaves, LosesLeaving}
 use Rattle.world.specs.Inside.Calling.{forgetful}

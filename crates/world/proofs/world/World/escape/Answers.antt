@@ -1,10 +1,10 @@
 use Rattle.std.proofs.Common.{◌≡◌, ◌≤◌, ◌<◌, ◌+◌, ◌*◌, ℕ, List, Some, length, slice_get, refl, sym, ap, ◌∙◌, subst}
 use Rattle.std.specs.List.{list_all}
-use Rattle.agreement.specs.MasterState.{refusal}
-use Rattle.broker_base.specs.Commands.{past_of, usual_limits}
-use Rattle.broker_base.specs.Past.{session_of}
+use Rattle.headline.specs.agreement.MasterState.{refusal}
+use Rattle.headline.specs.broker_base.Commands.{past_of, usual_limits}
+use Rattle.headline.specs.broker_base.Past.{session_of}
 use Rattle.escaping_client.specs.client.Core.{Core}
-use Rattle.master.proofs.Counting.{get_there}
+use Rattle.escaping_nodes.proofs.of_master.Counting.{get_there}
 use Rattle.escaping_nodes.specs.world_nodes.Asking.{log_of}
 use Rattle.world_pipes.specs.Piped.{is_holding}
 use Rattle.world.specs.declared.event.Event.{Event}

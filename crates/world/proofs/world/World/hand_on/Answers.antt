@@ -1,6 +1,6 @@
 use Rattle.std.proofs.Common.{arith}
-use Rattle.master.proofs.Counting.{get_there}
-use Rattle.world.specs.Housed.{leads_of}
+use Rattle.escaping_nodes.proofs.of_master.Counting.{get_there}
+use Rattle.world.specs.SlotsAreValid.{leads_of}
 use Rattle.world.specs.World.{WorldState}
 use Rattle.world.proofs.ClientGoes.{housed_still}
 use Rattle.world.proofs.Handed.{hands, hands_on}

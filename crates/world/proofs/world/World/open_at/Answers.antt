@@ -1,8 +1,8 @@
 use Rattle.std.proofs.Common.{◌<◌, ◌-◌, ℕ, List, length, sym, ap, ◌∙◌, arith}
 use Rattle.std.proofs.lemmas.Option.{same_Some, slice_get_within}
-use Rattle.master.proofs.Counting.{get_there}
-use Rattle.world.specs.Housed.{open_from}
-use Rattle.world.specs.declared.place.Place.{Place}
+use Rattle.escaping_nodes.proofs.of_master.Counting.{get_there}
+use Rattle.world.specs.SlotsAreValid.{open_from}
+use Rattle.world.specs.declared.connection_slot.ConnectionSlot.{ConnectionSlot}
 use Rattle.world.proofs.OpenEnds.{opened, stands_open}
 use Rattle.world.proofs.world.World.open_at.Goals as goal
 
@@ -53,4 +53,4 @@ returns-clause-up c =
     let s = stands_open c.self.inside.connections.items c.args.at c.index-number.result.now number in
     let within = slice_get_within c.self.inside.connections.items (c.index-number.result.now - 1) s.place s.found in
     let found = get_there c.self.inside.connections.items (c.index-number.result.now - 1) c.index.result.now within c.index.ensures in
-    ap (λ (p : Place). p.is_open) (same_Some c.index.result.now s.place (sym found ∙ s.found)) ∙ s.up
+    ap (λ (p : ConnectionSlot). p.is_open) (same_Some c.index.result.now s.place (sym found ∙ s.found)) ∙ s.up

@@ -2,10 +2,10 @@ use Rattle.std.proofs.Common.{◌≤◌, ◌<◌, [], ◌∷◌, length, refl, s
 use Rattle.std.specs.Option.{is_some}
 use Rattle.std.proofs.lemmas.Option.{same_Some}
 use Rattle.escaping_client.specs.client.Core.{Core}
-use Rattle.client_base.specs.Calls.{publish_refusal}
+use Rattle.escaping_client.specs.client_base.Calls.{publish_refusal}
 use Rattle.world.specs.declared.world.WorldClient.{WorldClient}
-use Rattle.master.proofs.Counting.{get_there}
-use Rattle.client_base.specs.Steps.{Call}
+use Rattle.escaping_nodes.proofs.of_master.Counting.{get_there}
+use Rattle.escaping_client.specs.client_base.Steps.{Call}
 use Rattle.world.specs.Doing.{Asks, LosesAsking}
 use Rattle.world.specs.Cannot.{Refuses}
 use Rattle.world.specs.Inside.Calling.{forgetful}

@@ -2,11 +2,11 @@ use Rattle.std.proofs.Common.{◌≤◌, ◌<◌, [], length, refl, sym, arith, 
 use Rattle.std.specs.Option.{is_some}
 use Rattle.std.proofs.lemmas.Option.{same_Some}
 use Rattle.escaping_client.specs.client.Core.{Core}
-use Rattle.client_base.specs.Steps.{request_refusal}
-use Rattle.packet.specs.declared.qos.QoS.TheVariants as levels
+use Rattle.escaping_client.specs.client_base.Steps.{request_refusal}
+use Rattle.escaping_client.specs.packet.declared.qos.QoS.TheVariants as levels
 use Rattle.world.specs.declared.world.WorldClient.{WorldClient}
-use Rattle.master.proofs.Counting.{get_there}
-use Rattle.client_base.specs.Steps.{Call}
+use Rattle.escaping_nodes.proofs.of_master.Counting.{get_there}
+use Rattle.escaping_client.specs.client_base.Steps.{Call}
 use Rattle.world.specs.Doing.{Asks, LosesAsking}
 use Rattle.world.specs.Cannot.{Refuses}
 use Rattle.world.specs.Inside.Calling.{forgetful}

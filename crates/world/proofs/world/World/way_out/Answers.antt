@@ -1,6 +1,6 @@
 use Rattle.std.proofs.Common.{◌≡◌, ◌<◌, ◌+◌, ◌-◌, ◌*◌, ◌++◌, ℕ, suc, List, length, rules, sym, ap, ◌∙◌, subst, arith}
 use Rattle.std.proofs.lemmas.Option.{same_Some}
-use Rattle.master.proofs.Counting.{get_there}
+use Rattle.escaping_nodes.proofs.of_master.Counting.{get_there}
 use Rattle.world_pipes.specs.Piped.{is_holding}
 use Rattle.world.specs.declared.world.WorldClient.{WorldClient}
 use Rattle.world.specs.Inside.Escaping.{client_events, sent_then}

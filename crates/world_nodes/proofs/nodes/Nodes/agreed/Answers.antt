@@ -1,8 +1,8 @@
 use Rattle.std.proofs.Common.{◌-◌, ap, sym, ◌∙◌, length, refl, arith}
 use Rattle.std.proofs.lemmas.List.{length-take-le}
-use Rattle.ballot.specs.Replica.{ReplicaState}
-use Rattle.broker_base.specs.Command.{Command}
-use Rattle.broker_base.specs.State.{State}
+use Rattle.master.specs.ballot.Replica.{ReplicaState}
+use Rattle.byte_world.specs.broker_base.Command.{Command}
+use Rattle.byte_world.specs.broker_base.State.{State}
 use Rattle.world_nodes.specs.Nodes.{NodesState}
 use Rattle.world_nodes.proofs.AgreedCounted.{front_agrees, recorded_agrees, same_replica, some_agrees, within_at}
 use Rattle.world_nodes.proofs.nodes.Nodes.agreed.Goals as goal

@@ -1,7 +1,7 @@
 use Rattle.std.proofs.Common.{◌≡◌, ap, ◌∙◌, None}
-use Rattle.agreement.specs.MasterState.{assigning, master_behind, refusal}
-use Rattle.ballot.specs.Config.{Config}
-use Rattle.broker_base.specs.Command.{Command}
+use Rattle.master.specs.agreement.MasterState.{assigning, master_behind, refusal}
+use Rattle.master.specs.ballot.Config.{Config}
+use Rattle.byte_world.specs.broker_base.Command.{Command}
 use Rattle.master.proofs.Groups.{new_ballot_is}
 use Rattle.world_nodes.specs.Nodes.{NodesState}
 use Rattle.world_nodes.proofs.MasterCounts.{gives_counting, no_refusal}

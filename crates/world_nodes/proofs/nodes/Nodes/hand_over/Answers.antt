@@ -1,5 +1,5 @@
 use Rattle.std.proofs.Common.{◌≡◌, ◌≤◌, ◌-◌, ◌∙◌, inl, inr, length, Some, refl, ap, arith}
-use Rattle.world_model.specs.node_model.Moves.Deed.{gives}
+use Rattle.byte_world.specs.node_moves.Moves.NodeCall.{gives}
 use Rattle.world_nodes.specs.Goes.{node_of}
 use Rattle.world_nodes.specs.Nodes.{NodesState}
 use Rattle.world_nodes.specs.Steps.{forgetful}

@@ -1,7 +1,7 @@
 use Rattle.std.proofs.Common.{◌-◌, refl, ◌∙◌}
 use Rattle.master.proofs.Groups.{more_than}
-use Rattle.world_model.specs.world_base.declared.item.Item.TheVariants.{Peer}
-use Rattle.world_model.specs.node_model.Moves.Deed.{takes}
+use Rattle.byte_world.specs.world_base.declared.item.Item.TheVariants.{Peer}
+use Rattle.byte_world.specs.node_moves.Moves.NodeCall.{takes}
 use Rattle.world_nodes.specs.Nodes.{NodesState}
 use Rattle.world_nodes.proofs.Acts.{behind_turn_of, turn_takes}
 use Rattle.world_nodes.proofs.ActsLosing.{turn_loses}

@@ -1,5 +1,0 @@
-use Rattle.broker_model.proofs.EntersAsPublished as lemmas
-use Rattle.broker_model.proofs.endings.enters_as_published.Goals as goal
-
-pub returns : goal.returns
-returns c = lemmas.enters_as_published

@@ -1,5 +1,0 @@
-use Rattle.broker_model.proofs.NothingAfterTheEnd as lemmas
-use Rattle.broker_model.proofs.endings.nothing_after_the_end.Goals as goal
-
-pub returns : goal.returns
-returns c = lemmas.nothing_after_the_end

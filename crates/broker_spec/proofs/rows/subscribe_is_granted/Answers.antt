@@ -1,0 +1,14 @@
+use Rattle.std.proofs.Common.{refl}
+use Rattle.broker_spec.specs.Past.{current_connection, session_of}
+use Rattle.broker_spec.specs.Owner.{named}
+use Rattle.broker_spec.specs.Subscriptions.{subscriptions_of}
+use Rattle.broker_spec.specs.Received.{received_of}
+use Rattle.broker_spec.specs.Retained.{retained_publications}
+use Rattle.broker_spec.specs.Times.{entries_of}
+use Rattle.broker_spec.specs.Commands.{past_from}
+use Rattle.broker_spec.specs.Answers.{answers_from}
+use Rattle.broker_spec.proofs.rows.subscribe_is_granted.Goals as goal
+
+pub returns : goal.returns
+unfolding answers_from past_from current_connection session_of named subscriptions_of received_of retained_publications entries_of
+returns c = refl

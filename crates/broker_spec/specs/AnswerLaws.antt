@@ -1,0 +1,45 @@
+-- What readers may want to know about the answers: to whom they go.
+use Rattle.std.specs.Prelude.{◌≡◌, Bool, true, false, Option, Some, None, ◌⊎◌}
+use Rattle.std.specs.List.{AllByRecursion}
+use Rattle.retained.specs.packet.declared.packet.Packet.TheVariants as packets
+use Rattle.broker_spec.specs.Connection.{ConnectionName}
+use Rattle.broker_spec.specs.Place.{Client, Past, Limits}
+use Rattle.broker_spec.specs.Past.{current_connection}
+use Rattle.broker_spec.specs.Answers.{answers_of}
+use Rattle.broker_spec.specs.declared.command.Command.{Command}
+use Rattle.broker_spec.specs.declared.command.Command.TheVariants as commands
+use Rattle.broker_spec.specs.declared.command.Output.{Output}
+use Rattle.broker_spec.specs.declared.command.Output.TheVariants.{Send, Close}
+
+-- the connection that an answer goes to
+abbrev pub goes_to : Output → ConnectionName
+goes_to (Send x packet) = x
+goes_to (Close x) = x
+
+-- the connection that a command names
+abbrev pub named_in : Command → Option ConnectionName
+named_in (commands.Connect x c clean) = Some x
+named_in (commands.Packet x packet) = Some x
+named_in (commands.Lost x) = Some x
+named_in (commands.Start ballot) = None
+named_in (commands.Expel c) = None
+
+-- a PUBLISH or a Close, which a client may get because of another client's command
+abbrev pub is_unasked : Output → Bool
+is_unasked (Send x (packets.Publish p)) = true
+is_unasked (Close x) = true
+is_unasked _ = false
+
+-- it goes to the connection that the command names, or it is unasked, to a client's current
+-- connection
+abbrev pub IsAddressed : Past → Command → Output → Type 0
+IsAddressed past command answer =
+    (named_in command ≡ Some (goes_to answer))
+    ⊎ (((c : Client) × (current_connection past c ≡ Some (goes_to answer))) × (is_unasked answer ≡ true))
+
+-- each answer is addressed in this way: CONNACK, PUBACK, PUBREC, PUBREL, PUBCOMP, SUBACK and
+-- UNSUBACK go to the client that asked
+abbrev pub AnswersAreAddressed : Type 0
+AnswersAreAddressed =
+    (limits : Limits) (past : Past) (command : Command)
+    → AllByRecursion (IsAddressed past command) (answers_of limits past command)

@@ -1,0 +1,44 @@
+-- The past of a list of commands, and the limits of this broker.
+use Rattle.std.specs.Prelude.{ℕ, if◌then◌else◌, Bool, true, false, List, [], ◌∷◌}
+use Rattle.broker_spec.specs.Place.{Place, Past, Limits}
+use Rattle.broker_spec.specs.Marks.{mark_of}
+use Rattle.broker_spec.specs.declared.command.Command.{Command}
+use Rattle.broker_spec.specs.declared.command.Command.TheVariants as commands
+
+-- the place of a command after these places
+abbrev pub place_of : Limits → Past → Command → Place
+place_of limits past command = record { command = command; mark = mark_of limits past command }
+
+-- the places of more commands, oldest first, on top of a past: the one recursion over a list of
+-- commands
+unfoldable pub past_from : Limits → Past → List Command → Past
+past_from limits past (command ∷ commands) = past_from limits (place_of limits past command ∷ past) commands
+past_from limits past [] = past
+
+-- the places of a list of commands
+abbrev pub past_of : Limits → List Command → Past
+past_of limits = past_from limits []
+
+-- whether a new ballot begins
+abbrev pub is_start : Command → Bool
+is_start (commands.Start ballot) = true
+is_start _ = false
+
+-- the limits of this broker, with any window
+abbrev pub limits_with : (Past → ℕ) → Limits
+limits_with window =
+    record { sessions = 4096; subscriptions = 64; entries = 4096; retained = 16384; window = window }
+
+-- the limits of this broker: at most 64 entries of a session are in flight
+abbrev pub usual_limits : Limits
+usual_limits = limits_with (λ past. 64)
+
+-- a window that was this one at first, and is 64 from the first Start on
+abbrev pub window_from : ℕ → Past → ℕ
+window_from first (place ∷ past) = if is_start place.command then 64 else window_from first past
+window_from first [] = first
+
+-- the limits of a broker with such a window: its first window is 64 in a new broker, 16 in one that
+-- was read from form 1
+abbrev pub limits_from : ℕ → Limits
+limits_from first = limits_with (window_from first)

@@ -1,0 +1,42 @@
+-- What readers may want to know about a session that has ended: its connections get nothing more
+-- (MQTT 3.1.2.4, 4.1).
+use Rattle.std.specs.Prelude.{◌≡◌, ◌≤◌, ◌+◌, ℕ, Bool, false, if◌then◌else◌, List, [], ◌∷◌, ◌++◌, Some}
+use Rattle.retained.specs.packet.declared.packet.Packet.{Packet}
+use Rattle.retained.specs.lists.Lists.{In}
+use Rattle.broker_spec.specs.Connection.{ConnectionName, same_connection}
+use Rattle.broker_spec.specs.Place.{Client, Place, Past, Limits}
+use Rattle.broker_spec.specs.Past.{accepts, session_start}
+use Rattle.broker_spec.specs.Commands.{past_of}
+use Rattle.broker_spec.specs.Answers.{answers_at}
+use Rattle.broker_spec.specs.declared.command.Command.{Command}
+use Rattle.broker_spec.specs.declared.command.Command.TheVariants as commands
+use Rattle.broker_spec.specs.declared.command.Output.TheVariants.{Send}
+
+-- a place of a past, and the places below it
+pub record StandsAt (past : Past) (place : Place) (below : Past) : Type 0 where
+  pub later : Past
+  pub is : past ≡ later ++ place ∷ below
+
+-- whether it is a Connect with this connection's name
+abbrev pub is_connect_of : ConnectionName → Command → Bool
+is_connect_of x (commands.Connect y c clean) = same_connection x y
+is_connect_of x _ = false
+
+-- how many of these a past has
+abbrev pub connects_of : ConnectionName → Past → ℕ
+connects_of x (place ∷ past) = (if is_connect_of x place.command then 1 else 0) + connects_of x past
+connects_of x [] = 0
+
+-- A connection with one Connect, which was accepted and lies in a session of its client, is sent
+-- packets only at places of that session: no packet at a place outside of it.
+abbrev pub EndsWithTheSession : Limits → Past → Type 0
+EndsWithTheSession limits past =
+    (place opened : Place) (below earlier : Past) (x : ConnectionName) (packet : Packet) (c : Client) (clean : Bool) (start : ℕ)
+    → connects_of x past ≤ 1 → StandsAt past place below → StandsAt past opened earlier
+    → In (Send x packet) (answers_at limits place below) → accepts opened.command opened.mark c ≡ Some (x, clean)
+    → session_start (opened ∷ earlier) c ≡ Some start
+    → session_start (place ∷ below) c ≡ Some start
+
+-- the same holds for every list of commands
+abbrev pub NothingAfterTheEnd : Type 0
+NothingAfterTheEnd = (limits : Limits) (commands : List Command) → EndsWithTheSession limits (past_of limits commands)

@@ -1,0 +1,69 @@
+-- What is added to a session's queue: copies of publications (MQTT 3.3.1.3, 3.3.5, 3.8.4), and the
+-- state of each entry (MQTT 4.3).
+use Rattle.std.specs.Prelude.{ℕ, Bool, true, false, if◌then◌else◌, List, [], ◌∷◌, ◌++◌, map, filter, Option, Some, None}
+use Rattle.retained.specs.packet.declared.qos.QoS.{QoS}
+use Rattle.retained.specs.packet.declared.subscribe.Subscription.{Subscription}
+use Rattle.retained.specs.packet.declared.packet.Packet.TheVariants as packets
+use Rattle.retained.specs.declared.retained_publication.RetainedPublication.{RetainedPublication}
+use Rattle.retained.specs.Retained.{RetainedTopics, matching_entries}
+use Rattle.broker_spec.specs.Place.{Client, same_client, Mark, Place, Past}
+use Rattle.session_base.specs.declared.publication.Publication.{Publication}
+use Rattle.session_base.specs.Publication.{publication_of, is_answered, lower_qos}
+use Rattle.broker_spec.specs.Subscriptions.{granted_of, effective_qos}
+use Rattle.broker_spec.specs.Retained.{retained_publications}
+use Rattle.broker_spec.specs.declared.command.Command.{Command}
+use Rattle.broker_spec.specs.declared.command.Command.TheVariants as commands
+
+-- ---- copies
+
+-- one copy of a publication, at this QoS and with RETAIN 0 (MQTT 3.3.1.3)
+abbrev pub copy_of : Publication → Option QoS → List Publication
+copy_of p (Some qos) = record { retain = false; qos = qos; topic = p.topic; payload = p.payload } ∷ []
+copy_of p None = []
+
+-- a copy of a retained publication, with RETAIN 1, at the lower of its QoS and the QoS that is
+-- asked for
+abbrev pub retained_copy : QoS → List ℕ × RetainedPublication → Publication
+retained_copy asked row =
+    record { retain = true; qos = lower_qos asked row.1.qos; topic = row.0; payload = row.1.payload }
+
+-- the copies of retained publications that a filter brings, by topic (MQTT 3.8.4)
+abbrev pub copies_for : RetainedTopics → Subscription → List Publication
+copies_for content s = map (retained_copy s.qos) (matching_entries content s.filter)
+
+-- the copies that several filters bring, one filter after another
+abbrev pub copies_for_all : RetainedTopics → List Subscription → List Publication
+copies_for_all content (s ∷ more) = copies_for content s ++ copies_for_all content more
+copies_for_all content [] = []
+
+-- the copies that a command makes for a client's session, in order
+abbrev pub copies_by : Command → Mark → Past → Client → List Publication
+copies_by (commands.Packet x (packets.Publish p)) (Mark.Taken d) past c =
+    copy_of (publication_of p) (effective_qos past c (publication_of p))
+copies_by (commands.Packet x (packets.Subscribe s)) (Mark.Granted d which) past c =
+    if same_client d c then copies_for_all (retained_publications past) (granted_of s.filters which) else []
+copies_by _ _ past c = []
+
+-- the copies that a place makes for a client's session
+abbrev pub copies_at : Place → Past → Client → List Publication
+copies_at place past c = copies_by place.command place.mark past c
+
+-- the copies at QoS 1 and 2, which are queued
+abbrev pub queued : List Publication → List Publication
+queued = filter (λ p. is_answered p.qos)
+
+-- ---- entries
+
+-- A publication in a session's queue, with its state. Numbers are those of places: the place that
+-- made the entry, and those at which it started, was released (PUBREC, only at QoS 2) and finished
+-- (PUBACK or PUBCOMP).
+pub data Entry : Type 0 where
+  Waits : (made : ℕ) → (publication : Publication) → Entry
+  Started : (made : ℕ) → (publication : Publication) → (id start : ℕ) → Entry
+  Released : (made : ℕ) → (publication : Publication) → (id start release : ℕ) → Entry
+  Finished : (made : ℕ) → (publication : Publication) → (id start : ℕ) → (release : Option ℕ) → (finish : ℕ) → Entry
+
+-- whether it takes room: all entries do except the finished ones
+abbrev pub is_unfinished : Entry → Bool
+is_unfinished (Entry.Finished made p id start release finish) = false
+is_unfinished _ = true

@@ -1,0 +1,83 @@
+-- What readers may want to know about a session's entries: what waits, what starts, identifiers,
+-- and how the list grows.
+use Rattle.std.specs.Prelude.{◌≡◌, ◌≤◌, ℕ, ◌+◌, if◌then◌else◌, true, false, List, [], ◌∷◌, ◌++◌, length, filter, Some, None, is_some, ◌⊎◌}
+use Rattle.std.specs.List.{AllByRecursion}
+use Rattle.retained.specs.packet.declared.publish.Publish.{Publish}
+use Rattle.retained.specs.packet.declared.packet.Packet.TheVariants as packets
+use Rattle.broker_spec.specs.Connection.{ConnectionName}
+use Rattle.broker_spec.specs.Place.{Client, Mark, Place, Past, Limits}
+use Rattle.broker_spec.specs.Past.{current_connection, session_of, begins}
+use Rattle.session_base.specs.declared.publication.Publication.{Publication}
+use Rattle.session_base.specs.Publication.{publication_of}
+use Rattle.broker_spec.specs.Subscriptions.{effective_qos}
+use Rattle.broker_spec.specs.Marks.{is_queued_at}
+use Rattle.broker_spec.specs.Entries.{Entry, is_unfinished}
+use Rattle.broker_spec.specs.OriginLaws.{is_from_publish}
+use Rattle.broker_spec.specs.Times.{entries_of, window_at}
+use Rattle.broker_spec.specs.declared.command.Command.TheVariants as commands
+
+-- ---- what waits
+
+-- an entry waits only if its client has no connection, or the window is full of earlier entries
+-- (MQTT 4.6)
+abbrev pub NothingWaitsInVain : Type 0
+NothingWaitsInVain =
+    (limits : Limits) (past : Past) (c : Client) (before behind : List Entry) (made : ℕ) (p : Publication)
+    → entries_of limits past c ≡ before ++ Entry.Waits made p ∷ behind
+    → (current_connection past c ≡ None) ⊎ (window_at limits past ≤ length (filter is_unfinished before))
+
+-- ---- how the list grows
+
+-- One place later, at place n: an entry that waited still waits or starts here; one that started
+-- stays so, is released or is finished here; a finished one stays. Identifier, publication and
+-- times stay as they were.
+abbrev pub GoesOn : ℕ → Entry → Entry → Type 0
+GoesOn n (Entry.Waits made p) later =
+    (later ≡ Entry.Waits made p) ⊎ ((id : ℕ) × (later ≡ Entry.Started made p id n))
+GoesOn n (Entry.Started made p id start) later =
+    (later ≡ Entry.Started made p id start) ⊎ ((later ≡ Entry.Released made p id start n)
+    ⊎ (later ≡ Entry.Finished made p id start None n))
+GoesOn n (Entry.Released made p id start release) later =
+    (later ≡ Entry.Released made p id start release) ⊎ (later ≡ Entry.Finished made p id start (Some release) n)
+GoesOn n (Entry.Finished made p id start release finish) later = later ≡ Entry.Finished made p id start release finish
+
+-- an entry that place n made: it waits, or started there
+abbrev pub IsMadeAt : ℕ → Entry → Type 0
+IsMadeAt n (Entry.Waits made p) = made ≡ n
+IsMadeAt n (Entry.Started made p id start) = (made ≡ n) × (start ≡ n)
+IsMadeAt n _ = ⊥
+
+-- the earlier entries change in this way and keep their order, and those after them are made at
+-- place n
+abbrev pub GrowsTo : ℕ → List Entry → List Entry → Type 0
+GrowsTo n (entry ∷ entries) (later ∷ others) = GoesOn n entry later × GrowsTo n entries others
+GrowsTo n (entry ∷ entries) [] = ⊥
+GrowsTo n [] others = AllByRecursion (IsMadeAt n) others
+
+-- while a session lasts its entries only grow, and an entry that has started stays started
+abbrev pub EntriesOnlyGrow : Type 0
+EntriesOnlyGrow =
+    (limits : Limits) (place : Place) (past : Past) (c : Client)
+    → is_some (session_of (place ∷ past) c) ≡ true → begins place past c ≡ false
+    → GrowsTo (length past) (entries_of limits past c) (entries_of limits (place ∷ past) c)
+
+-- the place of a taken PUBLISH of this client
+abbrev pub taken : ConnectionName → Publish → Client → Place
+taken x p d = record { command = commands.Packet x (packets.Publish p); mark = Mark.Taken d }
+
+-- a taken PUBLISH gives a session one entry if its effective QoS is 1 or 2, and otherwise none
+-- (MQTT 3.3.5)
+abbrev pub TakenPublishAddsOne : Type 0
+TakenPublishAddsOne =
+    (limits : Limits) (past : Past) (x : ConnectionName) (p : Publish) (d c : Client)
+    → is_some (session_of (taken x p d ∷ past) c) ≡ true
+    → length (entries_of limits (taken x p d ∷ past) c)
+    ≡ length (entries_of limits past c) + (if is_queued_at (effective_qos past c (publication_of p)) then 1 else 0)
+
+-- at the place where it is taken, a publication enters exactly the sessions with an effective QoS
+-- of 1 or 2, once (MQTT 3.3.5)
+abbrev pub PublicationEnters : Type 0
+PublicationEnters =
+    (limits : Limits) (past : Past) (x : ConnectionName) (p : Publish) (d c : Client)
+    → length (filter (is_from_publish (length past)) (entries_of limits (taken x p d ∷ past) c))
+    ≡ (if is_queued_at (effective_qos past c (publication_of p)) then 1 else 0)

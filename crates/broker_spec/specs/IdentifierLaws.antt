@@ -1,0 +1,47 @@
+-- What readers may want to know about the identifiers of a session's entries (MQTT 2.3.1, 4.6).
+use Rattle.std.specs.Prelude.{◌≤◌, ℕ, List, [], ◌∷◌}
+use Rattle.std.specs.List.{AllByRecursion}
+use Rattle.broker_spec.specs.Place.{Client, Place, Past, Limits}
+use Rattle.broker_spec.specs.Entries.{Entry}
+use Rattle.broker_spec.specs.Readings.{busy_ids}
+use Rattle.broker_spec.specs.Times.{entries_of, window_at}
+use Rattle.broker_spec.specs.Commands.{usual_limits}
+use Rattle.retained.specs.lists.Lists.{IsDistinct}
+
+-- no two entries of a session that are in flight have the same identifier (MQTT 2.3.1)
+abbrev pub IdentifiersAreDistinct : Type 0
+IdentifiersAreDistinct = (limits : Limits) (past : Past) (c : Client) → IsDistinct (busy_ids (entries_of limits past c))
+
+-- the window never shrinks
+abbrev pub NeverShrinks : Limits → Type 0
+NeverShrinks limits = (place : Place) (past : Past) → window_at limits past ≤ window_at limits (place ∷ past)
+
+-- a number from 1 to the window
+abbrev pub IsInWindow : ℕ → ℕ → Type 0
+IsInWindow window id = (1 ≤ id) × (id ≤ window)
+
+-- if the window never shrinks, the identifiers of what is in flight are 1 to the window
+abbrev pub IdentifiersAreInTheWindow : Type 0
+IdentifiersAreInTheWindow =
+    (limits : Limits) → NeverShrinks limits → (past : Past) (c : Client)
+    → AllByRecursion (IsInWindow (window_at limits past)) (busy_ids (entries_of limits past c))
+
+-- in this broker they are 1 to 64
+abbrev pub IdentifiersAreTo64 : Type 0
+IdentifiersAreTo64 =
+    (past : Past) (c : Client) → AllByRecursion (IsInWindow 64) (busy_ids (entries_of usual_limits past c))
+
+-- an entry that waits
+abbrev pub IsWaiting : Entry → Type 0
+IsWaiting (Entry.Waits made p) = Unit {0}
+IsWaiting _ = ⊥
+
+-- after an entry that waits, all wait
+abbrev pub WaitsLast : List Entry → Type 0
+WaitsLast (Entry.Waits made p ∷ entries) = AllByRecursion IsWaiting entries
+WaitsLast (_ ∷ entries) = WaitsLast entries
+WaitsLast [] = Unit {0}
+
+-- entries start in order (MQTT 4.6)
+abbrev pub StartedComeFirst : Type 0
+StartedComeFirst = (limits : Limits) (past : Past) (c : Client) → WaitsLast (entries_of limits past c)

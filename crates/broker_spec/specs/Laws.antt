@@ -1,0 +1,111 @@
+-- What readers may want to know about the definitions: connections, received identifiers and
+-- subscriptions.
+use Rattle.std.specs.Prelude.{◌≡◌, ◌↔◌, ℕ, Bool, true, false, ◌&&◌, ◌==◌, if◌then◌else◌, List, [], ◌∷◌, ◌++◌, bytes_eq, Option, Some, None, option_map}
+use Rattle.std.specs.List.{AllByRecursion, list_any}
+use Rattle.retained.specs.packet.declared.qos.QoS.{QoS}
+use Rattle.retained.specs.packet.declared.delivery.Delivery.{Delivery}
+use Rattle.retained.specs.packet.declared.delivery.Delivery.TheVariants as deliveries
+use Rattle.retained.specs.packet.declared.subscribe.Subscription.{Subscription}
+use Rattle.retained.specs.packet.declared.packet.Packet.TheVariants as packets
+use Rattle.broker_spec.specs.Connection.{ConnectionName}
+use Rattle.broker_spec.specs.Place.{Client, same_client, Mark, Place, Past}
+use Rattle.broker_spec.specs.Past.{accepts, ends_any, current_connection, session_of, begins, in_session}
+use Rattle.broker_spec.specs.Subscriptions.{granted_of, subscriptions_of}
+use Rattle.retained.specs.lists.Lists.{has_id}
+use Rattle.session_base.specs.Subscriptions.{HeldFilter}
+use Rattle.broker_spec.specs.Received.{received_of}
+use Rattle.broker_spec.specs.declared.command.Command.{Command}
+use Rattle.broker_spec.specs.declared.command.Command.TheVariants as commands
+
+-- ---- connections
+
+-- the place is no accepted Connect of the client, and does not end its connection
+abbrev pub Keeps : Client → ConnectionName → Place → Type 0
+Keeps c x place = (accepts place.command place.mark c ≡ None) × (ends_any place c (Some x) ≡ false)
+
+-- the client's last accepted Connect opened x, and no later place ended it
+pub record WasOpened (past : Past) (c : Client) (x : ConnectionName) : Type 0 where
+  pub later : Past
+  pub place : Place
+  pub earlier : Past
+  pub clean : Bool
+  pub is : past ≡ later ++ place ∷ earlier
+  pub opened : accepts place.command place.mark c ≡ Some (x, clean)
+  pub kept : AllByRecursion (Keeps c x) later
+
+-- a client is served on the connection of its last accepted Connect, unless that was ended since
+-- (MQTT 3.1.4)
+abbrev pub CurrentIsLastAccepted : Type 0
+CurrentIsLastAccepted =
+    (past : Past) (c : Client) (x : ConnectionName) → (current_connection past c ≡ Some x) ↔ WasOpened past c x
+
+-- ---- received identifiers
+
+-- whether a delivery is at QoS 2 with this identifier
+abbrev pub brings : ℕ → Delivery → Bool
+brings id (deliveries.ExactlyOnce dup i) = id == i
+brings id _ = false
+
+-- what a command does to an identifier: a taken PUBLISH at QoS 2 of the client, a PUBREL of it, or
+-- nothing
+abbrev pub says_of : Command → Mark → Client → ℕ → Option Bool
+says_of (commands.Packet x (packets.Publish p)) (Mark.Taken d) c id =
+    if same_client d c && brings id p.delivery then Some true else None
+says_of (commands.Packet x (packets.Pubrel i)) (Mark.Handled d) c id =
+    if same_client d c && (id == i) then Some false else None
+says_of _ _ c id = None
+
+-- the newer value, if there is one
+abbrev pub newest : {A : Type 0} → Option A → A → A
+newest (Some word) older = word
+newest None older = older
+
+-- whether the last of the session's taken PUBLISHes at QoS 2 with this identifier, and of its
+-- PUBRELs, is a PUBLISH
+unfoldable pub ends_in_publish : Past → Client → ℕ → Bool
+ends_in_publish [] c id = false
+ends_in_publish (place ∷ past) c id =
+    in_session (session_of (place ∷ past) c) (begins place past c) false
+    (newest (says_of place.command place.mark c id) (ends_in_publish past c id))
+
+-- a PUBLISH at QoS 2 is a repeat exactly if the last of these is a PUBLISH (MQTT 4.3.3)
+abbrev pub RepeatIsUnreleased : Type 0
+RepeatIsUnreleased =
+    (past : Past) (c : Client) (id : ℕ) → has_id id (received_of past c) ≡ ends_in_publish past c id
+
+-- ---- subscriptions
+
+-- the QoS of a filter in a session's list
+abbrev pub qos_asked : List ℕ → List HeldFilter → Option QoS
+qos_asked f (held ∷ more) = if bytes_eq f held.0 then Some held.1 else qos_asked f more
+qos_asked f [] = None
+
+-- the first of two options, or else the second
+abbrev pub either : {A : Type 0} → Option A → Option A → Option A
+either (Some word) other = Some word
+either None other = other
+
+-- the QoS of the last occurrence of a filter in a SUBSCRIBE
+abbrev pub last_qos : List ℕ → List Subscription → Option QoS
+last_qos f (s ∷ more) = either (last_qos f more) (if bytes_eq f s.filter then Some s.qos else None)
+last_qos f [] = None
+
+-- what a command does to a filter of the client: granted at a QoS, removed, or nothing
+abbrev pub word_on : Command → Mark → Client → List ℕ → Option (Option QoS)
+word_on (commands.Packet x (packets.Subscribe s)) (Mark.Granted d which) c f =
+    if same_client d c then option_map (λ qos. Some qos) (last_qos f (granted_of s.filters which)) else None
+word_on (commands.Packet x (packets.Unsubscribe u)) (Mark.Handled d) c f =
+    if same_client d c && list_any (bytes_eq f) u.filters then Some None else None
+word_on _ _ c f = None
+
+-- the QoS of a filter's last granting in the session, none if it was removed since
+unfoldable pub last_granting : Past → Client → List ℕ → Option QoS
+last_granting [] c f = None
+last_granting (place ∷ past) c f =
+    in_session (session_of (place ∷ past) c) (begins place past c) None
+    (newest (word_on place.command place.mark c f) (last_granting past c f))
+
+-- a session's filters have the QoS of their last granting (MQTT 3.8.4, 3.10.4)
+abbrev pub FilterHasLastGranting : Type 0
+FilterHasLastGranting =
+    (past : Past) (c : Client) (f : List ℕ) → qos_asked f (subscriptions_of past c) ≡ last_granting past c f

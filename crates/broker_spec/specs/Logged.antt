@@ -1,0 +1,16 @@
+-- Commands that a log may hold: names, texts and packets in their ranges.
+use Rattle.std.specs.Prelude.{◌≡◌, true}
+use Rattle.retained.specs.packet.ClientId.{is_client}
+use Rattle.retained.specs.packet.Spelling.{Fits}
+use Rattle.broker_spec.specs.Connection.{IsConnectionName}
+use Rattle.broker_spec.specs.Sized.{IsSized}
+use Rattle.broker_spec.specs.declared.command.Command.{Command}
+use Rattle.broker_spec.specs.declared.command.Command.TheVariants as commands
+
+-- each of its parts is in its range
+abbrev pub IsBrokerCommand : Command → Type 0
+IsBrokerCommand (commands.Connect x c clean) = IsConnectionName x × (is_client c ≡ true)
+IsBrokerCommand (commands.Packet x packet) = IsConnectionName x × Fits packet × IsSized packet
+IsBrokerCommand (commands.Lost x) = IsConnectionName x
+IsBrokerCommand (commands.Start ballot) = Unit {0}
+IsBrokerCommand (commands.Expel c) = is_client c ≡ true

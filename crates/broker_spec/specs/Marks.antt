@@ -1,0 +1,95 @@
+-- The mark of a command, decided by the places below it (MQTT 3.1.4, 3.8.4, 4.3.3, 4.8).
+use Rattle.std.specs.Prelude.{ℕ, ◌-◌, Bool, true, false, not, ◌&&◌, ◌||◌, ◌==◌, nat_lt, nat_le, if◌then◌else◌, List, [], ◌∷◌, length, Option, Some, None, is_some}
+use Rattle.std.specs.List.{list_any}
+use Rattle.retained.specs.packet.declared.qos.QoS.{QoS}
+use Rattle.retained.specs.packet.declared.subscribe.Subscription.{Subscription}
+use Rattle.retained.specs.packet.declared.packet.Packet.{Packet}
+use Rattle.retained.specs.packet.declared.packet.Packet.TheVariants as packets
+use Rattle.retained.specs.Retained.{RetainedTopics}
+use Rattle.broker_spec.specs.Place.{Client, Mark, Past, Limits}
+use Rattle.broker_spec.specs.Past.{session_of}
+use Rattle.broker_spec.specs.Owner.{clients, owner_of}
+use Rattle.session_base.specs.declared.publication.Publication.{Publication}
+use Rattle.session_base.specs.Publication.{publication_of, is_answered}
+use Rattle.session_base.specs.Subscriptions.{HeldFilter, is_held, with_subscription}
+use Rattle.broker_spec.specs.Subscriptions.{as_held, subscriptions_of, effective_qos}
+use Rattle.broker_spec.specs.Received.{is_repeat}
+use Rattle.broker_spec.specs.Retained.{retained_publications, is_retained_over}
+use Rattle.broker_spec.specs.Entries.{copies_for, queued}
+use Rattle.broker_spec.specs.Times.{room_of}
+use Rattle.broker_spec.specs.declared.command.Command.{Command}
+use Rattle.broker_spec.specs.declared.command.Command.TheVariants as commands
+
+-- ---- publications
+
+-- whether there is a QoS, and it is 1 or 2
+abbrev pub is_queued_at : Option QoS → Bool
+is_queued_at (Some qos) = is_answered qos
+is_queued_at None = false
+
+-- whether a client's session would have to queue the publication but is full
+abbrev pub lacks_room : Limits → Past → Publication → Client → Bool
+lacks_room limits past p c = is_queued_at (effective_qos past c p) && (room_of limits past c == 0)
+
+-- a publication is refused as a whole if one session has no room for it, or if it cannot be
+-- retained
+abbrev pub is_refused : Limits → Past → Publication → Bool
+is_refused limits past p = list_any (lacks_room limits past p) (clients past) || is_retained_over limits past p
+
+-- ---- filters of a SUBSCRIBE
+
+-- whether one more filter would be one subscription too many: an identical one is only replaced
+abbrev pub is_one_too_many : Limits → List HeldFilter → Subscription → Bool
+is_one_too_many limits held new =
+    not (is_held new.filter held) && nat_le limits.subscriptions (length held)
+
+-- how many entries it makes: the retained publications that it brings at QoS 1 or 2
+abbrev pub entries_for : RetainedTopics → Subscription → ℕ
+entries_for content new = length (queued (copies_for content new))
+
+-- which filters are granted, one after another, with the subscriptions held so far and the room
+-- left
+abbrev pub grants : Limits → RetainedTopics → List HeldFilter → ℕ → List Subscription → List Bool
+grants limits content held room (new ∷ more) =
+    if is_one_too_many limits held new || nat_lt room (entries_for content new)
+    then false ∷ grants limits content held room more
+    else true ∷ grants limits content (with_subscription (as_held new) held) (room - entries_for content new) more
+grants limits content held room [] = []
+
+-- ---- marks
+
+-- The mark of a packet of a client's current connection. A PUBLISH is a repeat, or refused, or
+-- taken. Packets that only a server sends, and a second CONNECT, are violations (MQTT 3.1.0, 4.8).
+abbrev pub packet_mark : Limits → Past → Client → Packet → Mark
+packet_mark limits past c (packets.Publish p) =
+    if is_repeat past c p.delivery then Mark.Repeat c else
+    if is_refused limits past (publication_of p) then Mark.Refused c else Mark.Taken c
+packet_mark limits past c (packets.Subscribe s) =
+    Mark.Granted c (grants limits (retained_publications past) (subscriptions_of past c) (room_of limits past c) s.filters)
+packet_mark limits past c (packets.Connect connect) = Mark.Leaves c
+packet_mark limits past c (packets.Connack connack) = Mark.Leaves c
+packet_mark limits past c (packets.Suback suback) = Mark.Leaves c
+packet_mark limits past c (packets.Unsuback id) = Mark.Leaves c
+packet_mark limits past c packets.Pingresp = Mark.Leaves c
+packet_mark limits past c packets.Disconnect = Mark.Leaves c
+packet_mark limits past c _ = Mark.Handled c
+
+-- a packet counts only on a current connection
+abbrev pub packet_mark_of : Limits → Past → Packet → Option Client → Mark
+packet_mark_of limits past packet (Some owner) = packet_mark limits past owner packet
+packet_mark_of limits past packet None = Mark.NoPart
+
+-- A Connect on a current connection is a violation. Any other is accepted if its client has a
+-- session or one more may begin.
+abbrev pub connect_mark : Limits → Past → Client → Option Client → Mark
+connect_mark limits past c (Some owner) = Mark.Leaves owner
+connect_mark limits past c None =
+    if is_some (session_of past c) || nat_lt (length (clients past)) limits.sessions then Mark.Accepted else Mark.Full
+
+-- the mark of a command after these places
+abbrev pub mark_of : Limits → Past → Command → Mark
+mark_of limits past (commands.Packet x packet) = packet_mark_of limits past packet (owner_of past x)
+mark_of limits past (commands.Connect x c clean) = connect_mark limits past c (owner_of past x)
+mark_of limits past (commands.Lost x) = Mark.NoPart
+mark_of limits past (commands.Start ballot) = Mark.NoPart
+mark_of limits past (commands.Expel c) = Mark.NoPart

@@ -1,0 +1,40 @@
+-- Which clients have a session, and whose current connection a connection is (MQTT 4.1).
+use Rattle.std.specs.Prelude.{◌≡◌, Bool, true, if◌then◌else◌, List, [], ◌∷◌, filter, Option, Some, None, is_some}
+use Rattle.std.specs.Ordering.{match_ordering}
+use Rattle.broker_spec.specs.Connection.{ConnectionName, same_connection}
+use Rattle.broker_spec.specs.Place.{Client, by_bytes, Mark, Past}
+use Rattle.broker_spec.specs.Past.{any_connection, current_connection, session_of}
+use Rattle.broker_spec.specs.declared.command.Command.{Command}
+use Rattle.broker_spec.specs.declared.command.Command.TheVariants as commands
+
+-- inserts a client into a list, each client once, ordered by bytes
+abbrev pub insert_client : Client → List Client → List Client
+insert_client c (d ∷ others) = match_ordering (by_bytes c d) (c ∷ d ∷ others) (d ∷ others) (d ∷ insert_client c others)
+insert_client c [] = c ∷ []
+
+-- adds the client, if the command is its accepted Connect
+abbrev pub named_by : Command → Mark → List Client → List Client
+named_by (commands.Connect x c clean) Mark.Accepted others = insert_client c others
+named_by _ _ others = others
+
+-- the clients of accepted Connects, by bytes
+unfoldable pub named : Past → List Client
+named [] = []
+named (place ∷ past) = named_by place.command place.mark (named past)
+
+-- the clients with a session, by bytes
+abbrev pub clients : Past → List Client
+clients past = filter (λ c. is_some (session_of past c)) (named past)
+
+-- the first client for which the test holds
+abbrev pub first_client : (Client → Bool) → List Client → Option Client
+first_client test (c ∷ others) = if test c then Some c else first_client test others
+first_client test [] = None
+
+-- the client whose current connection x is
+abbrev pub owner_of : Past → ConnectionName → Option Client
+owner_of past x = first_client (λ c. any_connection (same_connection x) (current_connection past c)) (clients past)
+
+-- x is some client's current connection, so its packets count
+abbrev pub IsLive : Past → ConnectionName → Type 0
+IsLive past x = is_some (owner_of past x) ≡ true

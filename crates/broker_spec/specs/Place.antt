@@ -1,0 +1,54 @@
+-- Places of a command list: each is a command with a mark that says what it did.
+use Rattle.std.specs.Prelude.{ℕ, Bool, true, false, List, Option, None}
+use Rattle.std.specs.declared.cmp.Ordering.{Ordering}
+use Rattle.std.specs.Ordering.{nat_cmp, is_eq}
+use Rattle.std.specs.Cmp.Lexicographic.{slice_cmp}
+use Rattle.broker_spec.specs.declared.command.Command.{Command}
+
+-- the bytes of a Client Identifier
+abbrev pub Client : Type 0
+Client = List ℕ
+
+-- clients are distinguished, and ordered, by their bytes
+abbrev pub by_bytes : Client → Client → Ordering
+by_bytes = slice_cmp nat_cmp
+
+-- whether two clients are equal
+abbrev pub same_client : Client → Client → Bool
+same_client c d = is_eq (by_bytes c d)
+
+-- what a command did, decided by the places below it; the client is the one that the connection
+-- serves
+pub data Mark : Type 0 where
+  NoPart : Mark  -- no Connect, and on no current connection
+  Accepted : Mark  -- a Connect that made its connection current
+  Full : Mark  -- a Connect that would have begun one session too many
+  Leaves : (client : Client) → Mark  -- a DISCONNECT or a violation, which ends the connection
+  Refused : (client : Client) → Mark  -- a PUBLISH for which there is no room, which ends it too
+  Repeat : (client : Client) → Mark  -- a repeat of a PUBLISH at QoS 2 that was taken
+  Taken : (client : Client) → Mark  -- a PUBLISH whose publication goes to the subscribers
+  Granted : (client : Client) → (which : List Bool) → Mark  -- a SUBSCRIBE, and which filters are granted
+  Handled : (client : Client) → Mark  -- any other packet
+
+-- a command and what it did
+pub record Place : Type 0 where
+  pub command : Command
+  pub mark : Mark
+
+-- The places of a command list, the newest first. The number of a place is the number of places
+-- below it.
+abbrev pub Past : Type 0
+Past = List Place
+
+-- how much a broker holds
+pub record Limits : Type 0 where
+  pub sessions : ℕ
+  pub subscriptions : ℕ  -- of a session
+  pub entries : ℕ  -- of a session, not finished
+  pub retained : ℕ  -- topics
+  pub window : Past → ℕ  -- entries of a session in flight at most, after these places
+
+-- a value only if the test holds
+abbrev pub only_if : {A : Type 0} → Bool → Option A → Option A
+only_if true found = found
+only_if false found = None

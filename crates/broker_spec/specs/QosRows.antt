@@ -1,0 +1,102 @@
+-- Worked examples: at which QoS a publication is delivered and retained, with which identifier, and
+-- with which DUP flag (MQTT 3.3.1, 3.3.5, 3.8.4, 4.3, 4.4).
+use Rattle.std.specs.Prelude.{ℕ, Bool, true, false, List, [], ◌∷◌, ◌++◌, codes}
+use Rattle.retained.specs.packet.declared.qos.QoS.{QoS}
+use Rattle.retained.specs.packet.declared.qos.QoS.TheVariants as levels
+use Rattle.retained.specs.packet.declared.delivery.Delivery.{Delivery}
+use Rattle.retained.specs.packet.declared.delivery.Delivery.TheVariants as deliveries
+use Rattle.retained.specs.packet.declared.packet.Packet.TheVariants as packets
+use Rattle.broker_spec.specs.Commands.{usual_limits}
+use Rattle.broker_spec.specs.RowWords.{Gives, a, b, nth, connect, gets, sends, connack, publish, subscribe, suback, subscribed_at}
+use Rattle.broker_spec.specs.declared.command.Command.{Command}
+use Rattle.broker_spec.specs.declared.command.Output.{Output}
+use Rattle.broker_spec.specs.declared.command.Output.TheVariants.{Close}
+
+-- ---- the lower QoS of two (MQTT 3.8.4)
+
+-- b has subscribed at this QoS; a sends x with this delivery, and these are the answers
+abbrev pub Delivers : QoS → Delivery → List Output → Type 0
+Delivers granted sent answers =
+    Gives usual_limits (subscribed_at granted) (gets 2 (publish sent false (codes "x")) ∷ []) (answers ∷ [])
+
+-- to b
+abbrev pub to_b : Delivery → Output
+to_b delivery = sends 1 (publish delivery false (codes "x"))
+
+-- what is sent is answered by its own QoS and identifier; what is delivered has the lower of the
+-- two QoS
+abbrev pub LowerQosIsDelivered : Type 0
+LowerQosIsDelivered =
+    Delivers levels.AtMostOnce deliveries.AtMostOnce (to_b deliveries.AtMostOnce ∷ [])
+    × Delivers levels.AtMostOnce (deliveries.AtLeastOnce false 7) (sends 2 (packets.Puback 7) ∷ to_b deliveries.AtMostOnce ∷ [])
+    × Delivers levels.AtMostOnce (deliveries.ExactlyOnce false 8) (sends 2 (packets.Pubrec 8) ∷ to_b deliveries.AtMostOnce ∷ [])
+    × Delivers levels.AtLeastOnce deliveries.AtMostOnce (to_b deliveries.AtMostOnce ∷ [])
+    × Delivers levels.AtLeastOnce (deliveries.AtLeastOnce false 7) (sends 2 (packets.Puback 7) ∷ to_b (deliveries.AtLeastOnce false 1) ∷ [])
+    × Delivers levels.AtLeastOnce (deliveries.ExactlyOnce false 8) (sends 2 (packets.Pubrec 8) ∷ to_b (deliveries.AtLeastOnce false 1) ∷ [])
+    × Delivers levels.ExactlyOnce deliveries.AtMostOnce (to_b deliveries.AtMostOnce ∷ [])
+    × Delivers levels.ExactlyOnce (deliveries.AtLeastOnce false 7) (sends 2 (packets.Puback 7) ∷ to_b (deliveries.AtLeastOnce false 1) ∷ [])
+    × Delivers levels.ExactlyOnce (deliveries.ExactlyOnce false 8) (sends 2 (packets.Pubrec 8) ∷ to_b (deliveries.ExactlyOnce false 1) ∷ [])
+
+-- ---- what is retained (MQTT 3.3.1.3)
+
+-- a sends these; then b subscribes to t/# at this QoS, and is sent this after SUBACK
+abbrev pub Retains : List Command → QoS → List Output → Type 0
+Retains sent asked answers =
+    Gives usual_limits (connect 2 a ∷ sent ++ connect 1 b ∷ []) (gets 1 (subscribe 3 asked) ∷ [])
+    ((sends 1 (suback 3 asked) ∷ answers) ∷ [])
+
+-- a sends a payload on connection 2
+abbrev pub sent_by_a : Delivery → Bool → List ℕ → Command
+sent_by_a delivery retain payload = gets 2 (publish delivery retain payload)
+
+-- to b, with RETAIN 1
+abbrev pub retained_to_b : Delivery → List ℕ → List Output
+retained_to_b delivery payload = sends 1 (publish delivery true payload) ∷ []
+
+-- it keeps its own QoS, 0 included, and is sent at the lower of that and the QoS that is asked for
+abbrev pub RetainedAtTheLowerQos : Type 0
+RetainedAtTheLowerQos =
+    Retains (sent_by_a (deliveries.ExactlyOnce false 1) true (codes "x") ∷ []) levels.AtLeastOnce
+    (retained_to_b (deliveries.AtLeastOnce false 1) (codes "x"))
+    × Retains (sent_by_a (deliveries.AtLeastOnce false 1) true (codes "x") ∷ []) levels.ExactlyOnce
+    (retained_to_b (deliveries.AtLeastOnce false 1) (codes "x"))
+    × Retains (sent_by_a deliveries.AtMostOnce true (codes "x") ∷ []) levels.ExactlyOnce
+    (retained_to_b deliveries.AtMostOnce (codes "x"))
+    × Retains (sent_by_a (deliveries.ExactlyOnce false 1) true (codes "x") ∷ []) levels.AtMostOnce
+    (retained_to_b deliveries.AtMostOnce (codes "x"))
+
+-- the last one with RETAIN 1 is retained, one with RETAIN 0 is not, and an empty payload removes it
+abbrev pub LastIsRetained : Type 0
+LastIsRetained =
+    Retains (sent_by_a deliveries.AtMostOnce false (codes "x") ∷ []) levels.AtMostOnce []
+    × Retains (sent_by_a deliveries.AtMostOnce true (codes "x") ∷ sent_by_a deliveries.AtMostOnce false (codes "y") ∷ [])
+    levels.AtMostOnce (retained_to_b deliveries.AtMostOnce (codes "x"))
+    × Retains (sent_by_a deliveries.AtMostOnce true (codes "x") ∷ sent_by_a deliveries.AtMostOnce true (codes "y") ∷ [])
+    levels.AtMostOnce (retained_to_b deliveries.AtMostOnce (codes "y"))
+    × Retains (sent_by_a deliveries.AtMostOnce true (codes "x") ∷ sent_by_a deliveries.AtMostOnce true [] ∷ [])
+    levels.AtMostOnce []
+
+-- ---- resending (MQTT 3.3.1.1, 4.4)
+
+-- b does not answer x at QoS 2 and comes back, then releases it and comes back: PUBLISH with DUP 1,
+-- then PUBREL
+abbrev pub ExactlyOnceIsSentAgain : Type 0
+ExactlyOnceIsSentAgain =
+    Gives usual_limits (subscribed_at levels.ExactlyOnce)
+    (gets 2 (publish (deliveries.ExactlyOnce false 9) false (codes "x")) ∷ connect 3 b ∷ gets 3 (packets.Pubrec 1)
+    ∷ connect 4 b ∷ gets 4 (packets.Pubrec 1) ∷ gets 4 (packets.Pubcomp 1) ∷ connect 5 b ∷ [])
+    ((sends 2 (packets.Pubrec 9) ∷ sends 1 (publish (deliveries.ExactlyOnce false 1) false (codes "x")) ∷ [])
+    ∷ (Close (nth 1) ∷ sends 3 (connack true) ∷ sends 3 (publish (deliveries.ExactlyOnce true 1) false (codes "x")) ∷ [])
+    ∷ (sends 3 (packets.Pubrel 1) ∷ []) ∷ (Close (nth 3) ∷ sends 4 (connack true) ∷ sends 4 (packets.Pubrel 1) ∷ [])
+    ∷ (sends 4 (packets.Pubrel 1) ∷ []) ∷ [] ∷ (Close (nth 4) ∷ sends 5 (connack true) ∷ []) ∷ [])
+
+-- ---- the order of the answers
+
+-- a and b have subscribed; a publishes: its PUBACK comes first, then the copies in the order of the
+-- clients' bytes
+abbrev pub CopiesComeByClient : Type 0
+CopiesComeByClient =
+    Gives usual_limits (subscribed_at levels.AtMostOnce ++ gets 2 (subscribe 4 levels.AtLeastOnce) ∷ [])
+    (gets 2 (publish (deliveries.AtLeastOnce false 7) false (codes "x")) ∷ [])
+    ((sends 2 (packets.Puback 7) ∷ sends 2 (publish (deliveries.AtLeastOnce false 1) false (codes "x"))
+    ∷ to_b deliveries.AtMostOnce ∷ []) ∷ [])

@@ -1,0 +1,88 @@
+-- What can be read from the entries of a session: origin, times, and what is in flight (MQTT 4.4).
+use Rattle.std.specs.Prelude.{ℕ, zero, suc, Bool, true, false, ◌==◌, if◌then◌else◌, List, [], ◌∷◌, ◌++◌, filter, Option, Some, None}
+use Rattle.session_base.specs.declared.publication.Publication.{Publication}
+use Rattle.broker_spec.specs.Entries.{Entry}
+
+-- where an entry comes from: a PUBLISH taken at this place, or the retained publications when a
+-- SUBSCRIBE came at it
+pub data Origin : Type 0 where
+  FromPublish : (place : ℕ) → Origin
+  FromRetained : (place : ℕ) → Origin
+
+-- the number of the place that made an entry
+abbrev pub made_of : Entry → ℕ
+made_of (Entry.Waits made p) = made
+made_of (Entry.Started made p id start) = made
+made_of (Entry.Released made p id start release) = made
+made_of (Entry.Finished made p id start release finish) = made
+
+-- the publication that it delivers
+abbrev pub publication_in : Entry → Publication
+publication_in (Entry.Waits made p) = p
+publication_in (Entry.Started made p id start) = p
+publication_in (Entry.Released made p id start release) = p
+publication_in (Entry.Finished made p id start release finish) = p
+
+-- a copy of a retained publication has RETAIN 1 (MQTT 3.3.1.3)
+abbrev pub origin_of : Entry → Origin
+origin_of entry =
+    if (publication_in entry).retain then Origin.FromRetained (made_of entry) else Origin.FromPublish (made_of entry)
+
+-- the place at which it started, if it did
+abbrev pub start_place : Entry → Option ℕ
+start_place (Entry.Waits made p) = None
+start_place (Entry.Started made p id start) = Some start
+start_place (Entry.Released made p id start release) = Some start
+start_place (Entry.Finished made p id start release finish) = Some start
+
+-- the place at which it was released, if it was
+abbrev pub release_place : Entry → Option ℕ
+release_place (Entry.Waits made p) = None
+release_place (Entry.Started made p id start) = None
+release_place (Entry.Released made p id start release) = Some release
+release_place (Entry.Finished made p id start release finish) = release
+
+-- the place at which it finished, if it did
+abbrev pub finish_place : Entry → Option ℕ
+finish_place (Entry.Finished made p id start release finish) = Some finish
+finish_place _ = None
+
+-- ---- all entries of a session
+
+-- the entries that a place made
+abbrev pub made_at : ℕ → List Entry → List Entry
+made_at n = filter (λ entry. made_of entry == n)
+
+-- the identifiers of the entries that are released and not finished, and were released at place n
+abbrev pub released_at : ℕ → List Entry → List ℕ
+released_at n (Entry.Released made p id start release ∷ entries) =
+    if release == n then id ∷ released_at n entries else released_at n entries
+released_at n (_ ∷ entries) = released_at n entries
+released_at n [] = []
+
+-- the same for all places below n, in the order of their release
+abbrev pub released_below : ℕ → List Entry → List ℕ
+released_below zero entries = []
+released_below (suc n) entries = released_below n entries ++ released_at n entries
+
+-- whether an entry is started and neither released nor finished
+abbrev pub is_sent : Entry → Bool
+is_sent (Entry.Started made p id start) = true
+is_sent _ = false
+
+-- the entries that are, in order
+abbrev pub sent_entries : List Entry → List Entry
+sent_entries = filter is_sent
+
+-- the publications of the entries that wait, in order
+abbrev pub waiting_of : List Entry → List Publication
+waiting_of (Entry.Waits made p ∷ entries) = p ∷ waiting_of entries
+waiting_of (_ ∷ entries) = waiting_of entries
+waiting_of [] = []
+
+-- the identifiers of the entries that are started and not finished, in order
+abbrev pub busy_ids : List Entry → List ℕ
+busy_ids (Entry.Started made p id start ∷ entries) = id ∷ busy_ids entries
+busy_ids (Entry.Released made p id start release ∷ entries) = id ∷ busy_ids entries
+busy_ids (_ ∷ entries) = busy_ids entries
+busy_ids [] = []

@@ -1,0 +1,48 @@
+-- The identifiers of QoS 2 publications that a session received and for which it has no PUBREL yet
+-- (MQTT 4.3.3).
+use Rattle.std.specs.Prelude.{ℕ, Bool, true, false, if◌then◌else◌, List, [], ◌∷◌}
+use Rattle.retained.specs.packet.declared.delivery.Delivery.{Delivery}
+use Rattle.retained.specs.packet.declared.delivery.Delivery.TheVariants as deliveries
+use Rattle.retained.specs.packet.declared.packet.Packet.TheVariants as packets
+use Rattle.retained.specs.lists.Lists.{has_id}
+use Rattle.session_base.specs.Identifiers.{with_id, without_id}
+use Rattle.broker_spec.specs.Place.{Client, same_client, Mark, Past}
+use Rattle.broker_spec.specs.Past.{session_of, begins, in_session}
+use Rattle.broker_spec.specs.declared.command.Command.{Command}
+use Rattle.broker_spec.specs.declared.command.Command.TheVariants as commands
+
+-- a publication at QoS 2 adds its identifier
+abbrev pub receives : Delivery → List ℕ → List ℕ
+receives (deliveries.ExactlyOnce dup id) ids = with_id id ids
+receives _ ids = ids
+
+-- a taken PUBLISH of the client adds its identifier, and a PUBREL removes it
+abbrev pub received_by : Command → Mark → Client → List ℕ → List ℕ
+received_by (commands.Packet x (packets.Publish p)) (Mark.Taken d) c ids =
+    if same_client d c then receives p.delivery ids else ids
+received_by (commands.Packet x (packets.Pubrel id)) (Mark.Handled d) c ids =
+    if same_client d c then without_id id ids else ids
+received_by _ _ c ids = ids
+
+-- The identifiers of a client's session whose last taken PUBLISH at QoS 2 has no PUBREL after it,
+-- in rising order.
+unfoldable pub received_of : Past → Client → List ℕ
+received_of [] c = []
+received_of (place ∷ past) c =
+    in_session (session_of (place ∷ past) c) (begins place past c) []
+    (received_by place.command place.mark c (received_of past c))
+
+-- whether a delivery repeats one that the client's session took, whatever its DUP flag says
+abbrev pub is_repeat : Past → Client → Delivery → Bool
+is_repeat past c (deliveries.ExactlyOnce dup id) = has_id id (received_of past c)
+is_repeat past c _ = false
+
+-- a delivery at QoS 2
+abbrev pub is_exactly_once : Delivery → Bool
+is_exactly_once (deliveries.ExactlyOnce dup id) = true
+is_exactly_once _ = false
+
+-- whether a command brings a new publication: a PUBLISH at QoS 2 that is taken (MQTT 4.3.3)
+abbrev pub is_new : Command → Mark → Bool
+is_new (commands.Packet x (packets.Publish p)) (Mark.Taken c) = is_exactly_once p.delivery
+is_new _ _ = false

@@ -1,0 +1,30 @@
+-- The retained publications (MQTT 3.3.1.3).
+use Rattle.std.specs.Prelude.{Bool, not, ◌&&◌, nat_le, if◌then◌else◌, [], ◌∷◌, length, is_none}
+use Rattle.retained.specs.packet.declared.packet.Packet.TheVariants as packets
+use Rattle.retained.specs.Retained.{RetainedTopics, after_put, is_empty, publication_on}
+use Rattle.broker_spec.specs.Place.{Mark, Past, Limits}
+use Rattle.session_base.specs.declared.publication.Publication.{Publication}
+use Rattle.session_base.specs.Publication.{publication_of}
+use Rattle.broker_spec.specs.declared.command.Command.{Command}
+use Rattle.broker_spec.specs.declared.command.Command.TheVariants as commands
+
+-- a publication with RETAIN 1 replaces the topic's last one, or removes it if its payload is empty
+abbrev pub retains : Publication → RetainedTopics → RetainedTopics
+retains p content = if p.retain then after_put content p.topic p.qos p.payload else content
+
+-- a taken publication is retained
+abbrev pub retained_by : Command → Mark → RetainedTopics → RetainedTopics
+retained_by (commands.Packet x (packets.Publish p)) (Mark.Taken c) content = retains (publication_of p) content
+retained_by _ _ content = content
+
+-- for each topic, ordered by bytes, the last taken publication with RETAIN 1, none if its payload
+-- is empty
+unfoldable pub retained_publications : Past → RetainedTopics
+retained_publications [] = []
+retained_publications (place ∷ past) = retained_by place.command place.mark (retained_publications past)
+
+-- whether a publication would be retained on one topic more than the limit
+abbrev pub is_retained_over : Limits → Past → Publication → Bool
+is_retained_over limits past p =
+    p.retain && not (is_empty p.payload) && is_none (publication_on p.topic (retained_publications past))
+    && nat_le limits.retained (length (retained_publications past))

@@ -1,0 +1,105 @@
+-- Definitions for the worked examples: clients, connections, packets, and answers.
+use Rattle.std.specs.Prelude.{◌≡◌, ℕ, zero, suc, Bool, true, false, List, [], ◌∷◌, map, codes}
+use Rattle.retained.specs.packet.declared.qos.QoS.{QoS}
+use Rattle.retained.specs.packet.declared.delivery.Delivery.{Delivery}
+use Rattle.retained.specs.packet.declared.delivery.Delivery.TheVariants as deliveries
+use Rattle.retained.specs.packet.declared.connack.Connack.TheVariants as connacks
+use Rattle.retained.specs.packet.declared.suback.SubackCode.TheVariants as answers
+use Rattle.retained.specs.packet.declared.subscribe.Subscription.{Subscription}
+use Rattle.retained.specs.packet.declared.packet.Packet.{Packet}
+use Rattle.retained.specs.packet.declared.packet.Packet.TheVariants as packets
+use Rattle.session_base.specs.Publication.{delivery_at}
+use Rattle.broker_spec.specs.Connection.{ConnectionName}
+use Rattle.broker_spec.specs.Place.{Client, Limits}
+use Rattle.broker_spec.specs.Commands.{past_of}
+use Rattle.broker_spec.specs.Answers.{answers_from}
+use Rattle.broker_spec.specs.declared.command.Command.{Command}
+use Rattle.broker_spec.specs.declared.command.Command.TheVariants as commands
+use Rattle.broker_spec.specs.declared.command.Output.{Output}
+use Rattle.broker_spec.specs.declared.command.Output.TheVariants.{Send}
+
+-- after the earlier commands, the next ones are answered in this way
+abbrev pub Gives : Limits → List Command → List Command → List (List Output) → Type 0
+Gives limits earlier next answers = answers_from limits (past_of limits earlier) next ≡ answers
+
+-- two clients
+abbrev pub a : Client
+a = codes "a"
+
+abbrev pub b : Client
+b = codes "b"
+
+-- the nth connection of ballot 1
+abbrev pub nth : ℕ → ConnectionName
+nth n = record { ballot = 1; count = n }
+
+-- a client opens the nth connection, with CleanSession 0
+abbrev pub connect : ℕ → Client → Command
+connect n c = commands.Connect (nth n) c false
+
+-- a packet comes on the nth connection
+abbrev pub gets : ℕ → Packet → Command
+gets n packet = commands.Packet (nth n) packet
+
+-- a packet is sent on the nth connection
+abbrev pub sends : ℕ → Packet → Output
+sends n packet = Send (nth n) packet
+
+-- CONNACK 0
+abbrev pub connack : Bool → Packet
+connack present = packets.Connack (connacks.Accepted present)
+
+-- a PUBLISH on the topic t/1, with RETAIN and payload
+abbrev pub publish : Delivery → Bool → List ℕ → Packet
+publish delivery retain payload =
+    packets.Publish (record { topic = codes "t/1"; delivery = delivery; retain = retain; payload = payload })
+
+-- a SUBSCRIBE to the filter t/#, and its SUBACK
+abbrev pub subscribe : ℕ → QoS → Packet
+subscribe id qos = packets.Subscribe (record { id = id; filters = record { filter = codes "t/#"; qos = qos } ∷ [] })
+
+abbrev pub suback : ℕ → QoS → Packet
+suback id qos = packets.Suback (record { id = id; codes = answers.Granted qos ∷ [] })
+
+-- an UNSUBSCRIBE of the filter t/#
+abbrev pub unsubscribe : ℕ → Packet
+unsubscribe id = packets.Unsubscribe (record { id = id; filters = codes "t/#" ∷ [] })
+
+-- this many numbers, from this one on
+abbrev pub numbers : ℕ → ℕ → List ℕ
+numbers zero first = []
+numbers (suc many) first = first ∷ numbers many (suc first)
+
+-- b connects on connection 1 and subscribes at this QoS, and a connects on connection 2
+abbrev pub subscribed_at : QoS → List Command
+subscribed_at qos = connect 1 b ∷ gets 1 (subscribe 1 qos) ∷ connect 2 a ∷ []
+
+-- a sends this many publications at QoS 1 on connection 2, with the payload o
+abbrev pub publications : ℕ → List Command
+publications many = map (λ id. gets 2 (publish (deliveries.AtLeastOnce false id) false (codes "o"))) (numbers many 1)
+
+-- what b is sent for them on the nth connection, with these identifiers
+abbrev pub delivered : ℕ → Bool → List ℕ → List Output
+delivered n dup = map (λ id. sends n (publish (deliveries.AtLeastOnce dup id) false (codes "o")))
+
+-- limits of a row: this many unfinished entries of a session, this many in flight at once
+abbrev pub small : ℕ → ℕ → Limits
+small entries window =
+    record { sessions = 4; subscriptions = 4; entries = entries; retained = 4; window = λ past. window }
+
+-- a PUBLISH on this topic, with RETAIN and payload
+abbrev pub publish_on : List ℕ → Delivery → Bool → List ℕ → Packet
+publish_on topic delivery retain payload =
+    packets.Publish (record { topic = topic; delivery = delivery; retain = retain; payload = payload })
+
+-- filters, all requested at this QoS
+abbrev pub asked_at : QoS → List (List ℕ) → List Subscription
+asked_at qos = map (λ filter. record { filter = filter; qos = qos })
+
+-- a SUBSCRIBE to them
+abbrev pub asks : ℕ → List Subscription → Packet
+asks id filters = packets.Subscribe (record { id = id; filters = filters })
+
+-- a sends x on each of these topics at this QoS on connection 2, with RETAIN 1 and the identifier 1
+abbrev pub published_on : QoS → List (List ℕ) → List Command
+published_on qos = map (λ topic. gets 2 (publish_on topic (delivery_at qos false 1) true (codes "x")))

@@ -1,0 +1,58 @@
+-- What a session's client is sent for its entries (MQTT 3.3.1.1, 4.3, 4.4).
+use Rattle.std.specs.Prelude.{ℕ, Bool, true, false, ◌==◌, if◌then◌else◌, List, [], ◌∷◌, ◌++◌, length, map, take, drop, flat_map, Option, Some, None}
+use Rattle.retained.specs.packet.declared.packet.Packet.TheVariants as packets
+use Rattle.broker_spec.specs.Connection.{ConnectionName}
+use Rattle.broker_spec.specs.Place.{Client, Place, Past, Limits}
+use Rattle.broker_spec.specs.Past.{current_connection}
+use Rattle.session_base.specs.declared.publication.Publication.{Publication}
+use Rattle.session_base.specs.Publication.{publish_of, is_answered}
+use Rattle.broker_spec.specs.Entries.{Entry, copies_at}
+use Rattle.broker_spec.specs.Readings.{made_at, released_below}
+use Rattle.broker_spec.specs.Times.{entries_of}
+use Rattle.broker_spec.specs.declared.command.Output.{Output}
+use Rattle.broker_spec.specs.declared.command.Output.TheVariants.{Send}
+
+-- a PUBLISH to the client
+abbrev pub publish : ConnectionName → Bool → ℕ → Publication → Output
+publish x dup id p = Send x (packets.Publish (publish_of dup id p))
+
+-- an entry that starts at place n is sent for the first time, with DUP 0 (MQTT 3.3.1.1)
+abbrev pub sent_first : ConnectionName → ℕ → Entry → List Output
+sent_first x n (Entry.Started made p id start) = if start == n then publish x false id p ∷ [] else []
+sent_first x n _ = []
+
+-- all entries that start at place n, in order
+abbrev pub all_started : ConnectionName → ℕ → List Entry → List Output
+all_started x n = flat_map (sent_first x n)
+
+-- an entry that started below place n, and is not answered, is sent again with DUP 1 (MQTT 4.4)
+abbrev pub sent_again : ConnectionName → ℕ → Entry → List Output
+sent_again x n (Entry.Started made p id start) = if start == n then [] else publish x true id p ∷ []
+sent_again x n _ = []
+
+-- What a client that comes back at place n is sent: PUBREL for what is released and not finished,
+-- in the order of release; then what was sent before, in order; then what starts now (MQTT 4.4).
+abbrev pub resent : ConnectionName → ℕ → List Entry → List Output
+resent x n entries =
+    map (λ id. Send x (packets.Pubrel id)) (released_below n entries)
+    ++ flat_map (sent_again x n) entries ++ all_started x n entries
+
+-- What a connection is sent for the copies that place n made, in order: each copy at QoS 0 at once,
+-- and each other if its entry starts here. The entries are those that the place made, in order.
+abbrev pub handed : ConnectionName → ℕ → List Publication → List Entry → List Output
+handed x n (p ∷ copies) entries =
+    if is_answered p.qos
+    then all_started x n (take 1 entries) ++ handed x n copies (drop 1 entries)
+    else publish x false 0 p ∷ handed x n copies entries
+handed x n [] entries = []
+
+-- a client without a connection is sent nothing
+abbrev pub handed_to : Option ConnectionName → ℕ → List Publication → List Entry → List Output
+handed_to (Some x) n copies entries = handed x n copies entries
+handed_to None n copies entries = []
+
+-- what a client is sent for the copies that a place makes for its session
+abbrev pub deliveries_to : Limits → Place → Past → Client → List Output
+deliveries_to limits place past c =
+    handed_to (current_connection past c) (length past) (copies_at place past c)
+    (made_at (length past) (entries_of limits (place ∷ past) c))

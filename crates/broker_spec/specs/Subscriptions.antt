@@ -1,0 +1,43 @@
+-- The subscriptions of a session, and at which QoS it gets a publication (MQTT 3.3.5, 3.8.4,
+-- 3.10.4).
+use Rattle.std.specs.Prelude.{Bool, if◌then◌else◌, List, [], ◌∷◌, map, Option, option_map}
+use Rattle.retained.specs.packet.declared.qos.QoS.{QoS}
+use Rattle.retained.specs.packet.declared.subscribe.Subscription.{Subscription}
+use Rattle.retained.specs.packet.declared.packet.Packet.TheVariants as packets
+use Rattle.broker_spec.specs.Place.{Client, same_client, Mark, Past}
+use Rattle.broker_spec.specs.Past.{session_of, begins, in_session}
+use Rattle.session_base.specs.declared.publication.Publication.{Publication}
+use Rattle.session_base.specs.Publication.{lower_qos}
+use Rattle.session_base.specs.Subscriptions.{HeldFilter, with_subscriptions, without_filters, granted_qos}
+use Rattle.broker_spec.specs.declared.command.Command.{Command}
+use Rattle.broker_spec.specs.declared.command.Command.TheVariants as commands
+
+-- a filter of a SUBSCRIBE with the QoS that it asks for, as a session holds it
+abbrev pub as_held : Subscription → HeldFilter
+as_held s = (s.filter, s.qos)
+
+-- the elements of the list that are granted
+abbrev pub granted_of : {A : Type 0} → List A → List Bool → List A
+granted_of (a ∷ more) (granted ∷ others) = if granted then a ∷ granted_of more others else granted_of more others
+granted_of _ _ = []
+
+-- the subscriptions after a SUBSCRIBE or UNSUBSCRIBE of the client
+abbrev pub subscribed : Command → Mark → Client → List HeldFilter → List HeldFilter
+subscribed (commands.Packet x (packets.Subscribe s)) (Mark.Granted d which) c held =
+    if same_client d c then with_subscriptions (map as_held (granted_of s.filters which)) held else held
+subscribed (commands.Packet x (packets.Unsubscribe u)) (Mark.Handled d) c held =
+    if same_client d c then without_filters u.filters held else held
+subscribed _ _ c held = held
+
+-- The subscriptions of a client's session: each filter with the QoS of its last granting, unless it
+-- was removed since; in the order in which they were first granted.
+unfoldable pub subscriptions_of : Past → Client → List HeldFilter
+subscriptions_of [] c = []
+subscriptions_of (place ∷ past) c =
+    in_session (session_of (place ∷ past) c) (begins place past c) []
+    (subscribed place.command place.mark c (subscriptions_of past c))
+
+-- the QoS at which a client's session gets a publication, none if no filter of it matches (MQTT
+-- 3.3.5)
+abbrev pub effective_qos : Past → Client → Publication → Option QoS
+effective_qos past c p = option_map (lower_qos p.qos) (granted_qos p.topic (subscriptions_of past c))

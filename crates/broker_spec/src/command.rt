@@ -1,0 +1,75 @@
+// The commands of the broker's replicated log, and the outputs for them.
+
+ghost use Rattle.std.specs.Prelude.{◌≡◌, IfOk};
+ghost use Rattle.broker_spec.specs.Logged.{IsBrokerCommand};
+
+use crate::connection_id::ConnectionId;
+use crate::sized_packet::SizedPacket;
+use retained::packet::{ClientId, Packet};
+use std::alloc::AllocError;
+
+/// A command of the broker's log.
+#[derive(Debug, Drop)]
+pub enum Command {
+    /// A client opens a connection by a CONNECT; the flag is CleanSession (MQTT 3.1.2.4).
+    Connect(ConnectionId, ClientId, bool),
+    /// A packet arrived on a connection, after the CONNECT that is its first packet.
+    Packet(ConnectionId, SizedPacket),
+    /// A connection was lost: closed by the client without a DISCONNECT, or by its node.
+    Lost(ConnectionId),
+    /// A new ballot begins: the connections of earlier ballots have ended.
+    Start(u64),
+    /// An administrator ends the session of this client, if there is one, and its connection with
+    /// it.
+    Expel(ClientId),
+}
+
+impl Command {
+    /// Returns a command equal to this one.
+    pub fn copy(&self) -> Result<Command, AllocError>
+        ensures { IfOk result (λ copy. copy ≡ self.now) }
+    {
+        Ok(match self {
+            Command::Connect(connection, client, clean) => {
+                Command::Connect(*connection, client.clone()?, *clean)
+            }
+            Command::Packet(connection, packet) => Command::Packet(*connection, packet.copy()?),
+            Command::Lost(connection) => Command::Lost(*connection),
+            Command::Start(ballot) => Command::Start(*ballot),
+            Command::Expel(client) => Command::Expel(client.clone()?),
+        })
+    }
+
+    /// Ensures, for a proof, that the parts of this command are in their ranges; it does nothing
+    /// else.
+    pub fn known(&self)
+        ensures { IsBrokerCommand self.now }
+    {
+        match self {
+            Command::Connect(connection, client, _) => {
+                let _ballot = connection.ballot();
+                let _text = client.as_str();
+            }
+            Command::Packet(connection, packet) => {
+                let _ballot = connection.ballot();
+                packet.packet().known();
+            }
+            Command::Lost(connection) => {
+                let _ballot = connection.ballot();
+            }
+            Command::Start(_) => {}
+            Command::Expel(client) => {
+                let _text = client.as_str();
+            }
+        }
+    }
+}
+
+/// An output of the broker for a command.
+#[derive(Debug, PartialEq, Eq, Drop)]
+pub enum Output {
+    /// The packet goes to the client of this connection.
+    Send(ConnectionId, Packet),
+    /// The connection is closed, after what was sent on it before.
+    Close(ConnectionId),
+}

@@ -1,0 +1,61 @@
+// The name of a Network Connection, which no other connection of any node ever gets.
+
+ghost use Rattle.std.specs.Prelude.{◌≡◌, ◌<◌, ◌≤◌, ◌^◌, ◌↔◌, IsNone, IfSome, IsSome};
+ghost use Rattle.broker_spec.specs.Connection.{IsConnectionName};
+
+/// The greatest ballot.
+pub const MAX_BALLOT: u64 = 0x1_0000_0000;
+
+/// The greatest number of a connection in its ballot.
+pub const MAX_COUNT: u64 = 0x100_0000_0000;
+
+/// The name of a Network Connection: the ballot in which its node accepted it, and its number among
+/// the connections of that ballot. No two connections of a run have the same name. Names are
+/// ordered by ballot, then by number.
+#[derive(Clone, Copy, Debug, PartialEq, Eq, PartialOrd, Ord)]
+pub struct ConnectionId {
+    ballot: u64,
+    count: u64,
+}
+
+impl std::marker::Model for ConnectionId {
+    ghost use Rattle.broker_spec.specs.Connection.{ConnectionName, IsConnectionName};
+
+    ghost Value = { ConnectionName };
+
+    ghost view = { λ c. record { ballot = c.ballot; count = c.count } };
+
+    ghost inverse = { λ n. record { ballot = n.ballot; count = n.count } };
+
+    ghost invariant = { λ c. IsConnectionName (record { ballot = c.ballot; count = c.count }) };
+}
+
+impl ConnectionId {
+    /// Returns the connection with this number in this ballot, or none if one of them is out of
+    /// range: 1 to 2^32 for the ballot, 1 to 2^40 for the number.
+    pub fn new(ballot: u64, count: u64) -> Option<ConnectionId>
+        ensures named { IfSome result (λ name. name ≡ record { ballot = ballot; count = count }) }
+        ensures valid { IsSome result ↔ IsConnectionName (record { ballot = ballot; count = count }) }
+    {
+        if ballot == 0 || ballot > MAX_BALLOT || count == 0 || count > MAX_COUNT {
+            return None;
+        }
+        Some(ConnectionId { ballot, count })
+    }
+
+    /// Returns the ballot, 1 to 2^32.
+    pub fn ballot(self) -> u64
+        ensures value { result ≡ self.ballot }
+        ensures valid { IsConnectionName self }
+    {
+        self.ballot
+    }
+
+    /// Returns the number in the ballot, 1 to 2^40.
+    pub fn count(self) -> u64
+        ensures value { result ≡ self.count }
+        ensures valid { IsConnectionName self }
+    {
+        self.count
+    }
+}

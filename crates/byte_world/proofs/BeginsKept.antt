@@ -1,0 +1,57 @@
+-- What a client writes on each of its connections begins with a CONNECT that asks for its session to be kept.
+use Rattle.std.proofs.Common.{◌≡◌, ℕ, List, [], ◌∷◌, ◌++◌, map, refl, sym, ap, ◌∙◌, subst}
+use Rattle.node_group.specs.ballot.Config.{Config}
+use Rattle.node_group.specs.broker_base.Place.{Client}
+use Rattle.node_group.specs.client_base.Called.{opens}
+use Rattle.node_group.specs.client_base.Keeper.{Written}
+use Rattle.node_group.specs.client_base.Written.{writes_first}
+use Rattle.node_group.specs.lists.Lists.{Each}
+use Rattle.node_group.proofs.of_packet_world.Lists.{each_get, each_set}
+use Rattle.node_group.specs.exactly_once.Sides.{Connection}
+use Rattle.node_group.proofs.of_exactly_once.publishing.Grown.{handled_grows}
+use Rattle.byte_world.specs.Goes.{Reached, WorldStep}
+use Rattle.byte_world.specs.Goes.Reached.{begins, goes_on}
+use Rattle.byte_world.specs.Goes.WorldStep.{goes_on as group_goes, calls, connects, is_turned_away, comes_up, goes_down, arrives, handles}
+use Rattle.byte_world.specs.World.{ClientPipes, World, new_client}
+use Rattle.byte_world.proofs.WorldsKeep.{call_writes}
+
+pub record BeginsKept (κ : Connection) : Type 0 where
+  pub client : Client
+  pub more : List Written
+  pub written : κ.written ≡ opens client ∷ more
+
+-- so it does if more is written
+begins_still : (κ later : Connection) (new : List Written) → later.written ≡ κ.written ++ new → BeginsKept κ → BeginsKept later
+begins_still κ later new is b = record { client = b.client; more = b.more ++ new; written = is ∙ ap (λ (l : List Written). l ++ new) b.written }
+
+abbrev pub AllBeginKept : ClientPipes → Type 0
+AllBeginKept c = Each BeginsKept c.connections
+
+writes_still : (new : List Written) (connections : List Connection) → Each BeginsKept connections → Each BeginsKept (writes_first new connections)
+writes_still new [] each = tt
+writes_still new (κ ∷ others) (first, each) = (begins_still κ (record κ { written = κ.written ++ new }) new refl first, each)
+
+new_clients : (cs : List Client) → Each AllBeginKept (map new_client cs)
+new_clients [] = tt
+new_clients (c ∷ cs) = (tt, new_clients cs)
+
+step_begins : (v w : World) → Each AllBeginKept v.clients → WorldStep v w → Each AllBeginKept w.clients
+step_begins v w each (group_goes deed d apart) = each
+step_begins v w each (calls i c t happens at call spelled) =
+    let new = call_writes happens call in
+    each_set AllBeginKept v.clients i _ each
+    (subst (Each BeginsKept) (sym new.1) (writes_still new.0 c.connections (each_get AllBeginKept v.clients i c each at)))
+step_begins v w each (connects i n c port now d core end at unused behind there_so spelled) =
+    each_set AllBeginKept v.clients i _ each (record { client = c.keeper.client; more = []; written = refl }, each_get AllBeginKept v.clients i c each at)
+step_begins v w each (is_turned_away n port now d core unused behind none) = each
+step_begins v w each (comes_up i j c κ p piece rest now d has is) = each_set AllBeginKept v.clients i _ each (each_get AllBeginKept v.clients i c each has.client)
+step_begins v w each (goes_down i j c κ p d has) = each_set AllBeginKept v.clients i _ each (each_get AllBeginKept v.clients i c each has.client)
+step_begins v w each (arrives i j c κ p piece rest has is) = each_set AllBeginKept v.clients i _ each (each_get AllBeginKept v.clients i c each has.client)
+step_begins v w each (handles i c κ others p pipes packet left at are piped is_open cut spelled) =
+    let grown = handled_grows κ c.keeper packet in
+    let mine = subst (Each BeginsKept) are (each_get AllBeginKept v.clients i c each at) in
+    each_set AllBeginKept v.clients i _ each (begins_still κ _ grown.more grown.written mine.0, mine.1)
+
+pub all_begin_kept : {nodes : ℕ} {config : Config} {cs : List Client} (w : World) → Reached nodes config cs w → Each AllBeginKept w.clients
+all_begin_kept {cs = cs} w (begins can) = new_clients cs
+all_begin_kept w (goes_on {v = v} before step) = step_begins v w (all_begin_kept v before) step

@@ -1,0 +1,100 @@
+-- A new connection is reported to a node at a port that no pipe leads to: what stays, whether the
+-- node takes it or not.
+use Rattle.std.proofs.Common.{◌≡◌, ℕ, zero, suc, Bool, true, false, ◌&&◌, ◌||◌, ◌==◌, List, [], ◌∷◌, ◌++◌, Option, Some, slice_get, refl, sym, ap, ◌∙◌}
+use Rattle.std.specs.List.{list_any}
+use Rattle.std.proofs.lemmas.Bool.{both_ways}
+use Rattle.node_group.specs.ballot.Config.{Config}
+use Rattle.node_group.specs.broker_base.Connection.{ConnectionName}
+use Rattle.node_group.proofs.of_lists.Tests.{eq_same}
+use Rattle.node_group.specs.exactly_once.Sides.{Connection}
+use Rattle.node_group.specs.world_base.declared.Connection.{Connection as NodesEnd}
+use Rattle.node_group.specs.world_base.declared.item.Item.TheVariants.{Opened}
+use Rattle.node_group.specs.world_base.declared.Port.{Port}
+use Rattle.node_group.specs.world_base.Core.{CoreState}
+use Rattle.node_group.specs.node_moves.Moves.{NodeCall}
+use Rattle.node_group.specs.node_moves.Moves.NodeCall.{takes}
+use Rattle.node_group.specs.Goes.{Went}
+use Rattle.node_group.specs.Goes.Went.{then_went}
+use Rattle.node_group.specs.Streams.{comes_up, goes_down}
+use Rattle.byte_world.specs.Goes.{Does, deed_of}
+use Rattle.byte_world.specs.World.{ClientPipes, HasPipe, Pipe, World, is_used, leads_to}
+use Rattle.byte_world.proofs.NodesGoOn.{IsOpened, carries_with}
+use Rattle.byte_world.proofs.PipesHold.{PipeHolds, apart_on}
+use Rattle.byte_world.proofs.PortsKept.{IsOfOld}
+use Rattle.byte_world.proofs.WorldsHold.{Holds, IsUnheard, Leads}
+
+-- ---- a port that no pipe leads to
+
+any_at : {X : Type 0} (test : X → Bool) (xs : List X) (i : ℕ) (x : X) → slice_get xs i ≡ Some x → test x ≡ true → list_any test xs ≡ true
+any_at test [] i x e is = cc
+any_at {X = X} test (y ∷ xs) zero x e is = let same : y ≡ x = cc in let now : test y ≡ true = ap test same ∙ is in rw now refl
+any_at test (y ∷ xs) (suc i) x e is = by (test y) (any_at test xs i x e is)
+  where
+    by : (b : Bool) → list_any test xs ≡ true → (b || list_any test xs) ≡ true
+    by true rest = refl
+    by false rest = rest
+
+leads_used : (v : World) (n : ℕ) (port : Port) → Leads v n port → is_used n port v.clients ≡ true
+leads_used v n port l =
+    any_at (λ (c : ClientPipes). list_any (leads_to n port) c.pipes) v.clients l.i l.c l.has.client
+    (any_at (leads_to n port) l.c.pipes l.j l.p l.has.pipe (both (l.p.node == n) (l.p.port.0 == port.0) (ap (λ k. l.p.node == k) (sym l.node) ∙ eq_same l.p.node) (ap (λ k. l.p.port.0 == k) (sym l.at) ∙ eq_same l.p.port.0)))
+  where
+    both : (a b : Bool) → a ≡ true → b ≡ true → (a && b) ≡ true
+    both a b e f = rw (e, f) refl
+
+-- if a call opens a connection
+abbrev opened_place : Option (ℕ × NodeCall) → ℕ
+opened_place (Some (n, takes (Opened port now))) = n
+opened_place _ = 0
+
+abbrev opened_port : Option (ℕ × NodeCall) → ℕ
+opened_port (Some (n, takes (Opened port now))) = port.0
+opened_port _ = 0
+
+-- what holds if one is reported to a node there: each connection that was there has its pipe, and
+-- the pipes continue
+pub record OpensUnused {nodes : ℕ} {config : Config} (v : World) (went : Went nodes config v.group) (n : ℕ) (port : Port) (now : ℕ)
+    (d : Does v.group (Some (n, takes (Opened port now)))) : Type 0 where
+  pub no_lead : Leads v n port → ⊥
+  pub old_led : (m : ℕ) (old : CoreState) (e : NodesEnd) → slice_get v.group.nodes m ≡ Some old → IsOfOld old.connections e → Leads v m e.port
+  pub opened_there : (m : ℕ) (old : CoreState) (e : NodesEnd) → IsOpened (deed_of d.step) m old e → (m ≡ n) × (e.port.0 ≡ port.0)
+  pub still_unheard : (x : ConnectionName) → IsUnheard went x → IsUnheard (then_went went d.step) x
+  pub old_holds : (i : ℕ) (c : ClientPipes) (j : ℕ) (κ : Connection) (p : Pipe) → HasPipe v i c j κ p → PipeHolds (then_went went d.step) κ p
+
+module _ {nodes : ℕ} {config : Config} (v : World) (went : Went nodes config v.group) (h : Holds v went) (n : ℕ) (port : Port) (now : ℕ) (d : Does v.group (Some (n, takes (Opened port now))))
+    (unused : is_used n port v.clients ≡ false) where
+  no_lead : Leads v n port → ⊥
+  no_lead l = both_ways (is_used n port v.clients) unused (leads_used v n port l)
+
+  -- a connection that was there before has a pipe
+  old_led : (m : ℕ) (old : CoreState) (e : NodesEnd) → slice_get v.group.nodes m ≡ Some old → IsOfOld old.connections e → Leads v m e.port
+  old_led m old e at o =
+      let l = h.used m old o.was at o.among in
+      record { i = l.i; c = l.c; j = l.j; κ = l.κ; p = l.p; has = l.has; node = l.node; at = l.at ∙ sym (ap (λ (z : Port). z.0) o.later.port) }
+
+  opened_there : (m : ℕ) (old : CoreState) (e : NodesEnd) → IsOpened (deed_of d.step) m old e → (m ≡ n) × (e.port.0 ≡ port.0)
+  opened_there m old e o = (ap opened_place (sym o.is ∙ d.is), ap (λ (z : Port). z.0) o.new.port_is ∙ ap opened_port (sym o.is ∙ d.is))
+
+  quiet : (x : ConnectionName) → (comes_up x d.step ≡ []) × (goes_down x d.step ≡ [])
+  quiet x = let c = carries_with v.group d.behind d.step n (takes (Opened port now)) d.faithful d.is in (c.up x, c.down x)
+
+  still_unheard : (x : ConnectionName) → IsUnheard went x → IsUnheard (then_went went d.step) x
+  still_unheard x none = (ap (λ l. l ++ comes_up x d.step) none.0 ∙ (quiet x).0, ap (λ l. l ++ goes_down x d.step) none.1 ∙ (quiet x).1)
+
+  -- the pipes that were there continue
+  old_holds : (i : ℕ) (c : ClientPipes) (j : ℕ) (κ : Connection) (p : Pipe) → HasPipe v i c j κ p → PipeHolds (then_went went d.step) κ p
+  old_holds i c j κ p has =
+      apart_on went d.step κ p
+      (λ old e at o same. let z = opened_there p.node old e o in
+      no_lead (record { i = i; c = c; j = j; κ = κ; p = p; has = has; node = z.0; at = sym same ∙ z.1 }))
+      (quiet κ.name).0 (quiet κ.name).1 (h.each i c j κ p has)
+
+  pub opens_unused : OpensUnused v went n port now d
+  opens_unused =
+      record {
+        no_lead = no_lead;
+        old_led = old_led;
+        opened_there = opened_there;
+        still_unheard = still_unheard;
+        old_holds = old_holds;
+      }

@@ -1,0 +1,202 @@
+-- In a step with losses, too, each connection keeps its port and its name, and none that was closed is open again.
+use Rattle.std.proofs.Common.{◌≡◌, inl, inr, ℕ, zero, suc, true, not, List, length, refl, sym, ap, subst}
+use Rattle.std.proofs.lemmas.Bool.{both_ways}
+use Rattle.node_group.specs.packet.Spelling.{spelling}
+use Rattle.node_group.specs.packet.declared.packet.Packet.{Packet}
+use Rattle.node_group.specs.packet.declared.packet.Packet.TheVariants as packets
+use Rattle.node_group.specs.ballot.Effect.{Effect}
+use Rattle.node_group.specs.ballot.Protocol.{Input}
+use Rattle.node_group.specs.ballot.Protocol.Input.{Receives, Ticks}
+use Rattle.node_group.specs.broker_base.Command.{Command}
+use Rattle.node_group.specs.broker_base.Command.TheVariants as commands
+use Rattle.node_group.specs.broker_base.Connection.{ConnectionName}
+use Rattle.node_group.specs.broker_base.Output.{Output}
+use Rattle.node_group.specs.broker_base.Output.TheVariants as outputs
+use Rattle.node_group.specs.lists.Lists.{Each}
+use Rattle.node_group.proofs.of_lists.OfEach.{each_then}
+use Rattle.node_group.specs.world_base.declared.Connection.{Connection}
+use Rattle.node_group.specs.world_base.declared.item.Item.{Item}
+use Rattle.node_group.specs.world_base.LossyStep.Cuts.{nothing_to_cut, cuts_log, forgets_cut}
+use Rattle.node_group.specs.world_base.declared.item.Item.TheVariants.{Peer, Tick, Opened, Bytes, Ended, Expel, Cut, Crash}
+use Rattle.node_group.specs.world_base.declared.Port.{Port}
+use Rattle.node_group.specs.world_base.Connections.{asked, closed, failing, has_failed, holding, is_at, left_with, put_out}
+use Rattle.node_group.specs.world_base.Core.{CoreState}
+use Rattle.node_group.specs.world_base.Failing.{closes_failed}
+use Rattle.node_group.specs.world_base.Lossy.{Account, Declines, Delivers, Drives, Proposes, Repeated, Serves, Takes, Then, quietly}
+use Rattle.node_group.specs.world_base.Lossy.Declines.{no_room, forgets, stops}
+use Rattle.node_group.specs.world_base.Lossy.Delivers.{nothing, does, tells, loses}
+use Rattle.node_group.specs.world_base.LossyStep.{ActsOn, Asks, Begins, Closes, Ends, EndsSilent, Holds, LosesAllFailed, LosesFailed, Opens, ReadsAll, ReadsNext, RunsOn, Shuts, TakesIn}
+use Rattle.node_group.specs.world_base.LossyStep.Ends.{none_open, untold, told}
+use Rattle.node_group.specs.world_base.LossyStep.EndsSilent.{none_silent, ends_one}
+use Rattle.node_group.specs.world_base.LossyStep.LosesFailed.{none_failed, tells_one}
+use Rattle.node_group.specs.world_base.LossyStep.ReadsNext.{waits, first, later, refuses, ends}
+use Rattle.node_group.specs.world_base.Reading.{changes, open_at, refused, unread_of}
+use Rattle.node_group.specs.world_base.Step.{opens}
+use Rattle.node_group.proofs.of_node_moves.EachKept.{each_settled}
+use Rattle.node_group.proofs.of_node_moves.Kept.{failing_over, left_true, live}
+use Rattle.byte_world.proofs.PortsKept.{AllOf, Comes, IsFollowed, IsLater, IsOfOld, all_old, comes_later, each_at, each_changed, each_named, each_opened, is_put_out, is_shut, kept, old_later, shut_at}
+
+fails_later : (c : Connection) → IsLater c (failing c)
+fails_later c = record { port = refl; name = refl; lives = λ e. absurd (both_ways (live (failing c)) (ap not (failing_over c)) e) }
+
+stays_later : (c d : Connection) → d.port ≡ c.port → d.name ≡ c.name → live d ≡ live c → IsLater c d
+stays_later c d p n lives = record { port = p; name = n; lives = λ e. subst (λ b. b ≡ true) lives e }
+
+module _ (P : Connection → Type 0) (follows : IsFollowed P) where
+  abbrev All : CoreState → Type 0
+  All core = AllOf P follows core
+
+  -- what is done so keeps it
+  abbrev Keeps : (CoreState → Account → Type 0) → Type 0
+  Keeps Does = (core : CoreState) (did : Account) → Does core did → All core → All did.core
+
+  becomes : (new : CoreState) (did : Account) → did ≡ quietly new → All new → All did.core
+  becomes new did is all = subst (λ (d : Account). All d.core) (sym is) all
+
+  then_kept : (F N : CoreState → Account → Type 0) → Keeps F → Keeps N → Keeps (Then F N)
+  then_kept F N f n core did t all = subst (λ (d : Account). All d.core) (sym t.is) (n t.one.core t.two t.next (f core t.one t.first all))
+
+  repeated_kept : (times : ℕ) (N : CoreState → Account → Type 0) → Keeps N → Keeps (Repeated times N)
+  repeated_kept zero N n core did is all = becomes core did is all
+  repeated_kept (suc more) N n core did t all = then_kept N (Repeated more N) n (repeated_kept more N n) core did t all
+
+  -- ---- the replica
+
+  serves_kept : (output : Output) (core new : CoreState) → Serves output core new → All core → All new
+  serves_kept (outputs.Send name packet) core new (inl is) all = subst All (sym is) (each_named P follows name (put_out (spelling packet)) core (is_put_out (spelling packet)) all)
+  serves_kept (outputs.Send name packet) core new (inr is) all = subst All (sym is) (each_named P follows name failing core fails_later all)
+  serves_kept (outputs.Close name) core new is all = subst All (sym is) (each_named P follows name closed core is_shut all)
+
+  delivers_kept : (given : List (Effect Command Output)) (core new : CoreState) (messages : List (Effect Command Output)) → Delivers given core new messages → All core → All new
+  delivers_kept _ core _ _ nothing all = all
+  delivers_kept _ core new _ (does {place} {output} {core = k} {next = next} {given = given} served more) all =
+      delivers_kept given next new _ more (serves_kept output core next served all)
+  delivers_kept _ core new _ (tells {receiver} {message} {given = given} more) all = delivers_kept given core new _ more all
+  delivers_kept _ core new _ (loses {receiver} {message} {given = given} more) all = delivers_kept given core new _ more all
+
+  drives_kept : (input : Input Command) → Keeps (Drives input)
+  drives_kept input core did m all = delivers_kept did.given (record core { replica = m.replica }) did.core did.messages m.delivers all
+
+  takes_kept : (command : Command) → Keeps (Takes command)
+  takes_kept command core did t all = delivers_kept did.given (record core { replica = t.replica }) did.core did.messages t.delivers all
+
+  declines_kept : Keeps Declines
+  declines_kept core did (no_room full is) all = subst (λ (d : Account). All d.core) (sym is) all
+  declines_kept core did (forgets room is) all = subst (λ (d : Account). All d.core) (sym is) all
+  declines_kept core did (stops room is) all = subst (λ (d : Account). All d.core) (sym is) all
+
+  proposes_kept : (command : Command) → Keeps (Proposes command)
+  proposes_kept command core did (inl taken) all = takes_kept command core did taken all
+  proposes_kept command core did (inr declines) all = declines_kept core did declines all
+
+  -- ---- ends
+
+  ends_kept : (port : Port) → Keeps (Ends port)
+  ends_kept port core did (none_open none is) all = becomes core did is all
+  ends_kept port core did (untold c found other is) all = becomes (changes port closed core) did is (shut_at P follows port core all)
+  ends_kept port core did (told c found heard proposes) all = proposes_kept (commands.Lost c.name) (changes port closed core) did proposes (shut_at P follows port core all)
+
+  silent_kept : (now : ℕ) → Keeps (EndsSilent now)
+  silent_kept now core did (none_silent none is) all = becomes core did is all
+  silent_kept now core did (ends_one port found runs) all = ends_kept port core did runs all
+
+  failed_kept : Keeps LosesFailed
+  failed_kept core did (none_failed none is) all = becomes core did is all
+  failed_kept core did (tells_one c found proposes) all =
+      proposes_kept (commands.Lost c.name) (closes_failed core) did proposes (each_changed P follows has_failed closed core.connections (λ d e. is_shut d) all)
+
+  -- ---- packets
+
+  closes_kept : (port : Port) → Keeps (Closes port)
+  closes_kept port core did is all = becomes (changes port closed core) did is (shut_at P follows port core all)
+
+  shuts_kept : (port : Port) → Keeps (Shuts port)
+  shuts_kept port core did (inl is) all = closes_kept port core did is all
+  shuts_kept port core did (inr is) all = becomes (changes port failing core) did is (each_at P follows port failing core (λ c e. fails_later c) all)
+
+  asks_kept : (command : Command) (O : CoreState → Account → Type 0) → Keeps O → Keeps (Asks command O)
+  asks_kept command O o core did (inl taken) all = takes_kept command core did taken all
+  asks_kept command O o core did (inr t) all = then_kept Declines O declines_kept o core did t all
+
+  begins_kept : (port : Port) (name : ConnectionName) (packet : Packet) → Keeps (Begins port name packet)
+  begins_kept port name (packets.Connect connect) core did runs all =
+      asks_kept (commands.Connect name connect.client connect.clean) (Closes port) (closes_kept port) (changes port (asked connect.keep_alive) core) did runs
+      (each_at P follows port (asked connect.keep_alive) core (λ c e. record { port = refl; name = refl; lives = λ f. left_true (live c) (is_at port c) e }) all)
+  begins_kept port name _ core did runs all = closes_kept port core did runs all
+
+  left_kept : (now : ℕ) (port : Port) (rest : List ℕ) (core : CoreState) → All core → All (changes port (left_with now rest) core)
+  left_kept now port rest core all = each_at P follows port (left_with now rest) core (λ c e. stays_later c (left_with now rest c) refl refl refl) all
+
+  reads_kept : (now : ℕ) (port : Port) → Keeps (ReadsNext now port)
+  reads_kept now port core did (waits c found more is) all = becomes core did is all
+  reads_kept now port core did (first c packet rest found awaits is runs) all =
+      begins_kept port c.name packet (changes port (left_with now rest) core) did runs (left_kept now port rest core all)
+  reads_kept now port core did (later c packet rest found proposed is runs) all =
+      asks_kept (commands.Packet c.name packet) (Shuts port) (shuts_kept port) (changes port (left_with now rest) core) did runs (left_kept now port rest core all)
+  reads_kept now port core did (refuses c code found awaits is runs) all =
+      becomes (changes port (refused code) core) did runs
+      (each_at P follows port (refused code) core (λ d e. record { port = refl; name = refl; lives = λ f. absurd cc }) all)
+  reads_kept now port core did (ends runs) all = ends_kept port core did runs all
+
+  -- ---- an item
+
+  -- what is asked of one that opens a connection
+  abbrev pub OpensSo : Item → CoreState → Type 0
+  OpensSo (Opened port now) core = All core → All (opens port core)
+  OpensSo _ core = Unit {0}
+
+  holds_kept : (port : Port) (piece : List ℕ) → Keeps (Holds port piece)
+  holds_kept port piece core did (inl is) all =
+      becomes (changes port (holding piece) core) did is (each_at P follows port (holding piece) core (λ c e. stays_later c (holding piece c) refl refl refl) all)
+  holds_kept port piece core did (inr runs) all = ends_kept port core did runs all
+
+  opens_kept : (port : Port) (core : CoreState) (did : Account) → (All core → All (opens port core)) → Opens port core did → All core → All did.core
+  opens_kept port core did new (inl is) all = becomes (opens port core) did is (new all)
+  opens_kept port core did new (inr is) all = becomes core did is all
+
+  all_silent : (now : ℕ) (core : CoreState) (did : Account) → Repeated (length core.connections) (EndsSilent now) core did → All core → All did.core
+  all_silent now core did runs all = repeated_kept (length core.connections) (EndsSilent now) (silent_kept now) core did runs all
+
+  all_read : (now : ℕ) (port : Port) (core : CoreState) (did : Account) → ReadsAll now port core did → All core → All did.core
+  all_read now port core did runs all = repeated_kept (unread_of (open_at port core)) (ReadsNext now port) (reads_kept now port) core did runs all
+
+  taken_kept : (item : Item) (core : CoreState) (did : Account) → OpensSo item core → TakesIn item core did → All core → All did.core
+  taken_kept (Peer message) core did new runs all = drives_kept (Receives message) core did runs all
+  taken_kept (Tick now) core did new t all =
+      subst (λ (d : Account). All d.core) (sym t.is) (all_silent now t.one.core t.two t.next (drives_kept Ticks core t.one t.first all))
+  taken_kept (Opened port now) core did new runs all = opens_kept port core did new runs all
+  taken_kept (Bytes port piece now) core did new t all =
+      subst (λ (d : Account). All d.core) (sym t.is) (all_read now port t.one.core t.two t.next (holds_kept port piece core t.one t.first all))
+  taken_kept (Ended port) core did new runs all = ends_kept port core did runs all
+  taken_kept (Expel client) core did new runs all = proposes_kept (commands.Expel client) core did runs all
+  taken_kept Cut core did new (nothing_to_cut none is) all = becomes core did is all
+  taken_kept Cut core did new (cuts_log can reads is) all = subst (λ (d : Account). All d.core) (sym is) all
+  taken_kept Cut core did new (forgets_cut can is) all = subst (λ (d : Account). All d.core) (sym is) all
+  taken_kept Crash core did new is all = subst (λ (d : Account). All d.core) (sym is) all
+
+  all_failed : (core : CoreState) (did : Account) → LosesAllFailed core did → All core → All did.core
+  all_failed core did runs all = repeated_kept (length core.connections) LosesFailed failed_kept core did runs all
+
+  acts_kept : (item : Item) (core : CoreState) (did : Account) → OpensSo item core → ActsOn item core did → All core → All did.core
+  acts_kept item core did new t all =
+      subst (λ (d : Account). All d.core) (sym t.is) (all_failed t.one.core t.two t.next (taken_kept item core t.one new t.first all))
+
+  pub each_lost : (item : Item) (core new : CoreState) (messages : List (Effect Command Output)) → OpensSo item core → RunsOn item core new messages → All core → All new
+  each_lost item core new messages so runs all =
+      subst All (sym runs.settles) (each_settled P (kept P follows).shut runs.did.core (acts_kept item core runs.did so runs.acts all))
+
+-- ---- where the connections of a node come from
+
+-- after an item that opens none each connection was there before
+pub each_was_losing : (item : Item) (core new : CoreState) (messages : List (Effect Command Output)) → OpensSo (IsOfOld core.connections) (old_later core.connections) item core
+    → RunsOn item core new messages → Each (IsOfOld core.connections) new.connections
+each_was_losing item core new messages so runs =
+    each_lost (IsOfOld core.connections) (old_later core.connections) item core new messages so runs (all_old core.connections core.connections (λ c i. i))
+
+-- after an opening it was there, or is new
+pub each_new_losing : (port : Port) (now : ℕ) (core new : CoreState) (messages : List (Effect Command Output)) → RunsOn (Opened port now) core new messages
+    → Each (Comes core port) new.connections
+each_new_losing port now core new messages runs =
+    each_lost (Comes core port) (comes_later core port) (Opened port now) core new messages
+    (each_opened (Comes core port) (comes_later core port) port core (λ none. inr (record { port_is = refl; name_is = refl; none = none }))) runs
+    (each_then (IsOfOld core.connections) (Comes core port) core.connections (λ d o. inl o) (all_old core.connections core.connections (λ c i. i)))

@@ -1,0 +1,221 @@
+-- A connection that a client opens gets a name that none had, and what holds for all connections is
+-- kept.
+use Rattle.std.proofs.Common.{◌≡◌, ◌⊎◌, inl, inr, ℕ, zero, suc, false, List, [], ◌++◌, Option, Some, None, set, slice_get, refl, sym, ap, ◌∙◌, subst}
+use Rattle.std.specs.List.{find}
+use Rattle.std.proofs.lemmas.Bool.{both_ways}
+use Rattle.node_group.specs.packet.Spelling.{IsPacket}
+use Rattle.node_group.specs.packet.declared.packet.Packet.TheVariants as packets
+use Rattle.node_group.specs.ballot.Config.{Config}
+use Rattle.node_group.specs.broker_base.Connection.{ConnectionName, same_connection}
+use Rattle.node_group.specs.client_base.Called.{new_connection}
+use Rattle.node_group.specs.lists.Lists.{In}
+use Rattle.node_group.specs.lists.Lists.In.{here, there}
+use Rattle.node_group.proofs.of_lists.Places.{get_set, get_set_other}
+use Rattle.node_group.proofs.of_packet_world.Lists.{same_or_other, set_get}
+use Rattle.node_group.specs.cutter.Pipe.{Joins}
+use Rattle.node_group.specs.exactly_once.Sides.{Connection}
+use Rattle.node_group.proofs.of_exactly_once.Takes.{same_name_self}
+use Rattle.node_group.specs.world_base.declared.Connection.{Connection as NodesEnd}
+use Rattle.node_group.specs.world_base.declared.item.Item.TheVariants.{Opened}
+use Rattle.node_group.specs.world_base.declared.Port.{Port}
+use Rattle.node_group.specs.world_base.Core.{CoreState}
+use Rattle.node_group.specs.world_base.Handing.{listed_at}
+use Rattle.node_group.specs.world_base.Step.{next_name}
+use Rattle.node_group.specs.node_moves.Ends.{IsGiven, Precedes}
+use Rattle.node_group.specs.node_moves.Moves.NodeCall.{takes}
+use Rattle.node_group.specs.node_moves.Puts.{spelled}
+use Rattle.node_group.proofs.of_node_moves.Kept.{named}
+use Rattle.node_group.proofs.of_node_moves.NamesInOrder.{next_precedes, not_both}
+use Rattle.node_group.specs.Goes.{Went}
+use Rattle.node_group.specs.Goes.Went.{then_went}
+use Rattle.node_group.proofs.NamesInGroups.{all_well, each_got}
+use Rattle.byte_world.specs.Apart.{HasName}
+use Rattle.byte_world.specs.Goes.{Does, after_connecting, deed_of}
+use Rattle.byte_world.specs.World.{ClientPipes, HasPipe, Pipe, World, is_used, packets_of, with_client}
+use Rattle.byte_world.proofs.NamesApart.{names_stay_apart}
+use Rattle.byte_world.proofs.NodesGoOn.{IsOpened, StoodAs, of_each, stood_as}
+use Rattle.byte_world.proofs.OnTheWay.{joins_more}
+use Rattle.byte_world.proofs.PipesHold.{IsListed, PipeHolds, listed_there, none_found}
+use Rattle.byte_world.proofs.OpensUnused.{OpensUnused, opens_unused}
+use Rattle.byte_world.proofs.PortsKept.{IsOfOld}
+use Rattle.byte_world.proofs.WorldsHold.{Holds, IsKnown, IsUnheard, Leads}
+
+-- ---- the name is new
+
+named_there : (x : ConnectionName) (cs : List NodesEnd) (d : NodesEnd) → In d cs → d.name ≡ x → (c : NodesEnd) × (find (named x) cs ≡ Some c)
+named_there x cs d i is = by (find (named x) cs) refl
+  where
+    by : (o : Option NodesEnd) → find (named x) cs ≡ o → (c : NodesEnd) × (find (named x) cs ≡ Some c)
+    by (Some c) e = (c, e)
+    by None e =
+        absurd (both_ways (named x d) (of_each (λ (z : NodesEnd). named x z ≡ false) (none_found (named x) cs e) i)
+        (ap (λ (y : ConnectionName). same_connection y x) is ∙ same_name_self x))
+
+same_core : (a b : CoreState) → (let o : Option CoreState = Some a in o) ≡ Some b → a ≡ b
+same_core a b e = cc
+
+module _ {nodes : ℕ} {config : Config} (v : World) (went : Went nodes config v.group) (h : Holds v went) (n : ℕ) (port : Port) (now : ℕ) (d : Does v.group (Some (n, takes (Opened port now))))
+    (core : CoreState) (end : NodesEnd) (stands : slice_get d.behind.nodes n ≡ Some core) (found : listed_at port core ≡ Some end) (unused : is_used n port v.clients ≡ false) where
+  abbrev behind : Went nodes config d.behind
+  behind = then_went went d.step
+
+  facts : OpensUnused v went n port now d
+  facts = opens_unused v went h n port now d unused
+
+  led_at : (m : ℕ) (p q : Port) → p.0 ≡ q.0 → Leads v m p → Leads v m q
+  led_at m p q same l = record { i = l.i; c = l.c; j = l.j; κ = l.κ; p = l.p; has = l.has; node = l.node; at = l.at ∙ same }
+
+  was : StoodAs v.group d.behind (deed_of d.step) n core
+  was = stood_as v.group d.behind went d.step n core stands
+
+  -- at the port there is only that connection, with the next name
+  named_next : (e : NodesEnd) → In e core.connections → e.port.0 ≡ port.0 → e.name ≡ next_name was.core
+  named_next e i same = by (was.behind.was e i)
+    where
+      by : IsOfOld was.core.connections e ⊎ IsOpened (deed_of d.step) n was.core e → e.name ≡ next_name was.core
+      by (inl o) = absurd (facts.no_lead (led_at n e.port port same (facts.old_led n was.core e was.stands o)))
+      by (inr o) = o.new.name_is
+
+  end_there : IsListed port core end
+  end_there = listed_there port core end found
+
+  has_name : HasName end.name d.behind n
+  has_name = let z = named_there end.name core.connections end end_there.among refl in record { core = core; stands = stands; connection = z.0; listed = z.1 }
+
+  -- no client had a connection of its name
+  fresh : IsKnown v end.name → ⊥
+  fresh k =
+      let placed = (h.each k.i k.c k.j k.κ k.p k.has).placed in
+      let same = names_stay_apart nodes config d.behind behind end.name placed.earlier d.behind k.p.node n (there placed.among) here
+      (subst (λ (x : ConnectionName). HasName x placed.earlier k.p.node) k.name placed.had) has_name in
+      let one = same_core placed.core was.core (sym placed.stands ∙ ap (slice_get v.group.nodes) same ∙ was.stands) in
+      let o = (each_got _ v.group.nodes n was.core (all_well nodes config v.group went).0 was.stands).orderly in
+      not_both was.core.last_name end.name (subst (Precedes was.core.last_name) (sym (named_next end end_there.among end_there.at)) (next_precedes was.core o.within))
+      (subst (λ (z : CoreState). IsGiven z.last_name end.name) one (subst (IsGiven placed.core.last_name) k.name placed.given))
+
+  unheard : IsUnheard behind end.name
+  unheard = by (h.known end.name)
+    where
+      by : IsUnheard went end.name ⊎ IsKnown v end.name → IsUnheard behind end.name
+      by (inl none) = facts.still_unheard end.name none
+      by (inr k) = absurd (fresh k)
+
+  -- the new one
+  module _ (i : ℕ) (c : ClientPipes) (at : slice_get v.clients i ≡ Some c)
+      (whole : IsPacket (packets.Connect (record { client = c.keeper.client; clean = false; keep_alive = 0 }))) where
+    abbrev κ_new : Connection
+    κ_new = new_connection c.keeper.client end.name
+
+    abbrev p_new : Pipe
+    p_new = record { node = n; port = port; up = spelled (packets_of κ_new.written); down = []; came = record { held = []; failed = false } }
+
+    abbrev later : ClientPipes
+    later = after_connecting end.name n port c
+
+    abbrev w : World
+    w = with_client i later (record v { group = d.behind })
+
+    new_holds : PipeHolds behind κ_new p_new
+    new_holds =
+        let o = (each_got _ d.behind.nodes n core (all_well nodes config d.behind behind).0 stands).orderly in
+        record {
+          placed = record {
+            core = core;
+            stands = stands;
+            given = of_each (λ (z : NodesEnd). IsGiven core.last_name z.name) o.given end_there.among;
+            ports = λ e j same. named_next e j same ∙ sym (named_next end end_there.among end_there.at);
+            earlier = d.behind;
+            among = here;
+            had = has_name;
+          };
+          up = record {
+            later = p_new.up;
+            joined = subst (λ (l : List ℕ). Joins (packets_of κ_new.written) (l ++ p_new.up)) (sym unheard.0) (joins_more [] (packets_of κ_new.written) [] (whole, tt) refl);
+            still = λ z e a b f g. refl;
+          };
+          down = record { handled = []; counted = refl; whole = tt; is = sym unheard.1; sound = refl };
+        }
+
+    data Place (k l : ℕ) (κ : Connection) (p : Pipe) : Type 0 where
+      new : k ≡ i → l ≡ 0 → κ ≡ κ_new → p ≡ p_new → Place k l κ p
+      old : (m : ℕ) (e : ClientPipes) → HasPipe v k e m κ p → ((k ≡ i) × (l ≡ suc m)) ⊎ ((k ≡ i → ⊥) × (l ≡ m)) → Place k l κ p
+
+    some_is : {X : Type 0} (a b : X) → (let o : Option X = Some a in o) ≡ Some b → a ≡ b
+    some_is a b e = cc
+
+    place : (k : ℕ) (e : ClientPipes) (l : ℕ) (κ : Connection) (p : Pipe) → HasPipe w k e l κ p → Place k l κ p
+    place k e l κ p has = by (set_get v.clients i k c later e at has.client)
+      where
+        inner : k ≡ i → (m : ℕ) → l ≡ m → slice_get later.connections m ≡ Some κ → slice_get later.pipes m ≡ Some p → Place k l κ p
+        inner same zero is f g = new same is (sym (some_is κ_new κ f)) (sym (some_is p_new p g))
+        inner same (suc m) is f g = old m c (record { client = ap (slice_get v.clients) same ∙ at; connection = f; pipe = g }) (inl (same, is))
+
+        by : ((k ≡ i) × (later ≡ e)) ⊎ ((k ≡ i → ⊥) × (slice_get v.clients k ≡ Some e)) → Place k l κ p
+        by (inl (same, is)) =
+            inner same l refl (ap (λ (z : ClientPipes). slice_get z.connections l) is ∙ has.connection) (ap (λ (z : ClientPipes). slice_get z.pipes l) is ∙ has.pipe)
+        by (inr (apart, was_there)) = old l e (record { client = was_there; connection = has.connection; pipe = has.pipe }) (inr (apart, refl))
+
+    abbrev Stays : ℕ → Connection → Pipe → Type 0
+    Stays k κ p = (e : ClientPipes) × (l : ℕ) × HasPipe w k e l κ p
+
+    forth : (k : ℕ) (e : ClientPipes) (m : ℕ) (κ : Connection) (p : Pipe) → HasPipe v k e m κ p → Stays k κ p
+    forth k e m κ p has = by (same_or_other k i)
+      where
+        by : (k ≡ i) ⊎ (k ≡ i → ⊥) → Stays k κ p
+        by (inl same) =
+            let is : e ≡ c = some_is e c (sym has.client ∙ ap (slice_get v.clients) same ∙ at) in (
+              later,
+              suc m,
+              record {
+                client = ap (slice_get (set v.clients i later)) same ∙ get_set v.clients i c later at;
+                connection = ap (λ (z : ClientPipes). slice_get z.connections m) (sym is) ∙ has.connection;
+                pipe = ap (λ (z : ClientPipes). slice_get z.pipes m) (sym is) ∙ has.pipe;
+              },
+            )
+        by (inr apart) = (e, m, record { client = get_set_other v.clients i k later apart ∙ has.client; connection = has.connection; pipe = has.pipe })
+
+    new_there : HasPipe w i later 0 κ_new p_new
+    new_there = record { client = get_set v.clients i c later at; connection = refl; pipe = refl }
+
+    each_holds : (k : ℕ) (l : ℕ) (κ : Connection) (p : Pipe) → Place k l κ p → PipeHolds behind κ p
+    each_holds k l κ p (new same is one two) = subst (λ (z : Connection). PipeHolds behind z p) (sym one) (subst (λ (z : Pipe). PipeHolds behind κ_new z) (sym two) new_holds)
+    each_holds k l κ p (old m e has is) = facts.old_holds k e m κ p has
+
+    known_of : (k : ℕ) (e : ClientPipes) (m : ℕ) (κ : Connection) (p : Pipe) → HasPipe v k e m κ p → κ.name ≡ end.name → IsKnown v end.name
+    known_of k e m κ p has is = record { i = k; c = e; j = m; κ = κ; p = p; has = has; name = is }
+
+    same_places : (k l a b m o : ℕ) → k ≡ a → m ≡ o → ((k ≡ i) × (l ≡ suc m)) ⊎ ((k ≡ i → ⊥) × (l ≡ m)) → ((a ≡ i) × (b ≡ suc o)) ⊎ ((a ≡ i → ⊥) × (b ≡ o)) → (k ≡ a) × (l ≡ b)
+    same_places k l a b m o e f (inl p) (inl q) = (e, p.1 ∙ ap suc f ∙ sym q.1)
+    same_places k l a b m o e f (inr p) (inr q) = (e, p.1 ∙ f ∙ sym q.1)
+    same_places k l a b m o e f (inl p) (inr q) = absurd (q.0 (sym e ∙ p.0))
+    same_places k l a b m o e f (inr p) (inl q) = absurd (p.0 (e ∙ q.0))
+
+    one_place : (k l : ℕ) (κ : Connection) (p : Pipe) (a b : ℕ) (μ : Connection) (q : Pipe) → Place k l κ p → Place a b μ q → κ.name ≡ μ.name → (k ≡ a) × (l ≡ b)
+    one_place k l κ p a b μ q (new s t x y) (new f g z u) same = (s ∙ sym f, t ∙ sym g)
+    one_place k l κ p a b μ q (new s t x y) (old m e has is) same = absurd (fresh (known_of a e m μ q has (sym same ∙ ap (λ (z : Connection). z.name) x)))
+    one_place k l κ p a b μ q (old m e has is) (new f g z u) same = absurd (fresh (known_of k e m κ p has (same ∙ ap (λ (r : Connection). r.name) z)))
+    one_place k l κ p a b μ q (old m e has is) (old o r other at_too) same = let z = h.one k e m κ p a r o μ q has other same in same_places k l a b m o z.0 z.1 is at_too
+
+    led_on : (m : ℕ) (q : Port) → Leads v m q → Leads w m q
+    led_on m q l = let s = forth l.i l.c l.j l.κ l.p l.has in record { i = l.i; c = s.0; j = s.1; κ = l.κ; p = l.p; has = s.2; node = l.node; at = l.at }
+
+    each_led : (m : ℕ) (z : CoreState) (e : NodesEnd) → slice_get d.behind.nodes m ≡ Some z → In e z.connections → Leads w m e.port
+    each_led m z e stood j = by (stood_as v.group d.behind went d.step m z stood).core (stood_as v.group d.behind went d.step m z stood).stands ((stood_as v.group d.behind went d.step m z stood).behind.was e j)
+      where
+        by : (before : CoreState) → slice_get v.group.nodes m ≡ Some before → IsOfOld before.connections e ⊎ IsOpened (deed_of d.step) m before e → Leads w m e.port
+        by before at_before (inl o) = led_on m e.port (facts.old_led m before e at_before o)
+        by before at_before (inr o) =
+            let f = facts.opened_there m before e o in record { i = i; c = later; j = 0; κ = κ_new; p = p_new; has = new_there; node = sym f.0; at = sym f.1 }
+
+    each_known : (x : ConnectionName) → IsUnheard went x ⊎ IsKnown v x → IsUnheard behind x ⊎ IsKnown w x
+    each_known x (inl none) = inl (facts.still_unheard x none)
+    each_known x (inr k) = let s = forth k.i k.c k.j k.κ k.p k.has in inr (record { i = k.i; c = s.0; j = s.1; κ = k.κ; p = k.p; has = s.2; name = k.name })
+
+    pub connects_holds : Holds (with_client i (after_connecting end.name n port c) (record v { group = d.behind })) (then_went went d.step)
+    connects_holds =
+        record {
+          each = λ k e l κ p has. each_holds k l κ p (place k e l κ p has);
+          one = λ k e l κ p a f b μ q has other same. one_place k l κ p a b μ q (place k e l κ p has) (place a f b μ q other) same;
+          used = each_led;
+          known = λ x. each_known x (h.known x);
+        }

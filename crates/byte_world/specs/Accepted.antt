@@ -1,0 +1,15 @@
+-- What a client shows as accepted at QoS 2.
+use Rattle.std.specs.Prelude.{Bool, List, filter, map}
+use Rattle.node_group.specs.session_base.declared.publication.Publication.{Publication}
+use Rattle.node_group.specs.client_base.declared.accepted.Accepted.{Accepted}
+use Rattle.node_group.specs.exactly_once.Carried.{is_two}
+
+abbrev pub publication_accepted : Accepted → Publication
+publication_accepted a = record { retain = a.retain; qos = a.qos; topic = a.topic; payload = a.payload }
+
+abbrev pub is_accepted_once : Accepted → Bool
+is_accepted_once a = is_two a.qos
+
+-- the oldest first
+abbrev pub accepted_once : List Accepted → List Publication
+accepted_once accepted = map publication_accepted (filter is_accepted_once accepted)

@@ -1,0 +1,22 @@
+-- No two nodes of a group give the same name.
+use Rattle.std.specs.Prelude.{◌≡◌, ℕ, slice_get, Some}
+use Rattle.node_group.specs.lists.Lists.{In}
+use Rattle.node_group.specs.ballot.Config.{Config}
+use Rattle.node_group.specs.broker_base.Connection.{ConnectionName}
+use Rattle.node_group.specs.world_base.declared.Connection.{Connection}
+use Rattle.node_group.specs.world_base.Core.{CoreState}
+use Rattle.node_group.specs.node_moves.Closed.{listed_named}
+use Rattle.node_group.specs.Group.{Group}
+use Rattle.node_group.specs.Goes.{Went, groups_of}
+
+-- a node has a connection of this name, open or with bytes to hand over
+pub record HasName (x : ConnectionName) (g : Group) (n : ℕ) : Type 0 where
+  pub core : CoreState
+  pub stands : slice_get g.nodes n ≡ Some core
+  pub connection : Connection
+  pub listed : listed_named x core ≡ Some connection
+
+-- if nodes have connections of one name, at any times, they are one node
+abbrev pub NamesStayApart : Type 0
+NamesStayApart = (nodes : ℕ) (config : Config) (g : Group) (went : Went nodes config g) (x : ConnectionName) (e h : Group) (m n : ℕ) →
+    In e (groups_of went) → In h (groups_of went) → HasName x e m → HasName x h n → m ≡ n

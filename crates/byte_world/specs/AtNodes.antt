@@ -1,0 +1,36 @@
+-- What the nodes of a world keep of connections: each was opened by a client, and its name was
+-- given in a ballot that its node had joined.
+use Rattle.std.specs.Prelude.{◌≡◌, ℕ, List, slice_get, Some}
+use Rattle.node_group.specs.ballot.Config.{Config}
+use Rattle.node_group.specs.broker_base.Place.{Client}
+use Rattle.node_group.specs.lists.Lists.{In}
+use Rattle.node_group.specs.exactly_once.Sides.{Connection}
+use Rattle.node_group.specs.world_base.declared.Connection.{Connection as NodesEnd}
+use Rattle.node_group.specs.world_base.declared.Port.{Port}
+use Rattle.node_group.specs.world_base.Core.{CoreState}
+use Rattle.node_group.specs.node_moves.Ends.{IsOrderly}
+use Rattle.byte_world.specs.World.{ClientPipes, HasPipe, Pipe, World}
+use Rattle.byte_world.specs.Goes.{Reached}
+
+-- a pipe leads to this port of the node
+pub record Leads (w : World) (n : ℕ) (port : Port) : Type 0 where
+  pub i : ℕ
+  pub c : ClientPipes
+  pub j : ℕ
+  pub κ : Connection
+  pub p : Pipe
+  pub has : HasPipe w i c j κ p
+  pub node : p.node ≡ n
+  pub at : p.port.0 ≡ port.0
+
+-- whatever happened, a pipe leads to the port of each connection that a node lists, open or with
+-- bytes to hand over
+abbrev pub PortsHavePipes : Type 0
+PortsHavePipes = (nodes : ℕ) (config : Config) (cs : List Client) (w : World) → Reached nodes config cs w → (n : ℕ) (core : CoreState) (d : NodesEnd) →
+    slice_get w.group.nodes n ≡ Some core → In d core.connections → Leads w n d.port
+
+-- and a node's names are distinct and were given, the last one in a ballot that is not above the
+-- one that the node joined
+abbrev pub NodesAreOrderly : Type 0
+NodesAreOrderly = (nodes : ℕ) (config : Config) (cs : List Client) (w : World) → Reached nodes config cs w → (n : ℕ) (core : CoreState) →
+    slice_get w.group.nodes n ≡ Some core → IsOrderly core

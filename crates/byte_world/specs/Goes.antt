@@ -1,0 +1,103 @@
+-- What may happen in a world of clients and a group of nodes.
+use Rattle.std.specs.Prelude.{◌≡◌, ℕ, true, false, List, [], ◌∷◌, ◌++◌, Option, Some, None, Ok, slice_get}
+use Rattle.node_group.specs.packet.Spelling.{IsPacket}
+use Rattle.node_group.specs.packet.declared.packet.Packet.{Packet}
+use Rattle.node_group.specs.packet.declared.packet.Packet.TheVariants as packets
+use Rattle.node_group.specs.cutter.Stream.{Stream, Takes}
+use Rattle.node_group.specs.ballot.Config.{Config}
+use Rattle.node_group.specs.agreement.World.{can_open}
+use Rattle.node_group.specs.broker_base.Commands.{usual_limits}
+use Rattle.node_group.specs.broker_base.Connection.{ConnectionName}
+use Rattle.node_group.specs.broker_base.Place.{Client}
+use Rattle.node_group.specs.client_base.Called.{new_connection}
+use Rattle.node_group.specs.client_base.Handled.{handled, lost}
+use Rattle.node_group.specs.lists.Lists.{Each}
+use Rattle.node_group.specs.exactly_once.Sides.{Connection, Side}
+use Rattle.node_group.specs.exactly_once.Story.{Story, Happens}
+use Rattle.node_group.specs.packet_world.Goes.{is_call}
+use Rattle.node_group.specs.world_base.declared.Connection.{Connection as NodesEnd}
+use Rattle.node_group.specs.world_base.declared.Port.{Port}
+use Rattle.node_group.specs.world_base.declared.item.Item.TheVariants.{Opened, Bytes}
+use Rattle.node_group.specs.world_base.Core.{CoreState}
+use Rattle.node_group.specs.world_base.Handing.{listed_at}
+use Rattle.node_group.specs.node_moves.Moves.{NodeCall}
+use Rattle.node_group.specs.node_moves.Moves.NodeCall.{takes, gives}
+use Rattle.node_group.specs.node_moves.Puts.{spelled}
+use Rattle.node_group.specs.Streams.{goes_down as goes_down_in}
+pub use Rattle.byte_world.specs.Carrying.{CarriesItsBytes, Does, IsFaithful, coming_with, deed_of, going_with, is_apart}
+use Rattle.byte_world.specs.World.{ClientPipes, HasPipe, Pipe, World, after_writing, is_used, newly_written, opening, packets_of, sent_up, with_client, with_pipe}
+
+-- ---- what a client does
+
+-- what may happen to a client when it calls does not depend on the list of commands
+abbrev pub story_alone : ClientPipes → Story
+story_alone c = record { past = []; connections = c.connections; keeper = c.keeper }
+
+-- a client opens a connection of this name, to a port of a node: its CONNECT is in transit
+abbrev pub after_connecting : ConnectionName → ℕ → Port → ClientPipes → ClientPipes
+after_connecting x n port c =
+    record {
+      keeper = record (lost c.keeper) { is_open = true };
+      connections = new_connection c.keeper.client x ∷ c.connections;
+      pipes = record {
+        node = n;
+        port = port;
+        up = spelled (packets_of (new_connection c.keeper.client x).written);
+        down = [];
+        came = record { held = []; failed = false };
+      } ∷ c.pipes;
+    }
+
+-- the client after a packet that its newest connection's cutter gave
+abbrev pub after_packet : List Connection → List Pipe → Pipe → Stream → Side → ClientPipes → ClientPipes
+after_packet others pipes p left side c =
+    record {
+      keeper = side.keeper;
+      connections = side.connection ∷ others;
+      pipes = sent_up (newly_written c.connections (side.connection ∷ others)) (record p { came = left } ∷ pipes);
+    }
+
+-- ---- the step
+
+-- all that clients write can be spelled
+abbrev pub CanBeSpelled : List Connection → List Connection → Type 0
+CanBeSpelled before after = Each IsPacket (newly_written before after)
+
+-- Any of these may happen, or not, at any time: so bytes, messages and connections may come late,
+-- or never. Bytes on one connection do not overtake each other.
+pub data WorldStep (w : World) : World → Type 0 where
+  -- the nodes and the master move by themselves: messages come late, again or never, a node ticks
+  -- or crashes, a stream ends at its node, an administrator asks for a configuration
+  goes_on : (deed : Option (ℕ × NodeCall)) (d : Does w.group deed) → is_apart deed ≡ true → WorldStep w (record w { group = d.behind })
+  -- a client calls, or loses its connection
+  calls : (i : ℕ) (c : ClientPipes) (t : Story) (h : Happens usual_limits (story_alone c) t) → slice_get w.clients i ≡ Some c → is_call h ≡ true →
+      CanBeSpelled c.connections t.connections → WorldStep w (with_client i (after_writing t.keeper t.connections c) w)
+  -- a client opens a connection to a node, at a port that was never used there, and the node takes
+  -- it
+  connects : (i n : ℕ) (c : ClientPipes) (port : Port) (now : ℕ) (d : Does w.group (Some (n, takes (Opened port now)))) (core : CoreState) (end : NodesEnd) →
+      slice_get w.clients i ≡ Some c → is_used n port w.clients ≡ false → slice_get d.behind.nodes n ≡ Some core → listed_at port core ≡ Some end →
+      IsPacket (packets.Connect (record { client = c.keeper.client; clean = false; keep_alive = 0 })) →
+      WorldStep w (with_client i (after_connecting end.name n port c) (record w { group = d.behind }))
+  -- the node does not take it, because memory ran out, and then the client has none
+  is_turned_away : (n : ℕ) (port : Port) (now : ℕ) (d : Does w.group (Some (n, takes (Opened port now)))) (core : CoreState) → is_used n port w.clients ≡ false →
+      slice_get d.behind.nodes n ≡ Some core → listed_at port core ≡ None → WorldStep w (record w { group = d.behind })
+  -- a prefix of the bytes in transit reaches the node
+  comes_up : (i j : ℕ) (c : ClientPipes) (κ : Connection) (p : Pipe) (piece rest : List ℕ) (now : ℕ) (d : Does w.group (Some (p.node, takes (Bytes p.port piece now)))) →
+      HasPipe w i c j κ p → p.up ≡ piece ++ rest →
+      WorldStep w (with_client i (with_pipe j (record p { up = rest }) c) (record w { group = d.behind }))
+  -- a node hands over what it queued
+  goes_down : (i j : ℕ) (c : ClientPipes) (κ : Connection) (p : Pipe) (d : Does w.group (Some (p.node, gives p.port))) → HasPipe w i c j κ p →
+      WorldStep w (with_client i (with_pipe j (record p { down = p.down ++ goes_down_in κ.name d.step }) c) (record w { group = d.behind }))
+  -- a prefix of the bytes in transit reaches the client
+  arrives : (i j : ℕ) (c : ClientPipes) (κ : Connection) (p : Pipe) (piece rest : List ℕ) → HasPipe w i c j κ p → p.down ≡ piece ++ rest →
+      WorldStep w (with_client i (with_pipe j (record p { down = rest; came = record p.came { held = p.came.held ++ piece } }) c) w)
+  -- a client handles the next packet that came whole on the connection that it holds
+  handles : (i : ℕ) (c : ClientPipes) (κ : Connection) (others : List Connection) (p : Pipe) (pipes : List Pipe) (packet : Packet) (left : Stream) →
+      slice_get w.clients i ≡ Some c → c.connections ≡ κ ∷ others → c.pipes ≡ p ∷ pipes → c.keeper.is_open ≡ true → Takes p.came (Ok (Some packet)) left →
+      CanBeSpelled c.connections ((handled packet (record { keeper = c.keeper; connection = κ })).connection ∷ others) →
+      WorldStep w (with_client i (after_packet others pipes p left (handled packet (record { keeper = c.keeper; connection = κ })) c) w)
+
+-- the worlds that are reached with this many nodes, a configuration at first, and these clients
+pub data Reached (nodes : ℕ) (config : Config) (cs : List Client) : World → Type 0 where
+  begins : can_open nodes config ≡ true → Reached nodes config cs (opening nodes config cs)
+  goes_on : {v w : World} → Reached nodes config cs v → WorldStep v w → Reached nodes config cs w

@@ -1,0 +1,42 @@
+-- The pipes of a world carry in order: what comes out at one end of a connection is a prefix of
+-- what goes in at the other.
+use Rattle.std.specs.Prelude.{◌≡◌, ℕ, false, List, ◌∷◌, ◌++◌, length}
+use Rattle.node_group.specs.packet.declared.packet.Packet.{Packet}
+use Rattle.node_group.specs.packet.Spelling.{IsPacket}
+use Rattle.node_group.specs.ballot.Config.{Config}
+use Rattle.node_group.specs.broker_base.Command.{Command}
+use Rattle.node_group.specs.broker_base.Place.{Client}
+use Rattle.node_group.specs.lists.Lists.{Each, IsPrefixOf}
+use Rattle.node_group.specs.exactly_once.Sides.{Connection}
+use Rattle.node_group.specs.snapshots.Past.{IsAgreed}
+use Rattle.node_group.specs.node_moves.Ends.{commands_of}
+use Rattle.node_group.specs.node_moves.Puts.{spelled}
+use Rattle.node_group.specs.Group.{moment_of}
+use Rattle.node_group.specs.Goes.{all_put, groups_of}
+use Rattle.node_group.specs.Order.{packets_of as packets_in_list}
+use Rattle.node_group.specs.Pasts.{HasPast}
+use Rattle.node_group.specs.Carried.{answers_to}
+use Rattle.byte_world.specs.Carried.{went_of}
+use Rattle.byte_world.specs.World.{ClientPipes, HasPipe, Pipe, World, packets_of}
+use Rattle.byte_world.specs.Goes.{Reached}
+
+-- A connection's commands in the list are a prefix of the packets that its client wrote, in order.
+-- The packets that its client handled, spelled, with the bytes that came to it after them and those
+-- in transit to it, are a prefix of the spelled answers to it, and no fault was found in them.
+pub record IsInOrder (agreed : List Command) (κ : Connection) (p : Pipe) : Type 0 where
+  pub up : IsPrefixOf (packets_in_list κ.name agreed) (commands_of κ.name 0 (packets_of κ.written))
+  pub handled : List Packet
+  pub counted : length handled ≡ κ.handled
+  pub whole : Each IsPacket handled
+  pub down : IsPrefixOf (spelled handled ++ (p.came.held ++ p.down)) (answers_to κ.name agreed)
+  pub sound : p.came.failed ≡ false
+
+-- the same holds for each connection of each client, by the list on which the nodes agree at the
+-- end of the group's steps on the way to the world
+pub record PipesAreInOrder {nodes : ℕ} {config : Config} {cs : List Client} {w : World} (trail : Reached nodes config cs w) : Type 0 where
+  pub of : HasPast config w.group (groups_of (went_of trail)) (all_put (went_of trail))
+  pub each : (agreed : List Command) → IsAgreed config (moment_of w.group ∷ of.earlier) agreed → (i : ℕ) (c : ClientPipes) (j : ℕ) (κ : Connection) (p : Pipe) →
+      HasPipe w i c j κ p → IsInOrder agreed κ p
+
+abbrev pub PipesCarryInOrder : Type 0
+PipesCarryInOrder = (nodes : ℕ) (config : Config) (cs : List Client) (w : World) (trail : Reached nodes config cs w) → PipesAreInOrder trail

@@ -1,0 +1,37 @@
+-- The sessions of a world's clients are kept: no Connect in the list on which its nodes agree asks
+-- for a clean session (MQTT 3.1.2.4).
+use Rattle.std.specs.Prelude.{◌≡◌, Bool, false, ℕ, List, ◌∷◌, Some}
+use Rattle.node_group.specs.ballot.Config.{Config}
+use Rattle.node_group.specs.lists.Lists.{In, IsPrefixOf}
+use Rattle.node_group.specs.broker_base.Command.{Command}
+use Rattle.node_group.specs.broker_base.Command.TheVariants as commands
+use Rattle.node_group.specs.broker_base.Commands.{past_of, usual_limits}
+use Rattle.node_group.specs.broker_base.Connection.{ConnectionName}
+use Rattle.node_group.specs.broker_base.Past.{session_of}
+use Rattle.node_group.specs.broker_base.Place.{Client}
+use Rattle.node_group.specs.snapshots.Past.{IsAgreed}
+use Rattle.node_group.specs.Group.{moment_of}
+use Rattle.node_group.specs.Goes.{all_put, groups_of}
+use Rattle.node_group.specs.Pasts.{HasPast}
+use Rattle.byte_world.specs.Carried.{went_of}
+use Rattle.byte_world.specs.Goes.{Reached}
+use Rattle.byte_world.specs.World.{World}
+
+-- none of these commands is a Connect that asks for a clean session
+abbrev pub NoneIsClean : List Command → Type 0
+NoneIsClean list = (x : ConnectionName) (c : Client) (clean : Bool) → In (commands.Connect x c clean) list → clean ≡ false
+
+-- the same holds for each list that is agreed at the end of the group's steps on the way to the
+-- world
+pub record AsksForNoneClean {nodes : ℕ} {config : Config} {cs : List Client} {w : World} (trail : Reached nodes config cs w) : Type 0 where
+  pub of : HasPast config w.group (groups_of (went_of trail)) (all_put (went_of trail))
+  pub none : (agreed : List Command) → IsAgreed config (moment_of w.group ∷ of.earlier) agreed → NoneIsClean agreed
+
+abbrev pub NoConnectIsClean : Type 0
+NoConnectIsClean = (nodes : ℕ) (config : Config) (cs : List Client) (w : World) (trail : Reached nodes config cs w) → AsksForNoneClean trail
+
+-- if no Connect of a list asks for a clean session, no session that a client has after any prefix
+-- of the list is clean
+abbrev pub NoSessionIsClean : Type 0
+NoSessionIsClean = (list : List Command) → NoneIsClean list → (front : List Command) → IsPrefixOf front list → (c : Client) (clean : Bool) →
+    session_of (past_of usual_limits front) c ≡ Some clean → clean ≡ false

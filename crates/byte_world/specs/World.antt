@@ -1,0 +1,81 @@
+-- Clients and a group of nodes, with a pipe of bytes each way on every connection.
+use Rattle.std.specs.Prelude.{◌≡◌, ℕ, ◌==◌, Bool, ◌&&◌, List, [], ◌∷◌, ◌++◌, map, drop, length, set, slice_get, Some}
+use Rattle.std.specs.List.{list_any}
+use Rattle.node_group.specs.packet.declared.packet.Packet.{Packet}
+use Rattle.node_group.specs.cutter.Stream.{Stream}
+use Rattle.node_group.specs.ballot.Config.{Config}
+use Rattle.node_group.specs.broker_base.Place.{Client}
+use Rattle.node_group.specs.client_base.Keeper.{Keeper, Written, new_keeper}
+use Rattle.node_group.specs.exactly_once.Sides.{Connection}
+use Rattle.node_group.specs.world_base.declared.Port.{Port}
+use Rattle.node_group.specs.node_moves.Puts.{spelled}
+use Rattle.node_group.specs.Group.{Group, opening_group}
+
+-- where a connection leads, and the bytes in transit
+pub record Pipe : Type 0 where
+  pub node : ℕ  -- the place of its node in the group
+  pub port : Port  -- by which the node knows it
+  pub up : List ℕ  -- the client wrote them, and they have not yet reached the node
+  pub down : List ℕ  -- the node handed them over, and they have not yet reached the client
+  pub came : Stream  -- they came to the client, and are not cut into packets yet
+
+-- a client with its connections, the newest first, and their pipes in the same order; how much of a
+-- connection is in the list of commands is not kept here
+pub record ClientPipes : Type 0 where
+  pub keeper : Keeper
+  pub connections : List Connection
+  pub pipes : List Pipe
+
+pub record World : Type 0 where
+  pub group : Group
+  pub clients : List ClientPipes
+
+-- ---- as it opens
+
+abbrev pub new_client : Client → ClientPipes
+new_client c = record { keeper = new_keeper c; connections = []; pipes = [] }
+
+abbrev pub opening : ℕ → Config → List Client → World
+opening nodes config cs = record { group = opening_group nodes config; clients = map new_client cs }
+
+-- ---- places
+
+-- the j-th connection of the i-th client, and its pipe
+pub record HasPipe (w : World) (i : ℕ) (c : ClientPipes) (j : ℕ) (κ : Connection) (p : Pipe) : Type 0 where
+  pub client : slice_get w.clients i ≡ Some c
+  pub connection : slice_get c.connections j ≡ Some κ
+  pub pipe : slice_get c.pipes j ≡ Some p
+
+-- no pipe ever led to this port of the node
+abbrev pub leads_to : ℕ → Port → Pipe → Bool
+leads_to n port p = (p.node == n) && (p.port.0 == port.0)
+
+abbrev pub is_used : ℕ → Port → List ClientPipes → Bool
+is_used n port = list_any (λ (c : ClientPipes). list_any (leads_to n port) c.pipes)
+
+-- ---- changes
+
+abbrev pub with_client : ℕ → ClientPipes → World → World
+with_client i c w = record w { clients = set w.clients i c }
+
+abbrev pub with_pipe : ℕ → Pipe → ClientPipes → ClientPipes
+with_pipe j p c = record c { pipes = set c.pipes j p }
+
+abbrev pub packets_of : List Written → List Packet
+packets_of written = map (λ (w : Written). w.packet) written
+
+-- the packets that were written on the newest connection between these connections and those
+abbrev pub newly_written : List Connection → List Connection → List Packet
+newly_written (κ ∷ connections) (later ∷ more) = packets_of (drop (length κ.written) later.written)
+newly_written _ _ = []
+
+-- their bytes go into its pipe
+abbrev pub sent_up : List Packet → List Pipe → List Pipe
+sent_up packets (p ∷ pipes) = record p { up = p.up ++ spelled packets } ∷ pipes
+sent_up packets [] = []
+
+-- the client with another keeper and these connections, what was written on the newest one in
+-- transit
+abbrev pub after_writing : Keeper → List Connection → ClientPipes → ClientPipes
+after_writing keeper connections c =
+    record { keeper = keeper; connections = connections; pipes = sent_up (newly_written c.connections connections) c.pipes }

@@ -1,2 +1,0 @@
-pub mod Answering
-pub use Rattle.cut_ways.specs as cut_ways

@@ -1,0 +1,49 @@
+-- A pipe into which packets are written, and the cutter at its other end.
+use Rattle.std.specs.Prelude.{◌≡◌, ℕ, false, List, [], ◌∷◌, ◌++◌, length, slice_get, Some, Ok, Err}
+use Rattle.packet.specs.declared.packet.Packet.{Packet}
+use Rattle.packet.specs.Spelling.{Spells, IsPacket}
+use Rattle.cutter.specs.Stream.{Stream, Takes}
+use Rattle.cutter.specs.declared.error.CutError.{CutError}
+use Rattle.cutter.specs.declared.error.CutError.TheVariants as errors
+
+-- the bytes are the spellings of the packets, joined
+abbrev pub Joins : List Packet → List ℕ → Type 0
+Joins [] bytes = bytes ≡ []
+Joins (p ∷ ps) bytes = (front : List ℕ) × (rest : List ℕ) × Spells p front × IsPacket p × (bytes ≡ front ++ rest) × Joins ps rest
+
+-- The packets written on one side are those handled on the other, followed by those in the bytes
+-- that the cutter holds and that are still in transit; no fault was found.
+pub record IsPiped (written handled : List Packet) (s : Stream) (under_way : List ℕ) : Type 0 where
+  pub rest : List Packet
+  pub is : written ≡ handled ++ rest
+  pub joined : Joins rest (s.held ++ under_way)
+  pub sound : s.failed ≡ false
+
+-- nothing is written yet
+abbrev pub PipeOpens : Type 0
+PipeOpens = IsPiped [] [] (record { held = []; failed = false }) []
+
+-- a packet is written: its spelling is added at the far end
+abbrev pub PipeGrows : Type 0
+PipeGrows = (written handled : List Packet) (s : Stream) (under_way bytes : List ℕ) (p : Packet) → IsPiped written handled s under_way
+    → Spells p bytes → IsPacket p → IsPiped (written ++ p ∷ []) handled s (under_way ++ bytes)
+
+-- bytes are carried, cut anywhere
+abbrev pub PipeCarries : Type 0
+PipeCarries = (written handled : List Packet) (s : Stream) (piece under_way : List ℕ) → IsPiped written handled s (piece ++ under_way)
+    → IsPiped written handled (record s { held = s.held ++ piece }) under_way
+
+-- the next packet that the cutter gives is the next one written
+abbrev pub PipeGives : Type 0
+PipeGives = (written handled : List Packet) (s t : Stream) (under_way : List ℕ) (p : Packet) → IsPiped written handled s under_way
+    → Takes s (Ok (Some p)) t → IsPiped written (handled ++ p ∷ []) t under_way
+
+-- it is at its place in what was written
+abbrev pub PipeGivesNext : Type 0
+PipeGivesNext = (written handled : List Packet) (s t : Stream) (under_way : List ℕ) (p : Packet) → IsPiped written handled s under_way
+    → Takes s (Ok (Some p)) t → slice_get written (length handled) ≡ Some p
+
+-- and it never answers a fault
+abbrev pub PipeHasNoFault : Type 0
+PipeHasNoFault = (written handled : List Packet) (s t : Stream) (under_way : List ℕ) (error : CutError) → IsPiped written handled s under_way
+    → Takes s (Err error) t → error ≡ errors.Memory

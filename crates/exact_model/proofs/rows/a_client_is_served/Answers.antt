@@ -1,5 +1,0 @@
-use Rattle.exact_model.proofs.ClientServed.{a_client_is_served}
-use Rattle.exact_model.proofs.rows.a_client_is_served.Goals as goal
-
-pub returns : goal.returns
-returns c = a_client_is_served

@@ -1,0 +1,124 @@
+-- What two good handshakes say about a story: the client's publications, and what it accepted.
+use Rattle.std.proofs.Common.{◌≡◌, ℕ, Bool, true, false, if◌then◌else◌, List, [], ◌∷◌, ◌++◌, map, refl, ap, ap₂, sym, ◌∙◌, subst}
+use Rattle.std.proofs.lemmas.List.{map-append}
+use Rattle.std.proofs.lemmas.Bool.{both_ways}
+use Rattle.client_base.specs.session_base.declared.publication.Publication.{Publication}
+use Rattle.broker_base.specs.Place.{Limits}
+use Rattle.broker_base.specs.Entries.{Entry}
+use Rattle.broker_base.specs.Readings.{publication_in}
+use Rattle.broker_base.specs.Times.{entries_of}
+use Rattle.client_base.specs.lists.Lists.{Each, IsPrefixOf}
+use Rattle.exactly_once.specs.Items.{Item, value_of}
+use Rattle.exactly_once.specs.Exact.{is_over}
+use Rattle.exactly_once.specs.Handshake.{Handshake}
+use Rattle.exactly_once.specs.HandshakeSides.{IsGood}
+use Rattle.exactly_once.proofs.Exact.{good_exact, good_run}
+use Rattle.exactly_once.specs.Carried.{is_two, new_numbers, published}
+use Rattle.client_base.specs.Keeper.{Own}
+use Rattle.exactly_once.specs.Headline.{AcceptedInOrder, two_entries, is_released}
+use Rattle.exactly_once.specs.Inside.Projections.{items_of, two_item, items_of_own, as_subscriber, as_publisher, IsLike, GoesTo}
+use Rattle.exactly_once.specs.Story.{Story}
+
+-- two handshakes that differ in nothing are one
+pub like_is : {A : Type 0} (h k : Handshake A) → IsLike h k → h ≡ k
+like_is h k l = λ i. record { items = l.items i; accepted = l.accepted i; received = λ id. l.received id i; link = l.link i }
+
+pub good_goes : {A : Type 0} (h k : Handshake A) → IsGood h → GoesTo h k → IsGood k
+good_goes h k g t = subst IsGood (like_is t.between k t.like) (good_run h t.between g t.run)
+
+-- ---- entries and items
+
+abbrev pub item_of : Entry → Item Publication
+item_of (Entry.Waits made p) = Item.Waits p
+item_of (Entry.Started made p id start) = Item.Sent p id
+item_of (Entry.Released made p id start release) = Item.Released p id
+item_of (Entry.Finished made p id start release finish) = Item.Finished p
+
+two_by : (entry : Entry) (es : List Entry) (items : List (Item Publication)) → map item_of (two_entries es) ≡ items
+    → map item_of (two_entries (entry ∷ es)) ≡ two_item (publication_in entry) (item_of entry) items
+two_by entry es items e = by (is_two (publication_in entry).qos)
+  where
+    by : (b : Bool) → map item_of (if b then entry ∷ two_entries es else two_entries es) ≡ (if b then item_of entry ∷ items else items)
+    by true = ap (λ l. item_of entry ∷ l) e
+    by false = e
+
+items_are : (es : List Entry) → map item_of (two_entries es) ≡ items_of es
+items_are [] = refl
+items_are (Entry.Waits made p ∷ es) = two_by (Entry.Waits made p) es (items_of es) (items_are es)
+items_are (Entry.Started made p id start ∷ es) = two_by (Entry.Started made p id start) es (items_of es) (items_are es)
+items_are (Entry.Released made p id start release ∷ es) = two_by (Entry.Released made p id start release) es (items_of es) (items_are es)
+items_are (Entry.Finished made p id start release finish ∷ es) = two_by (Entry.Finished made p id start release finish) es (items_of es) (items_are es)
+
+value_is : (entry : Entry) → value_of (item_of entry) ≡ publication_in entry
+value_is (Entry.Waits made p) = refl
+value_is (Entry.Started made p id start) = refl
+value_is (Entry.Released made p id start release) = refl
+value_is (Entry.Finished made p id start release finish) = refl
+
+values_are : (es : List Entry) → map value_of (map item_of es) ≡ map publication_in es
+values_are [] = refl
+values_are (entry ∷ es) = ap₂ (λ x l. x ∷ l) (value_is entry) (values_are es)
+
+not_over : (entry : Entry) → is_over (item_of entry) ≡ false → is_released entry ≡ false
+not_over (Entry.Waits made p) e = refl
+not_over (Entry.Started made p id start) e = refl
+not_over (Entry.Released made p id start release) e = absurd (both_ways true e refl)
+not_over (Entry.Finished made p id start release finish) e = absurd (both_ways true e refl)
+
+nones_over : (es : List Entry) → Each (λ item. is_over item ≡ false) (map item_of es) → Each (λ entry. is_released entry ≡ false) es
+nones_over [] h = tt
+nones_over (entry ∷ es) h = (not_over entry h.0, nones_over es h.1)
+
+pub record Split {A B : Type 0} (f : A → B) (xs : List A) (ys zs : List B) : Type 0 where
+  pub front : List A
+  pub behind : List A
+  pub is : xs ≡ front ++ behind
+  pub front_is : map f front ≡ ys
+  pub behind_is : map f behind ≡ zs
+
+no_cons : {A : Type 0} (x : A) (xs : List A) → [] ≡ x ∷ xs → ⊥
+no_cons x xs e = cc
+
+pub split_map : {A B : Type 0} (f : A → B) (xs : List A) (ys zs : List B) → map f xs ≡ ys ++ zs → Split f xs ys zs
+split_map f xs [] zs e = record { front = []; behind = xs; is = refl; front_is = refl; behind_is = e }
+split_map f [] (y ∷ ys) zs e = absurd (no_cons y (ys ++ zs) e)
+split_map f (x ∷ xs) (y ∷ ys) zs e =
+    let a : f x ≡ y = cc in
+    let b : map f xs ≡ ys ++ zs = cc in
+    let s = split_map f xs ys zs b in
+    record { front = x ∷ s.front; behind = s.behind; is = ap (λ l. x ∷ l) s.is; front_is = ap₂ (λ u l. u ∷ l) a s.front_is; behind_is = s.behind_is }
+
+pub accepted_in_order : (limits : Limits) (s : Story) → IsGood (as_subscriber limits s) → AcceptedInOrder limits s
+accepted_in_order limits s g =
+    let x = good_exact (as_subscriber limits s) g in
+    let es = entries_of limits s.past s.keeper.client in
+    let cut = split_map item_of (two_entries es) x.old x.new (items_are es ∙ x.is) in
+    record {
+      old = cut.front;
+      new = cut.behind;
+      is = cut.is;
+      accepted = x.accepted ∙ ap (map value_of) (sym cut.front_is) ∙ values_are cut.front;
+      rest = nones_over cut.behind (subst (Each (λ item. is_over item ≡ false)) (sym cut.behind_is) x.rest);
+    }
+
+-- ---- publications
+
+own_by : (b : Bool) (k : ℕ) (item : Item ℕ) (items : List (Item ℕ)) (own : List ℕ) → value_of item ≡ k → map value_of items ≡ own
+    → map value_of (if b then item ∷ items else items) ≡ (if b then k ∷ own else own)
+own_by true k item items own e f = ap₂ (λ x l. x ∷ l) e f
+own_by false k item items own e f = f
+
+numbers_are : (own : List Own) → map value_of (items_of_own own) ≡ published own
+numbers_are [] = refl
+numbers_are (Own.Unsent k p id ∷ own) = own_by (is_two p.qos) k (Item.Waits k) (items_of_own own) (published own) refl (numbers_are own)
+numbers_are (Own.Sent k p id ∷ own) = own_by (is_two p.qos) k (Item.Sent k id) (items_of_own own) (published own) refl (numbers_are own)
+numbers_are (Own.Released k p id ∷ own) = own_by (is_two p.qos) k (Item.Released k id) (items_of_own own) (published own) refl (numbers_are own)
+numbers_are (Own.Done k p ∷ own) = own_by (is_two p.qos) k (Item.Finished k) (items_of_own own) (published own) refl (numbers_are own)
+
+pub numbers_in_order : (limits : Limits) (s : Story) → IsGood (as_publisher limits s) → IsPrefixOf (new_numbers s.connections s.past) (published s.keeper.own)
+numbers_in_order limits s g =
+    let x = good_exact (as_publisher limits s) g in
+    record {
+      rest = map value_of x.new;
+      is = sym (numbers_are s.keeper.own) ∙ ap (map value_of) x.is ∙ map-append value_of x.old x.new ∙ ap (λ l. l ++ map value_of x.new) (sym x.accepted);
+    }

@@ -1,0 +1,106 @@
+-- The QoS 2 entries of a session as items of a handshake: what the client's answers and new entries make of them.
+use Rattle.std.proofs.Common.{◌≡◌, ℕ, Bool, true, false, not, ◌==◌, if◌then◌else◌, List, [], ◌∷◌, ◌++◌, map, refl, ap, ap₂, inl, inr, ◌⊎◌}
+use Rattle.std.proofs.lemmas.Bool.{both_ways, cases_Bool}
+use Rattle.client_base.specs.packet.declared.qos.QoS.{QoS}
+use Rattle.client_base.specs.packet.declared.qos.QoS.TheVariants as levels
+use Rattle.client_base.specs.session_base.declared.publication.Publication.{Publication}
+use Rattle.client_base.specs.session_base.Publication.{is_acknowledged, is_answered}
+use Rattle.broker_base.specs.Entries.{Entry}
+use Rattle.broker_base.specs.Times.{at_pubrec, at_pubcomp}
+use Rattle.exactly_once.specs.Items.{Item, releasing, finishing}
+use Rattle.exactly_once.specs.Carried.{is_two}
+use Rattle.exactly_once.specs.Inside.Projections.{items_of, two_item}
+
+-- an entry is of QoS 1 or 2
+abbrev pub IsQueued : Entry → Type 0
+IsQueued (Entry.Waits made p) = is_answered p.qos ≡ true
+IsQueued (Entry.Started made p id start) = is_answered p.qos ≡ true
+IsQueued (Entry.Released made p id start release) = is_answered p.qos ≡ true
+IsQueued (Entry.Finished made p id start release finish) = is_answered p.qos ≡ true
+
+two_or_one : (q : QoS) → is_answered q ≡ true → is_two q ≡ not (is_acknowledged q)
+two_or_one levels.AtMostOnce e = e
+two_or_one levels.AtLeastOnce e = refl
+two_or_one levels.ExactlyOnce e = refl
+
+two_not_one : (q : QoS) → is_two q ≡ true → is_acknowledged q ≡ false
+two_not_one levels.AtMostOnce e = absurd (both_ways false refl e)
+two_not_one levels.AtLeastOnce e = absurd (both_ways false refl e)
+two_not_one levels.ExactlyOnce e = refl
+
+not_two_one : (q : QoS) → is_answered q ≡ true → is_two q ≡ false → is_acknowledged q ≡ true
+not_two_one levels.AtMostOnce a e = absurd (both_ways false refl a)
+not_two_one levels.AtLeastOnce a e = refl
+not_two_one levels.ExactlyOnce a e = absurd (both_ways true e refl)
+
+abbrev pub AllQueued : List Entry → Type 0
+AllQueued (e ∷ es) = IsQueued e × AllQueued es
+AllQueued [] = Unit {0}
+
+-- ---- PUBREC
+
+pub items_pubrec : (n i : ℕ) (es : List Entry) → AllQueued es → items_of (map (at_pubrec n i) es) ≡ map (releasing i) (items_of es)
+items_pubrec n i [] h = refl
+items_pubrec n i (Entry.Waits made p ∷ es) h = by (is_two p.qos) (items_pubrec n i es h.1)
+  where
+    by : (b : Bool) → items_of (map (at_pubrec n i) es) ≡ map (releasing i) (items_of es)
+        → (if b then Item.Waits p ∷ items_of (map (at_pubrec n i) es) else items_of (map (at_pubrec n i) es)) ≡ map (releasing i) (if b then Item.Waits p ∷ items_of es else items_of es)
+    by true ih = ap (λ l. Item.Waits p ∷ l) ih
+    by false ih = ih
+items_pubrec n i (Entry.Started made p id start ∷ es) h = by (cases_Bool (i == id)) (cases_Bool (is_two p.qos)) (items_pubrec n i es h.1)
+  where
+    by : ((i == id) ≡ true) ⊎ ((i == id) ≡ false) → (is_two p.qos ≡ true) ⊎ (is_two p.qos ≡ false) → items_of (map (at_pubrec n i) es) ≡ map (releasing i) (items_of es)
+        → items_of (at_pubrec n i (Entry.Started made p id start) ∷ map (at_pubrec n i) es) ≡ map (releasing i) (two_item p (Item.Sent p id) (items_of es))
+    by (inl b) (inl t) ih = rw (b, t, two_not_one p.qos t) (rw t (rw b (ap (λ l. Item.Released p id ∷ l) ih)))
+    by (inl b) (inr t) ih = rw (b, t, not_two_one p.qos h.0 t) (rw t ih)
+    by (inr b) (inl t) ih = rw (b, t) (rw b (ap (λ l. Item.Sent p id ∷ l) ih))
+    by (inr b) (inr t) ih = rw (b, t) ih
+items_pubrec n i (Entry.Released made p id start release ∷ es) h = by (is_two p.qos) (items_pubrec n i es h.1)
+  where
+    by : (b : Bool) → items_of (map (at_pubrec n i) es) ≡ map (releasing i) (items_of es)
+        → (if b then Item.Released p id ∷ items_of (map (at_pubrec n i) es) else items_of (map (at_pubrec n i) es)) ≡ map (releasing i) (if b then Item.Released p id ∷ items_of es else items_of es)
+    by true ih = ap (λ l. Item.Released p id ∷ l) ih
+    by false ih = ih
+items_pubrec n i (Entry.Finished made p id start release finish ∷ es) h = by (is_two p.qos) (items_pubrec n i es h.1)
+  where
+    by : (b : Bool) → items_of (map (at_pubrec n i) es) ≡ map (releasing i) (items_of es)
+        → (if b then Item.Finished p ∷ items_of (map (at_pubrec n i) es) else items_of (map (at_pubrec n i) es)) ≡ map (releasing i) (if b then Item.Finished p ∷ items_of es else items_of es)
+    by true ih = ap (λ l. Item.Finished p ∷ l) ih
+    by false ih = ih
+
+-- ---- PUBCOMP
+
+two_map : (i : ℕ) (p : Publication) (x y : Item Publication) (es fs : List (Item Publication)) → y ≡ finishing i x → fs ≡ map (finishing i) es → two_item p y fs ≡ map (finishing i) (two_item p x es)
+two_map i p x y es fs e f = by (is_two p.qos)
+  where
+    by : (b : Bool) → (if b then y ∷ fs else fs) ≡ map (finishing i) (if b then x ∷ es else es)
+    by true = ap₂ (λ z l. z ∷ l) e f
+    by false = f
+
+pub items_pubcomp : (n i : ℕ) (es : List Entry) → items_of (map (at_pubcomp n i) es) ≡ map (finishing i) (items_of es)
+items_pubcomp n i [] = refl
+items_pubcomp n i (Entry.Waits made p ∷ es) = two_map i p (Item.Waits p) (Item.Waits p) (items_of es) (items_of (map (at_pubcomp n i) es)) refl (items_pubcomp n i es)
+items_pubcomp n i (Entry.Started made p id start ∷ es) = two_map i p (Item.Sent p id) (Item.Sent p id) (items_of es) (items_of (map (at_pubcomp n i) es)) refl (items_pubcomp n i es)
+items_pubcomp n i (Entry.Released made p id start release ∷ es) = by (cases_Bool (i == id)) (items_pubcomp n i es)
+  where
+    by : ((i == id) ≡ true) ⊎ ((i == id) ≡ false) → items_of (map (at_pubcomp n i) es) ≡ map (finishing i) (items_of es)
+        → items_of (at_pubcomp n i (Entry.Released made p id start release) ∷ map (at_pubcomp n i) es) ≡ map (finishing i) (two_item p (Item.Released p id) (items_of es))
+    by (inl b) ih = rw b (two_map i p (Item.Released p id) (Item.Finished p) (items_of es) (items_of (map (at_pubcomp n i) es)) (rw b refl) ih)
+    by (inr b) ih = rw b (two_map i p (Item.Released p id) (Item.Released p id) (items_of es) (items_of (map (at_pubcomp n i) es)) (rw b refl) ih)
+items_pubcomp n i (Entry.Finished made p id start release finish ∷ es) = two_map i p (Item.Finished p) (Item.Finished p) (items_of es) (items_of (map (at_pubcomp n i) es)) refl (items_pubcomp n i es)
+
+-- ---- new entries
+
+two_append : (p : Publication) (x : Item Publication) (es more all : List (Item Publication)) → all ≡ es ++ more → two_item p x all ≡ two_item p x es ++ more
+two_append p x es more all e = by (is_two p.qos)
+  where
+    by : (b : Bool) → (if b then x ∷ all else all) ≡ (if b then x ∷ es else es) ++ more
+    by true = ap (λ l. x ∷ l) e
+    by false = e
+
+pub items_append : (es more : List Entry) → items_of (es ++ more) ≡ items_of es ++ items_of more
+items_append [] more = refl
+items_append (Entry.Waits made p ∷ es) more = two_append p (Item.Waits p) (items_of es) (items_of more) (items_of (es ++ more)) (items_append es more)
+items_append (Entry.Started made p id start ∷ es) more = two_append p (Item.Sent p id) (items_of es) (items_of more) (items_of (es ++ more)) (items_append es more)
+items_append (Entry.Released made p id start release ∷ es) more = two_append p (Item.Released p id) (items_of es) (items_of more) (items_of (es ++ more)) (items_append es more)
+items_append (Entry.Finished made p id start release finish ∷ es) more = two_append p (Item.Finished p) (items_of es) (items_of more) (items_of (es ++ more)) (items_append es more)

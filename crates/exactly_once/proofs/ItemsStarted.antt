@@ -1,0 +1,74 @@
+-- What a start does to the items.
+use Rattle.std.proofs.Common.{◌≡◌, ℕ, Bool, false, List, [], ◌∷◌, ◌++◌, Some, None, refl, ap, ap₂, sym, ◌∙◌}
+use Rattle.client_base.specs.lists.Lists.{Each}
+use Rattle.exactly_once.specs.Items.{Item, busy, sent, start_first, first_waiting}
+use Rattle.exactly_once.specs.HandshakeSides.{IsOld, IsNew, IsWaiting, WaitsLast}
+
+-- ---- a start
+
+pub none_busy : {V : Type 0} (items : List (Item V)) → Each IsWaiting items → busy items ≡ []
+none_busy [] w = refl
+none_busy (Item.Waits v ∷ items) w = none_busy items w.1
+none_busy (Item.Sent v id ∷ items) w = elim w.0 [ ]
+none_busy (Item.Released v id ∷ items) w = elim w.0 [ ]
+none_busy (Item.Finished v ∷ items) w = elim w.0 [ ]
+
+pub none_sent : {V : Type 0} (items : List (Item V)) → Each IsWaiting items → sent items ≡ []
+none_sent [] w = refl
+none_sent (Item.Waits v ∷ items) w = none_sent items w.1
+none_sent (Item.Sent v id ∷ items) w = elim w.0 [ ]
+none_sent (Item.Released v id ∷ items) w = elim w.0 [ ]
+none_sent (Item.Finished v ∷ items) w = elim w.0 [ ]
+
+-- after items that do not wait
+pub start_behind : {V : Type 0} (received : ℕ → Bool) (id : ℕ) (old new : List (Item V)) → Each (IsOld received) old → start_first id (old ++ new) ≡ old ++ start_first id new
+start_behind received id [] new h = refl
+start_behind received id (Item.Waits v ∷ old) new h = elim h.0 [ ]
+start_behind received id (Item.Sent v i ∷ old) new h = ap (λ l. Item.Sent v i ∷ l) (start_behind received id old new h.1)
+start_behind received id (Item.Released v i ∷ old) new h = ap (λ l. Item.Released v i ∷ l) (start_behind received id old new h.1)
+start_behind received id (Item.Finished v ∷ old) new h = ap (λ l. Item.Finished v ∷ l) (start_behind received id old new h.1)
+
+pub waiting_behind : {V : Type 0} (received : ℕ → Bool) (old new : List (Item V)) → Each (IsOld received) old → first_waiting (old ++ new) ≡ first_waiting new
+waiting_behind received [] new h = refl
+waiting_behind received (Item.Waits v ∷ old) new h = elim h.0 [ ]
+waiting_behind received (Item.Sent v i ∷ old) new h = waiting_behind received old new h.1
+waiting_behind received (Item.Released v i ∷ old) new h = waiting_behind received old new h.1
+waiting_behind received (Item.Finished v ∷ old) new h = waiting_behind received old new h.1
+
+pub record Started {V : Type 0} (received : ℕ → Bool) (id : ℕ) (v : V) (new : List (Item V)) : Type 0 where
+  pub sent_is : sent (start_first id new) ≡ sent new ++ (id, v) ∷ []
+  pub busy_is : busy (start_first id new) ≡ busy new ++ id ∷ []
+  pub news : Each (IsNew received) (start_first id new)
+  pub waits_last : WaitsLast (start_first id new)
+
+none_or_some : {V : Type 0} (v : V) → None ≡ Some v → ⊥
+none_or_some v e = cc
+
+pub starts_new : {V : Type 0} (received : ℕ → Bool) (id : ℕ) (v : V) (new : List (Item V)) → received id ≡ false → Each (IsNew received) new
+    → WaitsLast new → first_waiting new ≡ Some v → Started received id v new
+starts_new received id v [] r h w e = absurd (none_or_some v e)
+starts_new received id v (Item.Waits u ∷ new) r h w e =
+    let same : u ≡ v = cc in
+    record {
+      sent_is = ap₂ (λ x l. (id, x) ∷ l) same (none_sent new w) ∙ sym (ap (λ l. l ++ (id, v) ∷ []) (none_sent new w));
+      busy_is = ap (λ l. id ∷ l) (none_busy new w) ∙ sym (ap (λ l. l ++ id ∷ []) (none_busy new w));
+      news = (r, h.1);
+      waits_last = all_wait new w;
+    }
+  where
+    all_wait : {V : Type 0} (items : List (Item V)) → Each IsWaiting items → WaitsLast items
+    all_wait [] w = tt
+    all_wait (Item.Waits v ∷ items) w = w.1
+    all_wait (Item.Sent v id ∷ items) w = elim w.0 [ ]
+    all_wait (Item.Released v id ∷ items) w = elim w.0 [ ]
+    all_wait (Item.Finished v ∷ items) w = elim w.0 [ ]
+starts_new received id v (Item.Sent u i ∷ new) r h w e =
+    let s = starts_new received id v new r h.1 w e in
+    record {
+      sent_is = ap (λ l. (i, u) ∷ l) s.sent_is;
+      busy_is = ap (λ l. i ∷ l) s.busy_is;
+      news = (h.0, s.news);
+      waits_last = s.waits_last;
+    }
+starts_new received id v (Item.Released u i ∷ new) r h w e = elim h.0 [ ]
+starts_new received id v (Item.Finished u ∷ new) r h w e = elim h.0 [ ]

@@ -1,0 +1,38 @@
+-- Every story keeps its promises: what is shown of its two handshakes and of the places of its list, in one.
+use Rattle.std.proofs.Common.{length, subst}
+use Rattle.broker_base.specs.Place.{Client, Limits}
+use Rattle.broker_base.specs.QuietLaws.{IsSteady}
+use Rattle.exactly_once.specs.Story.{Story, Told}
+use Rattle.exactly_once.specs.Headline.{PublishedOnce, ExactlyOnce}
+use Rattle.exactly_once.proofs.Entering.{entering, entering_as}
+use Rattle.exactly_once.proofs.Ends.{numbers_in_order}
+use Rattle.exactly_once.proofs.keeping.Told.{told_stories_are_sound, told_stories_accept}
+use Rattle.exactly_once.proofs.carrying.KeepsPlaces.{told_carried}
+use Rattle.exactly_once.proofs.carrying.Answered.{answered_is_new, acknowledged_is_taken, new_taken, carried_is_own}
+use Rattle.exactly_once.proofs.carrying.EntersOnce.{publication_enters_once}
+use Rattle.exactly_once.proofs.carrying.Distinct.{published_apart}
+use Rattle.exactly_once.specs.Carried.{new_numbers}
+use Rattle.client_base.specs.lists.Lists.{IsDistinct}
+use Rattle.client_base.proofs.of_lists.Identifiers.{distinct_front}
+
+pub told_stories_publish_once : (limits : Limits) → IsSteady limits → (c : Client) (s : Story) → Told limits c s → PublishedOnce limits s
+told_stories_publish_once limits steady c s told =
+    let sound = told_stories_are_sound limits steady c s told in
+    let carried = told_carried limits steady c s told in
+    let in_order = numbers_in_order limits s sound.publisher in
+    record {
+      carried = carried_is_own limits s carried;
+      in_order = in_order;
+      taken = new_taken limits s carried;
+      answered = answered_is_new limits s carried;
+      enters_once = publication_enters_once limits s carried
+          (distinct_front (new_numbers s.connections s.past) in_order.rest
+          (subst IsDistinct in_order.is (published_apart (length s.keeper.earlier) s.keeper.own carried.numbers.1)));
+      enters = entering limits s;
+      enters_as = λ place below x p d stands. entering_as limits s.keeper.client place below x p d;
+      acknowledged = acknowledged_is_taken limits s carried;
+    }
+
+pub told_stories_are_exact : (limits : Limits) → IsSteady limits → (c : Client) (s : Story) → Told limits c s → ExactlyOnce limits s
+told_stories_are_exact limits steady c s told =
+    record { publishers = told_stories_publish_once limits steady c s told; subscribers = told_stories_accept limits steady c s told }

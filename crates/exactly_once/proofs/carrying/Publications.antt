@@ -1,0 +1,153 @@
+-- What a client published, by number, and the packets that it wrote of it.
+use Rattle.std.proofs.Common.{◌≡◌, ◌+◌, ℕ, suc, Bool, true, false, not, ◌&&◌, ◌==◌, if◌then◌else◌, List, [], ◌∷◌, ◌++◌, map, Option, Some, None, refl, ap, ap₂, sym, ◌∙◌, subst, arith, length}
+use Rattle.std.specs.Prelude.{slice_get}
+use Rattle.client_base.specs.packet.declared.qos.QoS.{QoS}
+use Rattle.client_base.specs.packet.declared.qos.QoS.TheVariants as levels
+use Rattle.client_base.specs.packet.Delivery.{delivery_qos}
+use Rattle.client_base.specs.packet.declared.packet.Packet.{Packet}
+use Rattle.client_base.specs.packet.declared.packet.Packet.TheVariants as packets
+use Rattle.client_base.specs.session_base.declared.publication.Publication.{Publication}
+use Rattle.client_base.specs.session_base.Publication.{publication_of, publish_of, delivery_at, is_acknowledged}
+use Rattle.client_base.specs.lists.Lists.{Each, IsPrefixOf}
+use Rattle.client_base.proofs.of_lists.Beginnings.{prefix_get}
+use Rattle.client_base.proofs.of_lists.OfEach.{each_append}
+use Rattle.client_base.specs.Keeper.{Own, Written, Keeper, all_own}
+use Rattle.client_base.specs.Written.{plain, sent_again, sent_first, sent_all, resent}
+use Rattle.client_base.specs.Handled.{at_puback, at_pubrec, at_pubcomp}
+use Rattle.exactly_once.specs.Sides.{Connection}
+use Rattle.exactly_once.specs.Carried.{publication_in, publications_of}
+use Rattle.client_base.specs.OrderLaws.{AreNumbered}
+use Rattle.std.proofs.lemmas.List.{map-append, length-map}
+
+-- ---- packets
+
+-- a PUBLISH with a number is of the publication of that number
+abbrev pub IsOf : List Publication → Packet → Option ℕ → Type 0
+IsOf ps (packets.Publish p) (Some k) = slice_get ps k ≡ Some (publication_of p)
+IsOf ps _ _ = Unit {0}
+
+abbrev pub IsOfOwn : List Publication → Written → Type 0
+IsOfOwn ps w = IsOf ps w.packet w.number
+
+-- each that was written
+abbrev pub AreOfOwn : List Publication → List Connection → Type 0
+AreOfOwn ps = Each (λ (κ : Connection). Each (IsOfOwn ps) κ.written)
+
+-- while more is published
+pub of_more : (ps qs : List Publication) → IsPrefixOf ps qs → (packet : Packet) (number : Option ℕ) → IsOf ps packet number → IsOf qs packet number
+of_more ps qs front (packets.Publish p) (Some k) e = prefix_get k (publication_of p) front e
+of_more ps qs front (packets.Publish p) None e = tt
+of_more ps qs front _ number e = tt
+
+pub plain_of : (ps : List Publication) (packet : Packet) → IsOfOwn ps (plain packet)
+plain_of ps (packets.Publish p) = tt
+plain_of ps _ = tt
+
+-- what is carried is what was published
+pub carried_is : (dup : Bool) (id : ℕ) (p : Publication) → publication_of (publish_of dup id p) ≡ p
+carried_is dup id p = λ i. record { retain = p.retain; qos = level p.qos i; topic = p.topic; payload = p.payload }
+  where
+    level : (q : QoS) → delivery_qos (delivery_at q dup id) ≡ q
+    level levels.AtMostOnce = refl
+    level levels.AtLeastOnce = refl
+    level levels.ExactlyOnce = refl
+
+-- ---- answers change none of it
+
+pub said_puback : (i : ℕ) (own : List Own) → publications_of (map (at_puback i) own) ≡ publications_of own
+said_puback i [] = refl
+said_puback i (Own.Unsent k p id ∷ own) = ap (λ l. p ∷ l) (said_puback i own)
+said_puback i (Own.Sent k p id ∷ own) = ap₂ (λ q l. q ∷ l) (by ((i == id) && is_acknowledged p.qos)) (said_puback i own)
+  where
+    by : (b : Bool) → publication_in (if b then Own.Done k p else Own.Sent k p id) ≡ p
+    by true = refl
+    by false = refl
+said_puback i (Own.Released k p id ∷ own) = ap (λ l. p ∷ l) (said_puback i own)
+said_puback i (Own.Done k p ∷ own) = ap (λ l. p ∷ l) (said_puback i own)
+
+pub said_pubrec : (i : ℕ) (own : List Own) → publications_of (map (at_pubrec i) own) ≡ publications_of own
+said_pubrec i [] = refl
+said_pubrec i (Own.Unsent k p id ∷ own) = ap (λ l. p ∷ l) (said_pubrec i own)
+said_pubrec i (Own.Sent k p id ∷ own) = ap₂ (λ q l. q ∷ l) (by ((i == id) && not (is_acknowledged p.qos))) (said_pubrec i own)
+  where
+    by : (b : Bool) → publication_in (if b then Own.Released k p id else Own.Sent k p id) ≡ p
+    by true = refl
+    by false = refl
+said_pubrec i (Own.Released k p id ∷ own) = ap (λ l. p ∷ l) (said_pubrec i own)
+said_pubrec i (Own.Done k p ∷ own) = ap (λ l. p ∷ l) (said_pubrec i own)
+
+pub said_pubcomp : (i : ℕ) (own : List Own) → publications_of (map (at_pubcomp i) own) ≡ publications_of own
+said_pubcomp i [] = refl
+said_pubcomp i (Own.Unsent k p id ∷ own) = ap (λ l. p ∷ l) (said_pubcomp i own)
+said_pubcomp i (Own.Sent k p id ∷ own) = ap (λ l. p ∷ l) (said_pubcomp i own)
+said_pubcomp i (Own.Released k p id ∷ own) = ap₂ (λ q l. q ∷ l) (by (i == id)) (said_pubcomp i own)
+  where
+    by : (b : Bool) → publication_in (if b then Own.Done k p else Own.Released k p id) ≡ p
+    by true = refl
+    by false = refl
+said_pubcomp i (Own.Done k p ∷ own) = ap (λ l. p ∷ l) (said_pubcomp i own)
+
+pub said_sent : (own : List Own) → publications_of (sent_all own) ≡ publications_of own
+said_sent [] = refl
+said_sent (Own.Unsent k p id ∷ own) = ap (λ l. p ∷ l) (said_sent own)
+said_sent (Own.Sent k p id ∷ own) = ap (λ l. p ∷ l) (said_sent own)
+said_sent (Own.Released k p id ∷ own) = ap (λ l. p ∷ l) (said_sent own)
+said_sent (Own.Done k p ∷ own) = ap (λ l. p ∷ l) (said_sent own)
+
+-- ---- what is sent after a CONNACK 0
+
+-- these are in the whole from number n on
+abbrev StandFrom : List Publication → ℕ → List Publication → Type 0
+StandFrom ps n qs = (j : ℕ) (q : Publication) → slice_get qs j ≡ Some q → slice_get ps (n + j) ≡ Some q
+
+behind : (ps : List Publication) (n : ℕ) (q : Publication) (qs : List Publication) → StandFrom ps n (q ∷ qs) → StandFrom ps (suc n) qs
+behind ps n q qs stand j r e =
+    let same : n + suc j ≡ suc n + j = omega arith in
+    subst (λ (m : ℕ). slice_get ps m ≡ Some r) same (stand (suc j) r e)
+
+first_of : (ps : List Publication) (n k : ℕ) (p : Publication) (qs : List Publication) (dup : Bool) (id : ℕ) → k ≡ n → StandFrom ps n (p ∷ qs)
+    → slice_get ps k ≡ Some (publication_of (publish_of dup id p))
+first_of ps n k p qs dup id e stand =
+    let same : n + 0 ≡ k = omega (arith, e) in
+    subst (λ (m : ℕ). slice_get ps m ≡ Some p) same (stand 0 p refl) ∙ ap (λ q. Some q) (sym (carried_is dup id p))
+
+again_of : (ps : List Publication) (n : ℕ) (own : List Own) → AreNumbered n own → StandFrom ps n (publications_of own) → Each (IsOfOwn ps) (sent_again own)
+again_of ps n [] h stand = tt
+again_of ps n (Own.Unsent k p id ∷ own) h stand = again_of ps (suc n) own h.1 (behind ps n p (publications_of own) stand)
+again_of ps n (Own.Sent k p id ∷ own) h stand =
+    (first_of ps n k p (publications_of own) true id h.0 stand, again_of ps (suc n) own h.1 (behind ps n p (publications_of own) stand))
+again_of ps n (Own.Released k p id ∷ own) h stand = again_of ps (suc n) own h.1 (behind ps n p (publications_of own) stand)
+again_of ps n (Own.Done k p ∷ own) h stand = again_of ps (suc n) own h.1 (behind ps n p (publications_of own) stand)
+
+unsent_of : (ps : List Publication) (n : ℕ) (own : List Own) → AreNumbered n own → StandFrom ps n (publications_of own) → Each (IsOfOwn ps) (sent_first own)
+unsent_of ps n [] h stand = tt
+unsent_of ps n (Own.Unsent k p id ∷ own) h stand =
+    (first_of ps n k p (publications_of own) false id h.0 stand, unsent_of ps (suc n) own h.1 (behind ps n p (publications_of own) stand))
+unsent_of ps n (Own.Sent k p id ∷ own) h stand = unsent_of ps (suc n) own h.1 (behind ps n p (publications_of own) stand)
+unsent_of ps n (Own.Released k p id ∷ own) h stand = unsent_of ps (suc n) own h.1 (behind ps n p (publications_of own) stand)
+unsent_of ps n (Own.Done k p ∷ own) h stand = unsent_of ps (suc n) own h.1 (behind ps n p (publications_of own) stand)
+
+releases_of : (ps : List Publication) (ids : List ℕ) → Each (IsOfOwn ps) (map (λ id. plain (packets.Pubrel id)) ids)
+releases_of ps [] = tt
+releases_of ps (id ∷ ids) = (tt, releases_of ps ids)
+
+-- the others come after these
+get_behind : (xs ys : List Publication) (j : ℕ) → slice_get (xs ++ ys) (length xs + j) ≡ slice_get ys j
+get_behind [] ys j = let same : 0 + j ≡ j = omega arith in ap (slice_get ys) same
+get_behind (x ∷ xs) ys j = let same : suc (length xs) + j ≡ suc (length xs + j) = omega arith in ap (slice_get (x ∷ xs ++ ys)) same ∙ get_behind xs ys j
+
+pub said_behind : (earlier own later : List Own) → publications_of later ≡ publications_of own → publications_of (earlier ++ later) ≡ publications_of (earlier ++ own)
+said_behind earlier own later e = map-append publication_in earlier later ∙ ap (λ l. publications_of earlier ++ l) e ∙ sym (map-append publication_in earlier own)
+
+pub resent_of : (keeper : Keeper) → AreNumbered (length keeper.earlier) keeper.own → Each (IsOfOwn (publications_of (all_own keeper))) (resent keeper)
+resent_of keeper numbered =
+    let ps = publications_of (all_own keeper) in
+    let n = length keeper.earlier in
+    let stand : StandFrom ps n (publications_of keeper.own) = λ j q e.
+    ap (λ l. slice_get l (n + j)) (map-append publication_in keeper.earlier keeper.own)
+    ∙ ap (λ m. slice_get (publications_of keeper.earlier ++ publications_of keeper.own) (m + j)) (sym (length-map keeper.earlier publication_in))
+    ∙ get_behind (publications_of keeper.earlier) (publications_of keeper.own) j ∙ e in
+    each_append (IsOfOwn ps) (map (λ id. plain (packets.Pubrel id)) keeper.releases ++ sent_again keeper.own) (sent_first keeper.own)
+    (each_append (IsOfOwn ps) (map (λ id. plain (packets.Pubrel id)) keeper.releases) (sent_again keeper.own) (releases_of ps keeper.releases)
+    (again_of ps n keeper.own numbered stand))
+    (unsent_of ps n keeper.own numbered stand)

@@ -1,0 +1,45 @@
+-- What a client writes after a CONNACK 0 is what a handshake sends again, and then what starts.
+use Rattle.std.proofs.Common.{◌≡◌, ℕ, Bool, true, false, if◌then◌else◌, List, [], ◌∷◌, ◌++◌, map, refl, ap, ap₂, sym, ◌∙◌}
+use Rattle.client_base.specs.packet.declared.packet.Packet.TheVariants as packets
+use Rattle.client_base.specs.session_base.declared.publication.Publication.{Publication}
+use Rattle.exactly_once.specs.Items.{Item, sent}
+use Rattle.exactly_once.specs.Handshake.{Forward, publishing, resend}
+use Rattle.client_base.specs.Keeper.{Own, Keeper}
+use Rattle.client_base.specs.Written.{plain, sent_again, sent_first, resent}
+use Rattle.exactly_once.specs.Carried.{is_two}
+use Rattle.exactly_once.specs.Inside.Projections.{items_of_own, own_item, forward_of_own}
+use Rattle.exactly_once.proofs.Hears.{forward_append}
+use Rattle.exactly_once.proofs.publishing.Publishes.{forward_publishes}
+
+-- PUBRELs
+releases_again : (ids : List ℕ) → forward_of_own (map (λ id. plain (packets.Pubrel id)) ids) ≡ map (λ id. Forward.Pubrel id) ids
+releases_again [] = refl
+releases_again (id ∷ ids) = ap (λ l. Forward.Pubrel id ∷ l) (releases_again ids)
+
+-- an item that is not sent is not sent again
+not_again : (p : Publication) (item : Item ℕ) (items : List (Item ℕ)) → sent (item ∷ items) ≡ sent items → sent items ≡ sent (own_item p item items)
+not_again p item items e = by (is_two p.qos)
+  where
+    by : (b : Bool) → sent items ≡ sent (if b then item ∷ items else items)
+    by true = sym e
+    by false = refl
+
+-- PUBLISHes with DUP 1
+publishes_again : (own : List Own) → forward_of_own (sent_again own) ≡ map publishing (sent (items_of_own own))
+publishes_again [] = refl
+publishes_again (Own.Unsent k p id ∷ own) = publishes_again own ∙ ap (map publishing) (not_again p (Item.Waits k) (items_of_own own) refl)
+publishes_again (Own.Sent k p id ∷ own) = forward_publishes true k id p (sent_again own) ∙ by (is_two p.qos) (publishes_again own)
+  where
+    by : (b : Bool) → forward_of_own (sent_again own) ≡ map publishing (sent (items_of_own own))
+        → (if b then Forward.Publish id k ∷ forward_of_own (sent_again own) else forward_of_own (sent_again own)) ≡ map publishing (sent (if b then Item.Sent k id ∷ items_of_own own else items_of_own own))
+    by true ih = ap (λ l. Forward.Publish id k ∷ l) ih
+    by false ih = ih
+publishes_again (Own.Released k p id ∷ own) = publishes_again own ∙ ap (map publishing) (not_again p (Item.Released k id) (items_of_own own) refl)
+publishes_again (Own.Done k p ∷ own) = publishes_again own ∙ ap (map publishing) (not_again p (Item.Finished k) (items_of_own own) refl)
+
+pub forward_resent : (keeper : Keeper) → forward_of_own (resent keeper) ≡ resend keeper.releases (items_of_own keeper.own) ++ forward_of_own (sent_first keeper.own)
+forward_resent keeper =
+    let rels = map (λ id. plain (packets.Pubrel id)) keeper.releases in
+    forward_append (rels ++ sent_again keeper.own) (sent_first keeper.own)
+    ∙ ap (λ l. l ++ forward_of_own (sent_first keeper.own))
+    (forward_append rels (sent_again keeper.own) ∙ ap₂ (λ g h. g ++ h) (releases_again keeper.releases) (publishes_again keeper.own))

@@ -1,0 +1,94 @@
+-- One more publication after the others, and all of them sent: identifiers, numbers and releases.
+use Rattle.std.proofs.Common.{◌≡◌, ◌+◌, ℕ, suc, Bool, true, false, ◌||◌, ◌==◌, if◌then◌else◌, List, [], ◌∷◌, ◌++◌, length, refl, ap, subst, arith}
+use Rattle.std.proofs.lemmas.Bool.{both_ways}
+use Rattle.exactly_once.specs.Items.{Item, has_released}
+use Rattle.client_base.specs.Keeper.{Own, ids_of_own}
+use Rattle.client_base.specs.Written.{sent_all}
+use Rattle.exactly_once.specs.Carried.{is_two}
+use Rattle.exactly_once.specs.Inside.Projections.{items_of_own}
+use Rattle.exactly_once.specs.Inside.Shape.{AreNumbered, none_unsent}
+
+-- ---- one more
+
+pub ids_more : (own more : List Own) → ids_of_own (own ++ more) ≡ ids_of_own own ++ ids_of_own more
+ids_more [] more = refl
+ids_more (Own.Unsent k p id ∷ own) more = ap (λ l. id ∷ l) (ids_more own more)
+ids_more (Own.Sent k p id ∷ own) more = ap (λ l. id ∷ l) (ids_more own more)
+ids_more (Own.Released k p id ∷ own) more = ap (λ l. id ∷ l) (ids_more own more)
+ids_more (Own.Done k p ∷ own) more = ids_more own more
+
+pub numbered_more : (n : ℕ) (own more : List Own) → AreNumbered n own → AreNumbered (n + length own) more → AreNumbered n (own ++ more)
+numbered_more n [] more h g = let same : n + 0 ≡ n = omega arith in subst (λ (m : ℕ). AreNumbered m more) same g
+numbered_more n (Own.Unsent k p id ∷ own) more h g =
+    let same : n + suc (length own) ≡ suc n + length own = omega arith in (h.0, numbered_more (suc n) own more h.1 (subst (λ (m : ℕ). AreNumbered m more) same g))
+numbered_more n (Own.Sent k p id ∷ own) more h g =
+    let same : n + suc (length own) ≡ suc n + length own = omega arith in (h.0, numbered_more (suc n) own more h.1 (subst (λ (m : ℕ). AreNumbered m more) same g))
+numbered_more n (Own.Released k p id ∷ own) more h g =
+    let same : n + suc (length own) ≡ suc n + length own = omega arith in (h.0, h.1, numbered_more (suc n) own more h.2 (subst (λ (m : ℕ). AreNumbered m more) same g))
+numbered_more n (Own.Done k p ∷ own) more h g =
+    let same : n + suc (length own) ≡ suc n + length own = omega arith in (h.0, numbered_more (suc n) own more h.1 (subst (λ (m : ℕ). AreNumbered m more) same g))
+
+pub unsent_more : (own more : List Own) → none_unsent own ≡ true → none_unsent more ≡ true → none_unsent (own ++ more) ≡ true
+unsent_more [] more h g = g
+unsent_more (Own.Unsent k p id ∷ own) more h g = absurd (both_ways false refl h)
+unsent_more (Own.Sent k p id ∷ own) more h g = unsent_more own more h g
+unsent_more (Own.Released k p id ∷ own) more h g = unsent_more own more h g
+unsent_more (Own.Done k p ∷ own) more h g = unsent_more own more h g
+
+pub released_front : (j : ℕ) (items more : List (Item ℕ)) → has_released j more ≡ false → has_released j (items ++ more) ≡ has_released j items
+released_front j [] more e = e
+released_front j (Item.Waits v ∷ items) more e = released_front j items more e
+released_front j (Item.Sent v id ∷ items) more e = released_front j items more e
+released_front j (Item.Released v id ∷ items) more e = ap (λ b. (j == id) || b) (released_front j items more e)
+released_front j (Item.Finished v ∷ items) more e = released_front j items more e
+
+-- ---- all sent
+
+pub ids_sent : (own : List Own) → ids_of_own own ≡ ids_of_own (sent_all own)
+ids_sent [] = refl
+ids_sent (Own.Unsent k p id ∷ own) = ap (λ l. id ∷ l) (ids_sent own)
+ids_sent (Own.Sent k p id ∷ own) = ap (λ l. id ∷ l) (ids_sent own)
+ids_sent (Own.Released k p id ∷ own) = ap (λ l. id ∷ l) (ids_sent own)
+ids_sent (Own.Done k p ∷ own) = ids_sent own
+
+pub numbered_sent : (n : ℕ) (own : List Own) → AreNumbered n own → AreNumbered n (sent_all own)
+numbered_sent n [] h = tt
+numbered_sent n (Own.Unsent k p id ∷ own) h = (h.0, numbered_sent (suc n) own h.1)
+numbered_sent n (Own.Sent k p id ∷ own) h = (h.0, numbered_sent (suc n) own h.1)
+numbered_sent n (Own.Released k p id ∷ own) h = (h.0, h.1, numbered_sent (suc n) own h.2)
+numbered_sent n (Own.Done k p ∷ own) h = (h.0, numbered_sent (suc n) own h.1)
+
+pub unsent_sent : (own : List Own) → none_unsent (sent_all own) ≡ true
+unsent_sent [] = refl
+unsent_sent (Own.Unsent k p id ∷ own) = unsent_sent own
+unsent_sent (Own.Sent k p id ∷ own) = unsent_sent own
+unsent_sent (Own.Released k p id ∷ own) = unsent_sent own
+unsent_sent (Own.Done k p ∷ own) = unsent_sent own
+
+pub released_sent : (j : ℕ) (own : List Own) → has_released j (items_of_own own) ≡ has_released j (items_of_own (sent_all own))
+released_sent j [] = refl
+released_sent j (Own.Unsent k p id ∷ own) = by (is_two p.qos) (released_sent j own)
+  where
+    by : (b : Bool) → has_released j (items_of_own own) ≡ has_released j (items_of_own (sent_all own))
+        → has_released j (if b then Item.Waits k ∷ items_of_own own else items_of_own own) ≡ has_released j (if b then Item.Sent k id ∷ items_of_own (sent_all own) else items_of_own (sent_all own))
+    by true ih = ih
+    by false ih = ih
+released_sent j (Own.Sent k p id ∷ own) = by (is_two p.qos) (released_sent j own)
+  where
+    by : (b : Bool) → has_released j (items_of_own own) ≡ has_released j (items_of_own (sent_all own))
+        → has_released j (if b then Item.Sent k id ∷ items_of_own own else items_of_own own) ≡ has_released j (if b then Item.Sent k id ∷ items_of_own (sent_all own) else items_of_own (sent_all own))
+    by true ih = ih
+    by false ih = ih
+released_sent j (Own.Released k p id ∷ own) = by (is_two p.qos) (released_sent j own)
+  where
+    by : (b : Bool) → has_released j (items_of_own own) ≡ has_released j (items_of_own (sent_all own))
+        → has_released j (if b then Item.Released k id ∷ items_of_own own else items_of_own own)
+        ≡ has_released j (if b then Item.Released k id ∷ items_of_own (sent_all own) else items_of_own (sent_all own))
+    by true ih = ap (λ b. (j == id) || b) ih
+    by false ih = ih
+released_sent j (Own.Done k p ∷ own) = by (is_two p.qos) (released_sent j own)
+  where
+    by : (b : Bool) → has_released j (items_of_own own) ≡ has_released j (items_of_own (sent_all own))
+        → has_released j (if b then Item.Finished k ∷ items_of_own own else items_of_own own) ≡ has_released j (if b then Item.Finished k ∷ items_of_own (sent_all own) else items_of_own (sent_all own))
+    by true ih = ih
+    by false ih = ih

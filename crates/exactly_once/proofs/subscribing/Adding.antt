@@ -1,0 +1,98 @@
+-- What a place adds to the entries and starts of them is a run of the handshake.
+use Rattle.std.proofs.Common.{◌≡◌, ℕ, suc, Bool, true, false, if◌then◌else◌, List, [], ◌∷◌, ◌++◌, map, Option, Some, None, refl, ap, sym, ◌∙◌, append_assoc}
+use Rattle.std.proofs.lemmas.List.{append-nil}
+use Rattle.std.specs.List.{AllByRecursion}
+use Rattle.client_base.specs.session_base.declared.publication.Publication.{Publication}
+use Rattle.broker_base.specs.Connection.{ConnectionName}
+use Rattle.broker_base.specs.Entries.{Entry}
+use Rattle.broker_base.specs.Times.{started}
+use Rattle.broker_base.specs.IdentifierLaws.{WaitsLast, IsWaiting}
+use Rattle.broker_base.proofs.SoundEntries.{AllWait, InOrder, Sound}
+use Rattle.broker_base.proofs.SoundStarts.{sound_new}
+use Rattle.exactly_once.specs.Items.{Item}
+use Rattle.exactly_once.specs.Handshake.{Handshake, Run, with_items}
+use Rattle.exactly_once.specs.Handshake.Moves.{adds}
+use Rattle.exactly_once.specs.Handshake.Run.{stays, goes_on}
+use Rattle.exactly_once.proofs.Exact.{run_then}
+use Rattle.exactly_once.specs.Carried.{is_two}
+use Rattle.exactly_once.specs.Inside.Projections.{items_of, GoesTo}
+use Rattle.exactly_once.proofs.Items.{items_append}
+use Rattle.exactly_once.proofs.Starts.{Starts, rows_started, sending_all, all_starts}
+
+-- ---- new entries
+
+-- those of QoS 2 are added, one after another
+pub adds_all : (n : ℕ) (ps : List Publication) (h : Handshake Publication) → Starts h (h.items ++ items_of (map (Entry.Waits n) ps)) []
+adds_all n [] h = record { after = h; run = stays; items_are = sym (append-nil h.items); accepted = refl; received = refl; link = refl }
+adds_all n (p ∷ ps) h = by (is_two p.qos) (adds_all n ps (with_items (h.items ++ Item.Waits p ∷ []) h.link h)) (adds_all n ps h)
+  where
+    by : (b : Bool) → Starts (with_items (h.items ++ Item.Waits p ∷ []) h.link h) ((h.items ++ Item.Waits p ∷ []) ++ items_of (map (Entry.Waits n) ps)) []
+        → Starts h (h.items ++ items_of (map (Entry.Waits n) ps)) []
+        → Starts h (h.items ++ (if b then Item.Waits p ∷ items_of (map (Entry.Waits n) ps) else items_of (map (Entry.Waits n) ps))) []
+    by true r q =
+        record {
+          after = r.after;
+          run = run_then (goes_on stays (adds p)) r.run;
+          items_are = r.items_are ∙ append_assoc h.items (Item.Waits p ∷ []) (items_of (map (Entry.Waits n) ps));
+          accepted = r.accepted;
+          received = r.received;
+          link = r.link;
+        }
+    by false r q = q
+
+-- ---- what starts
+
+-- the QoS 2 entries that start at a place
+abbrev pub rows_at : ℕ → Option ConnectionName → List Entry → List (ℕ × Publication)
+rows_at w (Some x) es = rows_started w [] es
+rows_at w None es = []
+
+-- all that wait
+all_wait : (es : List Entry) → AllWait es → AllByRecursion IsWaiting es
+all_wait [] h = tt
+all_wait (Entry.Waits made p ∷ es) h = (tt, all_wait es h)
+all_wait (Entry.Started made p id start ∷ es) h = absurd h
+all_wait (Entry.Released made p id start release ∷ es) h = absurd h
+all_wait (Entry.Finished made p id start release finish ∷ es) h = absurd h
+
+-- the two ways to say that those that wait come last
+waits_last : (es : List Entry) → InOrder es → WaitsLast es
+waits_last [] h = tt
+waits_last (Entry.Waits made p ∷ es) h = all_wait es h
+waits_last (Entry.Started made p id start ∷ es) h = waits_last es h
+waits_last (Entry.Released made p id start release ∷ es) h = waits_last es h
+waits_last (Entry.Finished made p id start release finish ∷ es) h = waits_last es h
+
+-- a place adds, then starts
+pub place_starts : (w n : ℕ) (current : Option ConnectionName) (es : List Entry) (ps : List Publication) (h : Handshake Publication) → h.items ≡ items_of es → Sound (suc n) es
+    → Starts h (items_of (started w n current (es ++ map (Entry.Waits n) ps))) (rows_at w current (es ++ map (Entry.Waits n) ps))
+place_starts w n current es ps h e s = by current (adds_all n ps h)
+  where
+    items : h.items ++ items_of (map (Entry.Waits n) ps) ≡ items_of (es ++ map (Entry.Waits n) ps)
+    items = ap (λ l. l ++ items_of (map (Entry.Waits n) ps)) e ∙ sym (items_append es (map (Entry.Waits n) ps))
+
+    by : (current : Option ConnectionName) → Starts h (h.items ++ items_of (map (Entry.Waits n) ps)) []
+        → Starts h (items_of (started w n current (es ++ map (Entry.Waits n) ps))) (rows_at w current (es ++ map (Entry.Waits n) ps))
+    by None r = record { after = r.after; run = r.run; items_are = r.items_are ∙ items; accepted = r.accepted; received = r.received; link = r.link }
+    by (Some x) r =
+        let q = all_starts w n [] [] (es ++ map (Entry.Waits n) ps) r.after (r.items_are ∙ items) tt (λ i e. refl) (waits_last (es ++ map (Entry.Waits n) ps) (sound_new n es ps s).in_order) in
+        record {
+          after = q.after;
+          run = run_then r.run q.run;
+          items_are = q.items_are;
+          accepted = q.accepted ∙ r.accepted;
+          received = q.received ∙ r.received;
+          link = q.link ∙ ap (sending_all (rows_started w [] (es ++ map (Entry.Waits n) ps))) r.link;
+        }
+
+-- after a run
+pub goes_started : (h k t : Handshake Publication) (w n : ℕ) (current : Option ConnectionName) (es : List Entry) (ps : List Publication)
+    → Run h k → k.items ≡ items_of es → Sound (suc n) es → k.accepted ≡ t.accepted → ((id : ℕ) → k.received id ≡ t.received id)
+    → t.items ≡ items_of (started w n current (es ++ map (Entry.Waits n) ps)) → t.link ≡ sending_all (rows_at w current (es ++ map (Entry.Waits n) ps)) k.link → GoesTo h t
+goes_started h k t w n current es ps run e s a r i l =
+    let q = place_starts w n current es ps k e s in
+    record {
+      between = q.after;
+      run = run_then run q.run;
+      like = record { items = q.items_are ∙ sym i; accepted = q.accepted ∙ a; received = λ id. ap (λ (f : ℕ → Bool). f id) q.received ∙ r id; link = q.link ∙ sym l };
+    }

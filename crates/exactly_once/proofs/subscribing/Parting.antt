@@ -1,0 +1,76 @@
+-- A place that ends the client's connection.
+use Rattle.std.proofs.Common.{◌≡◌, ℕ, zero, suc, Bool, true, false, ◌||◌, if◌then◌else◌, List, [], ◌∷◌, ◌++◌, Option, Some, None, refl, ap, ap₂, sym, ◌∙◌}
+use Rattle.std.proofs.lemmas.List.{append-nil}
+use Rattle.client_base.specs.session_base.declared.publication.Publication.{Publication}
+use Rattle.broker_base.specs.Connection.{ConnectionName, same_connection}
+use Rattle.broker_base.specs.Place.{Client, Place, Past, Limits}
+use Rattle.broker_base.specs.Past.{current_connection}
+use Rattle.broker_base.specs.Times.{entries_of}
+use Rattle.broker_base.specs.Answers.{answers_at}
+use Rattle.client_base.specs.lists.Lists.{Each}
+use Rattle.exactly_once.specs.Handshake.{Backward, Link, Handshake, with_items}
+use Rattle.exactly_once.specs.Handshake.Moves.{sender_leaves, parts}
+use Rattle.exactly_once.specs.Handshake.Run.{stays, goes_on}
+use Rattle.exactly_once.specs.Sends.{sends_to}
+use Rattle.exactly_once.specs.Sides.{Connection}
+use Rattle.client_base.specs.Keeper.{Keeper}
+use Rattle.exactly_once.specs.Story.{Story, any_named}
+use Rattle.exactly_once.specs.Headline.{accepted_on}
+use Rattle.exactly_once.specs.Inside.Projections.{items_of, forward_of, to_come, is_current, held, left_behind, link_to, as_subscriber, GoesTo}
+use Rattle.exactly_once.specs.Inside.Shape.{ConnectionInShape, HasShape}
+use Rattle.exactly_once.proofs.Takes.{same_name_self}
+use Rattle.exactly_once.proofs.subscribing.Views.{View, seen, view, link_as, link_is, parted, comes_behind}
+use Rattle.exactly_once.proofs.subscribing.Placed.{placed}
+
+-- a client without a connection has nothing in transit on an earlier one
+pub nothing_behind : (connections : List Connection) → left_behind None connections ≡ []
+nothing_behind [] = refl
+nothing_behind (κ ∷ others) = refl
+
+-- nothing of the handshake is sent to the client
+abbrev pub SendsNone : Limits → Place → Past → List Connection → Type 0
+SendsNone limits place past connections = (x : ConnectionName) → any_named (same_connection x) connections ≡ true → forward_of (sends_to x (answers_at limits place past)) ≡ []
+
+-- its connection is current no more
+pub view_parted : (limits : Limits) (place : Place) (past : Past) (c : Client) (current other : Option ConnectionName) (keeper : Keeper) (connections : List Connection)
+    → Each (ConnectionInShape limits past c) connections → SendsNone limits place past connections
+    → ((x : ConnectionName) → any_named (same_connection x) connections ≡ true → is_current other x ≡ false)
+    → view limits (place ∷ past) other keeper connections ≡ parted (view limits past current keeper connections)
+view_parted limits place past c current other keeper [] g sends not = refl
+view_parted limits place past c current other keeper (κ ∷ others) g sends not = by keeper.is_open κ.taken
+  where
+    first : any_named (same_connection κ.name) (κ ∷ others) ≡ true
+    first = ap (λ b. b || any_named (same_connection κ.name) others) (same_name_self κ.name)
+
+    by : (opened : Bool) (taken : ℕ)
+        → (if opened then seen limits (place ∷ past) other κ taken else None) ≡ parted (if opened then seen limits past current κ taken else None)
+    by false taken = refl
+    by true zero = refl
+    by true (suc n) =
+        ap₂ (λ l b. Some (l, b))
+        (comes_behind limits place past κ g.0.handled_within ∙ ap (λ l. forward_of (to_come limits past κ) ++ l) (sends κ.name first) ∙ append-nil (forward_of (to_come limits past κ)))
+        (not κ.name first)
+
+-- the sender leaves, if it had not
+pub parts_view : (h t : Handshake Publication) (v : View) (b : List Backward) → h.link ≡ link_as v b → h.items ≡ t.items → h.accepted ≡ t.accepted → ((id : ℕ) → h.received id ≡ t.received id)
+    → t.link ≡ link_as (parted v) [] → GoesTo h t
+parts_view h t None b e i a r l = record { between = with_items h.items (Link.Behind []) h; run = goes_on stays parts; like = record { items = i; accepted = a; received = r; link = sym l } }
+parts_view h t (Some (f, true)) b e i a r l =
+    record { between = with_items h.items (Link.Ahead f) h; run = goes_on stays (sender_leaves f b e); like = record { items = i; accepted = a; received = r; link = sym l } }
+parts_view h t (Some (f, false)) b e i a r l = record { between = h; run = stays; like = record { items = i; accepted = a; received = r; link = e ∙ sym l } }
+
+-- such a place
+pub place_parts : (limits : Limits) (s : Story) (place : Place) (connections : List Connection) → HasShape limits s
+    → current_connection (place ∷ s.past) s.keeper.client ≡ None
+    → entries_of limits (place ∷ s.past) s.keeper.client ≡ entries_of limits s.past s.keeper.client
+    → SendsNone limits place s.past s.connections
+    → view limits (place ∷ s.past) None s.keeper connections ≡ view limits (place ∷ s.past) None s.keeper s.connections
+    → accepted_on connections ≡ accepted_on s.connections
+    → GoesTo (as_subscriber limits s) (as_subscriber limits (placed s place connections))
+place_parts limits s place connections shape over entries sends same accepted =
+    let current = current_connection s.past s.keeper.client in
+    parts_view (as_subscriber limits s) (as_subscriber limits (placed s place connections)) (view limits s.past current s.keeper s.connections) (left_behind current s.connections)
+    (link_is limits s.past current s.keeper s.connections) (ap items_of (sym entries)) (sym accepted) (λ id. refl)
+    (ap (λ (o : Option ConnectionName). link_to limits (place ∷ s.past) o connections (held s.keeper connections)) over
+    ∙ link_is limits (place ∷ s.past) None s.keeper connections
+    ∙ ap₂ link_as (same ∙ view_parted limits place s.past s.keeper.client current None s.keeper s.connections shape.connections sends (λ x h. refl)) (nothing_behind connections))

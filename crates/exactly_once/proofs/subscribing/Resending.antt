@@ -1,0 +1,108 @@
+-- What a client that comes back is sent is the resending of the handshake, and then what starts.
+use Rattle.std.proofs.Common.{◌≡◌, ◌<◌, ℕ, Bool, true, false, ◌==◌, nat_lt, if◌then◌else◌, List, [], ◌∷◌, ◌++◌, length, map, refl, ap, ap₂, sym, ◌∙◌, arith}
+use Rattle.std.specs.Prelude.{flat_map}
+use Rattle.client_base.specs.packet.declared.packet.Packet.TheVariants as packets
+use Rattle.client_base.specs.session_base.declared.publication.Publication.{Publication}
+use Rattle.client_base.specs.session_base.Identifiers.{least_free}
+use Rattle.broker_base.specs.Connection.{ConnectionName}
+use Rattle.broker_base.specs.Entries.{Entry}
+use Rattle.broker_base.specs.Readings.{released_below}
+use Rattle.broker_base.specs.Times.{start_all}
+use Rattle.broker_base.specs.Sends.{sent_again, all_started, resent}
+use Rattle.broker_base.specs.Output.{Output}
+use Rattle.broker_base.specs.Output.TheVariants.{Send}
+use Rattle.broker_base.proofs.flights.StartsInFlight.{released_started}
+use Rattle.broker_base.proofs.EntriesStartedBefore.{StartedBefore}
+use Rattle.exactly_once.specs.Handshake.{Forward, publishing, resend}
+use Rattle.exactly_once.specs.Items.{Item, sent}
+use Rattle.client_base.proofs.of_lists.Tests.{eq_same}
+use Rattle.exactly_once.specs.Sends.{sends_to}
+use Rattle.exactly_once.specs.Carried.{is_two}
+use Rattle.exactly_once.specs.Inside.Projections.{items_of, forward_of}
+use Rattle.exactly_once.proofs.Deliveries.{sends_append}
+use Rattle.exactly_once.proofs.Starts.{rows_started}
+use Rattle.exactly_once.proofs.Sent.{NoneStartedAt, forward_publish, sends_publish, forward_started}
+use Rattle.exactly_once.proofs.Takes.{same_name_self}
+use Rattle.exactly_once.proofs.subscribing.Forward.{forward_append}
+
+-- ---- PUBRELs
+
+-- PUBRELs to the connection
+pub forward_pubrels : (x : ConnectionName) (ids : List ℕ) → forward_of (sends_to x (map (λ id. Send x (packets.Pubrel id)) ids)) ≡ map (λ id. Forward.Pubrel id) ids
+forward_pubrels x [] = refl
+forward_pubrels x (id ∷ ids) = rw (same_name_self x) (ap (λ l. Forward.Pubrel id ∷ l) (forward_pubrels x ids))
+
+-- ---- what was sent
+
+-- an earlier place is another
+earlier : (start n : ℕ) → start < n → (start == n) ≡ false
+earlier start n h = grind arith
+
+-- what starts now is not sent again
+again_of : (x : ConnectionName) (w n : ℕ) (ids : List ℕ) (es : List Entry) → flat_map (sent_again x n) (start_all w n ids es) ≡ flat_map (sent_again x n) es
+again_of x w n ids [] = refl
+again_of x w n ids (Entry.Waits made p ∷ es) = by (nat_lt (length ids) w) (again_of x w n (least_free ids ∷ ids) es)
+  where
+    by : (b : Bool) → flat_map (sent_again x n) (start_all w n (least_free ids ∷ ids) es) ≡ flat_map (sent_again x n) es
+        → flat_map (sent_again x n) (if b then Entry.Started made p (least_free ids) n ∷ start_all w n (least_free ids ∷ ids) es else Entry.Waits made p ∷ es) ≡ flat_map (sent_again x n) es
+    by true e = rw (eq_same n) e
+    by false e = refl
+again_of x w n ids (Entry.Started made p id start ∷ es) = ap (λ l. sent_again x n (Entry.Started made p id start) ++ l) (again_of x w n (id ∷ ids) es)
+again_of x w n ids (Entry.Released made p id start release ∷ es) = again_of x w n (id ∷ ids) es
+again_of x w n ids (Entry.Finished made p id start release finish ∷ es) = again_of x w n ids es
+
+-- what is no sent item is skipped
+skip : (b : Bool) (item : Item Publication) (items : List (Item Publication)) → sent (item ∷ items) ≡ sent items → sent items ≡ sent (if b then item ∷ items else items)
+skip true item items e = sym e
+skip false item items e = refl
+
+-- what was sent before is sent again
+pub forward_again : (x : ConnectionName) (n : ℕ) (es : List Entry) → StartedBefore n es → forward_of (sends_to x (flat_map (sent_again x n) es)) ≡ map publishing (sent (items_of es))
+forward_again x n [] h = refl
+forward_again x n (Entry.Waits made p ∷ es) h = forward_again x n es h ∙ ap (map publishing) (skip (is_two p.qos) (Item.Waits p) (items_of es) refl)
+forward_again x n (Entry.Started made p id start ∷ es) h =
+    rw (earlier start n h.0)
+    (ap forward_of (sends_publish x true id p (flat_map (sent_again x n) es))
+    ∙ forward_publish true id p (sends_to x (flat_map (sent_again x n) es))
+    ∙ by (is_two p.qos) (forward_again x n es h.1))
+  where
+    by : (b : Bool) → forward_of (sends_to x (flat_map (sent_again x n) es)) ≡ map publishing (sent (items_of es))
+        → (if b then Forward.Publish id p ∷ forward_of (sends_to x (flat_map (sent_again x n) es)) else forward_of (sends_to x (flat_map (sent_again x n) es)))
+        ≡ map publishing (sent (if b then Item.Sent p id ∷ items_of es else items_of es))
+    by true e = ap (λ l. Forward.Publish id p ∷ l) e
+    by false e = e
+forward_again x n (Entry.Released made p id start release ∷ es) h = forward_again x n es h ∙ ap (map publishing) (skip (is_two p.qos) (Item.Released p id) (items_of es) refl)
+forward_again x n (Entry.Finished made p id start release finish ∷ es) h = forward_again x n es h ∙ ap (map publishing) (skip (is_two p.qos) (Item.Finished p) (items_of es) refl)
+
+-- ---- all of it
+
+-- none started at a place after
+pub none_here : (n : ℕ) (es : List Entry) → StartedBefore n es → NoneStartedAt n es
+none_here n [] h = tt
+none_here n (Entry.Waits made p ∷ es) h = none_here n es h
+none_here n (Entry.Started made p id start ∷ es) h = (earlier start n h.0, none_here n es h.1)
+none_here n (Entry.Released made p id start release ∷ es) h = none_here n es h
+none_here n (Entry.Finished made p id start release finish ∷ es) h = none_here n es h
+
+-- what is sent again, then what starts
+pub forward_resent : (x : ConnectionName) (w n : ℕ) (es : List Entry) → StartedBefore n es
+    → forward_of (sends_to x (resent x n (start_all w n [] es))) ≡ resend (released_below n es) (items_of es) ++ map publishing (rows_started w [] es)
+forward_resent x w n es h =
+    ap forward_of (sends_append x (pubrels ++ again) (all_started x n entries))
+    ∙ forward_append (sends_to x (pubrels ++ again)) (sends_to x (all_started x n entries))
+    ∙ ap₂ (λ a b. a ++ b)
+    (ap forward_of (sends_append x pubrels again)
+    ∙ forward_append (sends_to x pubrels) (sends_to x again)
+    ∙ ap₂ (λ a b. a ++ b)
+    (forward_pubrels x (released_below n entries) ∙ ap (map (λ id. Forward.Pubrel id)) (released_started n w n [] es))
+    (ap (λ l. forward_of (sends_to x l)) (again_of x w n [] es) ∙ forward_again x n es h))
+    (forward_started x w n [] es (none_here n es h))
+  where
+    entries : List Entry
+    entries = start_all w n [] es
+
+    pubrels : List Output
+    pubrels = map (λ id. Send x (packets.Pubrel id)) (released_below n entries)
+
+    again : List Output
+    again = flat_map (sent_again x n) entries

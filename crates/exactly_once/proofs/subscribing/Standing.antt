@@ -1,0 +1,66 @@
+-- The state of the link of the handshake in which a client subscribes: with the connection that the
+-- client holds, or with what may still come on the broker's.
+use Rattle.std.proofs.Common.{◌≡◌, ◌≤◌, ℕ, zero, suc, Bool, true, false, if◌then◌else◌, List, [], ◌∷◌, drop, Option, Some, None, refl, ap, ◌∙◌, ◌⊎◌, inl, inr, arith}
+use Rattle.client_base.specs.session_base.declared.publication.Publication.{Publication}
+use Rattle.broker_base.specs.Connection.{ConnectionName, same_connection}
+use Rattle.broker_base.specs.Place.{Client, Past, Limits}
+use Rattle.client_base.specs.lists.Lists.{Each}
+use Rattle.exactly_once.specs.Handshake.{Forward, Backward, Link}
+use Rattle.client_base.specs.Keeper.{Written, Keeper}
+use Rattle.exactly_once.specs.Sides.{Connection}
+use Rattle.client_base.specs.Called.{opens}
+use Rattle.exactly_once.specs.Inside.Projections.{forward_of, backward_of, to_come, to_be_taken, held, if_taken, left_behind, link_to}
+use Rattle.exactly_once.specs.Inside.Shape.{ConnectionInShape, NewestIsServed}
+
+-- with b still to come on the broker's connection: the client holds none, or that one, or another, and then nothing comes
+abbrev pub Stands : Link Publication → List Backward → Type 0
+Stands l b =
+    (l ≡ Link.Behind b) ⊎ (((f : List (Forward Publication)) × (l ≡ Link.Joined f b)) ⊎ ((f : List (Forward Publication)) × (l ≡ Link.Ahead f) × (b ≡ [])))
+
+-- nothing but a CONNECT is no answer
+only_connect : (c : Client) (n : ℕ) → backward_of (drop n (opens c ∷ [])) ≡ []
+only_connect c zero = refl
+only_connect c (suc zero) = refl
+only_connect c (suc (suc n)) = refl
+
+-- an unconfirmed connection has no answers
+pub unconfirmed_none : (limits : Limits) (past : Past) (c : Client) (κ : Connection) → ConnectionInShape limits past c κ → κ.confirmed ≡ false → backward_of (to_be_taken κ) ≡ []
+unconfirmed_none limits past c κ g e =
+    ap (λ ws. backward_of (drop κ.taken ws)) (g.written ∙ ap (λ (more : List Written). opens c ∷ more) (g.silent e)) ∙ only_connect c κ.taken
+
+-- nothing comes if only unconfirmed connections have the name
+pub nothing_left : (limits : Limits) (past : Past) (c : Client) (x : ConnectionName) (connections : List Connection) → Each (ConnectionInShape limits past c) connections
+    → Each (λ (other : Connection). same_connection x other.name ≡ true → other.confirmed ≡ false) connections
+    → left_behind (Some x) connections ≡ []
+nothing_left limits past c x [] g h = refl
+nothing_left limits past c x (κ ∷ connections) g h = by (same_connection x κ.name) h.0 (nothing_left limits past c x connections g.1 h.1)
+  where
+    by : (b : Bool) → (b ≡ true → κ.confirmed ≡ false) → left_behind (Some x) connections ≡ [] → (if b then backward_of (to_be_taken κ) else left_behind (Some x) connections) ≡ []
+    by true e ih = unconfirmed_none limits past c κ g.0 (e refl)
+    by false e ih = ih
+
+-- by whether the client's connection is the current one
+stands_by : (limits : Limits) (past : Past) (c : Client) (κ : Connection) (others : List Connection) (current : Option ConnectionName) → Each (ConnectionInShape limits past c) others → 1 ≤ κ.taken
+    → NewestIsServed current (κ ∷ others)
+    → Stands (link_to limits past current (κ ∷ others) (Some κ)) (left_behind current (κ ∷ others))
+stands_by limits past c κ others None g t n = inr (inr (forward_of (to_come limits past κ), refl, refl))
+stands_by limits past c κ others (Some x) g t n = by (same_connection x κ.name) (n t)
+  where
+    by : (b : Bool) → (b ≡ false → Each (λ (other : Connection). same_connection x other.name ≡ true → other.confirmed ≡ false) others)
+        → Stands (if b then Link.Joined (forward_of (to_come limits past κ)) (backward_of (to_be_taken κ)) else Link.Ahead (forward_of (to_come limits past κ)))
+        (if b then backward_of (to_be_taken κ) else left_behind (Some x) others)
+    by true h = inr (inl (forward_of (to_come limits past κ), refl))
+    by false h = inr (inr (forward_of (to_come limits past κ), refl, nothing_left limits past c x others g (h refl)))
+
+-- of every story in shape
+pub stands : (limits : Limits) (past : Past) (c : Client) (keeper : Keeper) (connections : List Connection) (current : Option ConnectionName)
+    → Each (ConnectionInShape limits past c) connections → NewestIsServed current connections
+    → Stands (link_to limits past current connections (held keeper connections)) (left_behind current connections)
+stands limits past c keeper [] current g n = inl refl
+stands limits past c keeper (κ ∷ others) current g n = by keeper.is_open κ.taken refl
+  where
+    by : (opened : Bool) (taken : ℕ) → κ.taken ≡ taken
+        → Stands (link_to limits past current (κ ∷ others) (if opened then if_taken taken κ else None)) (left_behind current (κ ∷ others))
+    by false taken e = inl refl
+    by true zero e = inl refl
+    by true (suc n') e = stands_by limits past c κ others current g.1 (omega (arith, e)) n

@@ -1,0 +1,68 @@
+-- Which publication of a client a place carries, by position: the j-th command of a connection is
+-- its j-th written packet.
+use Rattle.std.specs.Prelude.{ℕ, Bool, true, false, if◌then◌else◌, List, [], ◌∷◌, ◌++◌, map, Option, Some, None, slice_get}
+use Rattle.client_base.specs.packet.declared.qos.QoS.{QoS}
+use Rattle.client_base.specs.packet.declared.qos.QoS.TheVariants as levels
+use Rattle.client_base.specs.packet.declared.packet.Packet.TheVariants as packets
+use Rattle.broker_base.specs.Connection.{ConnectionName, same_connection}
+use Rattle.broker_base.specs.Place.{Past}
+use Rattle.broker_base.specs.Received.{is_new}
+use Rattle.broker_base.specs.Command.{Command}
+use Rattle.broker_base.specs.Command.TheVariants as commands
+use Rattle.client_base.specs.session_base.declared.publication.Publication.{Publication}
+use Rattle.client_base.specs.Keeper.{Own, Written}
+use Rattle.exactly_once.specs.Sides.{Connection}
+use Rattle.exactly_once.specs.Story.{count_of}
+
+abbrev pub connection_named : ConnectionName → List Connection → Option Connection
+connection_named x (κ ∷ connections) = if same_connection x κ.name then Some κ else connection_named x connections
+connection_named x [] = None
+
+abbrev pub number_of : Option Written → Option ℕ
+number_of (Some w) = w.number
+number_of None = None
+
+abbrev pub number_at : ℕ → Option Connection → Option ℕ
+number_at j (Some κ) = number_of (slice_get κ.written j)
+number_at j None = None
+
+-- the publication, if the command is a PUBLISH that the client wrote on one of its connections
+abbrev pub carries : List Connection → Command → Past → Option ℕ
+carries connections (commands.Packet x (packets.Publish p)) past = number_at (count_of x past) (connection_named x connections)
+carries connections _ past = None
+
+abbrev pub more_by : Bool → Option ℕ → List ℕ
+more_by true (Some k) = k ∷ []
+more_by _ _ = []
+
+-- the client's publications that are new in the list, by place
+abbrev pub new_numbers : List Connection → Past → List ℕ
+new_numbers connections (place ∷ past) =
+    new_numbers connections past ++ more_by (is_new place.command place.mark) (carries connections place.command past)
+new_numbers connections [] = []
+
+abbrev pub is_two : QoS → Bool
+is_two levels.AtMostOnce = false
+is_two levels.AtLeastOnce = false
+is_two levels.ExactlyOnce = true
+
+abbrev pub number_in : Own → ℕ
+number_in (Own.Unsent k p id) = k
+number_in (Own.Sent k p id) = k
+number_in (Own.Released k p id) = k
+number_in (Own.Done k p) = k
+
+abbrev pub publication_in : Own → Publication
+publication_in (Own.Unsent k p id) = p
+publication_in (Own.Sent k p id) = p
+publication_in (Own.Released k p id) = p
+publication_in (Own.Done k p) = p
+
+-- all that it published, in the order of its calls: that of number k is at k
+abbrev pub publications_of : List Own → List Publication
+publications_of = map publication_in
+
+-- the numbers of its QoS 2 publications, in the order of its calls
+abbrev pub published : List Own → List ℕ
+published (o ∷ own) = if is_two (publication_in o).qos then number_in o ∷ published own else published own
+published [] = []

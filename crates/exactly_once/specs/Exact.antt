@@ -1,0 +1,37 @@
+-- What holds after every run of a handshake.
+use Rattle.std.specs.Prelude.{◌≡◌, ℕ, Bool, true, false, List, ◌∷◌, ◌++◌, map, Option, Some, None}
+use Rattle.client_base.specs.lists.Lists.{In, Each}
+use Rattle.exactly_once.specs.Items.{Item, value_of}
+use Rattle.exactly_once.specs.Handshake.{Forward, Link, Handshake, Run, opening}
+
+-- ---- what holds after every run
+
+abbrev pub is_over : {V : Type 0} → Item V → Bool
+is_over (Item.Released v id) = true
+is_over (Item.Finished v) = true
+is_over _ = false
+
+-- What is accepted is a prefix of the items, in order, and each that is released is among them.
+pub record IsExact {V : Type 0} (h : Handshake V) : Type 0 where
+  pub old : List (Item V)
+  pub new : List (Item V)
+  pub is : h.items ≡ old ++ new
+  pub accepted : h.accepted ≡ map value_of old
+  pub rest : Each (λ item. is_over item ≡ false) new
+
+-- that holds after every run from the opening
+abbrev pub RunsAreExact : Type 0 → Type 0
+RunsAreExact V = (h : Handshake V) → Run (opening V) h → IsExact h
+
+-- what comes next to the receiver
+abbrev pub next_of : {V : Type 0} → Link V → Option (Forward V)
+next_of (Link.Joined (m ∷ f) b) = Some m
+next_of (Link.Ahead (m ∷ f)) = Some m
+next_of _ = None
+
+-- a publication that comes with an identifier that the receiver knows was accepted before, the same
+-- one
+abbrev pub RepeatsWereAccepted : Type 0 → Type 0
+RepeatsWereAccepted V =
+    (h : Handshake V) → Run (opening V) h → (id : ℕ) (v : V) → next_of h.link ≡ Some (Forward.Publish id v) →
+    h.received id ≡ true → In v h.accepted

@@ -1,0 +1,96 @@
+-- The handshake of QoS 2 between two sides, over connections that are lost and opened again (MQTT
+-- 4.3.3, 4.4).
+use Rattle.std.specs.Prelude.{◌≡◌, ℕ, Bool, true, false, not, ◌&&◌, ◌||◌, ◌==◌, List, [], ◌∷◌, ◌++◌, map, Some}
+use Rattle.client_base.specs.lists.Lists.{has_id, IsDistinct, Each}
+use Rattle.exactly_once.specs.Items.{Item, busy, sent, has_released, releasing, finishing, start_first, first_waiting}
+
+-- ---- what is in transit
+
+pub data Forward (V : Type 0) : Type 0 where
+  Publish : (id : ℕ) → (value : V) → Forward V
+  Pubrel : (id : ℕ) → Forward V
+
+pub data Backward : Type 0 where
+  Pubrec : (id : ℕ) → Backward
+  Pubcomp : (id : ℕ) → Backward
+
+-- Both sides are on one connection; or the receiver has left, and the sender may still receive; or
+-- the sender has left, and the receiver may still take what was sent.
+pub data Link (V : Type 0) : Type 0 where
+  Joined : (forward : List (Forward V)) → (backward : List Backward) → Link V
+  Behind : (backward : List Backward) → Link V
+  Ahead : (forward : List (Forward V)) → Link V
+
+pub record Handshake (V : Type 0) : Type 0 where
+  pub items : List (Item V)
+  pub accepted : List V
+  pub received : ℕ → Bool
+  pub link : Link V
+
+abbrev pub answer : {V : Type 0} → Forward V → Backward
+answer (Forward.Publish id v) = Backward.Pubrec id
+answer (Forward.Pubrel id) = Backward.Pubcomp id
+
+abbrev pub reply : {V : Type 0} → Backward → List (Forward V)
+reply (Backward.Pubrec id) = Forward.Pubrel id ∷ []
+reply (Backward.Pubcomp id) = []
+
+-- the receiver accepts
+abbrev pub accepting : {V : Type 0} → ℕ → V → Bool → Handshake V → Link V → Handshake V
+accepting id v true h l = record { items = h.items; accepted = h.accepted; received = h.received; link = l }
+accepting id v false h l =
+    record { items = h.items; accepted = h.accepted ++ v ∷ []; received = λ j. (j == id) || h.received j; link = l }
+
+abbrev pub taking : {V : Type 0} → Forward V → Handshake V → Link V → Handshake V
+taking (Forward.Publish id v) h l = accepting id v (h.received id) h l
+taking (Forward.Pubrel id) h l =
+    record { items = h.items; accepted = h.accepted; received = λ j. not (j == id) && h.received j; link = l }
+
+-- the sender receives an answer
+abbrev pub heard : {V : Type 0} → Backward → List (Item V) → List (Item V)
+heard (Backward.Pubrec id) items = map (releasing id) items
+heard (Backward.Pubcomp id) items = map (finishing id) items
+
+abbrev pub with_items : {V : Type 0} → List (Item V) → Link V → Handshake V → Handshake V
+with_items items l h = record { items = items; accepted = h.accepted; received = h.received; link = l }
+
+-- what the sender sends on its connection, if the receiver may still take it
+abbrev pub sending : {V : Type 0} → Forward V → Link V → Link V
+sending m (Link.Joined f b) = Link.Joined (f ++ m ∷ []) b
+sending m (Link.Behind b) = Link.Behind b
+sending m (Link.Ahead f) = Link.Ahead f
+
+abbrev pub publishing : {V : Type 0} → ℕ × V → Forward V
+publishing row = Forward.Publish row.0 row.1
+
+abbrev pub resend : {V : Type 0} → List ℕ → List (Item V) → List (Forward V)
+resend releases items = map (λ id. Forward.Pubrel id) releases ++ map publishing (sent items)
+
+-- what may happen
+pub data Moves {V : Type 0} (h : Handshake V) : Handshake V → Type 0 where
+  adds : (v : V) → Moves h (with_items (h.items ++ Item.Waits v ∷ []) h.link h)
+  starts : (id : ℕ) (v : V) → has_id id (busy h.items) ≡ false → first_waiting h.items ≡ Some v →
+      Moves h (with_items (start_first id h.items) (sending (Forward.Publish id v) h.link) h)
+  takes : (m : Forward V) (f : List (Forward V)) (b : List Backward) → h.link ≡ Link.Joined (m ∷ f) b →
+      Moves h (taking m h (Link.Joined f (b ++ answer m ∷ [])))
+  takes_alone : (m : Forward V) (f : List (Forward V)) → h.link ≡ Link.Ahead (m ∷ f) → Moves h (taking m h (Link.Ahead f))
+  hears : (m : Backward) (f : List (Forward V)) (b : List Backward) → h.link ≡ Link.Joined f (m ∷ b) →
+      Moves h (with_items (heard m h.items) (Link.Joined (f ++ reply m) b) h)
+  hears_alone : (m : Backward) (b : List Backward) → h.link ≡ Link.Behind (m ∷ b) →
+      Moves h (with_items (heard m h.items) (Link.Behind b) h)
+  sender_leaves : (f : List (Forward V)) (b : List Backward) → h.link ≡ Link.Joined f b →
+      Moves h (with_items h.items (Link.Ahead f) h)
+  receiver_leaves : (f : List (Forward V)) (b : List Backward) → h.link ≡ Link.Joined f b →
+      Moves h (with_items h.items (Link.Behind b) h)
+  parts : Moves h (with_items h.items (Link.Behind []) h)
+  parts_ahead : Moves h (with_items h.items (Link.Ahead []) h)
+  restarts : (releases : List ℕ) → IsDistinct releases → Each (λ id. has_released id h.items ≡ true) releases →
+      Moves h (with_items h.items (Link.Joined (resend releases h.items) []) h)
+
+-- one after another
+pub data Run {V : Type 0} (h : Handshake V) : Handshake V → Type 0 where
+  stays : Run h h
+  goes_on : {k l : Handshake V} → Run h k → Moves k l → Run h l
+
+abbrev pub opening : (V : Type 0) → Handshake V
+opening V = record { items = []; accepted = []; received = λ id. false; link = Link.Behind [] }

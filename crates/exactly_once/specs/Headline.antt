@@ -1,0 +1,125 @@
+-- What holds for one client's story, whatever happens: publications once and in order, and what it
+-- accepts.
+use Rattle.client_base.specs.Keeper.{all_own}
+use Rattle.std.specs.Prelude.{◌≡◌, ◌≤◌, ℕ, ◌+◌, Bool, true, false, ◌==◌, if◌then◌else◌, List, [], ◌∷◌, ◌++◌, length, map, filter, Option, Some, None, slice_get}
+use Rattle.client_base.specs.packet.declared.publish.Publish.{Publish}
+use Rattle.client_base.specs.packet.declared.packet.Packet.{Packet}
+use Rattle.client_base.specs.packet.declared.packet.Packet.TheVariants as packets
+use Rattle.client_base.specs.session_base.declared.publication.Publication.{Publication}
+use Rattle.client_base.specs.session_base.Publication.{publication_of}
+use Rattle.broker_base.specs.Connection.{ConnectionName}
+use Rattle.broker_base.specs.Place.{Client, Place, Past, Limits, Mark}
+use Rattle.broker_base.specs.Subscriptions.{effective_qos}
+use Rattle.broker_base.specs.Marks.{is_queued_at}
+use Rattle.broker_base.specs.Entries.{Entry}
+use Rattle.broker_base.specs.Readings.{publication_in, release_place}
+use Rattle.broker_base.specs.Times.{entries_of}
+use Rattle.broker_base.specs.Answers.{answers_at}
+use Rattle.broker_base.specs.OriginLaws.{is_from_publish}
+use Rattle.broker_base.specs.EndingLaws.{StandsAt}
+use Rattle.broker_base.specs.TakenLaws.{queued_at}
+use Rattle.broker_base.specs.Command.TheVariants as commands
+use Rattle.broker_base.specs.Output.TheVariants.{Send}
+use Rattle.client_base.specs.lists.Lists.{In, IsPrefixOf, Each}
+use Rattle.exactly_once.specs.Sides.{Connection}
+use Rattle.exactly_once.specs.Story.{Story, Told}
+use Rattle.exactly_once.specs.Carried.{carries, new_numbers, publications_of, published, is_two}
+
+-- ---- publishers
+
+-- one of the answers of this place is of this kind, to the place's own connection
+abbrev pub IsAnsweredBy : Limits → Place → Past → ConnectionName → Packet → Type 0
+IsAnsweredBy limits place below x packet = In (Send x packet) (answers_at limits place below)
+
+-- whether the carried publication is this one
+abbrev pub is_this : ℕ → Option ℕ → Bool
+is_this k (Some j) = j == k
+is_this k None = false
+
+-- how many of these entries come from places that carry publication k of the client
+abbrev pub made_by : List Connection → ℕ → Past → List Entry → ℕ
+made_by connections k (place ∷ below) entries =
+    (if is_this k (carries connections place.command below) then length (filter (is_from_publish (length below)) entries) else 0)
+    + made_by connections k below entries
+made_by connections k [] entries = 0
+
+-- publication k of the client is taken at this place, on one of its own connections
+pub record IsTakenAt (s : Story) (k : ℕ) (place : Place) (below : Past) : Type 0 where
+  pub stands : StandsAt s.past place below
+  pub carried : carries s.connections place.command below ≡ Some k
+  pub taken : place.mark ≡ Mark.Taken s.keeper.client
+
+-- the publisher's publications
+pub record PublishedOnce (limits : Limits) (s : Story) : Type 0 where
+  -- a place that carries one has its PUBLISH
+  pub carried : (place : Place) (below : Past) (x : ConnectionName) (p : Publish) (k : ℕ) → StandsAt s.past place below →
+      carries s.connections place.command below ≡ Some k → place.command ≡ commands.Packet x (packets.Publish p) →
+      slice_get (publications_of (all_own s.keeper)) k ≡ Some (publication_of p)
+  -- those at QoS 2 are new in the list in the order of the calls, each at most once
+  pub in_order : IsPrefixOf (new_numbers s.connections s.past) (published s.keeper.own)
+  -- each that is new is taken at a place
+  pub taken : (k : ℕ) → In k (new_numbers s.connections s.past) →
+      (place : Place) × (below : Past) × IsTakenAt s k place below
+  -- one that was answered is new
+  pub answered : (place : Place) (below : Past) (x : ConnectionName) (id k : ℕ) → StandsAt s.past place below →
+      carries s.connections place.command below ≡ Some k → IsAnsweredBy limits place below x (packets.Pubrec id) →
+      In k (new_numbers s.connections s.past)
+  -- each enters each session at most once: at any time a session is looked at, it has at most one
+  -- entry of all the places that carry the publication
+  pub enters_once : (later earlier : Past) (d : Client) (k : ℕ) → s.past ≡ later ++ earlier → In k (published (all_own s.keeper)) →
+      made_by s.connections k s.past (entries_of limits earlier d) ≤ 1
+  -- and if a publication is taken, at any QoS, it enters exactly the sessions with an effective QoS
+  -- over 0, once
+  pub enters : (place : Place) (below : Past) (x : ConnectionName) (p : Publish) (d : Client) → StandsAt s.past place below →
+      place.command ≡ commands.Packet x (packets.Publish p) → place.mark ≡ Mark.Taken s.keeper.client →
+      length (filter (is_from_publish (length below)) (entries_of limits (place ∷ below) d))
+      ≡ (if is_queued_at (effective_qos below d (publication_of p)) then 1 else 0)
+  -- as it was published, at the effective QoS
+  pub enters_as : (place : Place) (below : Past) (x : ConnectionName) (p : Publish) (d : Client) → StandsAt s.past place below →
+      place.command ≡ commands.Packet x (packets.Publish p) → place.mark ≡ Mark.Taken s.keeper.client →
+      map publication_in (filter (is_from_publish (length below)) (entries_of limits (place ∷ below) d))
+      ≡ queued_at (publication_of p) (effective_qos below d (publication_of p))
+  -- one at QoS 1 that was answered is taken at the place that is answered
+  pub acknowledged : (place : Place) (below : Past) (x : ConnectionName) (id k : ℕ) → StandsAt s.past place below →
+      carries s.connections place.command below ≡ Some k → IsAnsweredBy limits place below x (packets.Puback id) →
+      IsTakenAt s k place below
+
+-- ---- subscribers
+
+abbrev pub is_two_entry : Entry → Bool
+is_two_entry entry = is_two (publication_in entry).qos
+
+-- the QoS 2 entries of a session
+abbrev pub two_entries : List Entry → List Entry
+two_entries = filter is_two_entry
+
+-- what the client accepted, connection by connection, the oldest first
+abbrev pub accepted_on : List Connection → List Publication
+accepted_on (κ ∷ connections) = accepted_on connections ++ κ.accepted
+accepted_on [] = []
+
+abbrev pub is_released : Entry → Bool
+is_released entry = is_there (release_place entry)
+  where
+    is_there : Option ℕ → Bool
+    is_there (Some n) = true
+    is_there None = false
+
+-- the client accepted a prefix of the QoS 2 entries of its session, and each that is released is
+-- among them
+pub record AcceptedInOrder (limits : Limits) (s : Story) : Type 0 where
+  pub old : List Entry
+  pub new : List Entry
+  pub is : two_entries (entries_of limits s.past s.keeper.client) ≡ old ++ new
+  pub accepted : accepted_on s.connections ≡ map publication_in old
+  pub rest : Each (λ entry. is_released entry ≡ false) new
+
+-- ---- the whole
+
+pub record ExactlyOnce (limits : Limits) (s : Story) : Type 0 where
+  pub publishers : PublishedOnce limits s
+  pub subscribers : AcceptedInOrder limits s
+
+-- every story is exact
+abbrev pub StoriesAreExact : Limits → Type 0
+StoriesAreExact limits = (c : Client) (s : Story) → Told limits c s → ExactlyOnce limits s

@@ -1,0 +1,153 @@
+-- What every story keeps besides its two handshakes, and what is left to show for each event.
+use Rattle.std.specs.Prelude.{◌≡◌, ◌≤◌, ◌⊎◌, ℕ, zero, suc, Bool, true, false, List, [], ◌∷◌, length, Option, Some, None}
+use Rattle.client_base.specs.packet.declared.connack.Connack.TheVariants as connacks
+use Rattle.client_base.specs.packet.declared.packet.Packet.{Packet}
+use Rattle.client_base.specs.packet.declared.packet.Packet.TheVariants as packets
+use Rattle.client_base.specs.lists.Lists.{has_id, IsDistinct, Each}
+use Rattle.broker_base.specs.Connection.{ConnectionName, same_connection}
+use Rattle.broker_base.specs.Place.{Client, Past, Limits, same_client}
+use Rattle.broker_base.specs.Past.{current_connection, session_of}
+use Rattle.broker_base.specs.Received.{is_exactly_once}
+use Rattle.broker_base.specs.QuietLaws.{IsSteady}
+use Rattle.exactly_once.specs.Items.{has_released}
+use Rattle.exactly_once.specs.HandshakeSides.{IsGood}
+use Rattle.exactly_once.specs.Sends.{put_to}
+use Rattle.client_base.specs.Keeper.{Own, Written, Keeper, ids_in_use}
+use Rattle.exactly_once.specs.Sides.{Connection}
+use Rattle.exactly_once.specs.Story.{Story, Happens, any_named, count_of}
+use Rattle.client_base.specs.Called.{opens}
+use Rattle.exactly_once.specs.Carried.{is_two}
+use Rattle.exactly_once.specs.Inside.Projections.{items_of_own, backward_of_own, last_confirmed, as_publisher, as_subscriber, GoesTo}
+
+-- ---- the client's publications
+
+-- the n-th has number n
+abbrev pub AreNumbered : ℕ → List Own → Type 0
+AreNumbered n (Own.Unsent k p id ∷ own) = (k ≡ n) × AreNumbered (suc n) own
+AreNumbered n (Own.Sent k p id ∷ own) = (k ≡ n) × AreNumbered (suc n) own
+AreNumbered n (Own.Released k p id ∷ own) = (k ≡ n) × (is_two p.qos ≡ true) × AreNumbered (suc n) own
+AreNumbered n (Own.Done k p ∷ own) = (k ≡ n) × AreNumbered (suc n) own
+AreNumbered n [] = Unit {0}
+
+abbrev pub none_unsent : List Own → Bool
+none_unsent (Own.Unsent k p id ∷ own) = false
+none_unsent (_ ∷ own) = none_unsent own
+none_unsent [] = true
+
+pub record OwnInShape (keeper : Keeper) : Type 0 where
+  pub ids_apart : IsDistinct (ids_in_use keeper)
+  pub numbered : AreNumbered (length keeper.earlier) keeper.own
+  pub releases_apart : IsDistinct keeper.releases
+  pub releases_are : (id : ℕ) → has_id id keeper.releases ≡ has_released id (items_of_own keeper.own)
+  pub online_sent : keeper.is_online ≡ true → none_unsent keeper.own ≡ true
+
+-- ---- one connection
+
+abbrev pub is_connack : Packet → Bool
+is_connack (packets.Connack c) = true
+is_connack _ = false
+
+abbrev pub no_connacks : List Packet → Type 0
+no_connacks = Each (λ packet. is_connack packet ≡ false)
+
+-- its answers begin with a CONNACK, and have no other; before its Connect is taken there are none
+abbrev pub ConnackFirst : ℕ → List Packet → Type 0
+ConnackFirst zero put = put ≡ []
+ConnackFirst (suc taken) [] = ⊥
+ConnackFirst (suc taken) (first ∷ put) = (is_connack first ≡ true) × no_connacks put
+
+abbrev pub is_connect : Written → Bool
+is_connect w = by w.packet
+  where
+    by : Packet → Bool
+    by (packets.Connect c) = true
+    by _ = false
+
+-- a PUBLISH of QoS 2 for which it is not known which publication it carries
+abbrev pub is_two_unnumbered : Packet → Option ℕ → Bool
+is_two_unnumbered (packets.Publish p) None = is_exactly_once p.delivery
+is_two_unnumbered _ _ = false
+
+pub record ConnectionInShape (limits : Limits) (past : Past) (c : Client) (κ : Connection) : Type 0 where
+  pub more : List Written
+  pub written : κ.written ≡ opens c ∷ more
+  pub one_connect : Each (λ w. is_connect w ≡ false) more
+  pub silent : κ.confirmed ≡ false → more ≡ []
+  pub counted : count_of κ.name past ≡ κ.taken
+  pub within : κ.taken ≤ length κ.written
+  pub handled_within : κ.handled ≤ length (put_to limits past κ.name)
+  pub numbers_known : Each (λ w. is_two_unnumbered w.packet w.number ≡ false) κ.written
+  pub connack_first : ConnackFirst κ.taken (put_to limits past κ.name)
+  pub asks_first : κ.taken ≤ 1 → backward_of_own (put_to limits past κ.name) ≡ []
+  pub handled_some : κ.confirmed ≡ true → 1 ≤ κ.handled
+
+-- ---- all of them
+
+abbrev pub NamesApart : List Connection → Type 0
+NamesApart (κ ∷ connections) = (any_named (same_connection κ.name) connections ≡ false) × NamesApart connections
+NamesApart [] = Unit {0}
+
+-- a connection that was confirmed, and is not the last one, is not current
+abbrev pub LastIsCurrent : Option ConnectionName → List Connection → Type 0
+LastIsCurrent None connections = Unit {0}
+LastIsCurrent (Some x) connections =
+    (any_named (same_connection x) connections ≡ true)
+    × Each (λ (κ : Connection). same_connection x κ.name ≡ true → κ.confirmed ≡ true → last_confirmed connections ≡ Some κ) connections
+
+-- if the newest one's Connect is taken, no other confirmed one is current
+abbrev pub NewestIsServed : Option ConnectionName → List Connection → Type 0
+NewestIsServed (Some x) (κ ∷ connections) =
+    1 ≤ κ.taken → same_connection x κ.name ≡ false → Each (λ (other : Connection). same_connection x other.name ≡ true → other.confirmed ≡ false) connections
+NewestIsServed _ _ = Unit {0}
+
+-- the first one is open if the client holds one
+abbrev pub HeldInShape : Limits → Past → Keeper → List Connection → Type 0
+HeldInShape limits past keeper [] = keeper.is_open ≡ false
+HeldInShape limits past keeper (κ ∷ connections) =
+    (keeper.is_open ≡ true → κ.confirmed ≡ keeper.is_online) × (keeper.is_online ≡ true → keeper.is_open ≡ true)
+    × (keeper.is_open ≡ true → keeper.is_online ≡ false → keeper.was_served ≡ true →
+    Each (λ packet. (packet ≡ packets.Connack (connacks.Accepted false)) → ⊥) (put_to limits past κ.name))
+
+-- a CONNACK 0 among the answers means that the client's session exists, and is not clean
+abbrev pub IsMeant : Client → Past → Packet → Type 0
+IsMeant c past packet = (b : Bool) → packet ≡ packets.Connack (connacks.Accepted b) → session_of past c ≡ Some false
+
+-- each that is sent to a connection of this name
+abbrev pub IsWelcomed : Limits → Past → Client → ConnectionName → Type 0
+IsWelcomed limits past c x = Each (IsMeant c past) (put_to limits past x)
+
+abbrev pub AreWelcomed : Limits → Past → Client → List Connection → Type 0
+AreWelcomed limits past c connections = Each (λ (κ : Connection). IsWelcomed limits past c κ.name) connections
+
+pub record HasShape (limits : Limits) (s : Story) : Type 0 where
+  pub own : OwnInShape s.keeper
+  pub connections : Each (ConnectionInShape limits s.past s.keeper.client) s.connections
+  pub names_apart : NamesApart s.connections
+  pub last_is_current : LastIsCurrent (current_connection s.past s.keeper.client) s.connections
+  pub newest_is_served : NewestIsServed (current_connection s.past s.keeper.client) s.connections
+  pub nobody_else : (d : Client) (x : ConnectionName) → current_connection s.past d ≡ Some x → any_named (same_connection x) s.connections ≡ true →
+      same_client d s.keeper.client ≡ true
+  pub held : HeldInShape limits s.past s.keeper s.connections
+  -- a keeper's session is not clean, and exists once it was served; so none of its sessions ends
+  pub session : (session_of s.past s.keeper.client ≡ None) ⊎ (session_of s.past s.keeper.client ≡ Some false)
+  pub welcomed : AreWelcomed limits s.past s.keeper.client s.connections
+  pub served : s.keeper.was_served ≡ true → session_of s.past s.keeper.client ≡ Some false
+
+pub record IsSoundStory (limits : Limits) (s : Story) : Type 0 where
+  pub shape : HasShape limits s
+  pub publisher : IsGood (as_publisher limits s)
+  pub subscriber : IsGood (as_subscriber limits s)
+
+-- ---- what is left to show of each event
+
+abbrev pub EventKeepsShape : Type 0
+EventKeepsShape = (limits : Limits) (s t : Story) → IsSoundStory limits s → Happens limits s t → HasShape limits t
+
+-- Each event is a run of the handshake in which the client publishes, and of that in which it
+-- subscribes; the latter only while the window changes only at a new ballot, since what starts at
+-- another place is not always sent.
+abbrev pub EventPublishes : Type 0
+EventPublishes = (limits : Limits) (s t : Story) → IsSoundStory limits s → Happens limits s t → GoesTo (as_publisher limits s) (as_publisher limits t)
+
+abbrev pub EventSubscribes : Type 0
+EventSubscribes = (limits : Limits) (s t : Story) → IsSteady limits → IsSoundStory limits s → Happens limits s t → GoesTo (as_subscriber limits s) (as_subscriber limits t)

@@ -1,0 +1,74 @@
+-- What holds for every story of a client, over any list of its connections, losses, crashes and
+-- packets of others (MQTT 4.3.3, 4.4, 4.6).
+use Rattle.std.specs.Prelude.{◌≡◌, if◌then◌else◌, ◌∷◌, length, filter}
+use Rattle.client_base.specs.packet.declared.publish.Publish.{Publish}
+use Rattle.client_base.specs.packet.declared.packet.Packet.TheVariants as packets
+use Rattle.client_base.specs.session_base.Publication.{publication_of}
+use Rattle.broker_base.specs.Command.TheVariants as commands
+use Rattle.broker_base.specs.Commands.{usual_limits}
+use Rattle.broker_base.specs.Connection.{ConnectionName}
+use Rattle.broker_base.specs.Marks.{is_queued_at}
+use Rattle.broker_base.specs.OriginLaws.{is_from_publish}
+use Rattle.broker_base.specs.EndingLaws.{StandsAt}
+use Rattle.broker_base.specs.Place.{Client, Limits, Mark, Past, Place}
+use Rattle.broker_base.specs.Subscriptions.{effective_qos}
+use Rattle.broker_base.specs.Times.{entries_of}
+use Rattle.broker_base.specs.QuietLaws.{IsSteady}
+use Rattle.exactly_once.specs.Headline.{AcceptedInOrder, PublishedOnce, StoriesAreExact}
+use Rattle.exactly_once.specs.Lives.{AcceptsInEachSession, LivesAreExact}
+use Rattle.exactly_once.specs.Story.{Story, Told}
+
+-- the client's publications: those at QoS 2 become new in the list in the order of its calls, each
+-- at most once; those that were answered are there; each enters each session at most once
+abbrev pub PublishesOnce : Limits → Type 0
+PublishesOnce limits = (c : Client) (s : Story) → Told limits c s → PublishedOnce limits s
+
+-- the client accepts a prefix of the QoS 2 entries of its session, in order, each once, and every
+-- one that was released
+abbrev pub AcceptsInOrder : Limits → Type 0
+AcceptsInOrder limits = (c : Client) (s : Story) → Told limits c s → AcceptedInOrder limits s
+
+-- at the place where a publication of the client is taken, it enters exactly the sessions with an
+-- effective QoS of 1 or 2, once each
+abbrev pub StoriesEnter : Type 0
+StoriesEnter =
+    (limits : Limits) (s : Story) (place : Place) (below : Past) (x : ConnectionName) (p : Publish) (d : Client) →
+    StandsAt s.past place below → place.command ≡ commands.Packet x (packets.Publish p) →
+    place.mark ≡ Mark.Taken s.keeper.client →
+    length (filter (is_from_publish (length below)) (entries_of limits (place ∷ below) d))
+    ≡ (if is_queued_at (effective_qos below d (publication_of p)) then 1 else 0)
+
+-- this holds in this broker
+abbrev pub StoriesPublishOnce : Type 0
+StoriesPublishOnce = PublishesOnce usual_limits
+
+abbrev pub StoriesAcceptInOrder : Type 0
+StoriesAcceptInOrder = AcceptsInOrder usual_limits
+
+-- and for any limits whose window changes only at a new ballot
+abbrev pub SteadyStoriesPublishOnce : Type 0
+SteadyStoriesPublishOnce = (limits : Limits) → IsSteady limits → PublishesOnce limits
+
+abbrev pub SteadyStoriesAcceptInOrder : Type 0
+SteadyStoriesAcceptInOrder = (limits : Limits) → IsSteady limits → AcceptsInOrder limits
+
+-- both sides
+abbrev pub UsualStoriesAreExact : Type 0
+UsualStoriesAreExact = StoriesAreExact usual_limits
+
+abbrev pub SteadyStoriesAreExact : Type 0
+SteadyStoriesAreExact = (limits : Limits) → IsSteady limits → StoriesAreExact limits
+
+-- what a client with several sessions accepts in each of them, as long as it is in step
+abbrev pub UsualLivesAccept : Type 0
+UsualLivesAccept = AcceptsInEachSession usual_limits
+
+abbrev pub SteadyLivesAccept : Type 0
+SteadyLivesAccept = (limits : Limits) → IsSteady limits → AcceptsInEachSession limits
+
+-- all that such a client is promised
+abbrev pub UsualLivesAreExact : Type 0
+UsualLivesAreExact = LivesAreExact usual_limits
+
+abbrev pub SteadyLivesAreExact : Type 0
+SteadyLivesAreExact = (limits : Limits) → IsSteady limits → LivesAreExact limits

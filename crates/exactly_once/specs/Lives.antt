@@ -1,0 +1,115 @@
+-- A client's life: its story over several sessions, which an Expel ends.
+use Rattle.std.specs.Prelude.{◌≡◌, ◌≤◌, ◌<◌, ℕ, false, if◌then◌else◌, List, [], ◌∷◌, ◌++◌, length, map, filter, Some, slice_get}
+use Rattle.std.specs.List.{flat_map}
+use Rattle.client_base.specs.packet.declared.publish.Publish.{Publish}
+use Rattle.client_base.specs.packet.declared.packet.Packet.TheVariants as packets
+use Rattle.client_base.specs.session_base.Publication.{publication_of}
+use Rattle.client_base.specs.lists.Lists.{In, IsPrefixOf, Each}
+use Rattle.broker_base.specs.Connection.{ConnectionName}
+use Rattle.broker_base.specs.Place.{Client, Place, Past, Limits, Mark}
+use Rattle.broker_base.specs.Past.{expels}
+use Rattle.broker_base.specs.Subscriptions.{effective_qos}
+use Rattle.broker_base.specs.Marks.{is_queued_at}
+use Rattle.broker_base.specs.Commands.{place_of}
+use Rattle.broker_base.specs.Entries.{Entry}
+use Rattle.broker_base.specs.Readings.{publication_in}
+use Rattle.broker_base.specs.Times.{entries_of}
+use Rattle.broker_base.specs.OriginLaws.{is_from_publish}
+use Rattle.broker_base.specs.EndingLaws.{StandsAt}
+use Rattle.broker_base.specs.TakenLaws.{queued_at}
+use Rattle.broker_base.specs.Command.TheVariants as commands
+use Rattle.client_base.specs.Keeper.{all_own}
+use Rattle.exactly_once.specs.Story.{Story, Happens, no_story}
+use Rattle.exactly_once.specs.Carried.{carries, new_numbers, publications_of, published}
+use Rattle.exactly_once.specs.Headline.{accepted_on, two_entries, is_released, IsAnsweredBy, made_by, IsTakenAt}
+use Rattle.exactly_once.specs.InStep.{IsInStep, sessions_begun, starts_of, IsFirstSession, entries_in, accepted_in}
+
+-- what may happen in a story of one session, and an Expel of the client at any time
+pub data Lived (limits : Limits) (c : Client) : Story → Type 0 where
+  opens : Lived limits c (no_story c)
+  goes_on : {s t : Story} → Lived limits c s → Happens limits s t → Lived limits c t
+  is_expelled : {s : Story} → Lived limits c s → Lived limits c (record s { past = place_of limits s.past (commands.Expel c) ∷ s.past })
+
+-- of each of its sessions, by the place at which it began, the client accepted a prefix of the QoS
+-- 2 entries, and each that is released is among them
+pub record AcceptedInSession (limits : Limits) (s : Story) (start : ℕ) : Type 0 where
+  pub old : List Entry
+  pub new : List Entry
+  pub is : two_entries (entries_in limits s.past s.keeper.client start) ≡ old ++ new
+  pub accepted : accepted_in s.past s.keeper.client start s.connections ≡ map publication_in old
+  pub rest : Each (λ entry. is_released entry ≡ false) new
+
+-- numbers that rise strictly
+abbrev pub IsRising : List ℕ → Type 0
+IsRising (n ∷ numbers) = Each (λ m. n < m) numbers × IsRising numbers
+IsRising [] = Unit {0}
+
+-- the publisher's publications, over all its sessions
+pub record PublishedOverSessions (limits : Limits) (s : Story) : Type 0 where
+  -- a place that carries one has its PUBLISH
+  pub carried : (place : Place) (below : Past) (x : ConnectionName) (p : Publish) (k : ℕ) → StandsAt s.past place below →
+      carries s.connections place.command below ≡ Some k → place.command ≡ commands.Packet x (packets.Publish p) →
+      slice_get (publications_of (all_own s.keeper)) k ≡ Some (publication_of p)
+  -- those at QoS 2 are new in the list in the order of the calls, each at most once
+  pub rises : IsRising (new_numbers s.connections s.past)
+  -- none is left out while the client has had one session
+  pub in_order : sessions_begun s.past s.keeper.client ≤ 1 →
+      IsPrefixOf (new_numbers s.connections s.past) (published (all_own s.keeper))
+  -- each that is new is taken at a place
+  pub taken : (k : ℕ) → In k (new_numbers s.connections s.past) →
+      (place : Place) × (below : Past) × IsTakenAt s k place below
+  -- one that was answered is new
+  pub answered : (place : Place) (below : Past) (x : ConnectionName) (id k : ℕ) → StandsAt s.past place below →
+      carries s.connections place.command below ≡ Some k → IsAnsweredBy limits place below x (packets.Pubrec id) →
+      In k (new_numbers s.connections s.past)
+  -- each enters each session at most once: at any time a session is looked at, it has at most one
+  -- entry of all the places that carry the publication
+  pub enters_once : (later earlier : Past) (d : Client) (k : ℕ) → s.past ≡ later ++ earlier →
+      In k (published (all_own s.keeper)) → made_by s.connections k s.past (entries_of limits earlier d) ≤ 1
+  -- and if a publication is taken, at any QoS, it enters exactly the sessions with an effective QoS
+  -- over 0, once
+  pub enters : (place : Place) (below : Past) (x : ConnectionName) (p : Publish) (d : Client) → StandsAt s.past place below →
+      place.command ≡ commands.Packet x (packets.Publish p) → place.mark ≡ Mark.Taken s.keeper.client →
+      length (filter (is_from_publish (length below)) (entries_of limits (place ∷ below) d))
+      ≡ (if is_queued_at (effective_qos below d (publication_of p)) then 1 else 0)
+  -- as it was published, at the effective QoS
+  pub enters_as : (place : Place) (below : Past) (x : ConnectionName) (p : Publish) (d : Client) → StandsAt s.past place below →
+      place.command ≡ commands.Packet x (packets.Publish p) → place.mark ≡ Mark.Taken s.keeper.client →
+      map publication_in (filter (is_from_publish (length below)) (entries_of limits (place ∷ below) d))
+      ≡ queued_at (publication_of p) (effective_qos below d (publication_of p))
+  -- one at QoS 1 that was answered is taken at the place that is answered
+  pub acknowledged : (place : Place) (below : Past) (x : ConnectionName) (id k : ℕ) → StandsAt s.past place below →
+      carries s.connections place.command below ≡ Some k → IsAnsweredBy limits place below x (packets.Puback id) →
+      IsTakenAt s k place below
+
+-- ---- the whole
+
+-- what a client with several sessions is promised: as publisher, and in each session as subscriber
+pub record ExactlyOnceOverSessions (limits : Limits) (s : Story) : Type 0 where
+  pub publishers : PublishedOverSessions limits s
+  pub subscribers : (start : ℕ) → AcceptedInSession limits s start
+  -- all that it accepted, it accepted in its sessions, one after another
+  pub in_turn : accepted_on s.connections
+      ≡ flat_map (λ start. accepted_in s.past s.keeper.client start s.connections) (starts_of s.past s.keeper.client)
+
+-- as long as it is in step
+abbrev pub LivesAreExact : Limits → Type 0
+LivesAreExact limits = (c : Client) (s : Story) → Lived limits c s → IsInStep s → ExactlyOnceOverSessions limits s
+
+-- only the subscribers' part
+abbrev pub AcceptsInEachSession : Limits → Type 0
+AcceptsInEachSession limits = (c : Client) (s : Story) → Lived limits c s → IsInStep s → (start : ℕ) → AcceptedInSession limits s start
+
+-- ---- a client that was never expelled
+
+-- no command of the list expels the client
+abbrev pub IsUnexpelled : Client → Past → Type 0
+IsUnexpelled c = Each (λ (place : Place). expels place.command c ≡ false)
+
+-- then it has one session at most, and so it is in step
+pub record HasOneSession (s : Story) : Type 0 where
+  pub first : IsFirstSession s.past s.keeper.client
+  pub in_step : IsInStep s
+
+abbrev pub UnexpelledLivesAreInStep : Type 0
+UnexpelledLivesAreInStep = (limits : Limits) (c : Client) (s : Story) → Lived limits c s → IsUnexpelled c s.past → HasOneSession s

@@ -1,0 +1,19 @@
+-- What a connection is sent of the answers to a list of commands.
+use Rattle.std.specs.Prelude.{if◌then◌else◌, List, [], ◌∷◌, ◌++◌}
+use Rattle.client_base.specs.packet.declared.packet.Packet.{Packet}
+use Rattle.broker_base.specs.Connection.{ConnectionName, same_connection}
+use Rattle.broker_base.specs.Place.{Past, Limits}
+use Rattle.broker_base.specs.Answers.{answers_at}
+use Rattle.broker_base.specs.Output.{Output}
+use Rattle.broker_base.specs.Output.TheVariants.{Send, Close}
+
+-- the packets to a connection, in order
+abbrev pub sends_to : ConnectionName → List Output → List Packet
+sends_to x (Send y packet ∷ answers) = if same_connection x y then packet ∷ sends_to x answers else sends_to x answers
+sends_to x (Close y ∷ answers) = sends_to x answers
+sends_to x [] = []
+
+-- all that a connection is sent, place by place
+unfoldable pub put_to : Limits → Past → ConnectionName → List Packet
+put_to limits [] x = []
+put_to limits (place ∷ past) x = put_to limits past x ++ sends_to x (answers_at limits place past)

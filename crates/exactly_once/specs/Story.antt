@@ -1,0 +1,140 @@
+-- One client's story: the list of commands, its connections as packets, what it keeps; and what may
+-- happen.
+use Rattle.std.specs.Prelude.{◌≡◌, ℕ, zero, suc, Bool, true, false, ◌||◌, if◌then◌else◌, List, [], ◌∷◌, ◌++◌, Some, slice_get, Option, None, is_some, length}
+use Rattle.client_base.specs.packet.declared.subscribe.Subscribe.{Subscribe}
+use Rattle.client_base.specs.packet.declared.unsubscribe.Unsubscribe.{Unsubscribe}
+use Rattle.client_base.specs.packet.declared.packet.Packet.{Packet}
+use Rattle.client_base.specs.packet.declared.packet.Packet.TheVariants as packets
+use Rattle.client_base.specs.session_base.declared.publication.Publication.{Publication}
+use Rattle.client_base.specs.session_base.Publication.{is_answered}
+use Rattle.client_base.specs.session_base.Identifiers.{least_free}
+use Rattle.broker_base.specs.Connection.{ConnectionName, same_connection}
+use Rattle.broker_base.specs.Place.{Client, Past, Limits}
+use Rattle.broker_base.specs.Commands.{place_of, past_of}
+use Rattle.broker_base.specs.Command.{Command}
+use Rattle.broker_base.specs.Command.TheVariants as commands
+use Rattle.exactly_once.specs.Sends.{put_to}
+use Rattle.client_base.specs.Keeper.{Written, Keeper, new_keeper, ids_in_use, Own}
+use Rattle.client_base.specs.declared.request.Request.TheVariants as requests
+use Rattle.exactly_once.specs.Sides.{Connection, Side}
+use Rattle.client_base.specs.Written.{plain}
+use Rattle.client_base.specs.Handled.{handled, lost}
+use Rattle.client_base.specs.Called.{new_connection, adds_own, written_for}
+use Rattle.client_base.specs.Written.{writes_first}
+use Rattle.broker_base.specs.Past.{session_of}
+use Rattle.client_base.specs.lists.Lists.{IsDistinct}
+use Rattle.client_base.specs.OrderLaws.{AreNumbered}
+
+-- the connections, the newest first: the client holds the first one while it is open
+pub record Story : Type 0 where
+  pub past : Past
+  pub connections : List Connection
+  pub keeper : Keeper
+
+abbrev pub no_story : Client → Story
+no_story c = record { past = []; connections = []; keeper = new_keeper c }
+
+-- ---- commands
+
+-- the first packet of a connection is a CONNECT and becomes a Connect; each later one a Packet
+abbrev pub command_of : ConnectionName → ℕ → Packet → Command
+command_of x zero (packets.Connect c) = commands.Connect x c.client c.clean
+command_of x taken packet = commands.Packet x packet
+
+-- the connection of this place in the list, one more packet of it taken
+abbrev pub counted_at : ℕ → List Connection → List Connection
+counted_at i [] = []
+counted_at zero (κ ∷ connections) = record κ { taken = suc κ.taken } ∷ connections
+counted_at (suc i) (κ ∷ connections) = κ ∷ counted_at i connections
+
+-- a Connect of the client, and an Expel of it if it has a session
+abbrev pub names_client : Past → Client → Command → Type 0
+names_client past c (commands.Connect x d clean) = d ≡ c
+names_client past c (commands.Expel d) = (d ≡ c) × (is_some (session_of past c) ≡ true)
+names_client past c _ = ⊥
+
+abbrev pub is_packet_of : Command → ConnectionName → Bool
+is_packet_of (commands.Packet x packet) y = same_connection x y
+is_packet_of (commands.Connect x d clean) y = same_connection x y
+is_packet_of _ y = false
+
+-- how many of its packets are in the list
+abbrev pub count_of : ConnectionName → Past → ℕ
+count_of x (place ∷ past) = if is_packet_of place.command x then suc (count_of x past) else count_of x past
+count_of x [] = 0
+
+abbrev pub any_named : (ConnectionName → Bool) → List Connection → Bool
+any_named test (κ ∷ connections) = test κ.name || any_named test connections
+any_named test [] = false
+
+-- ---- the client
+
+abbrev pub with_side : Story → List Connection → Side → Story
+with_side s others side = record { past = s.past; connections = side.connection ∷ others; keeper = side.keeper }
+
+-- ---- what may happen
+
+-- It allows more than a world does: any connection's next packet may come next in the list, and any
+-- client may be lost at any time.
+pub data Happens (limits : Limits) (s : Story) : Story → Type 0 where
+  takes : (i : ℕ) (κ : Connection) (w : Written) → slice_get s.connections i ≡ Some κ → slice_get κ.written κ.taken ≡ Some w →
+      Happens limits s (record {
+        past = place_of limits s.past (command_of κ.name κ.taken w.packet) ∷ s.past;
+        connections = counted_at i s.connections;
+        keeper = s.keeper;
+      })
+  others_take : (command : Command) → (names_client s.past s.keeper.client command → ⊥) → any_named (is_packet_of command) s.connections ≡ false →
+      Happens limits s (record s { past = place_of limits s.past command ∷ s.past })
+  receives : (κ : Connection) (others : List Connection) (packet : Packet) → s.connections ≡ κ ∷ others → s.keeper.is_open ≡ true →
+      slice_get (put_to limits s.past κ.name) κ.handled ≡ Some packet →
+      Happens limits s (with_side s others (handled packet (record { keeper = s.keeper; connection = κ })))
+  opens_anew : (x : ConnectionName) → any_named (same_connection x) s.connections ≡ false → put_to limits s.past x ≡ [] → count_of x s.past ≡ 0 →
+      Happens limits s (record {
+        past = s.past;
+        connections = new_connection s.keeper.client x ∷ s.connections;
+        keeper = record (lost s.keeper) { is_open = true };
+      })
+  loses : Happens limits s (record s { keeper = lost s.keeper })
+  disconnects : Happens limits s (record {
+    past = s.past;
+    connections = if s.keeper.is_online then writes_first (plain packets.Disconnect ∷ []) s.connections else s.connections;
+    keeper = lost s.keeper;
+  })
+  publishes_one : (p : Publication) → (is_answered p.qos ≡ false → s.keeper.is_online ≡ true) →
+      Happens limits s (record {
+        past = s.past;
+        connections = writes_first (written_for p s.keeper) s.connections;
+        keeper = adds_own p s.keeper;
+      })
+  subscribes : (p : Subscribe) → s.keeper.is_online ≡ true → p.id ≡ least_free (ids_in_use s.keeper) →
+      Happens limits s (record {
+        past = s.past;
+        connections = writes_first (plain (packets.Subscribe p) ∷ []) s.connections;
+        keeper = record s.keeper { requests = s.keeper.requests ++ requests.Subscribes p.id ∷ [] };
+      })
+  unsubscribes : (p : Unsubscribe) → s.keeper.is_online ≡ true → p.id ≡ least_free (ids_in_use s.keeper) →
+      Happens limits s (record {
+        past = s.past;
+        connections = writes_first (plain (packets.Unsubscribe p) ∷ []) s.connections;
+        keeper = record s.keeper { requests = s.keeper.requests ++ requests.Unsubscribes p.id ∷ [] };
+      })
+
+-- publications that were never sent, numbered from this one on
+abbrev pub AreUnsent : ℕ → List Own → Type 0
+AreUnsent n (Own.Unsent k p id ∷ own) = (k ≡ n) × AreUnsent (suc n) own
+AreUnsent n [] = Unit {0}
+AreUnsent n _ = ⊥
+
+-- a client that was never served in this session, with what it published before it, and what it
+-- keeps
+abbrev pub unserved : Client → List Own → List Own → Keeper
+unserved c earlier own = record (new_keeper c) { earlier = earlier; own = own }
+
+-- A story of one session begins with the list, or when the client has no session: then nothing is
+-- left of what it had.
+pub data Told (limits : Limits) (c : Client) : Story → Type 0 where
+  begins : Told limits c (no_story c)
+  begins_at : (list : List Command) (earlier own : List Own) → session_of (past_of limits list) c ≡ None →
+      AreNumbered 0 earlier → AreUnsent (length earlier) own → IsDistinct (ids_in_use (unserved c earlier own)) →
+      Told limits c (record { past = past_of limits list; connections = []; keeper = unserved c earlier own })
+  goes_on : {s t : Story} → Told limits c s → Happens limits s t → Told limits c t

@@ -1,8 +1,0 @@
-//! A group of nodes, as definitions and laws: nodes with their clients' connections, the messages
-//! between them, and one master. It connects what one node does with the agreement of all.
-#![tactic(auto)]
-
-mod laws;
-
-pub use laws::{groups_are_pasts, groups_keep_the_order, puts_in_the_ballot_of_the_name};
-pub use node_model::world_base;

@@ -1,4 +1,0 @@
-pub mod Items
-pub mod Handshake
-pub mod Exact
-pub mod Sides

@@ -1,0 +1,75 @@
+-- Beside every world that is reached goes one of `model`.
+use Rattle.std.proofs.Common.{◌≡◌, ℕ, List, [], ◌++◌, true, map, refl, sym, ◌∙◌}
+use Rattle.byte_world.specs.ballot.Config.{Config}
+use Rattle.byte_world.specs.broker_base.Place.{Client}
+use Rattle.byte_world.specs.lists.Lists.{Each}
+use Rattle.byte_world.specs.agreement.World.{can_open}
+use Rattle.byte_world.specs.packet_world.World.{AreApart, ClientEnds, opening as opening_beside, story_of as story_beside}
+use Rattle.byte_world.specs.packet_world.World as model
+use Rattle.byte_world.specs.packet_world.Goes.Reached.{begins as begins_beside}
+use Rattle.byte_world.proofs.of_packet_world.Lists.{each_by}
+use Rattle.byte_world.specs.node_group.Goes.{Went}
+use Rattle.byte_world.specs.node_group.Goes.Went.{opened}
+use Rattle.byte_world.specs.Carried.{went_of, went_on}
+use Rattle.byte_world.specs.Goes.{Reached, WorldStep}
+use Rattle.byte_world.specs.Goes.Reached.{begins, goes_on}
+use Rattle.byte_world.specs.Goes.WorldStep.{goes_on as group_goes, calls, connects, is_turned_away, comes_up, goes_down, arrives, handles}
+use Rattle.byte_world.specs.World.{World, new_client, opening}
+use Rattle.byte_world.proofs.PipesInOrder.{opens_hold, step_holds}
+use Rattle.byte_world.proofs.WorldsHold.{Holds}
+use Rattle.headline.proofs.AllPutOut.{IsFull}
+use Rattle.headline.proofs.Beside.{Beside, ends_alone, grows_beside}
+use Rattle.headline.proofs.ClientsGo.{calls_so, connects_so, handles_so}
+use Rattle.headline.proofs.GoesBeside.{GoesBeside, group_beside, pipe_beside, pipe_rests}
+use Rattle.byte_world.proofs.of_node_group.CarriedInOrder.{carried_at_first}
+use Rattle.headline.proofs.Places.{each_of_made, map_twice}
+use Rattle.headline.proofs.WorldsWrite.{HasAllPipes, clients_alone, is_of_written, pipes_alone}
+
+-- ---- as it opens
+
+-- at the same time a world of `model` opens
+opens_beside : (cs : List Client) → Beside cs [] (map pipes_alone (map new_client cs))
+opens_beside cs =
+    record {
+      world = opening_beside cs;
+      reached = begins_beside;
+      is = refl;
+      full = each_of_made model.new_client (IsFull []) cs (each_by (λ c. IsFull [] (model.new_client c)) cs (λ i c at. refl));
+      same = map_twice model.new_client ends_alone cs ∙ sym (map_twice new_client pipes_alone cs);
+    }
+
+opens_so : (nodes : ℕ) (config : Config) (cs : List Client) → AreApart cs → (can : can_open nodes config ≡ true) → GoesBeside nodes config cs (opening nodes config cs) (opened can)
+opens_so nodes config cs apart can =
+    let so = carried_at_first nodes config can in
+    let holds = opens_hold nodes config cs (opened can) (λ x. (refl, refl)) in
+    let piped : Each HasAllPipes (opening nodes config cs).clients = each_of_made new_client HasAllPipes cs (each_by (λ c. HasAllPipes (new_client c)) cs (λ i c at. refl)) in
+    record {
+      holds = holds;
+      piped = piped;
+      so = so;
+      beside = λ agreed is.
+          grows_beside cs apart [] agreed (clients_alone (opening nodes config cs)) (opens_beside cs) (record { rest = agreed; is = refl })
+          (is_of_written (opening nodes config cs) (opened can) holds piped so agreed is);
+    }
+
+-- ---- each step
+
+step_goes : {nodes : ℕ} {config : Config} {cs : List Client} → AreApart cs → (v w : World) (went : Went nodes config v.group) → GoesBeside nodes config cs v went
+    → (step : WorldStep v w) → Holds w (went_on went step) → GoesBeside nodes config cs w (went_on went step)
+step_goes apart v w went s (group_goes deed d is_apart) holds =
+    group_beside apart (record v { group = d.behind }) v.group went s.so d.step (λ agreed is. s.beside agreed is) holds s.piped
+step_goes apart v w went s (calls i c t h at call spelled) holds = calls_so v went i c t h s at call holds
+step_goes apart v w went s (connects i n c port now d core end at unused behind there_so spelled) holds = connects_so apart v went i n c end.name port now d s at holds
+step_goes apart v w went s (is_turned_away n port now d core unused behind none) holds =
+    group_beside apart (record v { group = d.behind }) v.group went s.so d.step (λ agreed is. s.beside agreed is) holds s.piped
+step_goes apart v w went s (comes_up i j c κ p piece rest now d has is) holds = pipe_beside apart v went d.behind i j c (record p { up = rest }) s d.step has.client holds
+step_goes apart v w went s (goes_down i j c κ p d has) holds = pipe_beside apart v went d.behind i j c _ s d.step has.client holds
+step_goes apart v w went s (arrives i j c κ p piece rest has is) holds =
+    pipe_rests v went i j c (record p { down = rest; came = record p.came { held = p.came.held ++ piece } }) s has.client holds
+step_goes apart v w went s (handles i c κ others p pipes packet left at first piped is_open cut spelled) holds =
+    handles_so v went i c κ others p pipes packet left s at first piped is_open cut holds
+
+pub goes_beside : {nodes : ℕ} {config : Config} {cs : List Client} → AreApart cs → (w : World) (trail : Reached nodes config cs w) → GoesBeside nodes config cs w (went_of trail)
+goes_beside {nodes = nodes} {config = config} {cs = cs} apart w (begins can) = opens_so nodes config cs apart can
+goes_beside apart w (goes_on {v = v} before step) =
+    let s = goes_beside apart v before in step_goes apart v w (went_of before) s step (step_holds v w (went_of before) s.holds step)

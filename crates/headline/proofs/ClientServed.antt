@@ -1,0 +1,71 @@
+-- The run of the row: a client connects to a node, and its CONNECT is answered.
+use Rattle.std.specs.Prelude.{nat_lt, nat_le}
+use Rattle.std.specs.Str.{chars, is_utf8}
+use lib.Utf8.{encode}
+use Rattle.std.proofs.Common.{◌≡◌, ◌<◌, ◌≤◌, ℕ, true, [], ◌∷◌, refl, sym, arith}
+use Rattle.std.proofs.lemmas.List.{append-nil}
+use Rattle.byte_world.specs.packet.Spelling.{IsPacket, spelling}
+use Rattle.byte_world.specs.client_base.Called.{new_connection}
+use Rattle.byte_world.specs.client_base.Handled.{lost}
+use Rattle.byte_world.specs.client_base.Keeper.{Keeper, new_keeper}
+use Rattle.byte_world.specs.exactly_once.Rows.{first_name, writer}
+use Rattle.byte_world.specs.exactly_once.Sides.{Connection}
+use Rattle.byte_world.specs.world_base.declared.item.Item.TheVariants.{Opened}
+use Rattle.byte_world.specs.world_base.Connections.{fresh}
+use Rattle.byte_world.specs.node_group.Group.{opening_group}
+use Rattle.byte_world.specs.node_moves.Moves.NodeCall.{takes}
+use Rattle.byte_world.specs.node_moves.Puts.{spelled}
+use Rattle.byte_world.specs.Goes.{Reached}
+use Rattle.byte_world.specs.Goes.Reached.{begins, goes_on}
+use Rattle.byte_world.specs.Goes.WorldStep.{connects}
+use Rattle.byte_world.specs.World.{new_client, packets_of}
+use Rattle.headline.specs.Rows.{AClientIsServed, one_node}
+use Rattle.headline.proofs.RowGoes.{Row, client_with, pipe_with, row_arrives, row_down, row_handles, row_up, the_port, turned}
+use Rattle.headline.proofs.ServedNode.{connack, connect, core_at_first, core_opened, it_connects, it_hands, it_opens, list_connected, serving}
+
+pub less_by : (n m : ℕ) → nat_lt n m ≡ true → n < m
+less_by n m e = grind (arith, e)
+
+pub within_by : (n m : ℕ) → nat_le n m ≡ true → n ≤ m
+within_by n m e = grind (arith, e)
+
+connect_whole : IsPacket connect
+unfolding is_utf8 chars encode
+connect_whole = ((less_by _ _ refl, refl), tt, within_by _ _ refl)
+
+connack_whole : IsPacket connack
+connack_whole = (tt, tt, within_by _ _ refl)
+
+-- the client with the connection that it opens
+abbrev pub keeper_opens : Keeper
+keeper_opens = record (lost (new_keeper writer)) { is_open = true }
+
+abbrev pub its_connection : Connection
+its_connection = new_connection writer first_name
+
+abbrev pub keeper_served : Keeper
+keeper_served = record keeper_opens { is_online = true; was_served = true }
+
+abbrev pub connection_served : Connection
+connection_served = record its_connection { handled = 1; confirmed = true }
+
+row_opens : Row core_opened (client_with keeper_opens its_connection (pipe_with (spelled (packets_of its_connection.written)) [] []))
+row_opens =
+    let opened : Reached 1 one_node (writer ∷ []) _ = begins refl in
+    let t = turned (opening_group 1 one_node) 0 (takes (Opened the_port 0)) core_at_first core_opened refl tt it_opens in
+    record {
+      group = t.does.behind;
+      trail = goes_on opened (connects 0 0 (new_client writer) the_port 0 t.does core_opened (fresh the_port first_name) refl refl t.stands refl connect_whole);
+      stands = t.stands;
+    }
+
+-- its CONNECT is answered
+pub its_session : Row (serving list_connected []) (client_with keeper_served connection_served (pipe_with [] [] []))
+its_session =
+    let read = row_up row_opens (serving list_connected (spelling connack)) (spelling connect) [] 0 refl it_connects in
+    let given = row_down read (serving list_connected []) (spelling connack) refl (it_hands list_connected (spelling connack)) in
+    let came = row_arrives given (spelling connack) [] (sym (append-nil (spelling connack))) in
+    row_handles came connack [] _ refl refl connack_whole (sym (append-nil (spelling connack))) tt
+
+pub a_client_is_served : AClientIsServed
+a_client_is_served = record { end = _; trail = its_session.trail; served = refl }

@@ -1,0 +1,80 @@
+-- While the first session of a client lasts, it still keeps those of its QoS 2 publications that are not new yet.
+use Rattle.std.proofs.Common.{◌≡◌, ℕ, List, ◌++◌, length, map, Option, Some, sym, ap, ◌∙◌, subst}
+use Rattle.std.specs.Prelude.{slice_get}
+use Rattle.std.proofs.lemmas.List.{map-append}
+use Rattle.byte_world.specs.session_base.declared.publication.Publication.{Publication}
+use Rattle.byte_world.specs.broker_base.Commands.{usual_limits}
+use Rattle.byte_world.proofs.of_broker_base.PacketOfNobody.{window_is_steady}
+use Rattle.byte_world.specs.client_base.History as history
+use Rattle.byte_world.specs.client_base.Keeper.{Own, all_own}
+use Rattle.byte_world.specs.client_base.State.{ClientState}
+use Rattle.byte_world.specs.exactly_once.Items.{Item, value_of}
+use Rattle.byte_world.specs.exactly_once.HandshakeSides.{IsGood}
+use Rattle.byte_world.specs.exactly_once.Carried.{new_numbers, publications_of}
+use Rattle.byte_world.specs.exactly_once.Inside.Projections.{as_publisher}
+use Rattle.byte_world.specs.exactly_once.Inside.Shape.{AreNumbered, IsSoundStory}
+use Rattle.byte_world.specs.exactly_once.InStep.{IsFirstSession, IsInStep}
+use Rattle.byte_world.specs.exactly_once.Lives.{Lived}
+use Rattle.byte_world.specs.exactly_once.Story.{Story}
+use Rattle.byte_world.proofs.of_exactly_once.Ends.{split_map}
+use Rattle.byte_world.proofs.of_exactly_once.keeping.Told.{told_stories_are_sound}
+use Rattle.byte_world.proofs.of_exactly_once.sessions.Beside.{beside}
+use Rattle.byte_world.proofs.of_exactly_once.sessions.LivesExact.{HasOneStory, first_has_story}
+use Rattle.headline.specs.Shown.{AreStillKept, at_two, kept_of}
+use Rattle.headline.proofs.NewNumbered.{same_some}
+use Rattle.headline.proofs.StillKept.{kept_both, kept_values, new_kept, some_of, two_kept, two_published}
+
+module _ (s : Story) (state : ClientState) (lived : Lived usual_limits s.keeper.client s) (step : IsInStep s) (first : IsFirstSession s.past s.keeper.client) where
+  abbrev qs : List Publication
+  qs = publications_of s.keeper.own
+
+  -- the story of the session
+  one : HasOneStory usual_limits s.keeper.client s
+  one = first_has_story usual_limits window_is_steady.0 s.keeper.client s lived step first
+
+  sound : IsSoundStory usual_limits (beside one.flags s)
+  sound = told_stories_are_sound usual_limits window_is_steady.0 s.keeper.client (beside one.flags s) one.told
+
+  numbered : AreNumbered 0 s.keeper.own
+  numbered = subst (λ (earlier : List Own). AreNumbered (length earlier) s.keeper.own) one.alone sound.shape.own.numbered
+
+  all_said : publications_of (all_own s.keeper) ≡ qs
+  all_said = ap (λ (earlier : List Own). publications_of (earlier ++ s.keeper.own)) one.alone
+
+  -- the two sides of its handshake
+  good : IsGood (as_publisher usual_limits (beside one.flags s))
+  good = sound.publisher
+
+  abbrev rest : List (Option Publication)
+  rest = map (slice_get qs) (map value_of good.new)
+
+  new_old : (new : List Publication) → map (slice_get (publications_of (all_own s.keeper))) (new_numbers s.connections s.past) ≡ some_of new
+      → map (slice_get qs) (map value_of good.old) ≡ some_of new
+  new_old new are =
+      ap (map (slice_get qs)) (sym good.sides.accepted_is ∙ sym one.same)
+      ∙ ap (λ (ps : List Publication). map (slice_get ps) (new_numbers s.connections s.past)) (sym all_said) ∙ are
+
+  published_parts : (new : List Publication) → map (slice_get qs) (map value_of good.old) ≡ some_of new → some_of (at_two qs) ≡ some_of new ++ rest
+  published_parts new are =
+      sym (two_published s.keeper.own numbered) ∙ ap (λ (l : List (Item ℕ)). map (slice_get qs) (map value_of l)) good.sides.is
+      ∙ ap (map (slice_get qs)) (map-append value_of good.old good.new) ∙ map-append (slice_get qs) (map value_of good.old) (map value_of good.new)
+      ∙ ap (λ (l : List (Option Publication)). l ++ rest) are
+
+  kept_parts : history.StandsFor s.keeper state → some_of (at_two (kept_of state)) ≡ map (slice_get qs) (kept_values good.old) ++ rest
+  kept_parts stands =
+      sym (two_kept s.keeper state stands numbered) ∙ ap (λ (l : List (Item ℕ)). map (slice_get qs) (kept_values l)) good.sides.is
+      ∙ ap (map (slice_get qs)) (kept_both good.old good.new ∙ ap (λ (l : List ℕ). kept_values good.old ++ l) (new_kept _ good.new good.sides.news))
+      ∙ map-append (slice_get qs) (kept_values good.old) (map value_of good.new)
+
+  pub first_kept : history.StandsFor s.keeper state → (new : List Publication)
+      → map (slice_get (publications_of (all_own s.keeper))) (new_numbers s.connections s.past) ≡ some_of new
+      → AreStillKept (at_two (publications_of (all_own s.keeper))) new (at_two (kept_of state))
+  first_kept stands new are =
+      let cut = split_map (λ (p : Publication). Some p) (at_two qs) (some_of new) rest (published_parts new (new_old new are)) in
+      let kept = split_map (λ (p : Publication). Some p) (at_two (kept_of state)) (map (slice_get qs) (kept_values good.old)) rest (kept_parts stands) in
+      record {
+        waiting = cut.behind;
+        published_are = ap at_two all_said ∙ cut.is ∙ ap (λ (l : List Publication). l ++ cut.behind) (same_some cut.front new cut.front_is);
+        again = kept.front;
+        kept_are = kept.is ∙ ap (λ (l : List Publication). kept.front ++ l) (same_some kept.behind cut.behind (kept.behind_is ∙ sym cut.behind_is));
+      }

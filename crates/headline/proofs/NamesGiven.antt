@@ -1,0 +1,113 @@
+-- Each name that a node of a group gives is one that a connection may have.
+use Rattle.std.proofs.Common.{◌≡◌, Bool, true, false, not, ◌&&◌, if◌then◌else◌, ℕ, List, [], ◌∷◌, ◌++◌, length, refl, sym, subst}
+use Rattle.std.specs.List.{list_any}
+use Rattle.byte_world.specs.ballot.Config.{Config}
+use Rattle.byte_world.specs.ballot.Effect.{Effect}
+use Rattle.byte_world.specs.broker_base.Command.{Command}
+use Rattle.byte_world.specs.broker_base.Output.{Output}
+use Rattle.byte_world.specs.broker_base.Connection.{ConnectionName, IsConnectionName, is_connection_name}
+use Rattle.byte_world.proofs.of_broker_spec.ConnectionNames.{same_name}
+use Rattle.byte_world.specs.lists.Lists.{Each, In}
+use Rattle.byte_world.specs.lists.Lists.In.{here, there}
+use Rattle.byte_world.proofs.of_lists.OfEach.{each_append, each_then}
+use Rattle.byte_world.specs.agreement.MasterState.{refusal}
+use Rattle.byte_world.proofs.of_packet_world.Lists.{each_set}
+use Rattle.byte_world.specs.world_base.declared.Connection.{Connection}
+use Rattle.byte_world.specs.world_base.declared.item.Item.{Item}
+use Rattle.byte_world.specs.world_base.declared.item.Item.TheVariants.{Peer, Tick, Opened, Bytes, Ended, Expel, Cut, Crash}
+use Rattle.byte_world.specs.world_base.declared.Port.{Port}
+use Rattle.byte_world.specs.world_base.Connections.{fresh, is_at}
+use Rattle.byte_world.specs.world_base.Core.{CoreState, Turn, serves}
+use Rattle.byte_world.specs.world_base.LossyStep.{RunsOn}
+use Rattle.byte_world.specs.world_base.Step.{acts_on, next_name, opens, takes_in}
+use Rattle.byte_world.specs.node_moves.Moves.{NodeCall, done}
+use Rattle.byte_world.specs.node_moves.Moves.NodeCall.{takes, gives}
+use Rattle.byte_world.proofs.of_node_moves.EachKept.{IsKept, each_repeated, each_settled}
+use Rattle.byte_world.proofs.of_node_moves.Kept.{named, put_out_name}
+use Rattle.byte_world.proofs.of_node_moves.Views.{found_each, found_passes}
+use Rattle.byte_world.specs.node_group.Group.{Group, opening_cores}
+use Rattle.byte_world.specs.node_group.Goes.{MayGo, Went, groups_of}
+use Rattle.byte_world.specs.node_group.Goes.MayGo.{node_acts, node_loses, master_assigns, master_hears, assigns_unheard, answers_unheard}
+use Rattle.byte_world.specs.node_group.Goes.Went.{opened, then_went}
+use Rattle.byte_world.proofs.of_node_group.NamesInGroups.{each_got}
+use Rattle.byte_world.proofs.of_node_group.CarriedInOrder.{assigned_nodes, no_connections}
+use Rattle.byte_world.specs.Apart.{HasName}
+use Rattle.byte_world.proofs.PortsKept.{IsLater, each_done}
+use Rattle.byte_world.proofs.PortsLosing.{each_lost}
+
+abbrev IsNamed : Connection → Type 0
+IsNamed c = IsConnectionName c.name
+
+abbrev AreNamed : CoreState → Type 0
+AreNamed core = Each IsNamed core.connections
+
+later_named : (c d : Connection) → IsLater c d → IsNamed c → IsNamed d
+later_named c d later fits = subst IsConnectionName (sym later.name) fits
+
+kept_named : IsKept IsNamed
+kept_named = record { shut = λ c fits. fits; put = λ bytes c fits. subst IsConnectionName (sym (put_out_name bytes c)) fits }
+
+-- ---- a node
+
+opens_named : (port : Port) (core : CoreState) → AreNamed core → AreNamed (opens port core)
+unfolding opens
+opens_named port core all = by (serves core && not (list_any (is_at port) core.connections)) (is_connection_name (next_name core)) refl
+  where
+    by : (a b : Bool) → is_connection_name (next_name core) ≡ b
+        → AreNamed (let k : CoreState = if a && b then record core { last_name = next_name core; connections = core.connections ++ fresh port (next_name core) ∷ [] } else core in k)
+    by true true fits = each_append IsNamed core.connections (fresh port (next_name core) ∷ []) all (fits, tt)
+    by true false other = all
+    by false b other = all
+
+done_named : (deed : NodeCall) (core : CoreState) → AreNamed core → AreNamed (done deed core).core
+done_named (takes (Opened port now)) core all =
+    each_settled IsNamed kept_named.shut (acts_on (Opened port now) core).core
+    (each_repeated IsNamed kept_named (length (takes_in (Opened port now) core).core.connections) (takes_in (Opened port now) core).core (opens_named port core all))
+done_named (takes (Peer message)) core all = each_done IsNamed later_named (takes (Peer message)) core tt all
+done_named (takes (Tick now)) core all = each_done IsNamed later_named (takes (Tick now)) core tt all
+done_named (takes (Bytes port piece now)) core all = each_done IsNamed later_named (takes (Bytes port piece now)) core tt all
+done_named (takes (Ended port)) core all = each_done IsNamed later_named (takes (Ended port)) core tt all
+done_named (takes (Expel client)) core all = each_done IsNamed later_named (takes (Expel client)) core tt all
+done_named (takes Cut) core all = each_done IsNamed later_named (takes Cut) core tt all
+done_named (takes Crash) core all = each_done IsNamed later_named (takes Crash) core tt all
+done_named (gives port) core all = each_done IsNamed later_named (gives port) core tt all
+
+-- where something is lost
+lost_named : (item : Item) (core new : CoreState) (messages : List (Effect Command Output)) → RunsOn item core new messages → AreNamed core → AreNamed new
+lost_named (Opened port now) core new messages runs all = each_lost IsNamed later_named (Opened port now) core new messages (opens_named port core) runs all
+lost_named (Peer message) core new messages runs all = each_lost IsNamed later_named (Peer message) core new messages tt runs all
+lost_named (Tick now) core new messages runs all = each_lost IsNamed later_named (Tick now) core new messages tt runs all
+lost_named (Bytes port piece now) core new messages runs all = each_lost IsNamed later_named (Bytes port piece now) core new messages tt runs all
+lost_named (Ended port) core new messages runs all = each_lost IsNamed later_named (Ended port) core new messages tt runs all
+lost_named (Expel client) core new messages runs all = each_lost IsNamed later_named (Expel client) core new messages tt runs all
+lost_named Cut core new messages runs all = each_lost IsNamed later_named Cut core new messages tt runs all
+lost_named Crash core new messages runs all = each_lost IsNamed later_named Crash core new messages tt runs all
+
+-- ---- a group
+
+step_named : (g h : Group) → MayGo g h → Each AreNamed g.nodes → Each AreNamed h.nodes
+step_named g h (node_acts n core deed turn run at is first sent) all =
+    each_set AreNamed g.nodes n turn.core all (subst (λ (t : Turn). AreNamed t.core) (sym is) (done_named deed core (each_got AreNamed g.nodes n core all at)))
+step_named g h (node_loses n core item turn kept by at runs sent thinned) all =
+    each_set AreNamed g.nodes n turn.core all (lost_named item core turn.core turn.messages runs (each_got AreNamed g.nodes n core all at))
+step_named g h (master_assigns wanted) all = subst (Each AreNamed) (sym (assigned_nodes g wanted (refusal g.master wanted))) all
+step_named g h (master_hears from ballot sent) all = all
+step_named g h (assigns_unheard wanted) all = all
+step_named g h (answers_unheard from ballot sent) all = all
+
+all_named : {nodes : ℕ} {config : Config} (g : Group) → Went nodes config g → Each AreNamed g.nodes
+all_named {nodes = nodes} {config = config} g (opened can) =
+    each_then (λ (core : CoreState). core.connections ≡ []) AreNamed (opening_cores nodes config) (λ core none. subst (Each IsNamed) (sym none) tt) (no_connections nodes config)
+all_named h (then_went {g = g} went step) = step_named g h step (all_named g went)
+
+name_fits : (e : Group) (x : ConnectionName) (n : ℕ) → HasName x e n → Each AreNamed e.nodes → IsConnectionName x
+name_fits e x n has all =
+    subst IsConnectionName (same_name has.connection.name x (found_passes (named x) has.core.connections has.connection has.listed))
+    (found_each IsNamed (named x) has.core.connections has.connection (each_got AreNamed e.nodes n has.core all has.stands) has.listed)
+
+-- a name that a node had at any time
+pub names_fit : {nodes : ℕ} {config : Config} {g : Group} (went : Went nodes config g) (x : ConnectionName) (e : Group) (n : ℕ) → In e (groups_of went) → HasName x e n → IsConnectionName x
+names_fit {g = g} (opened can) x e n here has = name_fits g x n has (all_named g (opened can))
+names_fit (opened can) x e n (there i) has = elim i [ ]
+names_fit {g = h} (then_went went step) x e n here has = name_fits h x n has (all_named h (then_went went step))
+names_fit (then_went went step) x e n (there i) has = names_fit went x e n i has

@@ -1,0 +1,57 @@
+-- While a client has had one session, its new publications are a prefix of those that it published
+-- at QoS 2.
+use Rattle.std.proofs.Common.{◌≡◌, ℕ, suc, Bool, true, false, if◌then◌else◌, List, [], ◌∷◌, ◌++◌, map, Option, Some, refl, sym, ap, ap₂, ◌∙◌}
+use Rattle.std.specs.Prelude.{slice_get}
+use Rattle.std.proofs.lemmas.List.{map-append}
+use Rattle.byte_world.specs.lists.Lists.{IsPrefixOf}
+use Rattle.byte_world.specs.session_base.declared.publication.Publication.{Publication}
+use Rattle.byte_world.specs.client_base.Keeper.{Own, all_own}
+use Rattle.byte_world.proofs.of_client_base.NumbersStay.{AreAllNumbered, joined_numbers}
+use Rattle.byte_world.specs.client_base.OrderLaws.{AreNumbered}
+use Rattle.byte_world.specs.exactly_once.Carried.{is_two, new_numbers, number_in, publication_in, publications_of, published}
+use Rattle.byte_world.specs.exactly_once.Story.{Story}
+use Rattle.byte_world.proofs.of_exactly_once.Ends.{Split, split_map}
+use Rattle.headline.specs.Shown.{at_two}
+use Rattle.headline.proofs.StillKept.{StandFrom, behind, first_is, some_of, whole_stands}
+
+-- ---- lists
+
+some_same : (a b : Publication) → Some a ≡ Some b → a ≡ b
+some_same a b e = cc
+
+pub same_some : (xs ys : List Publication) → some_of xs ≡ some_of ys → xs ≡ ys
+same_some [] [] e = refl
+same_some [] (y ∷ ys) e = cc
+same_some (x ∷ xs) [] e = cc
+same_some (x ∷ xs) (y ∷ ys) e =
+    let first : Some x ≡ Some y = cc in
+    let rest : some_of xs ≡ some_of ys = cc in
+    ap₂ (λ (z : Publication) l. z ∷ l) (some_same x y first) (same_some xs ys rest)
+
+-- ---- by number
+
+published_numbered : (ps : List Publication) (n : ℕ) (own : List Own) → AreNumbered n own → StandFrom ps n own → map (slice_get ps) (published own) ≡ some_of (at_two (publications_of own))
+published_numbered ps n [] h stand = refl
+published_numbered ps n (o ∷ own) h stand = by (is_two (publication_in o).qos) (published_numbered ps (suc n) own h.1 (behind ps n o own stand))
+  where
+    by : (b : Bool) → map (slice_get ps) (published own) ≡ some_of (at_two (publications_of own))
+        → map (slice_get ps) (if b then number_in o ∷ published own else published own) ≡ some_of (if b then publication_in o ∷ at_two (publications_of own) else at_two (publications_of own))
+    by true more = ap₂ (λ (x : Option Publication) l. x ∷ l) (first_is ps n (number_in o) o own h.0 stand) more
+    by false more = more
+
+pub new_in_order : (s : Story) → AreAllNumbered s.keeper → (new : List Publication) → IsPrefixOf (new_numbers s.connections s.past) (published (all_own s.keeper))
+    → map (slice_get (publications_of (all_own s.keeper))) (new_numbers s.connections s.past) ≡ some_of new → IsPrefixOf new (at_two (publications_of (all_own s.keeper)))
+new_in_order s numbers new front are =
+    record { rest = cut.behind; is = cut.is ∙ ap (λ (l : List Publication). l ++ cut.behind) (same_some cut.front new cut.front_is) }
+  where
+    ps : List Publication
+    ps = publications_of (all_own s.keeper)
+
+    parts : some_of (at_two ps) ≡ some_of new ++ map (slice_get ps) front.rest
+    parts =
+        sym (published_numbered ps 0 (all_own s.keeper) (joined_numbers s.keeper.earlier s.keeper.own numbers.0 numbers.1) (whole_stands (all_own s.keeper)))
+        ∙ ap (map (slice_get ps)) front.is ∙ map-append (slice_get ps) (new_numbers s.connections s.past) front.rest
+        ∙ ap (λ (l : List (Option Publication)). l ++ map (slice_get ps) front.rest) are
+
+    cut : Split (λ (p : Publication). Some p) (at_two ps) (some_of new) (map (slice_get ps) front.rest)
+    cut = split_map (λ (p : Publication). Some p) (at_two ps) (some_of new) (map (slice_get ps) front.rest) parts

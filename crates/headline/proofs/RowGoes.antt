@@ -1,0 +1,141 @@
+-- A world of one node and one client with one connection: what may happen in it, each with what the
+-- node keeps after it.
+use Rattle.std.proofs.Common.{◌≡◌, ℕ, true, false, List, [], ◌∷◌, ◌++◌, Some, slice_get, refl, sym, ap, ◌∙◌, subst}
+use Rattle.byte_world.specs.packet.Spelling.{IsPacket, spelling}
+use Rattle.byte_world.specs.packet.Verdict.{verdict}
+use Rattle.byte_world.specs.packet.declared.packet.Packet.{Packet}
+use Rattle.byte_world.proofs.of_packet.OneSpelling.{spelling_is}
+use Rattle.byte_world.proofs.of_packet.PacketReads.{verdict_again}
+use Rattle.byte_world.specs.broker_base.Commands.{usual_limits}
+use Rattle.byte_world.specs.broker_base.Connection.{ConnectionName}
+use Rattle.byte_world.specs.client_base.Handled.{handled}
+use Rattle.byte_world.specs.client_base.Keeper.{Keeper}
+use Rattle.byte_world.specs.exactly_once.Rows.{writer}
+use Rattle.byte_world.specs.exactly_once.Sides.{Connection, Side}
+use Rattle.byte_world.specs.exactly_once.Story.{Happens, Story}
+use Rattle.byte_world.specs.packet_world.Goes.{is_call}
+use Rattle.byte_world.specs.world_base.declared.item.Item.TheVariants.{Bytes}
+use Rattle.byte_world.specs.world_base.declared.Port.{Port}
+use Rattle.byte_world.specs.world_base.Core.{CoreState}
+use Rattle.byte_world.specs.node_moves.Moves.{NodeCall, done}
+use Rattle.byte_world.specs.node_moves.Moves.NodeCall.{takes, gives}
+use Rattle.byte_world.specs.node_moves.Puts.{spelled}
+use Rattle.byte_world.specs.node_group.Group.{Group, behind_turn, with_record}
+use Rattle.byte_world.specs.node_group.Putting.{recorded_in}
+use Rattle.byte_world.specs.node_group.Goes.{all_given}
+use Rattle.byte_world.specs.node_group.Goes.MayGo.{node_acts}
+use Rattle.byte_world.proofs.of_node_group.Placed.{get_of_set}
+use Rattle.byte_world.specs.node_group.Streams.{goes_down}
+use Rattle.byte_world.specs.Deeds.{DeedWasSent}
+use Rattle.byte_world.specs.Goes.{CanBeSpelled, Does, Reached, going_with, story_alone}
+use Rattle.byte_world.specs.Goes.Reached.{goes_on}
+use Rattle.byte_world.specs.Goes.WorldStep.{calls, comes_up, goes_down as step_down, arrives, handles}
+use Rattle.byte_world.specs.World.{ClientPipes, Pipe, World, after_writing, newly_written}
+use Rattle.byte_world.proofs.DeedsCarry.{deeds_carry_their_bytes}
+use Rattle.headline.specs.Rows.{one_node}
+
+-- ---- a call of a node
+
+pub record Turned (g : Group) (n : ℕ) (deed : NodeCall) (core later : CoreState) : Type 0 where
+  pub does : Does g (Some (n, deed))
+  pub stands : slice_get does.behind.nodes n ≡ Some later
+  pub down : (x : ConnectionName) → goes_down x does.step ≡ going_with x deed core
+
+pub turned : (g : Group) (n : ℕ) (deed : NodeCall) (core later : CoreState) → slice_get g.nodes n ≡ Some core → DeedWasSent g n core deed → (done deed core).core ≡ later → Turned g n deed core later
+turned g n deed core later at sent is =
+    let r = deeds_carry_their_bytes g n deed core sent in
+    record {
+      does = record {
+        behind = behind_turn (with_record g (recorded_in g.archive r.run)) n (done deed core) (all_given r.run);
+        step = node_acts n core deed (done deed core) r.run at refl r.first r.sent;
+        is = refl;
+        faithful = r.bytes;
+      };
+      stands = get_of_set g.nodes n core (done deed core).core at ∙ ap (λ (z : CoreState). Some z) is;
+      down = λ x. (r.bytes x).1;
+    }
+
+-- ---- the world
+
+abbrev pub the_port : Port
+the_port = record { 0 = 0 }
+
+abbrev pub pipe_with : List ℕ → List ℕ → List ℕ → Pipe
+pipe_with up down held = record { node = 0; port = the_port; up = up; down = down; came = record { held = held; failed = false } }
+
+abbrev pub client_with : Keeper → Connection → Pipe → ClientPipes
+client_with keeper κ p = record { keeper = keeper; connections = κ ∷ []; pipes = p ∷ [] }
+
+abbrev pub world_with : Group → ClientPipes → World
+world_with g c = record { group = g; clients = c ∷ [] }
+
+-- such a world is reached, in which the node keeps this
+pub record Row (core : CoreState) (c : ClientPipes) : Type 0 where
+  pub group : Group
+  pub trail : Reached 1 one_node (writer ∷ []) (world_with group c)
+  pub stands : slice_get group.nodes 0 ≡ Some core
+
+module _ {core : CoreState} {keeper : Keeper} {κ : Connection} {up down held : List ℕ} (r : Row core (client_with keeper κ (pipe_with up down held))) where
+  -- bytes come to the node
+  pub row_up : (later : CoreState) (piece rest : List ℕ) (now : ℕ) → up ≡ piece ++ rest → (done (takes (Bytes the_port piece now)) core).core ≡ later
+      → Row later (client_with keeper κ (pipe_with rest down held))
+  row_up later piece rest now e is =
+      let t = turned r.group 0 (takes (Bytes the_port piece now)) core later r.stands tt is in
+      record {
+        group = t.does.behind;
+        trail = goes_on r.trail (comes_up 0 0 (client_with keeper κ (pipe_with up down held)) κ (pipe_with up down held) piece rest now t.does
+            (record { client = refl; connection = refl; pipe = refl }) e);
+        stands = t.stands;
+      }
+
+  -- the node hands over what it sent
+  pub row_down : (later : CoreState) (bytes : List ℕ) → going_with κ.name (gives the_port) core ≡ bytes → (done (gives the_port) core).core ≡ later
+      → Row later (client_with keeper κ (pipe_with up (down ++ bytes) held))
+  row_down later bytes put is =
+      let t = turned r.group 0 (gives the_port) core later r.stands tt is in
+      record {
+        group = t.does.behind;
+        trail = subst (λ (l : List ℕ). Reached 1 one_node (writer ∷ []) (world_with t.does.behind (client_with keeper κ (pipe_with up (down ++ l) held)))) (t.down κ.name ∙ put)
+            (goes_on r.trail (step_down 0 0 (client_with keeper κ (pipe_with up down held)) κ (pipe_with up down held) t.does
+            (record { client = refl; connection = refl; pipe = refl })));
+        stands = t.stands;
+      }
+
+  -- bytes come to the client
+  pub row_arrives : (piece rest : List ℕ) → down ≡ piece ++ rest → Row core (client_with keeper κ (pipe_with up rest (held ++ piece)))
+  row_arrives piece rest e =
+      record {
+        group = r.group;
+        trail = goes_on r.trail (arrives 0 0 (client_with keeper κ (pipe_with up down held)) κ (pipe_with up down held) piece rest
+            (record { client = refl; connection = refl; pipe = refl }) e);
+        stands = r.stands;
+      }
+
+  -- the client handles a packet
+  pub row_handles : (packet : Packet) (rest : List ℕ) (side : Side) → side ≡ handled packet (record { keeper = keeper; connection = κ }) → keeper.is_open ≡ true → IsPacket packet
+      → held ≡ spelling packet ++ rest → CanBeSpelled (κ ∷ []) (side.connection ∷ [])
+      → Row core (client_with side.keeper side.connection (pipe_with (up ++ spelled (newly_written (κ ∷ []) (side.connection ∷ []))) down rest))
+  row_handles packet rest side same is_open whole e fits =
+      let spells = (spelling_is packet whole).0 in
+      record {
+        group = r.group;
+        trail = subst (λ (s : Side). Reached 1 one_node (writer ∷ [])
+            (world_with r.group (client_with s.keeper s.connection (pipe_with (up ++ spelled (newly_written (κ ∷ []) (s.connection ∷ []))) down rest)))) (sym same)
+            (goes_on r.trail (handles 0 (client_with keeper κ (pipe_with up down held)) κ [] (pipe_with up down held) [] packet
+            (record { held = rest; failed = false }) refl refl refl is_open
+            (refl, ap verdict e ∙ verdict_again packet (spelling packet) rest whole spells, (spelling packet, spells, whole, e), refl)
+            (subst (λ (s : Side). CanBeSpelled (κ ∷ []) (s.connection ∷ [])) same fits)));
+        stands = r.stands;
+      }
+
+  -- the client calls, and writes on its connection
+  pub row_calls : (t : Story) (later : Connection) (h : Happens usual_limits (story_alone (client_with keeper κ (pipe_with up down held))) t) → is_call h ≡ true → t.connections ≡ later ∷ []
+      → CanBeSpelled (κ ∷ []) (later ∷ []) → Row core (client_with t.keeper later (pipe_with (up ++ spelled (newly_written (κ ∷ []) (later ∷ []))) down held))
+  row_calls t later h call same fits =
+      record {
+        group = r.group;
+        trail = subst (λ (l : List Connection). Reached 1 one_node (writer ∷ []) (world_with r.group (after_writing t.keeper l (client_with keeper κ (pipe_with up down held))))) same
+            (goes_on r.trail (calls 0 (client_with keeper κ (pipe_with up down held)) t h refl call
+            (subst (λ (l : List Connection). CanBeSpelled (κ ∷ []) l) (sym same) fits)));
+        stands = r.stands;
+      }

@@ -1,0 +1,154 @@
+-- What of a client's QoS 2 publications is not new yet, it still keeps.
+use Rattle.std.proofs.Common.{◌≡◌, ◌+◌, ℕ, suc, Bool, true, false, if◌then◌else◌, List, [], ◌∷◌, ◌++◌, map, Option, Some, refl, sym, ap, ap₂, ◌∙◌, subst, arith}
+use Rattle.std.specs.Prelude.{slice_get}
+use Rattle.byte_world.specs.session_base.declared.publication.Publication.{Publication}
+use Rattle.byte_world.specs.client_base.History as history
+use Rattle.byte_world.specs.client_base.History.{IsSentFirst, sent_of, unsent_of}
+use Rattle.byte_world.specs.client_base.Keeper.{Keeper, Own}
+use Rattle.byte_world.specs.client_base.State.{ClientState}
+use Rattle.byte_world.specs.client_base.declared.kept_publication.KeptPublication.{KeptPublication}
+use Rattle.byte_world.specs.exactly_once.Items.{Item, value_of}
+use Rattle.byte_world.specs.exactly_once.HandshakeSides.{IsNew}
+use Rattle.byte_world.specs.lists.Lists.{Each}
+use Rattle.byte_world.specs.exactly_once.Carried.{is_two, publication_in, publications_of}
+use Rattle.byte_world.specs.exactly_once.Inside.Projections.{items_of_own}
+use Rattle.byte_world.specs.exactly_once.Inside.Shape.{AreNumbered}
+use Rattle.headline.specs.Shown.{at_two, kept_of}
+
+-- ---- of a handshake
+
+-- those that wait, or are sent
+abbrev pub kept_values : List (Item ℕ) → List ℕ
+kept_values (Item.Waits v ∷ items) = v ∷ kept_values items
+kept_values (Item.Sent v id ∷ items) = v ∷ kept_values items
+kept_values (Item.Released v id ∷ items) = kept_values items
+kept_values (Item.Finished v ∷ items) = kept_values items
+kept_values [] = []
+
+pub kept_both : (old new : List (Item ℕ)) → kept_values (old ++ new) ≡ kept_values old ++ kept_values new
+kept_both [] new = refl
+kept_both (Item.Waits v ∷ old) new = ap (λ (l : List ℕ). v ∷ l) (kept_both old new)
+kept_both (Item.Sent v id ∷ old) new = ap (λ (l : List ℕ). v ∷ l) (kept_both old new)
+kept_both (Item.Released v id ∷ old) new = kept_both old new
+kept_both (Item.Finished v ∷ old) new = kept_both old new
+
+-- all that the receiver does not have are
+pub new_kept : (received : ℕ → Bool) (new : List (Item ℕ)) → Each (IsNew received) new → kept_values new ≡ map value_of new
+new_kept received [] all = refl
+new_kept received (Item.Waits v ∷ new) all = ap (λ (l : List ℕ). v ∷ l) (new_kept received new all.1)
+new_kept received (Item.Sent v id ∷ new) all = ap (λ (l : List ℕ). v ∷ l) (new_kept received new all.1)
+new_kept received (Item.Released v id ∷ new) all = absurd all.0
+new_kept received (Item.Finished v ∷ new) all = absurd all.0
+
+-- ---- of a client
+
+abbrev kept_own : List Own → List Publication
+kept_own (Own.Unsent k p id ∷ own) = p ∷ kept_own own
+kept_own (Own.Sent k p id ∷ own) = p ∷ kept_own own
+kept_own (Own.Released k p id ∷ own) = kept_own own
+kept_own (Own.Done k p ∷ own) = kept_own own
+kept_own [] = []
+
+abbrev publication_kept : KeptPublication → Publication
+publication_kept k = k.publication
+
+-- if none was sent
+none_sent : (own : List Own) → sent_of own ≡ [] → map publication_kept (unsent_of own) ≡ kept_own own
+none_sent [] e = refl
+none_sent (Own.Unsent k p id ∷ own) e = ap (λ (l : List Publication). p ∷ l) (none_sent own e)
+none_sent (Own.Sent k p id ∷ own) e = cc
+none_sent (Own.Released k p id ∷ own) e = none_sent own e
+none_sent (Own.Done k p ∷ own) e = none_sent own e
+
+kept_in_order : (own : List Own) → IsSentFirst own → map publication_kept (sent_of own ++ unsent_of own) ≡ kept_own own
+kept_in_order [] first = refl
+kept_in_order (Own.Unsent k p id ∷ own) first =
+    ap (λ (l : List KeptPublication). map publication_kept (l ++ unsent_of (Own.Unsent k p id ∷ own))) first.0 ∙ ap (λ (l : List Publication). p ∷ l) (none_sent own first.0)
+kept_in_order (Own.Sent k p id ∷ own) first = ap (λ (l : List Publication). p ∷ l) (kept_in_order own first)
+kept_in_order (Own.Released k p id ∷ own) first = kept_in_order own first
+kept_in_order (Own.Done k p ∷ own) first = kept_in_order own first
+
+kept_is : (keeper : Keeper) (state : ClientState) → history.StandsFor keeper state → kept_of state ≡ kept_own keeper.own
+kept_is keeper state s = ap₂ (λ (a b : List KeptPublication). map publication_kept (a ++ b)) s.sent s.unsent ∙ kept_in_order keeper.own s.sent_first
+
+-- ---- by number
+
+-- these are in the whole from number n on
+abbrev pub StandFrom : List Publication → ℕ → List Own → Type 0
+StandFrom ps n own = (j : ℕ) → slice_get ps (n + j) ≡ slice_get (publications_of own) j
+
+pub behind : (ps : List Publication) (n : ℕ) (o : Own) (own : List Own) → StandFrom ps n (o ∷ own) → StandFrom ps (suc n) own
+behind ps n o own stand j =
+    let same : n + suc j ≡ suc n + j = omega arith in
+    subst (λ (m : ℕ). slice_get ps m ≡ slice_get (publications_of own) j) same (stand (suc j))
+
+pub first_is : (ps : List Publication) (n k : ℕ) (o : Own) (own : List Own) → k ≡ n → StandFrom ps n (o ∷ own) → slice_get ps k ≡ Some (publication_in o)
+first_is ps n k o own e stand =
+    let same : n + 0 ≡ k = omega (arith, e) in
+    subst (λ (m : ℕ). slice_get ps m ≡ Some (publication_in o)) same (stand 0)
+
+abbrev pub some_of : List Publication → List (Option Publication)
+some_of = map (λ (p : Publication). Some p)
+
+one_two : (get : ℕ → Option Publication) (b : Bool) (item : Item ℕ) (k : ℕ) (p : Publication) (items : List (Item ℕ)) (ps : List Publication) → value_of item ≡ k → get k ≡ Some p
+    → map get (map value_of items) ≡ some_of ps → map get (map value_of (if b then item ∷ items else items)) ≡ some_of (if b then p ∷ ps else ps)
+one_two get true item k p items ps value is more = ap₂ (λ (x : Option Publication) l. x ∷ l) (ap get value ∙ is) more
+one_two get false item k p items ps value is more = more
+
+-- all that it published at QoS 2
+pub two_numbered : (ps : List Publication) (n : ℕ) (own : List Own) → AreNumbered n own → StandFrom ps n own
+    → map (slice_get ps) (map value_of (items_of_own own)) ≡ some_of (at_two (publications_of own))
+two_numbered ps n [] h stand = refl
+two_numbered ps n (Own.Unsent k p id ∷ own) h stand =
+    one_two (slice_get ps) (is_two p.qos) (Item.Waits k) k p (items_of_own own) (at_two (publications_of own)) refl (first_is ps n k (Own.Unsent k p id) own h.0 stand)
+    (two_numbered ps (suc n) own h.1 (behind ps n (Own.Unsent k p id) own stand))
+two_numbered ps n (Own.Sent k p id ∷ own) h stand =
+    one_two (slice_get ps) (is_two p.qos) (Item.Sent k id) k p (items_of_own own) (at_two (publications_of own)) refl (first_is ps n k (Own.Sent k p id) own h.0 stand)
+    (two_numbered ps (suc n) own h.1 (behind ps n (Own.Sent k p id) own stand))
+two_numbered ps n (Own.Released k p id ∷ own) h stand =
+    one_two (slice_get ps) (is_two p.qos) (Item.Released k id) k p (items_of_own own) (at_two (publications_of own)) refl (first_is ps n k (Own.Released k p id) own h.0 stand)
+    (two_numbered ps (suc n) own h.2 (behind ps n (Own.Released k p id) own stand))
+two_numbered ps n (Own.Done k p ∷ own) h stand =
+    one_two (slice_get ps) (is_two p.qos) (Item.Finished k) k p (items_of_own own) (at_two (publications_of own)) refl (first_is ps n k (Own.Done k p) own h.0 stand)
+    (two_numbered ps (suc n) own h.1 (behind ps n (Own.Done k p) own stand))
+
+-- one that it keeps, and one that it does not
+one_kept : (get : ℕ → Option Publication) (b : Bool) (k : ℕ) (p : Publication) (item : Item ℕ) (items : List (Item ℕ)) (ps : List Publication)
+    → kept_values (item ∷ items) ≡ k ∷ kept_values items → get k ≡ Some p → map get (kept_values items) ≡ some_of ps
+    → map get (kept_values (if b then item ∷ items else items)) ≡ some_of (if b then p ∷ ps else ps)
+one_kept get true k p item items ps kept is more = ap (map get) kept ∙ ap₂ (λ (x : Option Publication) l. x ∷ l) is more
+one_kept get false k p item items ps kept is more = more
+
+none_kept : (get : ℕ → Option Publication) (b : Bool) (item : Item ℕ) (items : List (Item ℕ)) (ps : List Publication) → kept_values (item ∷ items) ≡ kept_values items
+    → map get (kept_values items) ≡ some_of ps → map get (kept_values (if b then item ∷ items else items)) ≡ some_of ps
+none_kept get true item items ps kept more = ap (map get) kept ∙ more
+none_kept get false item items ps kept more = more
+
+kept_numbered : (ps : List Publication) (n : ℕ) (own : List Own) → AreNumbered n own → StandFrom ps n own
+    → map (slice_get ps) (kept_values (items_of_own own)) ≡ some_of (at_two (kept_own own))
+kept_numbered ps n [] h stand = refl
+kept_numbered ps n (Own.Unsent k p id ∷ own) h stand =
+    one_kept (slice_get ps) (is_two p.qos) k p (Item.Waits k) (items_of_own own) (at_two (kept_own own)) refl (first_is ps n k (Own.Unsent k p id) own h.0 stand)
+    (kept_numbered ps (suc n) own h.1 (behind ps n (Own.Unsent k p id) own stand))
+kept_numbered ps n (Own.Sent k p id ∷ own) h stand =
+    one_kept (slice_get ps) (is_two p.qos) k p (Item.Sent k id) (items_of_own own) (at_two (kept_own own)) refl (first_is ps n k (Own.Sent k p id) own h.0 stand)
+    (kept_numbered ps (suc n) own h.1 (behind ps n (Own.Sent k p id) own stand))
+kept_numbered ps n (Own.Released k p id ∷ own) h stand =
+    none_kept (slice_get ps) (is_two p.qos) (Item.Released k id) (items_of_own own) (at_two (kept_own own)) refl
+    (kept_numbered ps (suc n) own h.2 (behind ps n (Own.Released k p id) own stand))
+kept_numbered ps n (Own.Done k p ∷ own) h stand =
+    none_kept (slice_get ps) (is_two p.qos) (Item.Finished k) (items_of_own own) (at_two (kept_own own)) refl
+    (kept_numbered ps (suc n) own h.1 (behind ps n (Own.Done k p) own stand))
+
+-- ---- both
+
+pub whole_stands : (own : List Own) → StandFrom (publications_of own) 0 own
+whole_stands own j = let same : 0 + j ≡ j = omega arith in ap (slice_get (publications_of own)) same
+
+pub two_published : (own : List Own) → AreNumbered 0 own → map (slice_get (publications_of own)) (map value_of (items_of_own own)) ≡ some_of (at_two (publications_of own))
+two_published own numbered = two_numbered (publications_of own) 0 own numbered (whole_stands own)
+
+pub two_kept : (keeper : Keeper) (state : ClientState) → history.StandsFor keeper state → AreNumbered 0 keeper.own
+    → map (slice_get (publications_of keeper.own)) (kept_values (items_of_own keeper.own)) ≡ some_of (at_two (kept_of state))
+two_kept keeper state s numbered =
+    kept_numbered (publications_of keeper.own) 0 keeper.own numbered (whole_stands keeper.own) ∙ ap (λ (l : List Publication). some_of (at_two l)) (sym (kept_is keeper state s))

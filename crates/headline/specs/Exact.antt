@@ -1,0 +1,72 @@
+-- What holds for every world of clients and a group of nodes: the headline for each client, by the
+-- list on which the nodes agree.
+use Rattle.std.specs.Prelude.{◌≡◌, ◌≤◌, ℕ, List, ◌∷◌, Some, slice_get}
+use Rattle.byte_world.specs.lists.Lists.{Each}
+use Rattle.byte_world.specs.ballot.Config.{Config}
+use Rattle.byte_world.specs.broker_base.Command.{Command}
+use Rattle.byte_world.specs.broker_base.Commands.{past_of, usual_limits}
+use Rattle.byte_world.specs.broker_base.Connection.{ConnectionName}
+use Rattle.byte_world.specs.broker_base.EndingLaws.{EndsWithTheSession, connects_of}
+use Rattle.byte_world.specs.broker_base.Place.{Client}
+use Rattle.byte_world.specs.client_base.History as history
+use Rattle.byte_world.specs.client_base.State.{ClientState}
+use Rattle.byte_world.specs.exactly_once.Headline.{accepted_on}
+use Rattle.byte_world.specs.exactly_once.InStep.{IsInStep}
+use Rattle.byte_world.specs.exactly_once.Lives.{ExactlyOnceOverSessions, HasOneSession, IsUnexpelled}
+use Rattle.byte_world.specs.exactly_once.Sides.{Connection}
+use Rattle.byte_world.specs.exactly_once.Story.{Story}
+use Rattle.byte_world.specs.snapshots.Past.{IsAgreed}
+use Rattle.byte_world.specs.packet_world.World.{AreApart}
+use Rattle.byte_world.specs.node_group.Group.{moment_of}
+use Rattle.byte_world.specs.node_group.Goes.{all_put, groups_of}
+use Rattle.byte_world.specs.node_group.Pasts.{HasPast}
+use Rattle.byte_world.specs.World.{ClientPipes, HasPipe, Pipe, World}
+use Rattle.byte_world.specs.Carried.{went_of}
+use Rattle.byte_world.specs.Accepted.{accepted_once}
+use Rattle.byte_world.specs.Published.{published_of, published_on}
+use Rattle.byte_world.specs.Goes.{Reached}
+use Rattle.byte_world.specs.InPipes.{IsInOrder}
+use Rattle.headline.specs.Promise.{Promise}
+
+-- one client's story, by the list on which the nodes agree
+abbrev pub story_of : List Command → ClientPipes → Story
+story_of agreed c = record { past = past_of usual_limits agreed; connections = c.connections; keeper = c.keeper }
+
+-- what a client is promised over its sessions, as long as it is in step
+abbrev pub IsExactInStep : List Command → ClientPipes → Type 0
+IsExactInStep agreed c = IsInStep (story_of agreed c) → ExactlyOnceOverSessions usual_limits (story_of agreed c)
+
+-- one that no Expel names has one session at most, which lasts once it began, and so it is in step
+abbrev pub IsInOneSession : List Command → ClientPipes → Type 0
+IsInOneSession agreed c = IsUnexpelled c.keeper.client (past_of usual_limits agreed) → HasOneSession (story_of agreed c)
+
+-- the parts that a client without history shows
+pub record IsShownBy (c : ClientPipes) (state : ClientState) : Type 0 where
+  pub keeper : history.StandsFor c.keeper state
+  pub accepted : accepted_once state.accepted ≡ accepted_on c.connections
+
+-- by this list
+pub record IsExactBy (agreed : List Command) (w : World) : Type 0 where
+  -- each client that is in step publishes once, and accepts in order in each of its sessions
+  pub clients : Each (IsExactInStep agreed) w.clients
+  pub unexpelled : Each (IsInOneSession agreed) w.clients
+  -- an ended session gets nothing more, since each connection has a name of its own
+  pub names : (x : ConnectionName) → connects_of x (past_of usual_limits agreed) ≤ 1
+  pub sessions : EndsWithTheSession usual_limits (past_of usual_limits agreed)
+  -- connections carry their packets in order, both ways
+  pub pipes : (i : ℕ) (c : ClientPipes) (j : ℕ) (κ : Connection) (p : Pipe) → HasPipe w i c j κ p → IsInOrder agreed κ p
+
+-- A world that is reached by these steps: the steps of its group are a past, there is a list on
+-- which the nodes agree at its end, and the world is exact by that list.
+pub record IsExact {nodes : ℕ} {config : Config} {cs : List Client} {w : World} (trail : Reached nodes config cs w) : Type 0 where
+  pub of : HasPast config w.group (groups_of (went_of trail)) (all_put (went_of trail))
+  pub agreed : List Command
+  pub is_agreed : IsAgreed config (moment_of w.group ∷ of.earlier) agreed
+  pub exact : (list : List Command) → IsAgreed config (moment_of w.group ∷ of.earlier) list → IsExactBy list w
+  -- and what a client shows, with what it was asked to publish in these steps, is as promised
+  pub promises : (list : List Command) → IsAgreed config (moment_of w.group ∷ of.earlier) list → (i : ℕ) (c : ClientPipes) (state : ClientState) →
+      slice_get w.clients i ≡ Some c → IsShownBy c state → Promise c.connections (published_of i (published_on trail)) list state
+
+-- for clients with identifiers of their own, and for all steps
+abbrev pub WorldsAreExact : Type 0
+WorldsAreExact = (nodes : ℕ) (config : Config) (cs : List Client) (w : World) → AreApart cs → (trail : Reached nodes config cs w) → IsExact trail

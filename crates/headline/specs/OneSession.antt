@@ -1,0 +1,36 @@
+-- What a client that has had one session is promised: no less than if no session is ever ended.
+use Rattle.std.specs.Prelude.{◌≡◌, false, List, ◌++◌, map}
+use Rattle.byte_world.specs.lists.Lists.{Each}
+use Rattle.byte_world.specs.session_base.declared.publication.Publication.{Publication}
+use Rattle.byte_world.specs.broker_base.Commands.{usual_limits}
+use Rattle.byte_world.specs.broker_base.Entries.{Entry}
+use Rattle.byte_world.specs.broker_base.Place.{Client, Past}
+use Rattle.byte_world.specs.broker_base.Readings.{publication_in}
+use Rattle.byte_world.specs.broker_base.Times.{entries_of}
+use Rattle.byte_world.specs.client_base.State.{ClientState}
+use Rattle.byte_world.specs.exactly_once.Headline.{is_released, two_entries}
+use Rattle.byte_world.specs.exactly_once.InStep.{IsFirstSession}
+use Rattle.headline.specs.Promise.{PromiseInStep}
+use Rattle.headline.specs.Shown.{at_two, kept_of, new_of}
+use Rattle.byte_world.specs.Accepted.{accepted_once}
+
+-- for client c, by the places of the list
+pub record PromiseOfOne (c : Client) (published : List Publication) (past : Past) (state : ClientState) : Type 0 where
+  -- its QoS 2 publications are new in the order in which it was asked for them, each once; those
+  -- that are not new yet it still keeps
+  pub waiting : List Publication
+  pub in_order : at_two published ≡ new_of c past ++ waiting
+  pub again : List Publication
+  pub kept : at_two (kept_of state) ≡ again ++ waiting
+  -- what it accepted at QoS 2 is a prefix of the QoS 2 entries of its session, each once, with
+  -- every one that is released
+  pub old : List Entry
+  pub new : List Entry
+  pub entries : two_entries (entries_of usual_limits past c) ≡ old ++ new
+  pub accepted : accepted_once state.accepted ≡ map publication_in old
+  pub rest : Each (λ (entry : Entry). is_released entry ≡ false) new
+
+-- while its first session lasts the promise of each client says all of it
+abbrev pub OneSessionIsPromised : Type 0
+OneSessionIsPromised =
+    (c : Client) (published : List Publication) (past : Past) (state : ClientState) → IsFirstSession past c → PromiseInStep c published past state → PromiseOfOne c published past state

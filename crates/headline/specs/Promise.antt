@@ -1,0 +1,65 @@
+-- What is promised for one client, by the publications that it was asked for, the list on which the
+-- nodes agree, and what it shows.
+use Rattle.std.specs.Prelude.{◌≡◌, ◌≤◌, ℕ, if◌then◌else◌, List, ◌∷◌, ◌++◌, filter, length, map}
+use Rattle.byte_world.specs.lists.Lists.{In, IsPrefixOf}
+use Rattle.byte_world.specs.packet.declared.packet.Packet.TheVariants as packets
+use Rattle.byte_world.specs.packet.declared.publish.Publish.{Publish}
+use Rattle.byte_world.specs.session_base.Publication.{publication_of}
+use Rattle.byte_world.specs.session_base.declared.publication.Publication.{Publication}
+use Rattle.byte_world.specs.broker_base.Command.{Command}
+use Rattle.byte_world.specs.broker_base.Command.TheVariants as commands
+use Rattle.byte_world.specs.broker_base.Commands.{past_of, usual_limits}
+use Rattle.byte_world.specs.broker_base.Connection.{ConnectionName}
+use Rattle.byte_world.specs.broker_base.EndingLaws.{EndsWithTheSession, StandsAt, connects_of}
+use Rattle.byte_world.specs.broker_base.OriginLaws.{is_from_publish}
+use Rattle.byte_world.specs.broker_base.Place.{Client, Mark, Past, Place}
+use Rattle.byte_world.specs.broker_base.Readings.{publication_in}
+use Rattle.byte_world.specs.broker_base.Subscriptions.{effective_qos}
+use Rattle.byte_world.specs.broker_base.TakenLaws.{queued_at, takes_publication}
+use Rattle.byte_world.specs.broker_base.Times.{entries_of}
+use Rattle.byte_world.specs.client_base.State.{ClientState}
+use Rattle.byte_world.specs.exactly_once.InStep.{AreWelcome, IsFirstSession, sessions_begun}
+use Rattle.byte_world.specs.exactly_once.Sides.{Connection}
+use Rattle.headline.specs.Shown.{AcceptsInOrder, AreNewInOrder, AreStillKept, IsAnswered, at_two, kept_of, new_of}
+
+-- for client c, as long as it is in step, by the places of the list
+pub record PromiseInStep (c : Client) (published : List Publication) (past : Past) (state : ClientState) : Type 0 where
+  -- its QoS 2 publications are new in the order in which it was asked for them, each once
+  pub rises : AreNewInOrder published (new_of c past)
+  -- none is left out while it has had one session; and while that lasts, it still keeps those that
+  -- are not new yet
+  pub in_order : sessions_begun past c ≤ 1 → IsPrefixOf (new_of c past) (at_two published)
+  pub kept : IsFirstSession past c → AreStillKept (at_two published) (new_of c past) (at_two (kept_of state))
+  -- one that is answered with PUBREC is new at that place or at an earlier one
+  pub answered : (place : Place) (below : Past) (p : Publish) (id : ℕ) → IsAnswered past c (packets.Pubrec id) place below p →
+      In (publication_of p) (new_of c (place ∷ below))
+  -- one that is answered with PUBACK is one of those that it was asked for, and is taken at that
+  -- place
+  pub acknowledged : (place : Place) (below : Past) (p : Publish) (id : ℕ) → IsAnswered past c (packets.Puback id) place below p →
+      In (publication_of p) published × (place.mark ≡ Mark.Taken c)
+  -- in each of its sessions it accepted at QoS 2 a prefix of the QoS 2 entries, each once, with
+  -- every one that is released
+  pub accepts : AcceptsInOrder c past state
+
+-- for each client, with its connections, the newest first
+pub record PromiseBy (c : Client) (connections : List Connection) (published : List Publication) (past : Past) (state : ClientState) : Type 0 where
+  -- in step: a connection that began a session after the first was confirmed before it opened
+  -- another one
+  pub in_step : AreWelcome past c connections → PromiseInStep c published past state
+  -- when one of its publications is taken, it enters just the sessions with an effective QoS over
+  -- 0, once, as it was published
+  pub enters : (place : Place) (below : Past) (x : ConnectionName) (p : Publish) (d : Client) → StandsAt past place below →
+      place.command ≡ commands.Packet x (packets.Publish p) → place.mark ≡ Mark.Taken c →
+      map publication_in (filter (is_from_publish (length below)) (entries_of usual_limits (place ∷ below) d))
+      ≡ queued_at (publication_of p) (effective_qos below d (publication_of p))
+  -- at no time has a session more than one entry from a place, and it has none from a place that
+  -- takes no publication
+  pub once : (later earlier : Past) (place : Place) (below : Past) (d : Client) → past ≡ later ++ earlier → StandsAt earlier place below →
+      length (filter (is_from_publish (length below)) (entries_of usual_limits earlier d))
+      ≤ (if takes_publication place.command place.mark then 1 else 0)
+  -- an ended session gets nothing more, since each connection has a name of its own
+  pub names : (x : ConnectionName) → connects_of x past ≤ 1
+  pub ended : EndsWithTheSession usual_limits past
+
+abbrev pub Promise : List Connection → List Publication → List Command → ClientState → Type 0
+Promise connections published agreed state = PromiseBy state.client connections published (past_of usual_limits agreed) state

@@ -1,0 +1,65 @@
+-- Short runs of a world, to their ends: one client of a group of one node connects, and publishes
+-- to itself.
+use Rattle.std.specs.Prelude.{◌≡◌, Bool, true, false, List, [], ◌∷◌, map, slice_get, Some}
+use Rattle.byte_world.specs.packet.declared.packet.Packet.{Packet}
+use Rattle.byte_world.specs.packet.declared.packet.Packet.TheVariants as packets
+use Rattle.byte_world.specs.ballot.Config.{Config}
+use Rattle.byte_world.specs.broker_base.Command.{Command}
+use Rattle.byte_world.specs.broker_base.Command.TheVariants as commands
+use Rattle.byte_world.specs.client_base.Keeper.{Own}
+use Rattle.byte_world.specs.session_base.declared.publication.Publication.{Publication}
+use Rattle.byte_world.specs.session_base.Publication.{publish_of}
+use Rattle.byte_world.specs.exactly_once.Headline.{accepted_on}
+use Rattle.byte_world.specs.exactly_once.Rows.{asks_for_news, first_name, news, writer}
+use Rattle.byte_world.specs.world_base.Core.{CoreState}
+use Rattle.byte_world.specs.Goes.{Reached}
+use Rattle.byte_world.specs.World.{ClientPipes, World}
+
+-- a group of one node
+abbrev pub one_node : Config
+one_node = record { members = 1 ∷ []; primary = 1 }
+
+-- ---- it connects
+
+-- a CONNACK 0 came to it on the connection that it holds
+abbrev pub is_served : ClientPipes → Bool
+is_served c = c.keeper.is_online
+
+-- a world is reached in which the client is served
+pub record AClientIsServed : Type 0 where
+  pub end : World
+  pub trail : Reached 1 one_node (writer ∷ []) end
+  pub served : map is_served end.clients ≡ true ∷ []
+
+-- ---- it publishes
+
+abbrev pub said : Packet → Command
+said packet = commands.Packet first_name packet
+
+-- the list of commands, oldest first
+abbrev pub list_done : List Command
+list_done =
+    commands.Connect first_name writer false
+    ∷ said (packets.Subscribe asks_for_news)
+    ∷ said (packets.Publish (publish_of false 1 news))
+    ∷ said (packets.Pubrel 1)
+    ∷ said (packets.Pubrec 1)
+    ∷ said (packets.Pubcomp 1)
+    ∷ []
+
+abbrev pub accepted_by : ClientPipes → List Publication
+accepted_by c = accepted_on c.connections
+
+abbrev pub published_by : ClientPipes → List Own
+published_by c = c.keeper.own
+
+-- A world is reached in which the client has subscribed to what it published at QoS 2, both
+-- handshakes have ended, it has accepted its publication once, and the node keeps this list.
+pub record APublicationIsAccepted : Type 0 where
+  pub end : World
+  pub trail : Reached 1 one_node (writer ∷ []) end
+  pub accepted : map accepted_by end.clients ≡ (news ∷ []) ∷ []
+  pub done : map published_by end.clients ≡ (Own.Done 0 news ∷ []) ∷ []
+  pub core : CoreState
+  pub stands : slice_get end.group.nodes 0 ≡ Some core
+  pub log : core.replica.state.log ≡ record { base = 0; snapshot = []; rest = list_done }

@@ -1,0 +1,88 @@
+-- What is seen of one client: what it keeps and what it accepted, and its places in the list on
+-- which the nodes agree.
+use Rattle.std.specs.Prelude.{◌≡◌, ◌&&◌, ℕ, Bool, false, if◌then◌else◌, List, [], ◌∷◌, ◌++◌, Some, filter, map, slice_get}
+use Rattle.std.specs.List.{flat_map}
+use Rattle.byte_world.specs.lists.Lists.{Each, In}
+use Rattle.byte_world.specs.packet.declared.packet.Packet.{Packet}
+use Rattle.byte_world.specs.packet.declared.packet.Packet.TheVariants as packets
+use Rattle.byte_world.specs.packet.declared.publish.Publish.{Publish}
+use Rattle.byte_world.specs.session_base.Publication.{publication_of}
+use Rattle.byte_world.specs.session_base.declared.publication.Publication.{Publication}
+use Rattle.byte_world.specs.broker_base.Answers.{answers_at}
+use Rattle.byte_world.specs.broker_base.Command.{Command}
+use Rattle.byte_world.specs.broker_base.Command.TheVariants as commands
+use Rattle.byte_world.specs.broker_base.Commands.{usual_limits}
+use Rattle.byte_world.specs.broker_base.Connection.{ConnectionName}
+use Rattle.byte_world.specs.broker_base.EndingLaws.{StandsAt}
+use Rattle.byte_world.specs.broker_base.Entries.{Entry}
+use Rattle.byte_world.specs.broker_base.Output.TheVariants.{Send}
+use Rattle.byte_world.specs.broker_base.Owner.{owner_of}
+use Rattle.byte_world.specs.broker_base.Place.{Client, Mark, Past, Place, same_client}
+use Rattle.byte_world.specs.broker_base.Readings.{publication_in}
+use Rattle.byte_world.specs.broker_base.Received.{is_exactly_once}
+use Rattle.byte_world.specs.client_base.State.{ClientState}
+use Rattle.byte_world.specs.client_base.declared.kept_publication.KeptPublication.{KeptPublication}
+use Rattle.byte_world.specs.exactly_once.Carried.{is_two}
+use Rattle.byte_world.specs.exactly_once.Headline.{is_released, two_entries}
+use Rattle.byte_world.specs.exactly_once.InStep.{entries_in, starts_of}
+use Rattle.byte_world.specs.exactly_once.Lives.{IsRising}
+use Rattle.byte_world.specs.Accepted.{accepted_once}
+
+-- ---- of its publications
+
+abbrev pub is_at_two : Publication → Bool
+is_at_two p = is_two p.qos
+
+abbrev pub at_two : List Publication → List Publication
+at_two = filter is_at_two
+
+-- those that it keeps, the oldest first, since neither PUBACK nor PUBREC came to it for them
+abbrev pub kept_of : ClientState → List Publication
+kept_of state = map (λ (k : KeptPublication). k.publication) (state.sent ++ state.unsent)
+
+-- those that are new in the list, by place (MQTT 4.3.3)
+abbrev pub new_at : Client → Command → Mark → List Publication
+new_at c (commands.Packet x (packets.Publish p)) (Mark.Taken d) = if same_client d c && is_exactly_once p.delivery then publication_of p ∷ [] else []
+new_at c command mark = []
+
+abbrev pub new_of : Client → Past → List Publication
+new_of c (place ∷ below) = new_of c below ++ new_at c place.command place.mark
+new_of c [] = []
+
+-- a place has a PUBLISH on its current connection, which is answered with this packet
+pub record IsAnswered (past : Past) (c : Client) (packet : Packet) (place : Place) (below : Past) (p : Publish) : Type 0 where
+  pub stands : StandsAt past place below
+  pub on : ConnectionName
+  pub own : owner_of below on ≡ Some c
+  pub command : place.command ≡ commands.Packet on (packets.Publish p)
+  pub answer : In (Send on packet) (answers_at usual_limits place below)
+
+-- these are new in the order in which it published them, each once: their numbers rise
+pub record AreNewInOrder (published new : List Publication) : Type 0 where
+  pub numbers : List ℕ
+  pub rise : IsRising numbers
+  pub are : map (slice_get published) numbers ≡ map (λ (p : Publication). Some p) new
+
+-- none is skipped: it still keeps those that are not yet new, and besides them only some that are
+-- new
+pub record AreStillKept (published new kept : List Publication) : Type 0 where
+  pub waiting : List Publication
+  pub published_are : published ≡ new ++ waiting
+  pub again : List Publication
+  pub kept_are : kept ≡ again ++ waiting
+
+-- ---- of what it accepted
+
+-- At QoS 2 a prefix of a session's QoS 2 entries: `old`, in order, each once. No entry after it is
+-- released.
+pub record HasBeginning (c : Client) (past : Past) (start : ℕ) : Type 0 where
+  pub old : List Entry
+  pub new : List Entry
+  pub entries : two_entries (entries_in usual_limits past c start) ≡ old ++ new
+  pub rest : Each (λ (entry : Entry). is_released entry ≡ false) new
+
+-- Such a prefix of each of its sessions, by the place at which it began; and these are all that it
+-- accepted, session after session.
+pub record AcceptsInOrder (c : Client) (past : Past) (state : ClientState) : Type 0 where
+  pub session : (start : ℕ) → HasBeginning c past start
+  pub accepted : accepted_once state.accepted ≡ flat_map (λ start. map publication_in (session start).old) (starts_of past c)

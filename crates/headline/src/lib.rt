@@ -1,0 +1,10 @@
+//! What is proved for every world of clients and a group of nodes: it is exact, by the list on
+//! which the nodes agree; and runs of such a world, computed to their ends.
+#![tactic(auto)]
+
+mod laws;
+mod rows;
+
+pub use byte_world::{ballot, world_base};
+pub use laws::{one_session_is_promised, worlds_are_exact};
+pub use rows::{a_client_is_served, a_publication_is_accepted};

@@ -1,5 +1,0 @@
-use Rattle.model.proofs.WorldsExact.{worlds_are_exact}
-use Rattle.model.proofs.laws.worlds_are_exact.Goals as goal
-
-pub returns : goal.returns
-returns c = worlds_are_exact

@@ -1,0 +1,92 @@
+// The permit to take items of a node.
+
+ghost use Rattle.std.specs.Prelude.{◌≡◌, ◌↔◌, None, Some, IfSome, IsTrue, true};
+ghost use Rattle.node.specs.Running.{IsNext};
+
+use crate::naming::NodeNaming;
+use crate::node_state::NodeState;
+use std::marker::Model;
+use std::sync::MutexGuard;
+
+/// How many items may be taken at once if there is no gate.
+const AT_ONCE: u32 = 16;
+
+/// The permit to take items of a node. Only a node's `pass` gives it: with a gate after asking it,
+/// for one item.
+#[derive(Drop)]
+pub struct Permit<'n> {
+    /// The number of the taking, if there is a gate.
+    taking: Option<u64>,
+    most: u32,
+    /// The gate opened for it, or there is none.
+    is_open: bool,
+    /// Until this is dropped no other turn begins.
+    turn: Option<MutexGuard<'n, ()>>,
+}
+
+impl<'n> Model for Permit<'n> {
+    ghost use Rattle.std.specs.Prelude.{◌≡◌, IfSome};
+    ghost use Rattle.node.specs.Running.{Permit};
+
+    ghost Value = { Permit };
+
+    ghost view = { λ leave. record {
+      taking = leave.taking;
+      most = leave.most;
+      is_open = leave.is_open;
+    } };
+
+    ghost invariant = { λ leave. IfSome leave.taking (λ _. leave.most ≡ 1) };
+}
+
+impl<'n> Permit<'n> {
+    // Returns a permit without a gate.
+    pub(crate) fn free() -> Permit<'n>
+        ensures { result ≡ record { taking = None; most = 16; is_open = true } }
+    {
+        Permit {
+            taking: None,
+            most: AT_ONCE,
+            is_open: true,
+            turn: None,
+        }
+    }
+
+    // Returns a permit for the taking of this number, which keeps other turns from beginning.
+    pub(crate) fn after(taking: u64, is_open: bool, turn: MutexGuard<'n, ()>) -> Permit<'n>
+        ensures { result ≡ record { taking = Some taking; most = 1; is_open = is_open } }
+    {
+        Permit {
+            taking: Some(taking),
+            most: 1,
+            is_open,
+            turn: Some(turn),
+        }
+    }
+
+    /// Returns how many items may be taken: one if a gate was asked.
+    pub fn most(&self) -> u32
+        ensures most { result ≡ self.now.most }
+        ensures one { IfSome self.now.taking (λ _. result ≡ 1) }
+    {
+        self.most
+    }
+
+    /// Returns the number of the taking, if a gate was asked.
+    pub fn taking(&self) -> Option<u64>
+        ensures { result ≡ self.now.taking }
+    {
+        self.taking
+    }
+
+    /// Says whether the node's next taking is the one that a gate was asked for. Without a gate it
+    /// is.
+    pub fn is_for<J: NodeNaming>(&self, state: &NodeState<J>) -> bool
+        ensures { IsTrue result ↔ IsNext self.now state.now }
+    {
+        match self.taking {
+            Some(taking) => taking == state.next_turn(),
+            None => true,
+        }
+    }
+}

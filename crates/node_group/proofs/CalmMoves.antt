@@ -1,0 +1,43 @@
+-- A move in which a replica receives nothing leaves it in its role, also one in which something is
+-- lost.
+use Rattle.std.proofs.Common.{◌≡◌, false, refl, ap, ◌∙◌}
+use Rattle.node_moves.specs.ballot.Replica.{ReplicaState}
+use Rattle.packet_world.specs.broker_base.State.{State}
+use Rattle.packet_world.specs.broker_base.Command.{Command}
+use Rattle.packet_world.specs.broker_base.Command.TheVariants as commands
+use Rattle.node_moves.specs.world_base.Connections.{asked, closed, failing, left_with}
+use Rattle.node_moves.specs.world_base.Core.{CoreState, Turn, rules}
+use Rattle.node_moves.specs.world_base.Lossy.{Account, Takes}
+use Rattle.node_moves.specs.world_base.Reading.{changes}
+use Rattle.node_moves.specs.LossyMoves.{LossyMoves, hears_in}
+use Rattle.node_moves.specs.LossyMoves.LossyMoves.{exactly, hears_losing, first_losing, later_losing, tells_losing, expels_losing, forgets, halts, fails, unheard, drops}
+use Rattle.node_moves.proofs.LossyOutputs.{delivers_replica}
+use Rattle.node_moves.proofs.MovesOfReplica.{move_same}
+use Rattle.node_moves.proofs.ReplicaStays.{added_same}
+use Rattle.node_group.specs.Group.{replica_of}
+use Rattle.node_group.proofs.MovesHappen.{changed_state, state_of}
+
+-- a command is taken after a change of connections
+taken_role : (command : Command) (core between : CoreState) (did : Account) → replica_of between ≡ replica_of core → Takes command between did
+    → (replica_of did.core).role ≡ (replica_of core).role
+taken_role command core between did same taken =
+    ap (λ (r : ReplicaState State Command). r.role)
+    (state_of did.core (record between { replica = taken.replica }) (delivers_replica did.given (record between { replica = taken.replica }) did.core did.messages taken.delivers)
+    ∙ taken.done.state)
+    ∙ (added_same rules (replica_of between) command).role ∙ ap (λ (r : ReplicaState State Command). r.role) same
+
+pub calm_role : (core : CoreState) (turn : Turn) (m : LossyMoves core turn) → hears_in m ≡ false → (replica_of turn.core).role ≡ (replica_of core).role
+calm_role core turn (exactly m) calm = (move_same core turn m calm).role
+calm_role core turn (hears_losing input did other drives) calm = absurd cc
+calm_role core turn (first_losing now port c connect rest did at first is taken) calm =
+    taken_role _ core (changes port (asked connect.keep_alive) (changes port (left_with now rest) core)) did
+    (changed_state port (asked connect.keep_alive) (changes port (left_with now rest) core) ∙ changed_state port (left_with now rest) core) taken
+calm_role core turn (later_losing now port c packet rest did at later is taken) calm =
+    taken_role _ core (changes port (left_with now rest) core) did (changed_state port (left_with now rest) core) taken
+calm_role core turn (tells_losing name did taken) calm = taken_role (commands.Lost name) core core did refl taken
+calm_role core turn (expels_losing client did taken) calm = taken_role (commands.Expel client) core core did refl taken
+calm_role core turn forgets calm = refl
+calm_role core turn halts calm = refl
+calm_role core turn (fails port) calm = ap (λ (r : ReplicaState State Command). r.role) (changed_state port failing core)
+calm_role core turn unheard calm = refl
+calm_role core turn (drops port piece) calm = ap (λ (r : ReplicaState State Command). r.role) (changed_state port closed core)

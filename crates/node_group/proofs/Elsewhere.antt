@@ -1,0 +1,140 @@
+-- What a move of a node is for a name under which it has no open connection; and that a name that was given stays so.
+use Rattle.std.proofs.Common.{◌≡◌, ℕ, Bool, true, false, if◌then◌else◌, List, [], ◌∷◌, ◌++◌, Option, Some, None, Err, refl, sym, ap, ◌∙◌, subst}
+use Rattle.packet_world.specs.packet.RefusalCode.{RefusalCode}
+use Rattle.packet_world.specs.packet.Stop.TheVariants as stops
+use Rattle.packet_world.specs.packet.Verdict.{verdict}
+use Rattle.packet_world.specs.packet.declared.packet.Packet.{Packet}
+use Rattle.packet_world.proofs.of_packet.MoreBytes.{faults_stay_so}
+use Rattle.packet_world.proofs.of_packet.PacketReads.{verdict_again}
+use Rattle.packet_world.specs.broker_base.Command.{Command}
+use Rattle.packet_world.specs.broker_base.Command.TheVariants as commands
+use Rattle.packet_world.specs.broker_base.Connection.{ConnectionName, same_connection}
+use Rattle.node_moves.specs.cutter.Pipe.{Joins}
+use Rattle.packet_world.specs.exactly_once.Story.{is_packet_of}
+use Rattle.node_moves.specs.world_base.declared.Port.{Port}
+use Rattle.node_moves.specs.world_base.declared.Connection.{Connection}
+use Rattle.node_moves.specs.world_base.Core.{CoreState, Turn, serves}
+use Rattle.node_moves.specs.world_base.Reading.{open_at}
+use Rattle.node_moves.specs.Closed.{refusal_in as exactly_refusal}
+use Rattle.node_moves.specs.Ends.{IsEnd, IsGiven, IsOrderly, open_named, piece_on}
+use Rattle.node_moves.specs.Ends.{came_on as exactly_came, proposal_of as exactly_proposed}
+use Rattle.node_moves.specs.Ends.IsEnd.{not_yet, is_open, is_over}
+use Rattle.node_moves.specs.LossyMoves.{LossyMoves, came_on, proposal_of, refusal_in}
+use Rattle.node_moves.specs.LossyMoves.LossyMoves.{exactly, first_losing, later_losing, drops}
+use Rattle.node_moves.specs.Moves.{Moves}
+use Rattle.node_moves.specs.Moves.Moves.{holds, reads_first, reads_later, refuses, loses_one, loses_next, expels_one}
+use Rattle.node_moves.proofs.Kept.{named}
+use Rattle.node_moves.proofs.NamesInOrder.{not_both}
+use Rattle.node_moves.proofs.ReadsInOrder.{found_given, found_open}
+use Rattle.node_moves.proofs.Views.{some_none}
+use Rattle.packet_world.proofs.of_broker_spec.ConnectionNames.{same_name}
+use Rattle.node_group.specs.Goes.{commands_put as exactly_put}
+use Rattle.node_group.specs.Losing.{commands_put}
+use Rattle.node_group.specs.Order.{packets_of}
+
+-- ---- no open connection
+
+not_there : (x : ConnectionName) (core : CoreState) (port : Port) (c : Connection) → IsOrderly core → open_named x core ≡ None → open_at port core ≡ Some c → named x c ≡ true → ⊥
+not_there x core port c o none at is = some_none c (sym (found_open x core port c o at is) ∙ none)
+
+one_other : (x : ConnectionName) (core : CoreState) (port : Port) (c : Connection) (command : Command) → IsOrderly core → open_named x core ≡ None → open_at port core ≡ Some c
+    → is_packet_of command x ≡ named x c → packets_of x (command ∷ []) ≡ []
+one_other x core port c command o none at same = by (named x c) refl
+  where
+    by : (b : Bool) → named x c ≡ b → packets_of x (command ∷ []) ≡ []
+    by true is = absurd (not_there x core port c o none at is)
+    by false other = ap (λ (b : Bool). let l : List Command = if b then command ∷ [] else [] in l) (same ∙ other)
+
+-- nothing is put for it
+exactly_none_put : (x : ConnectionName) (core : CoreState) (turn : Turn) (m : Moves core turn) → IsOrderly core → open_named x core ≡ None
+    → packets_of x (exactly_proposed m) ≡ []
+exactly_none_put x core turn (reads_first now port c connect rest at first is room) o none =
+    one_other x core port c (commands.Connect c.name connect.client connect.clean) o none at refl
+exactly_none_put x core turn (reads_later now port c packet rest at later is room) o none = one_other x core port c (commands.Packet c.name packet) o none at refl
+exactly_none_put x core turn m o none = refl
+
+pub none_put : (x : ConnectionName) (core : CoreState) (turn : Turn) (m : LossyMoves core turn) → IsOrderly core → open_named x core ≡ None
+    → packets_of x (proposal_of m) ≡ []
+none_put x core turn (exactly m) o none = exactly_none_put x core turn m o none
+none_put x core turn (first_losing now port c connect rest did at first is taken) o none =
+    one_other x core port c (commands.Connect c.name connect.client connect.clean) o none at refl
+none_put x core turn (later_losing now port c packet rest did at later is taken) o none = one_other x core port c (commands.Packet c.name packet) o none at refl
+none_put x core turn m o none = refl
+
+-- no bytes come on it
+no_piece : (x : ConnectionName) (core : CoreState) (port : Port) (piece : List ℕ) → IsOrderly core → open_named x core ≡ None → piece_on x piece (open_at port core) ≡ []
+no_piece x core port piece o none = by (open_at port core) refl
+  where
+    on : (c : Connection) → open_at port core ≡ Some c → (b : Bool) → named x c ≡ b → (if b then piece else []) ≡ []
+    on c at true is = absurd (not_there x core port c o none at is)
+    on c at false is = refl
+
+    by : (found : Option Connection) → open_at port core ≡ found → piece_on x piece found ≡ []
+    by None at = refl
+    by (Some c) at = on c at (named x c) refl
+
+exactly_none_came : (x : ConnectionName) (core : CoreState) (turn : Turn) (m : Moves core turn) → IsOrderly core → open_named x core ≡ None → exactly_came x m ≡ []
+exactly_none_came x core turn (holds port piece) o none = no_piece x core port piece o none
+exactly_none_came x core turn m o none = refl
+
+pub none_came : (x : ConnectionName) (core : CoreState) (turn : Turn) (m : LossyMoves core turn) → IsOrderly core → open_named x core ≡ None → came_on x m ≡ []
+none_came x core turn (exactly m) o none = exactly_none_came x core turn m o none
+none_came x core turn (drops port piece) o none = no_piece x core port piece o none
+none_came x core turn m o none = refl
+
+-- ---- what is put are the packets that are proposed
+
+lost_or_not : (x : ConnectionName) (name : ConnectionName) (b : Bool) → packets_of x (if b then commands.Lost name ∷ [] else []) ≡ []
+lost_or_not x name true = refl
+lost_or_not x name false = refl
+
+expelled_or_not : (x : ConnectionName) (client : List ℕ) (b : Bool) → packets_of x (if b then commands.Expel client ∷ [] else []) ≡ []
+expelled_or_not x client true = refl
+expelled_or_not x client false = refl
+
+exactly_packets : (x : ConnectionName) (core : CoreState) (turn : Turn) (m : Moves core turn) → packets_of x (exactly_put m) ≡ packets_of x (exactly_proposed m)
+exactly_packets x core turn (loses_one port c at asked) = lost_or_not x c.name (serves core)
+exactly_packets x core turn (loses_next c at) = lost_or_not x c.name (serves core)
+exactly_packets x core turn (expels_one client) = expelled_or_not x client (serves core)
+exactly_packets x core turn m = refl
+
+pub packets_put : (x : ConnectionName) (core : CoreState) (turn : Turn) (m : LossyMoves core turn) → packets_of x (commands_put m) ≡ packets_of x (proposal_of m)
+packets_put x core turn (exactly m) = exactly_packets x core turn m
+packets_put x core turn m = refl
+
+-- ---- no CONNECT is refused if the bytes are those of packets
+
+no_stop : (rest : List Packet) (held later : List ℕ) (code : RefusalCode) → Joins rest (held ++ later) → verdict held ≡ Err (stops.Refused code) → ⊥
+unfolding verdict
+no_stop rest held later code joined e = by rest joined
+  where
+    stays : verdict (held ++ later) ≡ Err (stops.Refused code)
+    stays = faults_stay_so held later (stops.Refused code) (λ f. cc) e
+
+    by : (ps : List Packet) → Joins ps (held ++ later) → ⊥
+    by [] j = let f = sym (ap verdict j) ∙ stays in cc
+    by (p ∷ ps) (front, left, sp, kp, is, j) = let f = sym (ap verdict is ∙ verdict_again p front left kp sp) ∙ stays in cc
+
+exactly_refused : (x : ConnectionName) (core : CoreState) (turn : Turn) (m : Moves core turn) (written read : List Packet) (under_way : List ℕ) → IsOrderly core
+    → IsEnd x core written read under_way → exactly_refusal x m ≡ []
+exactly_refused x core turn (refuses port c code at first is) written read under_way o end = by (same_connection c.name x) refl
+  where
+    there : named x c ≡ true → IsEnd x core written read under_way → ⊥
+    there named_so (not_yet below none piped) = not_both core.last_name x below (subst (IsGiven core.last_name) (same_name c.name x named_so) (found_given core port c o at))
+    there named_so (is_open d given found stage piped) =
+        let same : c ≡ d = one c d (sym (found_open x core port c o at named_so) ∙ found) in
+        no_stop piped.rest d.unread under_way code piped.joined (ap (λ (z : Connection). verdict z.unread) (sym same) ∙ is)
+      where
+        one : (a b : Connection) → (let q : Option Connection = Some a in q) ≡ Some b → a ≡ b
+        one a b e = cc
+    there named_so (is_over given none front) = not_there x core port c o none at named_so
+
+    by : (b : Bool) → same_connection c.name x ≡ b → (exactly_refusal x (let k : Moves core turn = refuses port c code at first is in k)) ≡ []
+    by true e = absurd (there e end)
+    by false e = rw e refl
+exactly_refused x core turn m written read under_way o end = refl
+
+pub none_refused : (x : ConnectionName) (core : CoreState) (turn : Turn) (m : LossyMoves core turn) (written read : List Packet) (under_way : List ℕ) → IsOrderly core
+    → IsEnd x core written read under_way → refusal_in x m ≡ []
+none_refused x core turn (exactly m) written read under_way o end = exactly_refused x core turn m written read under_way o end
+none_refused x core turn m written read under_way o end = refl

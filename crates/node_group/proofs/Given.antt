@@ -1,0 +1,92 @@
+-- A name that a node gave stays given, whatever it does.
+use Rattle.std.proofs.Common.{◌≡◌, Bool, true, false, not, ◌&&◌, if◌then◌else◌, [], ◌∷◌, ◌++◌, refl, sym, ◌∙◌, subst}
+use Rattle.std.specs.List.{list_any}
+use Rattle.packet_world.specs.broker_base.Command.{Command}
+use Rattle.packet_world.specs.broker_base.Command.TheVariants as commands
+use Rattle.packet_world.specs.broker_base.Connection.{ConnectionName, is_connection_name}
+use Rattle.node_moves.specs.world_base.declared.Port.{Port}
+use Rattle.node_moves.specs.world_base.declared.Connection.{Connection}
+use Rattle.node_moves.specs.world_base.Connections.{asked, closed, failing, fresh, is_at, left_with}
+use Rattle.node_moves.specs.world_base.Core.{CoreState, Turn, serves}
+use Rattle.node_moves.specs.world_base.Failing.{closes_failed}
+use Rattle.node_moves.specs.world_base.Lossy.{Account, Takes}
+use Rattle.node_moves.specs.world_base.Reading.{changes}
+use Rattle.node_moves.specs.world_base.Step.{next_name, opens}
+use Rattle.node_moves.specs.world_base.Turns.{proposes}
+use Rattle.node_moves.specs.Ends.{IsGiven, IsOrderly}
+use Rattle.node_moves.specs.LossyMoves.{LossyMoves}
+use Rattle.node_moves.specs.LossyMoves.LossyMoves.{exactly, hears_losing, first_losing, later_losing, tells_losing, expels_losing, forgets, halts, fails, unheard, drops}
+use Rattle.node_moves.specs.Moves.{Moves}
+use Rattle.node_moves.specs.Moves.Moves.{hears, opens_one, holds, reads_first, reads_later, closes, refuses, loses_one, loses_next, expels_one, cuts_log, crashes, settles, hands}
+use Rattle.node_moves.proofs.Kept.{stays_crashed, stays_cut, stays_driven, stays_failed, stays_handed, stays_proposed, stays_settled}
+use Rattle.node_moves.proofs.LossyReads.{stays_drives, stays_takes}
+use Rattle.node_moves.proofs.NamesInOrder.{given_later, next_precedes}
+use Rattle.node_moves.proofs.ShutByChanges.{at_orderly}
+
+same_last : (port : Port) (f : Connection → Connection) (core : CoreState) → (changes port f core).last_name ≡ core.last_name
+unfolding changes
+same_last port f core = refl
+
+-- a command is proposed after a change
+behind : (command : Command) (core between : CoreState) → IsOrderly between → between.last_name ≡ core.last_name → (proposes command between).core.last_name ≡ core.last_name
+behind command core between o same = (stays_proposed command between o).last ∙ same
+
+by_same : (x : ConnectionName) (core later : CoreState) → later.last_name ≡ core.last_name → IsGiven core.last_name x → IsGiven later.last_name x
+by_same x core later same given = subst (λ (y : ConnectionName). IsGiven y x) (sym same) given
+
+opened_given : (x : ConnectionName) (port : Port) (core : CoreState) → IsOrderly core → IsGiven core.last_name x → IsGiven (opens port core).last_name x
+unfolding opens
+opened_given x port core o given = by ((serves core && not (list_any (is_at port) core.connections)) && is_connection_name (next_name core))
+  where
+    by : (b : Bool)
+        → IsGiven (let k : CoreState = if b then record core { last_name = next_name core; connections = core.connections ++ fresh port (next_name core) ∷ [] } else core in k).last_name x
+    by true = given_later core.last_name (next_name core) x (next_precedes core o.within) given
+    by false = given
+
+exactly_given : (x : ConnectionName) (core : CoreState) (turn : Turn) (m : Moves core turn) → IsOrderly core → IsGiven core.last_name x → IsGiven turn.core.last_name x
+exactly_given x core turn (hears input other) o given = by_same x core turn.core (stays_driven input core o).last given
+exactly_given x core turn (opens_one port) o given = opened_given x port core o given
+exactly_given x core turn (holds port piece) o given = by_same x core turn.core (same_last port _ core) given
+exactly_given x core turn (reads_first now port c connect rest at first is room) o given =
+    let left : CoreState = changes port (left_with now rest) core in
+    by_same x core turn.core
+    (behind _ core (changes port (asked connect.keep_alive) left) (at_orderly port (asked connect.keep_alive) left (at_orderly port (left_with now rest) core o (λ d. refl)) (λ d. refl))
+    (same_last port (asked connect.keep_alive) left ∙ same_last port (left_with now rest) core)) given
+exactly_given x core turn (reads_later now port c packet rest at later is room) o given =
+    by_same x core turn.core
+    (behind _ core (changes port (left_with now rest) core) (at_orderly port (left_with now rest) core o (λ d. refl)) (same_last port (left_with now rest) core)) given
+exactly_given x core turn (closes port) o given = by_same x core turn.core (same_last port closed core) given
+exactly_given x core turn (refuses port c code at first is) o given = by_same x core turn.core (same_last port _ core) given
+exactly_given x core turn (loses_one port c at asked_before) o given =
+    by_same x core turn.core (behind (commands.Lost c.name) core (changes port closed core) (at_orderly port closed core o (λ d. refl)) (same_last port closed core)) given
+exactly_given x core turn (loses_next c at) o given =
+    by_same x core turn.core (behind (commands.Lost c.name) core (closes_failed core) (stays_failed core o).orderly refl) given
+exactly_given x core turn (expels_one client) o given = by_same x core turn.core (behind (commands.Expel client) core core o refl) given
+exactly_given x core turn (cuts_log can) o given = by_same x core turn.core (stays_cut core o).last given
+exactly_given x core turn crashes o given = by_same x core turn.core (stays_crashed core o).last given
+exactly_given x core turn settles o given = by_same x core turn.core (stays_settled core o).last given
+exactly_given x core turn (hands port) o given = by_same x core turn.core (stays_handed port core o).last given
+
+-- .. if a command is taken after a change
+taken_last : (command : Command) (core between : CoreState) (did : Account) → IsOrderly between → between.last_name ≡ core.last_name → Takes command between did
+    → did.core.last_name ≡ core.last_name
+taken_last command core between did o same taken = (stays_takes command between did taken o).last ∙ same
+
+pub stays_given : (x : ConnectionName) (core : CoreState) (turn : Turn) (m : LossyMoves core turn) → IsOrderly core → IsGiven core.last_name x → IsGiven turn.core.last_name x
+stays_given x core turn (exactly m) o given = exactly_given x core turn m o given
+stays_given x core turn (hears_losing input did other drives_so) o given = by_same x core turn.core (stays_drives input core did drives_so o).last given
+stays_given x core turn (first_losing now port c connect rest did at first is taken) o given =
+    let left : CoreState = changes port (left_with now rest) core in
+    by_same x core turn.core
+    (taken_last _ core (changes port (asked connect.keep_alive) left) did (at_orderly port (asked connect.keep_alive) left (at_orderly port (left_with now rest) core o (λ d. refl)) (λ d. refl))
+    (same_last port (asked connect.keep_alive) left ∙ same_last port (left_with now rest) core) taken) given
+stays_given x core turn (later_losing now port c packet rest did at later is taken) o given =
+    by_same x core turn.core
+    (taken_last _ core (changes port (left_with now rest) core) did (at_orderly port (left_with now rest) core o (λ d. refl)) (same_last port (left_with now rest) core) taken) given
+stays_given x core turn (tells_losing name did taken) o given = by_same x core turn.core (taken_last _ core core did o refl taken) given
+stays_given x core turn (expels_losing client did taken) o given = by_same x core turn.core (taken_last _ core core did o refl taken) given
+stays_given x core turn forgets o given = given
+stays_given x core turn halts o given = given
+stays_given x core turn (fails port) o given = by_same x core turn.core (same_last port failing core) given
+stays_given x core turn unheard o given = by_same x core turn.core (stays_failed core o).last given
+stays_given x core turn (drops port piece) o given = by_same x core turn.core (same_last port closed core) given

@@ -1,0 +1,78 @@
+-- The replicas of a group went through a past.
+use Rattle.std.proofs.Common.{◌≡◌, ℕ, List, [], ◌∷◌, ◌++◌, Option, Some, None, refl, sym, ap, ◌∙◌, subst}
+use Rattle.packet_world.specs.lists.Lists.{Each, In}
+use Rattle.packet_world.specs.lists.Lists.In.{here}
+use Rattle.node_moves.specs.ballot.Config.{Config}
+use Rattle.packet_world.specs.broker_base.State.{State}
+use Rattle.packet_world.specs.broker_base.Command.{Command}
+use Rattle.packet_world.specs.broker_base.Output.{Output}
+use Rattle.packet_world.specs.agreement.MasterState.{AssignRefusal, MasterState, master_behind, opening_master, refusal}
+use Rattle.packet_world.specs.snapshots.Past.{Moment, Past, opening_moment}
+use Rattle.packet_world.specs.snapshots.Past.Past.{began}
+use Rattle.packet_world.specs.snapshots.Steps.{world_behind}
+use Rattle.packet_world.specs.snapshots.Steps.MayHappen.{master_assigns, master_hears, assignment_lost, answer_lost}
+use Rattle.packet_world.specs.snapshots.World.{World}
+use Rattle.node_moves.specs.world_base.Core.{rules}
+use Rattle.node_group.specs.Group.{Group, behind_turn, moment_of, opening_group, with_master, with_record}
+use Rattle.node_group.specs.Goes.{MayGo, all_given, all_put, behind_assign, groups_of, put_in_step}
+use Rattle.node_group.specs.Goes.MayGo.{node_acts, node_loses, master_assigns as assigns, master_hears as hears_master, assigns_unheard, answers_unheard}
+use Rattle.node_group.specs.Goes.Went.{opened, then_went}
+use Rattle.node_group.specs.Losing.{WereSent}
+use Rattle.node_group.specs.Losing.{all_given as given_losing, put_in_run as put_losing}
+use Rattle.node_group.specs.Putting.{recorded_in}
+use Rattle.node_group.specs.Pasts.{GroupsArePasts, packets_in}
+use Rattle.node_group.proofs.LosingNone.{frozen_losing, losing_none, same_given, same_put, same_recorded, sent_losing}
+use Rattle.node_group.proofs.MovesHappen.{Further, by_event}
+use Rattle.node_group.proofs.RunsHappen.{runs_happen}
+use Rattle.node_group.proofs.Packets.{packets_join}
+use Rattle.node_group.proofs.Placed.{opened_replicas}
+use Rattle.node_group.proofs.Thinning.{all_kept}
+
+abbrev at_moment : MasterState → World State Command Output → Moment State Command Output
+at_moment m w = record { master = m; world = w }
+
+opens_as : (nodes : ℕ) (config : Config) → moment_of (opening_group nodes config) ≡ opening_moment rules nodes config
+opens_as nodes config =
+    ap (λ l. at_moment (opening_master config) (let w : World State Command Output = record { nodes = l; sent = []; left = []; archive = [] } in w)) (opened_replicas nodes config)
+
+assigned_as : (g : Group) (config : Config) (why : Option AssignRefusal)
+    → at_moment (master_behind g.master config why) (world_behind g.master (moment_of g).world config why)
+    ≡ moment_of (with_master (behind_assign g config why) (master_behind g.master config why))
+assigned_as g config (Some why) = refl
+assigned_as g config None = refl
+
+pub goes_on : (config : Config) (g h : Group) (step : MayGo g h) (earlier : List (Moment State Command Output)) (came : Past rules config (moment_of g ∷ earlier))
+    → Further came (moment_of h) (put_in_step step)
+goes_on config g h (node_acts n core deed turn run at is first sent) earlier came =
+    subst (λ l. Further came (moment_of (behind_turn (with_record g (recorded_in g.archive run)) n turn (all_given run))) l) (same_put run)
+    (subst (λ l. Further came (moment_of (behind_turn (with_record g (recorded_in g.archive run)) n turn l)) (put_losing (losing_none run))) (same_given run)
+    (subst (λ us. Further came (moment_of (behind_turn (with_record g us) n turn (given_losing (losing_none run)))) (put_losing (losing_none run))) (same_recorded g.archive run)
+    (runs_happen g n core turn (losing_none run) turn.messages at (sent_losing g n run sent) (frozen_losing g n run sent) (all_kept turn.messages) config earlier came)))
+goes_on config g h (node_loses n core item turn kept by at runs sent thinned) earlier came =
+    runs_happen g n core turn by.run kept at (subst (WereSent g n) (sym by.hears) sent) by.freezes thinned config earlier came
+goes_on config g h (assigns wanted) earlier came =
+    subst (λ z. Further came z []) (assigned_as g wanted (refusal g.master wanted))
+    (by_event came _ (master_assigns wanted) [] 0 [] refl (λ x. refl) refl).further
+goes_on config g h (hears_master from ballot sent) earlier came =
+    (by_event came _ (master_hears from ballot sent) [] 0 [] refl (λ x. refl) refl).further
+goes_on config g h (assigns_unheard wanted) earlier came = (by_event came _ (assignment_lost wanted) [] 0 [] refl (λ x. refl) refl).further
+goes_on config g h (answers_unheard from ballot sent) earlier came = (by_event came _ (answer_lost from ballot sent) [] 0 [] refl (λ x. refl) refl).further
+
+pub seen_still : {old new : List (Moment State Command Output)} (groups : List Group) → ((z : Moment State Command Output) → In z old → In z new)
+    → Each (λ h. In (moment_of h) old) groups → Each (λ h. In (moment_of h) new) groups
+seen_still [] kept all = tt
+seen_still (h ∷ groups) kept all = (kept (moment_of h) all.0, seen_still groups kept all.1)
+
+pub groups_are_pasts : GroupsArePasts
+groups_are_pasts nodes config g (opened can) = record { earlier = []; past = began nodes can (opens_as nodes config); proposed = refl; taken = λ x. refl; seen = (here, tt) }
+groups_are_pasts nodes config h (then_went {g = g} went step) =
+    let so_far = groups_are_pasts nodes config g went in
+    let further = goes_on config g h step so_far.earlier so_far.past in
+    record {
+      earlier = further.before;
+      past = further.past;
+      proposed = further.proposed ∙ ap (λ l. l ++ put_in_step step) so_far.proposed;
+      taken = λ x.
+          further.taken x ∙ ap (λ l. l ++ packets_in x (put_in_step step)) (so_far.taken x) ∙ sym (packets_join x (all_put went) (put_in_step step));
+      seen = (here, seen_still (groups_of went) further.kept so_far.seen);
+    }

@@ -1,0 +1,151 @@
+-- Each move of a node in which something may be lost is one event among replicas, or none.
+use Rattle.std.proofs.Common.{inl, inr, ◌≡◌, ℕ, Bool, true, false, not, ◌&&◌, nat_lt, List, [], ◌∷◌, Some, slice_get, refl, sym, ap, ◌∙◌, subst}
+use Rattle.std.proofs.lemmas.Bool.{ltb-true}
+use Rattle.node_moves.specs.ballot.Config.{Config}
+use Rattle.node_moves.specs.ballot.Logs.{places}
+use Rattle.node_moves.specs.ballot.Losses.{Loses, Thinned}
+use Rattle.node_moves.specs.ballot.Protocol.{Input}
+use Rattle.node_moves.specs.ballot.Protocol.Input.{Proposes}
+use Rattle.node_moves.specs.ballot.Replica.{CountedReplica, ReplicaState, is_active}
+use Rattle.node_moves.specs.ballot.Sending.{Outcome, nothing_done}
+use Rattle.node_moves.specs.ballot.Serving.{added, most_places, proposed}
+use Rattle.node_moves.proofs.of_ballot.StepRows.{proposed-adds}
+use Rattle.packet_world.specs.broker_base.State.{State}
+use Rattle.packet_world.specs.broker_base.Command.{Command}
+use Rattle.packet_world.specs.broker_base.Command.TheVariants as commands
+use Rattle.packet_world.specs.broker_base.Output.{Output}
+use Rattle.packet_world.specs.snapshots.Past.{Moment, Past}
+use Rattle.packet_world.specs.snapshots.World.{messages, outputs}
+use Rattle.node_moves.specs.world_base.Connections.{asked, closed, failing, left_with}
+use Rattle.node_moves.specs.world_base.Core.{CoreState, Turn, rules, serves}
+use Rattle.node_moves.specs.world_base.Lossy.{Account, Drives, Takes}
+use Rattle.node_moves.specs.world_base.Reading.{changes}
+use Rattle.node_moves.specs.world_base.Turns.{has_room, heard}
+use Rattle.node_moves.specs.LossyMoves.{LossyMoves, given_in, inputs_in, turn_of}
+use Rattle.node_moves.specs.LossyRuns.{Freezes}
+use Rattle.node_moves.specs.LossyMoves.LossyMoves.{exactly, hears_losing, first_losing, later_losing, tells_losing, expels_losing, forgets, halts, fails, unheard, drops}
+use Rattle.node_moves.specs.Moves.{is_proposal}
+use Rattle.node_moves.proofs.LossyOutputs.{delivers_replica}
+use Rattle.node_group.specs.Group.{Group, behind_turn, moment_of, replica_of, with_record}
+use Rattle.node_group.specs.Goes.{InputWasSent, keeping}
+use Rattle.node_group.specs.Losing.{WereSent, put_in_move, recorded_by}
+use Rattle.node_group.proofs.LosingNone.{sent_by}
+use Rattle.node_group.proofs.MovesHappen.{Once, changed_state, heard_as_running, heard_as_stopped, may_take, moves_happen, no_step, none_put, one_step, one_stop, quietly, room_is, state_of}
+use Rattle.node_group.proofs.Packets.{AreTaken, none_taken, proposal_taken}
+use Rattle.node_group.proofs.Replicas.{changes_keep, room_serves, serving_runs}
+use Rattle.node_group.proofs.Thinning.{Given, KeptOf, kept_of_told, loses_more, nothing_kept, steps_lose, thinned_more}
+
+-- ---- the replica receives something
+
+-- a replica that has stopped stays as it is, or stops again
+stopped_happens : (g : Group) (n : ℕ) (core : CoreState) (turn : Turn) (new : ReplicaState State Command) (given thin : Given) → slice_get g.nodes n ≡ Some core → replica_of turn.core ≡ new
+    → messages turn.messages ≡ messages thin → outputs given ≡ outputs thin → Loses rules (replica_of core) (nothing_done Output (replica_of core)) new thin
+    → (config : Config) (earlier : List (Moment State Command Output)) (came : Past rules config (moment_of g ∷ earlier))
+    → Once came (moment_of (behind_turn g n turn given)) [] n (outputs given)
+stopped_happens g n core turn new given thin at replica sent left (inl (is, t)) config earlier came =
+    let empty = nothing_kept thin t in no_step g n core turn given config earlier came at (replica ∙ is) (sent ∙ ap messages empty) (left ∙ ap outputs empty)
+stopped_happens g n core turn new given thin at replica sent left (inr (inl (is, empty))) config earlier came =
+    no_step g n core turn given config earlier came at (replica ∙ is) (sent ∙ ap messages empty) (left ∙ ap outputs empty)
+stopped_happens g n core turn new given thin at replica sent left (inr (inr (is, empty))) config earlier came =
+    one_stop g n core turn given config earlier came at (replica ∙ is) (sent ∙ ap messages empty) (left ∙ ap outputs empty)
+
+drives_happen : (g : Group) (n : ℕ) (core : CoreState) (input : Input Command) (did : Account) (kept : Given) → slice_get g.nodes n ≡ Some core → is_proposal input ≡ false
+    → InputWasSent g n input → Drives input core did → Thinned kept did.messages → (config : Config) (earlier : List (Moment State Command Output))
+    (came : Past rules config (moment_of g ∷ earlier)) → Once came (moment_of (behind_turn g n (keeping kept (turn_of did)) did.given)) [] n (outputs did.given)
+drives_happen g n core input did kept at other sent m t config earlier came = by (replica_of core).stopped refl
+  where
+    k : KeptOf kept did.given
+    k = kept_of_told did.given (record core { replica = m.replica }) did.core did.messages kept m.delivers t
+
+    new : ReplicaState State Command
+    new = m.replica.state
+
+    replica : replica_of did.core ≡ new
+    replica = state_of did.core (record core { replica = m.replica }) (delivers_replica did.given (record core { replica = m.replica }) did.core did.messages m.delivers)
+
+    lost : Loses rules (replica_of core) (heard input (replica_of core)) new k.thin
+    lost =
+        loses_more (replica_of core) new (heard input (replica_of core)) did.given k.thin (steps_lose core.replica m.replica (heard input (replica_of core)) did.given m.steps)
+        k.thinned
+
+    by : (b : Bool) → (replica_of core).stopped ≡ b → Once came (moment_of (behind_turn g n (keeping kept (turn_of did)) did.given)) [] n (outputs did.given)
+    by true e =
+        stopped_happens g n core (keeping kept (turn_of did)) new did.given k.thin at replica k.sent k.left
+        (subst (λ (o : Outcome State Command Output). Loses rules (replica_of core) o new k.thin) (heard_as_stopped (replica_of core) input e) lost) config earlier came
+    by false e =
+        subst (λ l. Once came (moment_of (behind_turn g n (keeping kept (turn_of did)) did.given)) l n (outputs did.given)) (none_put core input other)
+        (one_step g n core (keeping kept (turn_of did)) input new did.given k.thin config earlier came at e (may_take g n input other sent) replica
+        (subst (λ (o : Outcome State Command Output). Loses rules (replica_of core) o new k.thin) (heard_as_running (replica_of core) input e) lost) k.sent k.left
+        (none_taken (replica_of core) new input other))
+
+-- ---- a command is taken
+
+left_true : (a b : Bool) → (a && b) ≡ true → a ≡ true
+left_true true b e = refl
+left_true false b e = absurd cc
+
+-- after a change of connections
+takes_happen : (g : Group) (n : ℕ) (core between : CoreState) (command : Command) (did : Account) (kept : Given) → slice_get g.nodes n ≡ Some core → between.replica ≡ core.replica
+    → Takes command between did → Thinned kept did.messages → (config : Config) (earlier : List (Moment State Command Output)) (came : Past rules config (moment_of g ∷ earlier))
+    → Once came (moment_of (behind_turn g n (keeping kept (turn_of did)) did.given)) (((replica_of core).joined, command) ∷ []) n (outputs did.given)
+takes_happen g n core between command did kept at same taken t config earlier came =
+    one_step g n core (keeping kept (turn_of did)) (Proposes command) new did.given k.thin config earlier came at (serving_runs core serving) tt replica
+    (inl (is, subst (λ (o : Outcome State Command Output). Thinned k.thin o.effects) outcome thinner))
+    k.sent k.left (subst (λ (s : ReplicaState State Command). AreTaken (replica_of core) s (Proposes command)) (sym is) (proposal_taken core command serving (λ x is_one. fits)))
+  where
+    k : KeptOf kept did.given
+    k = kept_of_told did.given (record between { replica = taken.replica }) did.core did.messages kept taken.delivers t
+
+    new : ReplicaState State Command
+    new = taken.replica.state
+
+    replica : replica_of did.core ≡ new
+    replica = state_of did.core (record between { replica = taken.replica }) (delivers_replica did.given (record between { replica = taken.replica }) did.core did.messages taken.delivers)
+
+    room : has_room core ≡ true
+    room =
+        ap (λ (r : CountedReplica State Command). has_room (let c : CoreState = record { replica = r; last_name = record { ballot = 0; count = 0 }; connections = [] } in c)) (sym same)
+        ∙ taken.room
+
+    serving : serves core ≡ true
+    serving = room_serves core (nat_lt (places (replica_of core).log) most_places) room
+
+    fits : nat_lt (places (replica_of core).log) most_places ≡ true
+    fits = room_is core room
+
+    active : is_active (replica_of core).role ≡ true
+    active = left_true (is_active (replica_of core).role) (not (replica_of core).stopped) serving
+
+    outcome : added rules (replica_of between) command ≡ proposed rules (replica_of core) command
+    outcome =
+        ap (λ (r : ReplicaState State Command). added rules r command) (state_of between core same)
+        ∙ sym (proposed-adds rules (replica_of core) command active (ltb-true (places (replica_of core).log) most_places fits))
+
+    is : new ≡ (proposed rules (replica_of core) command).state
+    is = taken.done.state ∙ ap (λ (o : Outcome State Command Output). o.state) outcome
+
+    thinner : Thinned k.thin (added rules (replica_of between) command).effects
+    thinner =
+        thinned_more k.thinned
+        (subst (λ (l : Given). Thinned l (added rules (replica_of between) command).effects) (sym taken.done.appended) taken.done.thinned)
+
+-- ---- each move
+
+pub losses_happen : (g : Group) (n : ℕ) (core : CoreState) (turn : Turn) (m : LossyMoves core turn) (kept : Given) → slice_get g.nodes n ≡ Some core → WereSent g n (inputs_in m)
+    → Freezes m → Thinned kept turn.messages → (config : Config) (earlier : List (Moment State Command Output)) (came : Past rules config (moment_of g ∷ earlier))
+    → Once came (moment_of (behind_turn (with_record g (recorded_by g.archive m)) n (keeping kept turn) (given_in m))) (put_in_move m) n (outputs (given_in m))
+losses_happen g n core turn (exactly m) kept at sent frozen t = moves_happen g n core turn m kept at (sent_by g n m sent frozen) t
+losses_happen g n core turn (hears_losing input did other drives) kept at sent frozen t = drives_happen g n core input did kept at other sent.0 drives t
+losses_happen g n core turn (first_losing now port c connect rest did is_at first is taken) kept at sent frozen t =
+    takes_happen g n core (changes port (asked connect.keep_alive) (changes port (left_with now rest) core)) _ did kept at
+    (changes_keep port (asked connect.keep_alive) (changes port (left_with now rest) core) ∙ changes_keep port (left_with now rest) core) taken t
+losses_happen g n core turn (later_losing now port c packet rest did is_at later is taken) kept at sent frozen t =
+    takes_happen g n core (changes port (left_with now rest) core) _ did kept at (changes_keep port (left_with now rest) core) taken t
+losses_happen g n core turn (tells_losing name did taken) kept at sent frozen t = takes_happen g n core core (commands.Lost name) did kept at refl taken t
+losses_happen g n core turn (expels_losing client did taken) kept at sent frozen t = takes_happen g n core core (commands.Expel client) did kept at refl taken t
+losses_happen g n core turn forgets kept at sent frozen t = quietly g n core turn.core kept at refl t
+losses_happen g n core turn halts kept at sent frozen t =
+    λ config earlier came. one_stop g n core (keeping kept turn) [] config earlier came at refl (ap messages (nothing_kept kept t)) refl
+losses_happen g n core turn (fails port) kept at sent frozen t = quietly g n core turn.core kept at (changed_state port failing core) t
+losses_happen g n core turn unheard kept at sent frozen t = quietly g n core turn.core kept at refl t
+losses_happen g n core turn (drops port piece) kept at sent frozen t = quietly g n core turn.core kept at (changed_state port closed core) t

@@ -1,0 +1,89 @@
+-- The packets of a connection are in each log, and in the agreed list, in the order in which they
+-- were put.
+use Rattle.std.proofs.Common.{◌≡◌, ℕ, Bool, true, false, if◌then◌else◌, List, [], ◌∷◌, Some, slice_get, refl, sym, ap, ◌∙◌, subst}
+use Rattle.packet_world.specs.lists.Lists.{Each, In, IsPrefixOf}
+use Rattle.packet_world.specs.lists.Lists.In.{here, there}
+use Rattle.packet_world.proofs.of_lists.Beginnings.{prefix_then}
+use Rattle.node_moves.specs.ballot.Config.{Config}
+use Rattle.node_moves.specs.ballot.Replica.{ReplicaState}
+use Rattle.packet_world.specs.broker_base.State.{State}
+use Rattle.packet_world.specs.broker_base.Command.{Command}
+use Rattle.packet_world.specs.broker_base.Connection.{ConnectionName}
+use Rattle.packet_world.specs.exactly_once.Story.{is_packet_of}
+use Rattle.packet_world.specs.snapshots.Past.{IsAgreed}
+use Rattle.packet_world.specs.agreement.Proposals.{IsOfBallot, IsPartOf, commands_of}
+use Rattle.packet_world.specs.snapshots.Proposals.{proposals_of, taken_of}
+use Rattle.packet_world.specs.agreement.Proposals.IsPartOf.{nothing_left, with_one, without_one}
+use Rattle.packet_world.proofs.of_snapshots.PastsAgree.{nodes_agree}
+use Rattle.packet_world.specs.whole.Replica.{ReplicaState as WholeState}
+use Rattle.packet_world.specs.snapshots.Whole.{whole, whole_log}
+use Rattle.packet_world.proofs.of_snapshots.Orders.{keeps_the_order, node_at}
+use Rattle.packet_world.proofs.of_agreement.Orders.NamesInLists.{filter_prefix}
+use Rattle.node_moves.specs.world_base.Core.{rules}
+use Rattle.node_group.specs.Ballots.{IsInItsBallot}
+use Rattle.node_group.specs.Group.{Group, moment_of, replica_of}
+use Rattle.node_group.specs.Goes.{all_put, groups_of}
+use Rattle.node_group.specs.Order.{GroupsKeepTheOrder, packets_of}
+use Rattle.node_group.specs.Pasts.{HasPast, packets_in}
+use Rattle.node_group.proofs.GroupsArePasts.{groups_are_pasts}
+use Rattle.node_group.proofs.NamesInGroups.{puts_in_the_ballot_of_the_name}
+use Rattle.node_group.proofs.Placed.{get_mapped}
+
+part_in : (row : ℕ × Command) (xs ys : List (ℕ × Command)) → IsPartOf xs ys → In row xs → In row ys
+part_in row xs ys nothing_left i = i
+part_in row xs ys (with_one part) here = here
+part_in row xs ys (with_one {x = x} {xs = us} {ys = vs} part) (there i) = there (part_in row us vs part i)
+part_in row xs ys (without_one {xs = us} {ys = vs} part) i = there (part_in row us vs part i)
+
+of_each : (rows : List (ℕ × Command)) (row : ℕ × Command) → Each IsInItsBallot rows → In row rows → IsInItsBallot row
+of_each (one ∷ rows) row each here = each.0
+of_each (one ∷ rows) row each (there i) = of_each rows row each.1 i
+of_each [] row each i = elim i [ ]
+
+-- the packets among the commands of rows
+packets_of_rows : (x : ConnectionName) (rows : List (ℕ × Command)) → packets_of x (commands_of rows) ≡ commands_of (packets_in x rows)
+packets_of_rows x [] = refl
+packets_of_rows x (row ∷ rows) = by (is_packet_of row.1 x) (packets_of_rows x rows)
+  where
+    by : (b : Bool) → packets_of x (commands_of rows) ≡ commands_of (packets_in x rows)
+        → (if b then row.1 ∷ packets_of x (commands_of rows) else packets_of x (commands_of rows))
+        ≡ commands_of (if b then row ∷ packets_in x rows else packets_in x rows)
+    by true same = ap (λ l. row.1 ∷ l) same
+    by false same = same
+
+in_log : (config : Config) (g : Group) (groups : List Group) (put : List (ℕ × Command)) → HasPast config g groups put → Each IsInItsBallot put → (x : ConnectionName) (n : ℕ)
+    (r : ReplicaState State Command) → slice_get (moment_of g).world.nodes n ≡ Some r → IsPrefixOf (packets_of x (whole_log g.archive r.log)) (packets_of x (commands_of put))
+in_log config g groups put of each x n r stands =
+    subst (IsPrefixOf (packets_of x (whole_log g.archive r.log))) ordered
+    ((keeps_the_order rules config (moment_of g) of.earlier of.past).1 (λ (command : Command). is_packet_of command x) x.ballot own n r stands)
+  where
+    ordered : packets_of x (commands_of (taken_of of.past)) ≡ packets_of x (commands_of put)
+    ordered = packets_of_rows x (taken_of of.past) ∙ ap commands_of (of.taken x) ∙ sym (packets_of_rows x put)
+
+    own : IsOfBallot rules.start_of (λ (command : Command). is_packet_of command x) x.ballot (taken_of of.past)
+    own =
+        record {
+          starts = λ b. refl;
+          only = λ row i named.
+              sym (of_each put row each
+              (subst (In row) of.proposed (part_in row (taken_of of.past) (proposals_of of.past) (keeps_the_order rules config (moment_of g) of.earlier of.past).0 i)) x named);
+        }
+
+pub in_agreed : (config : Config) (g : Group) (groups : List Group) (put : List (ℕ × Command)) (of : HasPast config g groups put) → Each IsInItsBallot put → (x : ConnectionName)
+    (xs : List Command) → IsAgreed config (moment_of g ∷ of.earlier) xs → IsPrefixOf (packets_of x xs) (packets_of x (commands_of put))
+in_agreed config g groups put of each x xs is =
+    let holds = (nodes_agree rules config (moment_of g) of.earlier xs of.past is).1 in
+    let at = node_at (whole g.archive) (moment_of g).world.nodes holds.node holds.replica holds.stands in
+    prefix_then (filter_prefix (λ (command : Command). is_packet_of command x) xs holds.replica.log holds.held)
+    (subst (λ (l : List Command). IsPrefixOf (packets_of x l) (packets_of x (commands_of put))) (ap (λ (w : WholeState State Command). w.log) at.2)
+    (in_log config g groups put of each x holds.node at.0 at.1))
+
+pub groups_keep_the_order : GroupsKeepTheOrder
+groups_keep_the_order nodes config g went =
+    let of = groups_are_pasts nodes config g went in
+    let each = puts_in_the_ballot_of_the_name nodes config g went in
+    record {
+      of = of;
+      logs = λ x n core at. in_log config g (groups_of went) (all_put went) of each x n (replica_of core) (get_mapped replica_of g.nodes n core at);
+      agreed = λ x xs is. in_agreed config g (groups_of went) (all_put went) of each x xs is;
+    }

@@ -1,0 +1,120 @@
+-- What a move proposes to its replica is proposed in the ballot of its name, if the names of open
+-- connections are of the ballot.
+use Rattle.std.proofs.Common.{◌≡◌, Bool, true, false, nat_lt, if◌then◌else◌, ℕ, List, [], ◌∷◌, map, refl, ◌∙◌, sym, subst}
+use Rattle.std.proofs.lemmas.Bool.{both_ways}
+use Rattle.packet_world.specs.lists.Lists.{Each, In}
+use Rattle.packet_world.specs.lists.Lists.In.{here}
+use Rattle.packet_world.proofs.of_lists.OfEach.{each_append}
+use Rattle.node_moves.specs.ballot.Logs.{places}
+use Rattle.node_moves.specs.ballot.Serving.{most_places}
+use Rattle.packet_world.specs.broker_base.Command.{Command}
+use Rattle.packet_world.specs.broker_base.Command.TheVariants as commands
+use Rattle.packet_world.specs.broker_base.Connection.{ConnectionName}
+use Rattle.packet_world.specs.exactly_once.Story.{is_packet_of}
+use Rattle.node_moves.specs.world_base.Connections.{asked, left_with}
+use Rattle.node_moves.specs.world_base.Core.{CoreState, Turn, serves}
+use Rattle.node_moves.specs.world_base.Lossy.{Account, Takes}
+use Rattle.node_moves.specs.world_base.Reading.{changes}
+use Rattle.node_moves.specs.Ends.{IsOrderly}
+use Rattle.node_moves.specs.Keeping.{AreOfTheBallot}
+use Rattle.node_moves.specs.LossyLaws.{AreWhereItServes}
+use Rattle.node_moves.specs.LossyMoves.{LossyMoves, proposal_of}
+use Rattle.node_moves.specs.LossyRuns.{HearsAtFirst, IsCalm, LossyRuns}
+use Rattle.node_moves.specs.LossyMoves.LossyMoves.{exactly, first_losing, later_losing, tells_losing, expels_losing}
+use Rattle.node_moves.specs.LossyRuns.LossyRuns.{rests, goes_on}
+use Rattle.node_moves.specs.Moves.{Moves}
+use Rattle.node_moves.specs.Moves.Moves.{reads_first, reads_later, loses_one, loses_next, expels_one}
+use Rattle.node_moves.proofs.LossyNames.{lossy_names_keep_their_ballot}
+use Rattle.node_moves.proofs.LossyReads.{losses_read_in_order}
+use Rattle.node_group.specs.Ballots.{IsInItsBallot}
+use Rattle.node_group.specs.Group.{replica_of}
+use Rattle.node_group.specs.Losing.{put_in_move, put_in_run}
+use Rattle.node_group.specs.Goes.{put_in_move as exactly_put}
+use Rattle.node_group.proofs.MovesHappen.{serves_as}
+use Rattle.node_group.proofs.Replicas.{changes_keep, room_serves}
+
+-- ---- what they put
+
+none_of_a_packet : (core : CoreState) (name : ConnectionName) (b : Bool)
+    → Each IsInItsBallot (map (λ command. ((replica_of core).joined, command)) (if b then commands.Lost name ∷ [] else []))
+none_of_a_packet core name true = (λ x is. absurd (both_ways (is_packet_of (commands.Lost name) x) refl is), tt)
+none_of_a_packet core name false = tt
+
+none_of_an_expel : (core : CoreState) (client : List ℕ) (b : Bool)
+    → Each IsInItsBallot (map (λ command. ((replica_of core).joined, command)) (if b then commands.Expel client ∷ [] else []))
+none_of_an_expel core client true = (λ x is. absurd (both_ways (is_packet_of (commands.Expel client) x) refl is), tt)
+none_of_an_expel core client false = tt
+
+-- what is proposed is put by a node that serves
+proposed_in : (core : CoreState) (turn : Turn) (m : LossyMoves core turn) (command : Command) → IsOrderly core → AreWhereItServes core → serves core ≡ true → proposal_of m ≡ command ∷ []
+    → IsInItsBallot ((replica_of core).joined, command)
+proposed_in core turn m command o of serving is x named =
+    lossy_names_keep_their_ballot.proposes core turn m o of serving x command (subst (In command) (sym is) here) named
+
+-- who takes a command after a change of connections serves
+serves_who_takes : (core between : CoreState) (command : Command) (did : Account) → between.replica ≡ core.replica → Takes command between did → serves core ≡ true
+serves_who_takes core between command did same taken =
+    sym (serves_as between core same) ∙ room_serves between (nat_lt (places (replica_of between).log) most_places) taken.room
+
+exactly_in : (core : CoreState) (turn : Turn) (m : Moves core turn) → IsOrderly core → AreWhereItServes core → Each IsInItsBallot (exactly_put m)
+exactly_in core turn (reads_first now port c connect rest at first is room) o of = (
+  proposed_in core turn (exactly (reads_first now port c connect rest at first is room)) (commands.Connect c.name connect.client connect.clean) o of
+      (room_serves core (nat_lt (places (replica_of core).log) most_places) room) refl,
+  tt,
+)
+exactly_in core turn (reads_later now port c packet rest at later is room) o of = (
+  proposed_in core turn (exactly (reads_later now port c packet rest at later is room)) (commands.Packet c.name packet) o of
+      (room_serves core (nat_lt (places (replica_of core).log) most_places) room) refl,
+  tt,
+)
+exactly_in core turn (loses_one port c at asked_before) o of = none_of_a_packet core c.name (serves core)
+exactly_in core turn (loses_next c at) o of = none_of_a_packet core c.name (serves core)
+exactly_in core turn (expels_one client) o of = none_of_an_expel core client (serves core)
+exactly_in core turn m o of = tt
+
+puts_in : (core : CoreState) (turn : Turn) (m : LossyMoves core turn) → IsOrderly core → AreWhereItServes core → Each IsInItsBallot (put_in_move m)
+puts_in core turn (exactly m) o of = exactly_in core turn m o of
+puts_in core turn (first_losing now port c connect rest did at first is taken) o of = (
+  proposed_in core turn (first_losing now port c connect rest did at first is taken) (commands.Connect c.name connect.client connect.clean) o of
+      (serves_who_takes core (changes port (asked connect.keep_alive) (changes port (left_with now rest) core)) _ did
+      (changes_keep port (asked connect.keep_alive) (changes port (left_with now rest) core) ∙ changes_keep port (left_with now rest) core) taken) refl,
+  tt,
+)
+puts_in core turn (later_losing now port c packet rest did at later is taken) o of = (
+  proposed_in core turn (later_losing now port c packet rest did at later is taken) (commands.Packet c.name packet) o of
+      (serves_who_takes core (changes port (left_with now rest) core) _ did (changes_keep port (left_with now rest) core) taken) refl,
+  tt,
+)
+puts_in core turn (tells_losing name did taken) o of = none_of_a_packet core name true
+puts_in core turn (expels_losing client did taken) o of = none_of_an_expel core client true
+puts_in core turn m o of = tt
+
+-- ---- runs
+
+-- in a run what is put is put in its ballot; and what stays so after it
+pub record RunsWell {core : CoreState} {turn : Turn} (run : LossyRuns core turn) : Type 0 where
+  pub orderly : IsOrderly turn.core
+  pub names : AreWhereItServes turn.core
+  pub puts : Each IsInItsBallot (put_in_run run)
+
+orderly_behind : (core : CoreState) (turn : Turn) (m : LossyMoves core turn) → IsOrderly core → IsOrderly turn.core
+orderly_behind core turn m o = (losses_read_in_order core turn m o).0
+
+where_it_serves : (core : CoreState) → AreOfTheBallot core → AreWhereItServes core
+where_it_serves core of serving = of
+
+calm_run : {core : CoreState} {turn : Turn} (run : LossyRuns core turn) → IsCalm run → IsOrderly core → AreWhereItServes core → RunsWell run
+calm_run rests calm o of = record { orderly = o; names = of; puts = tt }
+calm_run {core = core} (goes_on {first = first} m run) calm o of =
+    let r = calm_run run calm.1 (orderly_behind core first m o) (lossy_names_keep_their_ballot.moves core first m o calm.0 of) in
+    record { orderly = r.orderly; names = r.names; puts = each_append IsInItsBallot (put_in_move m) (put_in_run run) (puts_in core first m o of) r.puts }
+
+pub runs_well : {core : CoreState} {turn : Turn} (run : LossyRuns core turn) → HearsAtFirst run → IsOrderly core → AreOfTheBallot core → RunsWell run
+runs_well {core = core} rests first o of = record { orderly = o; names = where_it_serves core of; puts = tt }
+runs_well {core = core} (goes_on {first = first} m run) calm o of =
+    let r = calm_run run calm (orderly_behind core first m o) (lossy_names_keep_their_ballot.hears core first m o of) in
+    record {
+      orderly = r.orderly;
+      names = r.names;
+      puts = each_append IsInItsBallot (put_in_move m) (put_in_run run) (puts_in core first m o (where_it_serves core of)) r.puts;
+    }

@@ -1,0 +1,86 @@
+-- What moves do to a node's replica: one step of it at most.
+use Rattle.std.proofs.Common.{◌≡◌, Bool, true, false, not, ◌&&◌, if◌then◌else◌, List, [], ◌∷◌, Option, Some, None, refl, ap, ◌∙◌}
+use Rattle.std.specs.List.{fold}
+use Rattle.packet_world.specs.packet.Spelling.{spelling}
+use Rattle.node_moves.specs.ballot.Effect.{Effect}
+use Rattle.node_moves.specs.ballot.Effect.TheVariants.{To, Out}
+use Rattle.node_moves.specs.ballot.Replica.{CountedReplica, is_active}
+use Rattle.node_moves.specs.ballot.Sending.{Outcome}
+use Rattle.packet_world.specs.broker_base.State.{State}
+use Rattle.packet_world.specs.broker_base.Command.{Command}
+use Rattle.packet_world.specs.broker_base.Output.{Output}
+use Rattle.packet_world.specs.broker_base.Output.TheVariants as outputs
+use Rattle.packet_world.specs.broker_base.Connection.{ConnectionName}
+use Rattle.node_moves.specs.world_base.declared.Port.{Port}
+use Rattle.node_moves.specs.world_base.declared.Connection.{Connection}
+use Rattle.node_moves.specs.world_base.Connections.{closed, put_out}
+use Rattle.node_moves.specs.world_base.Core.{CoreState, serves}
+use Rattle.node_moves.specs.world_base.Handing.{hands_over, left_by, listed_at}
+use Rattle.node_moves.specs.world_base.Reading.{changes}
+use Rattle.node_moves.specs.world_base.Step.{opens, settled}
+use Rattle.node_moves.specs.world_base.Turns.{changes_named, moved, served}
+use Rattle.node_group.specs.Group.{replica_of}
+
+-- ---- moves that leave it as it is
+
+pub changes_keep : (port : Port) (f : Connection → Connection) (core : CoreState) → (changes port f core).replica ≡ core.replica
+unfolding changes
+changes_keep port f core = refl
+
+pub opens_keeps : (port : Port) (core : CoreState) → (opens port core).replica ≡ core.replica
+unfolding opens
+opens_keeps port core = by _ _ _
+  where
+    by : (b : Bool) (name : ConnectionName) (cs : List Connection)
+        → (let k : CoreState = if b then record core { last_name = name; connections = cs } else core in k).replica ≡ core.replica
+    by true name cs = refl
+    by false name cs = refl
+
+pub settles_keeps : (core : CoreState) → (settled core).replica ≡ core.replica
+unfolding settled
+settles_keeps core = refl
+
+pub hands_keeps : (port : Port) (core : CoreState) → (hands_over port core).replica ≡ core.replica
+unfolding hands_over
+hands_keeps port core = by (listed_at port core)
+  where
+    by : (o : Option Connection) → (left_by port core o).replica ≡ core.replica
+    by None = refl
+    by (Some c) = refl
+
+-- ---- what its own step does to it
+
+named_keeps : (name : ConnectionName) (f : Connection → Connection) (core : CoreState) → (changes_named name f core).replica ≡ core.replica
+unfolding changes_named
+named_keeps name f core = refl
+
+served_keeps : (core : CoreState) (e : Effect Command Output) → (served core e).replica ≡ core.replica
+served_keeps core (Out place (outputs.Send name packet)) = named_keeps name (put_out (spelling packet)) core
+served_keeps core (Out place (outputs.Close name)) = named_keeps name closed core
+served_keeps core (To receiver message) = refl
+
+folded_keeps : (core : CoreState) (effects : List (Effect Command Output)) → (fold served core effects).replica ≡ core.replica
+folded_keeps core [] = refl
+folded_keeps core (e ∷ effects) = folded_keeps (served core e) effects ∙ served_keeps core e
+
+pub moved_replica : (outcome : Outcome State Command Output) (core : CoreState) → replica_of (moved outcome core).core ≡ outcome.state
+moved_replica outcome core =
+    ap (λ (r : CountedReplica State Command). r.state)
+    (folded_keeps (let k : CoreState = record core { replica = record core.replica { state = outcome.state } } in k) outcome.effects)
+
+-- ---- a node that serves
+
+left_true : (a b : Bool) → (a && b) ≡ true → a ≡ true
+left_true true b e = refl
+left_true false b e = absurd cc
+
+not_stopped : (a b : Bool) → (a && not b) ≡ true → b ≡ false
+not_stopped true false e = refl
+not_stopped true true e = absurd cc
+not_stopped false b e = absurd cc
+
+pub room_serves : (core : CoreState) (b : Bool) → (serves core && b) ≡ true → serves core ≡ true
+room_serves core b e = left_true (serves core) b e
+
+pub serving_runs : (core : CoreState) → serves core ≡ true → (replica_of core).stopped ≡ false
+serving_runs core e = not_stopped (is_active (replica_of core).role) (replica_of core).stopped e

@@ -1,0 +1,104 @@
+-- What a node does by a run of moves are events among replicas, one after another.
+use Rattle.std.proofs.Common.{◌≡◌, ℕ, List, [], ◌∷◌, ◌++◌, Some, slice_get, refl, sym, ap, ◌∙◌, subst, append_assoc}
+use Rattle.node_moves.specs.ballot.Config.{Config}
+use Rattle.node_moves.specs.ballot.Effect.{Effect}
+use Rattle.node_moves.specs.ballot.Losses.{Thinned}
+use Rattle.node_moves.specs.ballot.Message.{Message}
+use Rattle.node_moves.specs.ballot.Protocol.{Input}
+use Rattle.node_moves.specs.ballot.Protocol.Input.{Receives, Proposes, Ticks}
+use Rattle.packet_world.specs.broker_base.State.{State}
+use Rattle.packet_world.specs.broker_base.Command.{Command}
+use Rattle.packet_world.specs.broker_base.Output.{Output}
+use Rattle.packet_world.specs.snapshots.Past.{Moment, Past}
+use Rattle.packet_world.specs.snapshots.Proposals.{proposals_of, taken_of}
+use Rattle.packet_world.specs.snapshots.World.{messages, outputs}
+use Rattle.node_moves.specs.world_base.Core.{CoreState, Turn, rules}
+use Rattle.node_moves.specs.LossyMoves.{given_in, inputs_in}
+use Rattle.node_moves.specs.LossyRuns.{AllFreeze, LossyRuns, all_inputs}
+use Rattle.node_moves.specs.LossyRuns.LossyRuns.{rests, goes_on}
+use Rattle.node_moves.specs.Moves.{and_then}
+use Rattle.node_group.specs.Group.{Group, behind_turn, moment_of, with_record}
+use Rattle.node_group.specs.Goes.{InputWasSent, keeping}
+use Rattle.node_group.specs.Losing.{WereSent, all_given, put_in_move, put_in_run, recorded_by, recorded_in}
+use Rattle.node_group.proofs.LossesHappen.{losses_happen}
+use Rattle.node_group.proofs.MovesHappen.{Further, quietly}
+use Rattle.node_group.proofs.Thinning.{Given, KeptOfBoth, kept_of_both}
+use Rattle.node_group.specs.Pasts.{packets_in}
+use Rattle.node_group.proofs.Packets.{packets_join}
+use Rattle.node_group.proofs.Placed.{get_of_set, set_twice}
+use Rattle.packet_world.proofs.of_lists.Beginnings.{prefix_then}
+use Rattle.packet_world.proofs.of_lists.Members.{in_left}
+use Rattle.packet_world.proofs.of_snapshots.PastsAgree.{has_agreed}
+use Rattle.packet_world.proofs.of_snapshots.Effects.{messages-append, outputs-append}
+
+-- ---- what was sent stays sent
+
+input_still : (g : Group) (archive : List Command) (n : ℕ) (turn : Turn) (given : List (Effect Command Output)) (input : Input Command) → InputWasSent g n input
+    → InputWasSent (behind_turn (with_record g archive) n turn given) n input
+input_still g archive n turn given (Receives message) i = in_left (messages turn.messages) i
+input_still g archive n turn given (Proposes command) i = tt
+input_still g archive n turn given Ticks i = tt
+
+pub were_still : (g : Group) (archive : List Command) (n : ℕ) (turn : Turn) (given : Given) (inputs : List (Input Command)) → WereSent g n inputs
+    → WereSent (behind_turn (with_record g archive) n turn given) n inputs
+were_still g archive n turn given [] sent = tt
+were_still g archive n turn given (input ∷ inputs) sent = (input_still g archive n turn given input sent.0, were_still g archive n turn given inputs sent.1)
+
+pub were_both : (g : Group) (n : ℕ) (inputs more : List (Input Command)) → WereSent g n (inputs ++ more) → WereSent g n inputs × WereSent g n more
+were_both g n [] more sent = (tt, sent)
+were_both g n (input ∷ inputs) more sent = let z = were_both g n inputs more sent.1 in ((sent.0, z.0), z.1)
+
+-- ---- two turns are one
+
+same_group : (g : Group) {nodes later_nodes : List CoreState} {sent later_sent : List (ℕ × Message Command)} {left later_left : List (ℕ × Output)}
+    → nodes ≡ later_nodes → sent ≡ later_sent → left ≡ later_left
+    → (let a : Group = record g { nodes = nodes; sent = sent; left = left } in a) ≡ (let b : Group = record g { nodes = later_nodes; sent = later_sent; left = later_left } in b)
+same_group g a b c = rw (a, b, c) refl
+
+pub two_turns : (g : Group) (n : ℕ) (first next : Turn) (given more : List (Effect Command Output))
+    → behind_turn (behind_turn g n first given) n next more ≡ behind_turn g n (and_then first next) (given ++ more)
+two_turns g n first next given more =
+    same_group g (set_twice g.nodes n first.core next.core)
+    (append_assoc g.sent (messages first.messages) (messages next.messages) ∙ ap (λ l. g.sent ++ l) (sym (messages-append first.messages next.messages)))
+    (append_assoc g.left (outputs given) (outputs more) ∙ ap (λ l. g.left ++ l) (sym (outputs-append given more)))
+
+-- ---- runs
+
+abbrev pub both : {config : Config} {a b c : Moment State Command Output} {earlier : List (Moment State Command Output)} (came : Past rules config (a ∷ earlier)) (put more : List (ℕ × Command))
+    → (first : Further came b put) → Further first.past c more → Further came c (put ++ more)
+both {config = config} {b = b} came put more first next =
+    record {
+      before = next.before;
+      past = next.past;
+      proposed = next.proposed ∙ ap (λ l. l ++ more) first.proposed ∙ append_assoc (proposals_of came) put more;
+      taken = λ x.
+          next.taken x ∙ ap (λ l. l ++ packets_in x more) (first.taken x) ∙ append_assoc (packets_in x (taken_of came)) (packets_in x put) (packets_in x more)
+          ∙ ap (λ l. packets_in x (taken_of came) ++ l) (sym (packets_join x put more));
+      kept = λ z i. next.kept z (first.kept z i);
+      grows = λ xs ys before behind.
+          let mid = has_agreed rules config b first.before first.past in
+          prefix_then (first.grows xs mid.0 before mid.1) (next.grows mid.0 ys mid.1 behind);
+    }
+
+-- of what a node hands out in the first turn these messages are kept, and of the next those
+pub kept_turns : (g : Group) (n : ℕ) (first next : Turn) (given more kept : Given) (k : KeptOfBoth kept first.messages next.messages)
+    → behind_turn (behind_turn g n (keeping k.front first) given) n (keeping k.rest next) more ≡ behind_turn g n (keeping kept (and_then first next)) (given ++ more)
+kept_turns g n first next given more kept k =
+    two_turns g n (keeping k.front first) (keeping k.rest next) given more
+    ∙ ap (λ (l : Given). behind_turn g n (keeping l (and_then first next)) (given ++ more)) (sym k.is)
+
+pub runs_happen : (g : Group) (n : ℕ) (core : CoreState) (turn : Turn) (run : LossyRuns core turn) (kept : Given) → slice_get g.nodes n ≡ Some core → WereSent g n (all_inputs run)
+    → AllFreeze run → Thinned kept turn.messages → (config : Config) (earlier : List (Moment State Command Output)) (came : Past rules config (moment_of g ∷ earlier))
+    → Further came (moment_of (behind_turn (with_record g (recorded_in g.archive run)) n (keeping kept turn) (all_given run))) (put_in_run run)
+runs_happen g n core turn rests kept at sent frozen t config earlier came = (quietly g n core core kept at refl t config earlier came).further
+runs_happen g n core turn (goes_on {first = first} {next = next} m run) kept at sent frozen t config earlier came =
+    let k = kept_of_both first.messages next.messages kept t in
+    let s = were_both g n (inputs_in m) (all_inputs run) sent in
+    let step = (losses_happen g n core first m k.front at s.0 frozen.0 k.first config earlier came).further in
+    let one : Turn = keeping k.front first in
+    let behind : Group = behind_turn (with_record g (recorded_by g.archive m)) n one (given_in m) in
+    let rest = runs_happen behind n first.core next run k.rest (get_of_set g.nodes n core first.core at)
+    (were_still g (recorded_by g.archive m) n one (given_in m) (all_inputs run) s.1) frozen.1 k.next config step.before step.past in
+    both came (put_in_move m) (put_in_run run) step
+    (subst (λ (h : Group). Further step.past (moment_of h) (put_in_run run))
+    (kept_turns (with_record g (recorded_in (recorded_by g.archive m) run)) n first next (given_in m) (all_given run) kept k) rest)

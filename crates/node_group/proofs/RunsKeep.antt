@@ -1,0 +1,200 @@
+-- What a node does in a run of moves keeps the state of each connection of the group.
+use Rattle.std.proofs.Common.{◌≡◌, ℕ, false, List, [], ◌∷◌, ◌++◌, Some, slice_get, refl, sym, ap, ◌∙◌, subst, append_assoc}
+use Rattle.std.proofs.lemmas.List.{append-nil}
+use Rattle.packet_world.specs.packet.declared.packet.Packet.{Packet}
+use Rattle.node_moves.specs.ballot.Config.{Config}
+use Rattle.node_moves.specs.ballot.Losses.{Thinned}
+use Rattle.node_moves.specs.ballot.Replica.{is_active}
+use Rattle.packet_world.specs.broker_base.Command.{Command}
+use Rattle.packet_world.specs.broker_base.Connection.{ConnectionName}
+use Rattle.packet_world.specs.broker_base.Output.{Output}
+use Rattle.packet_world.specs.broker_base.State.{State}
+use Rattle.packet_world.specs.lists.Lists.{Each, IsPrefixOf}
+use Rattle.packet_world.proofs.of_lists.OfEach.{each_left}
+use Rattle.packet_world.specs.snapshots.Past.{Moment, Past, IsAgreed}
+use Rattle.packet_world.specs.agreement.Proposals.{commands_of as commands_in}
+use Rattle.packet_world.specs.snapshots.Proposals.{proposals_of, taken_of}
+use Rattle.packet_world.proofs.of_snapshots.PastsAgree.{has_agreed}
+use Rattle.node_moves.specs.world_base.Connections.{is_over}
+use Rattle.node_moves.specs.world_base.Core.{CoreState, Turn, rules}
+use Rattle.node_moves.specs.world_base.Turns.{quiet}
+use Rattle.node_moves.specs.Ends.{IsOrderly}
+use Rattle.node_moves.specs.Keeping.{AreOfTheBallot}
+use Rattle.node_moves.specs.LossyMoves.{LossyMoves, came_on, given_in, hears_in, inputs_in}
+use Rattle.node_moves.specs.LossyRuns.{AllFreeze, Freezes, HearsAtFirst, IsCalm, LossyRuns, all_inputs, bytes_on}
+use Rattle.node_moves.specs.LossyRuns.LossyRuns.{rests, goes_on}
+use Rattle.node_moves.specs.Moves.{and_then}
+use Rattle.node_moves.proofs.Kept.{left_true}
+use Rattle.node_moves.proofs.LossyReads.{losses_read_in_order}
+use Rattle.node_moves.proofs.OpenBehind.{open_if}
+use Rattle.node_group.specs.Ballots.{IsInItsBallot}
+use Rattle.node_group.specs.Group.{Group, behind_turn, moment_of, replica_of, with_record}
+use Rattle.node_group.specs.Goes.{keeping}
+use Rattle.node_group.specs.Losing.{WereSent, all_given, put_in_move, put_in_run, recorded_by, recorded_in}
+use Rattle.node_group.specs.Order.{packets_of}
+use Rattle.node_group.specs.Pasts.{packets_in}
+use Rattle.node_group.proofs.LossesHappen.{losses_happen}
+use Rattle.node_group.proofs.MovesHappen.{Further, unchanged}
+use Rattle.node_group.proofs.Ordered.{in_agreed}
+use Rattle.node_group.proofs.Packets.{packets_join}
+use Rattle.node_group.proofs.Placed.{get_of_set, set_same}
+use Rattle.node_group.proofs.RunsHappen.{both, kept_turns, were_both, were_still}
+use Rattle.node_group.proofs.Thinning.{Given, KeptOfBoth, kept_of_both, nothing_kept}
+use Rattle.node_group.proofs.CalmMoves.{calm_role}
+use Rattle.node_group.proofs.Handed.{handed_losing, handed_on}
+use Rattle.node_group.proofs.MovesKeep.{Known, LeadsStill, move_keeps}
+use Rattle.node_group.proofs.States.{Stands}
+
+-- the state of a group's connection, by each list that is agreed there
+abbrev pub Good : Config → ConnectionName → List Packet → List ℕ → Group → List (Moment State Command Output) → List (ℕ × Command) → List ℕ → Type 0
+Good config x written later g moments put sent = (agreed : List Command) → IsAgreed config moments agreed → Stands x written later g moments put sent agreed
+
+-- what was put in a past
+pub record IsPut {config : Config} {past : List (Moment State Command Output)} (came : Past rules config past) (put : List (ℕ × Command)) : Type 0 where
+  pub proposed : proposals_of came ≡ put
+  pub taken : (x : ConnectionName) → packets_in x (taken_of came) ≡ packets_in x put
+
+-- A past continues to a group, while these commands were put, and of each connection these bytes
+-- came up and these went down.
+pub record Steps {config : Config} (g : Group) {earlier : List (Moment State Command Output)} (came : Past rules config (moment_of g ∷ earlier)) (h : Group)
+    (more : List (ℕ × Command)) (up down : ConnectionName → List ℕ) : Type 0 where
+  pub further : Further came (moment_of h) more
+  pub keeps_each : (x : ConnectionName) (written : List Packet) (later : List ℕ) (put : List (ℕ × Command)) (sent : List ℕ) → IsPut came put → Each IsInItsBallot (put ++ more)
+      → Good config x written (up x ++ later) g (moment_of g ∷ earlier) put sent
+      → Good config x written later h (moment_of h ∷ further.before) (put ++ more) (sent ++ down x)
+
+pub put_further : {config : Config} {a b : Moment State Command Output} {earlier : List (Moment State Command Output)} {came : Past rules config (a ∷ earlier)} {more : List (ℕ × Command)}
+    (put : List (ℕ × Command)) (f : Further came b more) → IsPut came put → IsPut f.past (put ++ more)
+put_further {more = more} put f is =
+    record {
+      proposed = f.proposed ∙ ap (λ l. l ++ more) is.proposed;
+      taken = λ x. f.taken x ∙ ap (λ l. l ++ packets_in x more) (is.taken x) ∙ sym (packets_join x put more);
+    }
+
+-- ---- no move
+
+nothing_steps : {config : Config} (g : Group) {earlier : List (Moment State Command Output)} (came : Past rules config (moment_of g ∷ earlier))
+    → Steps g came g [] (λ x. []) (λ x. [])
+nothing_steps {config = config} g {earlier = earlier} came =
+    record {
+      further = unchanged came;
+      keeps_each = λ x written later put sent is each good.
+          subst (λ (l : List (ℕ × Command)). Good config x written later g (moment_of g ∷ earlier) l (sent ++ [])) (sym (append-nil put))
+          (subst (λ (l : List ℕ). Good config x written later g (moment_of g ∷ earlier) put l) (sym (append-nil sent)) good);
+    }
+
+pub same_group : (g : Group) (n : ℕ) (core : CoreState) → slice_get g.nodes n ≡ Some core → g ≡ behind_turn g n (quiet core) []
+same_group g n core at = sym (rw (set_same g.nodes n core at, append-nil g.sent, append-nil g.left) refl)
+
+-- ---- one move
+
+-- the agreed list has a prefix of what was put
+said_first : {config : Config} {a : Moment State Command Output} {earlier : List (Moment State Command Output)} {came : Past rules config (a ∷ earlier)} (h : Group) {more : List (ℕ × Command)}
+    (f : Further came (moment_of h) more) (x : ConnectionName) (put : List (ℕ × Command)) → IsPut came put → Each IsInItsBallot (put ++ more) → (ys : List Command)
+    → IsAgreed config (moment_of h ∷ f.before) ys → IsPrefixOf (packets_of x ys) (packets_of x (commands_in (put ++ more)))
+said_first {config = config} h {more = more} f x put is each ys behind =
+    let now = put_further put f is in
+    in_agreed config h [] (put ++ more) (record { earlier = f.before; past = f.past; proposed = now.proposed; taken = now.taken; seen = tt }) each x ys behind
+
+move_steps : {config : Config} (g : Group) (n : ℕ) (core : CoreState) (turn : Turn) (m : LossyMoves core turn) (kept : Given) → slice_get g.nodes n ≡ Some core → WereSent g n (inputs_in m)
+    → Freezes m → Thinned kept turn.messages → IsOrderly core → LeadsStill core turn → {earlier : List (Moment State Command Output)} (came : Past rules config (moment_of g ∷ earlier))
+    → Steps g came (behind_turn (with_record g (recorded_by g.archive m)) n (keeping kept turn) (given_in m)) (put_in_move m) (λ x. came_on x m) (λ x. handed_on x m)
+move_steps {config = config} g n core turn m kept at sent_so frozen t o leads {earlier = earlier} came =
+    let known : Known g came n m kept = record { at = at; orderly = o; leads = leads; once = losses_happen g n core turn m kept at sent_so frozen t config earlier came } in
+    let xs = has_agreed rules config (moment_of g) earlier came in
+    record {
+      further = known.once.further;
+      keeps_each = λ x written later put sent is each good ys behind.
+          move_keeps known x written later put sent xs.0 ys xs.1 behind
+          (said_first (behind_turn (with_record g (recorded_by g.archive m)) n (keeping kept turn) (given_in m)) known.once.further x put is each ys behind) (good xs.0 xs.1);
+    }
+
+-- ---- one after another
+
+both_steps : {config : Config} {g h k : Group} {earlier : List (Moment State Command Output)} (came : Past rules config (moment_of g ∷ earlier)) (put more : List (ℕ × Command))
+    (up next_up down next_down : ConnectionName → List ℕ) → (first : Steps g came h put up down) → Steps h first.further.past k more next_up next_down
+    → Steps g came k (put ++ more) (λ x. up x ++ next_up x) (λ x. down x ++ next_down x)
+both_steps {config = config} {g = g} {h = h} {k = k} {earlier = earlier} came put more up next_up down next_down first next =
+    record {
+      further = both came put more first.further next.further;
+      keeps_each = λ x written later said sent is each good.
+          let all = subst (λ (l : List (ℕ × Command)). Each IsInItsBallot l) (sym (append_assoc said put more)) each in
+          subst (λ (l : List (ℕ × Command)). Good config x written later k (moment_of k ∷ next.further.before) l (sent ++ (down x ++ next_down x))) (append_assoc said put more)
+          (subst (λ (l : List ℕ). Good config x written later k (moment_of k ∷ next.further.before) ((said ++ put) ++ more) l) (append_assoc sent (down x) (next_down x))
+          (next.keeps_each x written later (said ++ put) (sent ++ down x) (put_further said first.further is) all
+          (first.keeps_each x written (next_up x ++ later) said sent is (each_left IsInItsBallot (said ++ put) more all)
+          (subst (λ (l : List ℕ). Good config x written l g (moment_of g ∷ earlier) said sent) (append_assoc (up x) (next_up x) later) good))));
+    }
+
+-- the same with what equals it
+pub steps_as : {config : Config} {g h : Group} {earlier : List (Moment State Command Output)} (came : Past rules config (moment_of g ∷ earlier)) (put more : List (ℕ × Command))
+    (up next_up down next_down : ConnectionName → List ℕ) → put ≡ more → ((x : ConnectionName) → up x ≡ next_up x) → ((x : ConnectionName) → down x ≡ next_down x)
+    → Steps g came h put up down → Steps g came h more next_up next_down
+steps_as {config = config} {g = g} {h = h} {earlier = earlier} came put more up next_up down next_down same ups downs s =
+    subst (λ (l : List (ℕ × Command)). Steps g came h l next_up next_down) same
+    (record {
+      further = s.further;
+      keeps_each = λ x written later said sent is each good.
+          subst (λ (l : List ℕ). Good config x written later h (moment_of h ∷ s.further.before) (said ++ put) (sent ++ l)) (downs x)
+          (s.keeps_each x written later said sent is each
+          (subst (λ (l : List ℕ). Good config x written (l ++ later) g (moment_of g ∷ earlier) said sent) (sym (ups x)) good));
+    })
+
+-- ---- runs
+
+-- a calm move leaves the replica in its role
+calm_leads : (core : CoreState) (turn : Turn) (m : LossyMoves core turn) → hears_in m ≡ false → LeadsStill core turn
+calm_leads core turn m calm x c there lives e = ap is_active (sym (calm_role core turn m calm)) ∙ e
+
+-- at the beginning of a step who has open connections leads
+first_leads : (core : CoreState) (turn : Turn) → AreOfTheBallot core → LeadsStill core turn
+first_leads core turn of x c there lives e = left_true (is_active (replica_of core).role) _ (of.each x c there (open_if (is_over c.stage) lives)).0
+
+-- one move, and a run after it
+move_and_run : {config : Config} (g : Group) (n : ℕ) (core : CoreState) (first next : Turn) (m : LossyMoves core first) (run : LossyRuns first.core next) (kept : Given)
+    (k : KeptOfBoth kept first.messages next.messages) {earlier : List (Moment State Command Output)} (came : Past rules config (moment_of g ∷ earlier))
+    → (step : Steps g came (behind_turn (with_record g (recorded_by g.archive m)) n (keeping k.front first) (given_in m)) (put_in_move m) (λ x. came_on x m) (λ x. handed_on x m))
+    → Steps (behind_turn (with_record g (recorded_by g.archive m)) n (keeping k.front first) (given_in m)) step.further.past
+    (behind_turn (with_record (behind_turn (with_record g (recorded_by g.archive m)) n (keeping k.front first) (given_in m)) (recorded_in (recorded_by g.archive m) run)) n
+    (keeping k.rest next) (all_given run)) (put_in_run run) (λ x. bytes_on x run) (λ x. handed_losing x run)
+    → Steps g came (behind_turn (with_record g (recorded_in (recorded_by g.archive m) run)) n (keeping kept (and_then first next)) (given_in m ++ all_given run))
+    (put_in_move m ++ put_in_run run) (λ x. came_on x m ++ bytes_on x run) (λ x. handed_on x m ++ handed_losing x run)
+move_and_run g n core first next m run kept k came step rest =
+    both_steps came (put_in_move m) (put_in_run run) (λ x. came_on x m) (λ x. bytes_on x run) (λ x. handed_on x m) (λ x. handed_losing x run) step
+    (subst (λ (h : Group). Steps (behind_turn (with_record g (recorded_by g.archive m)) n (keeping k.front first) (given_in m)) step.further.past h (put_in_run run)
+    (λ x. bytes_on x run) (λ x. handed_losing x run))
+    (kept_turns (with_record g (recorded_in (recorded_by g.archive m) run)) n first next (given_in m) (all_given run) kept k) rest)
+
+no_move : {config : Config} (g : Group) (n : ℕ) (core : CoreState) (kept : Given) → slice_get g.nodes n ≡ Some core → Thinned kept []
+    → {earlier : List (Moment State Command Output)} (came : Past rules config (moment_of g ∷ earlier))
+    → Steps g came (behind_turn g n (keeping kept (quiet core)) []) [] (λ x. []) (λ x. [])
+no_move g n core kept at t came =
+    subst (λ (h : Group). Steps g came h [] (λ x. []) (λ x. []))
+    (same_group g n core at ∙ ap (λ (l : Given). behind_turn g n (keeping l (quiet core)) []) (sym (nothing_kept kept t))) (nothing_steps g came)
+
+calm_steps : {config : Config} (g : Group) (n : ℕ) (core : CoreState) (turn : Turn) (run : LossyRuns core turn) (kept : Given) → IsCalm run → IsOrderly core → slice_get g.nodes n ≡ Some core
+    → WereSent g n (all_inputs run) → AllFreeze run → Thinned kept turn.messages → {earlier : List (Moment State Command Output)} (came : Past rules config (moment_of g ∷ earlier))
+    → Steps g came (behind_turn (with_record g (recorded_in g.archive run)) n (keeping kept turn) (all_given run)) (put_in_run run) (λ x. bytes_on x run) (λ x. handed_losing x run)
+calm_steps g n core turn rests kept calm o at sent frozen t came = no_move g n core kept at t came
+calm_steps g n core turn (goes_on {first = first} {next = next} m run) kept calm o at sent frozen t came =
+    let k = kept_of_both first.messages next.messages kept t in
+    let s = were_both g n (inputs_in m) (all_inputs run) sent in
+    let one : Turn = keeping k.front first in
+    let step = move_steps g n core first m k.front at s.0 frozen.0 k.first o (calm_leads core first m calm.0) came in
+    move_and_run g n core first next m run kept k came step
+    (calm_steps (behind_turn (with_record g (recorded_by g.archive m)) n one (given_in m)) n first.core next run k.rest calm.1 (losses_read_in_order core first m o).0 (get_of_set g.nodes n core first.core at)
+    (were_still g (recorded_by g.archive m) n one (given_in m) (all_inputs run) s.1) frozen.1 k.next step.further.past)
+
+pub run_steps : {config : Config} (g : Group) (n : ℕ) (core : CoreState) (turn : Turn) (run : LossyRuns core turn) (kept : Given) → HearsAtFirst run → IsOrderly core → AreOfTheBallot core
+    → slice_get g.nodes n ≡ Some core → WereSent g n (all_inputs run) → AllFreeze run → Thinned kept turn.messages
+    → {earlier : List (Moment State Command Output)} (came : Past rules config (moment_of g ∷ earlier))
+    → Steps g came (behind_turn (with_record g (recorded_in g.archive run)) n (keeping kept turn) (all_given run)) (put_in_run run) (λ x. bytes_on x run) (λ x. handed_losing x run)
+run_steps g n core turn rests kept first_so o of at sent frozen t came = no_move g n core kept at t came
+run_steps g n core turn (goes_on {first = first} {next = next} m run) kept calm o of at sent frozen t came =
+    let k = kept_of_both first.messages next.messages kept t in
+    let s = were_both g n (inputs_in m) (all_inputs run) sent in
+    let one : Turn = keeping k.front first in
+    let step = move_steps g n core first m k.front at s.0 frozen.0 k.first o (first_leads core first of) came in
+    move_and_run g n core first next m run kept k came step
+    (calm_steps (behind_turn (with_record g (recorded_by g.archive m)) n one (given_in m)) n first.core next run k.rest calm (losses_read_in_order core first m o).0 (get_of_set g.nodes n core first.core at)
+    (were_still g (recorded_by g.archive m) n one (given_in m) (all_inputs run) s.1) frozen.1 k.next step.further.past)

@@ -1,0 +1,17 @@
+-- In which ballot the packets of a connection are proposed to a replica.
+use Rattle.std.specs.Prelude.{◌≡◌, ℕ, true}
+use Rattle.packet_world.specs.lists.Lists.{Each}
+use Rattle.node_moves.specs.ballot.Config.{Config}
+use Rattle.packet_world.specs.broker_base.Command.{Command}
+use Rattle.packet_world.specs.broker_base.Connection.{ConnectionName}
+use Rattle.packet_world.specs.exactly_once.Story.{is_packet_of}
+use Rattle.node_group.specs.Group.{Group}
+use Rattle.node_group.specs.Goes.{Went, all_put}
+
+-- a packet of a connection, its CONNECT too, with the ballot that the connection's name has
+abbrev pub IsInItsBallot : ℕ × Command → Type 0
+IsInItsBallot put = (x : ConnectionName) → is_packet_of put.1 x ≡ true → x.ballot ≡ put.0
+
+-- the same holds for all that nodes of a group propose to their replicas
+abbrev pub PutsInTheBallotOfTheName : Type 0
+PutsInTheBallotOfTheName = (nodes : ℕ) (config : Config) (g : Group) (went : Went nodes config g) → Each IsInItsBallot (all_put went)

@@ -1,0 +1,39 @@
+-- What the nodes of a group do with a connection's bytes, by the list of commands on which they
+-- agree.
+use Rattle.std.specs.Prelude.{ℕ, List, ◌∷◌, ◌++◌}
+use Rattle.packet_world.specs.packet.declared.packet.Packet.{Packet}
+use Rattle.node_moves.specs.ballot.Config.{Config}
+use Rattle.packet_world.specs.broker_base.Command.{Command}
+use Rattle.packet_world.specs.broker_base.Commands.{past_of, usual_limits}
+use Rattle.packet_world.specs.broker_base.Connection.{ConnectionName}
+use Rattle.packet_world.specs.lists.Lists.{IsPrefixOf}
+use Rattle.node_moves.specs.cutter.Pipe.{Joins}
+use Rattle.packet_world.specs.exactly_once.Sends.{put_to}
+use Rattle.packet_world.specs.snapshots.Past.{IsAgreed}
+use Rattle.node_moves.specs.Ends.{commands_of}
+use Rattle.node_moves.specs.Puts.{spelled}
+use Rattle.node_group.specs.Group.{Group, moment_of}
+use Rattle.node_group.specs.Goes.{Went, all_put, groups_of}
+use Rattle.node_group.specs.Order.{packets_of}
+use Rattle.node_group.specs.Pasts.{HasPast}
+use Rattle.node_group.specs.Streams.{came_up, went_down}
+
+-- the answers to a list of commands that name a connection, spelled
+abbrev pub answers_to : ConnectionName → List Command → List ℕ
+answers_to x agreed = spelled (put_to usual_limits (past_of usual_limits agreed) x)
+
+-- A connection's commands in the list are a prefix of the packets that were written on it, in
+-- order; and what went down on it is a prefix of the spellings of the answers that name it.
+pub record IsCarried (x : ConnectionName) (written : List Packet) (handed : List ℕ) (agreed : List Command) : Type 0 where
+  pub up : IsPrefixOf (packets_of x agreed) (commands_of x 0 written)
+  pub down : IsPrefixOf handed (answers_to x agreed)
+
+-- The same holds for each connection on which packets are written, when a prefix of their bytes
+-- arrived on it, and for each list on which the nodes agree.
+pub record Carries {nodes : ℕ} {config : Config} {g : Group} (went : Went nodes config g) : Type 0 where
+  pub of : HasPast config g (groups_of went) (all_put went)
+  pub each : (agreed : List Command) → IsAgreed config (moment_of g ∷ of.earlier) agreed → (x : ConnectionName)
+      → (written : List Packet) (later : List ℕ) → Joins written (came_up x went ++ later) → IsCarried x written (went_down x went) agreed
+
+abbrev pub GroupsCarryInOrder : Type 0
+GroupsCarryInOrder = (nodes : ℕ) (config : Config) (g : Group) (went : Went nodes config g) → Carries went

@@ -1,0 +1,70 @@
+-- A group: nodes with the connections of their clients, one master, and the messages between them.
+use Rattle.std.specs.Prelude.{ℕ, zero, suc, ◌+◌, List, [], ◌∷◌, ◌++◌, map, slice_set}
+use Rattle.node_moves.specs.ballot.Config.{Config}
+use Rattle.node_moves.specs.ballot.Message.{Message}
+use Rattle.node_moves.specs.ballot.Effect.{Effect}
+use Rattle.node_moves.specs.ballot.Replica.{ReplicaState}
+use Rattle.node_moves.specs.ballot.Sending.{master}
+use Rattle.packet_world.specs.broker_base.State.{State}
+use Rattle.packet_world.specs.broker_base.Command.{Command}
+use Rattle.packet_world.specs.broker_base.Output.{Output}
+use Rattle.packet_world.specs.agreement.MasterState.{MasterState, opening_master}
+use Rattle.packet_world.specs.snapshots.Masters.{MasterOutcome}
+use Rattle.packet_world.specs.snapshots.Past.{Moment}
+use Rattle.packet_world.specs.snapshots.World.{messages, outputs}
+use Rattle.node_moves.specs.world_base.Core.{CoreState, Turn, opening_core}
+
+-- Node n + 1 is at place n. All messages that were ever sent stay, each with its receiver: any may
+-- come late, again or never. So do the outputs that replicas gave, with their places in the log.
+-- The record has the places below the bases of all logs.
+pub record Group : Type 0 where
+  pub master : MasterState
+  pub nodes : List CoreState
+  pub sent : List (ℕ × Message Command)
+  pub left : List (ℕ × Output)
+  pub archive : List Command
+
+-- ---- as it opens
+
+abbrev pub opening_cores : ℕ → Config → List CoreState
+opening_cores zero config = []
+opening_cores (suc n) config = opening_cores n config ++ opening_core (n + 1) config ∷ []
+
+abbrev pub opening_group : ℕ → Config → Group
+opening_group nodes config =
+    record { master = opening_master config; nodes = opening_cores nodes config; sent = []; left = []; archive = [] }
+
+-- ---- after what happens
+
+-- after a turn of the node at place n, in which its replica gave this
+abbrev pub behind_turn : Group → ℕ → Turn → List (Effect Command Output) → Group
+behind_turn g n turn given =
+    record g {
+      nodes = slice_set g.nodes n turn.core;
+      sent = g.sent ++ messages turn.messages;
+      left = g.left ++ outputs given;
+    }
+
+-- after a message of the master
+abbrev pub told_by_master : Group → MasterOutcome Command → Group
+told_by_master g o = record g { sent = g.sent ++ (o.receiver, record { from = master; body = o.body }) ∷ [] }
+
+-- with another state of the master
+abbrev pub with_master : Group → MasterState → Group
+with_master g m = record g { master = m }
+
+-- with another record of places
+abbrev pub with_record : Group → List Command → Group
+with_record g archive = record g { archive = archive }
+
+-- ---- its replicas, as they are seen if nodes agree
+
+abbrev pub replica_of : CoreState → ReplicaState State Command
+replica_of core = core.replica.state
+
+abbrev pub moment_of : Group → Moment State Command Output
+moment_of g =
+    record {
+      master = g.master;
+      world = record { nodes = map replica_of g.nodes; sent = g.sent; left = g.left; archive = g.archive };
+    }

@@ -1,0 +1,47 @@
+-- The same in moves in which something may be lost: a command that the replica does not take does
+-- not count as proposed.
+use Rattle.std.specs.Prelude.{ℕ, List, [], ◌∷◌, ◌++◌, map}
+use Rattle.node_moves.specs.ballot.Effect.{Effect}
+use Rattle.node_moves.specs.ballot.Protocol.{Input}
+use Rattle.packet_world.specs.broker_base.Command.{Command}
+use Rattle.packet_world.specs.broker_base.Output.{Output}
+use Rattle.node_moves.specs.world_base.Core.{CoreState, Turn}
+use Rattle.node_moves.specs.LossyMoves.{LossyMoves, given_in, proposal_of}
+use Rattle.node_moves.specs.LossyRuns.{LossyRuns}
+use Rattle.node_moves.specs.LossyMoves.LossyMoves.{exactly}
+use Rattle.node_moves.specs.LossyRuns.LossyRuns.{rests, goes_on}
+use Rattle.node_group.specs.Group.{Group, replica_of}
+use Rattle.node_group.specs.Putting.{InputWasSent}
+use Rattle.node_group.specs.Putting.{commands_put as exactly_put, recorded_by as exactly_recorded}
+
+-- each of these inputs that comes from others was sent to the node
+abbrev pub WereSent : Group → ℕ → List (Input Command) → Type 0
+WereSent g n [] = Unit {0}
+WereSent g n (input ∷ inputs) = InputWasSent g n input × WereSent g n inputs
+
+-- the record of places after a move, and after a run
+abbrev pub recorded_by : List Command → {core : CoreState} {turn : Turn} → LossyMoves core turn → List Command
+recorded_by archive (exactly m) = exactly_recorded archive m
+recorded_by archive _ = archive
+
+abbrev pub recorded_in : List Command → {core : CoreState} {turn : Turn} → LossyRuns core turn → List Command
+recorded_in archive rests = archive
+recorded_in archive (goes_on m run) = recorded_in (recorded_by archive m) run
+
+-- the effects of its replica
+abbrev pub all_given : {core : CoreState} {turn : Turn} → LossyRuns core turn → List (Effect Command Output)
+all_given rests = []
+all_given (goes_on m run) = given_in m ++ all_given run
+
+-- the commands that a node proposes to its replica in a move
+abbrev pub commands_put : {core : CoreState} {turn : Turn} → LossyMoves core turn → List Command
+commands_put (exactly m) = exactly_put m
+commands_put m = proposal_of m
+
+-- .. each with the ballot that it has joined then
+abbrev pub put_in_move : {core : CoreState} {turn : Turn} → LossyMoves core turn → List (ℕ × Command)
+put_in_move {core = core} m = map (λ command. ((replica_of core).joined, command)) (commands_put m)
+
+abbrev pub put_in_run : {core : CoreState} {turn : Turn} → LossyRuns core turn → List (ℕ × Command)
+put_in_run rests = []
+put_in_run (goes_on m run) = put_in_move m ++ put_in_run run

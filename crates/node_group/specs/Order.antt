@@ -1,0 +1,30 @@
+-- In which order the packets of a connection are in the logs of a group and in the agreed list.
+use Rattle.std.specs.Prelude.{◌≡◌, ℕ, List, ◌∷◌, filter, slice_get, Some}
+use Rattle.packet_world.specs.lists.Lists.{IsPrefixOf}
+use Rattle.node_moves.specs.ballot.Config.{Config}
+use Rattle.packet_world.specs.broker_base.Command.{Command}
+use Rattle.packet_world.specs.broker_base.Connection.{ConnectionName}
+use Rattle.packet_world.specs.exactly_once.Story.{is_packet_of}
+use Rattle.packet_world.specs.snapshots.Past.{IsAgreed}
+use Rattle.packet_world.specs.snapshots.Whole.{whole_log}
+use Rattle.packet_world.specs.agreement.Proposals.{commands_of}
+use Rattle.node_moves.specs.world_base.Core.{CoreState}
+use Rattle.node_group.specs.Group.{Group, moment_of, replica_of}
+use Rattle.node_group.specs.Goes.{Went, all_put, groups_of}
+use Rattle.node_group.specs.Pasts.{HasPast}
+
+-- the packets of a connection among commands
+abbrev pub packets_of : ConnectionName → List Command → List Command
+packets_of x commands = filter (λ (command : Command). is_packet_of command x) commands
+
+-- the whole log of each node, and the agreed list, has of each connection a prefix of the packets
+-- that were proposed for it, in order
+pub record KeepsOrder (config : Config) (g : Group) (groups : List Group) (put : List (ℕ × Command)) : Type 0 where
+  pub of : HasPast config g groups put
+  pub logs : (x : ConnectionName) (n : ℕ) (core : CoreState) → slice_get g.nodes n ≡ Some core →
+      IsPrefixOf (packets_of x (whole_log g.archive (replica_of core).log)) (packets_of x (commands_of put))
+  pub agreed : (x : ConnectionName) (xs : List Command) → IsAgreed config (moment_of g ∷ of.earlier) xs →
+      IsPrefixOf (packets_of x xs) (packets_of x (commands_of put))
+
+abbrev pub GroupsKeepTheOrder : Type 0
+GroupsKeepTheOrder = (nodes : ℕ) (config : Config) (g : Group) (went : Went nodes config g) → KeepsOrder config g (groups_of went) (all_put went)

@@ -1,0 +1,31 @@
+-- The steps of a group's replicas are a past for which agreement is proved.
+use Rattle.std.specs.Prelude.{◌≡◌, ℕ, List, ◌∷◌, filter}
+use Rattle.packet_world.specs.lists.Lists.{Each, In}
+use Rattle.node_moves.specs.ballot.Config.{Config}
+use Rattle.packet_world.specs.broker_base.State.{State}
+use Rattle.packet_world.specs.broker_base.Command.{Command}
+use Rattle.packet_world.specs.broker_base.Output.{Output}
+use Rattle.packet_world.specs.broker_base.Connection.{ConnectionName}
+use Rattle.packet_world.specs.exactly_once.Story.{is_packet_of}
+use Rattle.packet_world.specs.snapshots.Past.{Moment, Past}
+use Rattle.packet_world.specs.snapshots.Proposals.{proposals_of, taken_of}
+use Rattle.node_moves.specs.world_base.Core.{rules}
+use Rattle.node_group.specs.Group.{Group, moment_of}
+use Rattle.node_group.specs.Goes.{Went, all_put, groups_of}
+
+-- the packets of a connection among commands, each with a ballot
+abbrev pub packets_in : ConnectionName → List (ℕ × Command) → List (ℕ × Command)
+packets_in x rows = filter (λ (row : ℕ × Command). is_packet_of row.1 x) rows
+
+-- A past whose last moment is that of the group's replicas. In it these commands were proposed, the
+-- packets of all connections among them were taken, and each of these earlier groups has its
+-- moment.
+pub record HasPast (config : Config) (g : Group) (groups : List Group) (put : List (ℕ × Command)) : Type 0 where
+  pub earlier : List (Moment State Command Output)
+  pub past : Past rules config (moment_of g ∷ earlier)
+  pub proposed : proposals_of past ≡ put
+  pub taken : (x : ConnectionName) → packets_in x (taken_of past) ≡ packets_in x put
+  pub seen : Each (λ (h : Group). In (moment_of h) (moment_of g ∷ earlier)) groups
+
+abbrev pub GroupsArePasts : Type 0
+GroupsArePasts = (nodes : ℕ) (config : Config) (g : Group) (went : Went nodes config g) → HasPast config g (groups_of went) (all_put went)

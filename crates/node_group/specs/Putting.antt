@@ -1,0 +1,66 @@
+-- What a node proposes to its replica in a run of moves, the effects of the replica, and that what
+-- it receives was sent.
+use Rattle.std.specs.Prelude.{◌≡◌, Some, ℕ, ◌+◌, if◌then◌else◌, List, [], ◌∷◌, ◌++◌, map}
+use Rattle.packet_world.specs.lists.Lists.{In}
+use Rattle.node_moves.specs.ballot.Effect.{Effect}
+use Rattle.node_moves.specs.ballot.Protocol.{Input}
+use Rattle.node_moves.specs.ballot.Protocol.Input.{Receives, Proposes, Ticks}
+use Rattle.packet_world.specs.broker_base.Command.{Command}
+use Rattle.packet_world.specs.broker_base.Command.TheVariants as commands
+use Rattle.packet_world.specs.broker_base.Output.{Output}
+use Rattle.node_moves.specs.world_base.Core.{CoreState, Turn, rules, serves}
+use Rattle.packet_world.specs.snapshots.World.{recorded}
+use Rattle.node_moves.specs.Moves.{Moves, Runs}
+use Rattle.node_moves.specs.Moves.Runs.{rests, goes_on}
+use Rattle.node_moves.specs.Moves.Moves.{hears, cuts_log, reads_first, reads_later, loses_one, loses_next, expels_one}
+use Rattle.node_moves.specs.Puts.{given_in}
+use Rattle.node_group.specs.Group.{Group, replica_of}
+
+-- what a node receives from others was sent to it
+abbrev pub InputWasSent : Group → ℕ → Input Command → Type 0
+InputWasSent g n (Receives message) = In (n + 1, message) g.sent
+InputWasSent g n (Proposes command) = Unit {0}
+InputWasSent g n Ticks = Unit {0}
+
+-- and the bytes to which it cuts its log thaw to its machine
+abbrev pub WasSent : Group → ℕ → {core : CoreState} {turn : Turn} → Moves core turn → Type 0
+WasSent g n (hears input is) = InputWasSent g n input
+WasSent g n {core = core} (cuts_log can) =
+    rules.thawed (rules.frozen (replica_of core).machine) ≡ Some (replica_of core).machine
+WasSent g n _ = Unit {0}
+
+abbrev pub AllWasSent : Group → ℕ → {core : CoreState} {turn : Turn} → Runs core turn → Type 0
+AllWasSent g n rests = Unit {0}
+AllWasSent g n (goes_on m run) = WasSent g n m × AllWasSent g n run
+
+-- the record of places after a move, and after a run: a cut adds what the log that is cut has
+-- applied
+abbrev pub recorded_by : List Command → {core : CoreState} {turn : Turn} → Moves core turn → List Command
+recorded_by archive {core = core} (cuts_log can) = recorded archive (replica_of core)
+recorded_by archive _ = archive
+
+abbrev pub recorded_in : List Command → {core : CoreState} {turn : Turn} → Runs core turn → List Command
+recorded_in archive rests = archive
+recorded_in archive (goes_on m run) = recorded_in (recorded_by archive m) run
+
+-- the effects of its replica
+abbrev pub all_given : {core : CoreState} {turn : Turn} → Runs core turn → List (Effect Command Output)
+all_given rests = []
+all_given (goes_on m run) = given_in m ++ all_given run
+
+-- the commands that a node proposes to its replica in a move
+abbrev pub commands_put : {core : CoreState} {turn : Turn} → Moves core turn → List Command
+commands_put (reads_first now port c connect rest at first is room) = commands.Connect c.name connect.client connect.clean ∷ []
+commands_put (reads_later now port c packet rest at later is room) = commands.Packet c.name packet ∷ []
+commands_put {core = core} (loses_one port c at asked) = if serves core then commands.Lost c.name ∷ [] else []
+commands_put {core = core} (loses_next c at) = if serves core then commands.Lost c.name ∷ [] else []
+commands_put {core = core} (expels_one client) = if serves core then commands.Expel client ∷ [] else []
+commands_put _ = []
+
+-- .. each with the ballot that it has joined then
+abbrev pub put_in_move : {core : CoreState} {turn : Turn} → Moves core turn → List (ℕ × Command)
+put_in_move {core = core} m = map (λ command. ((replica_of core).joined, command)) (commands_put m)
+
+abbrev pub put_in_run : {core : CoreState} {turn : Turn} → Runs core turn → List (ℕ × Command)
+put_in_run rests = []
+put_in_run (goes_on m run) = put_in_move m ++ put_in_run run

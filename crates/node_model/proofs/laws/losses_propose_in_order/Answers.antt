@@ -1,5 +1,0 @@
-use Rattle.node_model.proofs.LossyRead.{losses_propose_in_order}
-use Rattle.node_model.proofs.laws.losses_propose_in_order.Goals as goal
-
-pub returns : goal.returns
-returns c = losses_propose_in_order

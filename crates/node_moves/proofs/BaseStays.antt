@@ -1,0 +1,85 @@
+-- A move in which a replica receives nothing leaves its log at the base that it has, also one in
+-- which something is lost; a cut moves it to what was applied.
+use Rattle.std.proofs.Common.{◌≡◌, Bool, true, false, if◌then◌else◌, refl, ap, ◌∙◌, subst}
+use Rattle.world_base.specs.ballot.Cutting.{can_cut}
+use Rattle.world_base.specs.ballot.Protocol.Input.{Receives, Proposes, Ticks}
+use Rattle.world_base.specs.ballot.Replica.{CountedReplica}
+use Rattle.exactly_once.specs.broker_base.State.{State}
+use Rattle.exactly_once.specs.broker_base.Command.{Command}
+use Rattle.exactly_once.specs.broker_base.Command.TheVariants as commands
+use Rattle.world_base.specs.Connections.{asked, closed, failing, left_with}
+use Rattle.world_base.specs.Core.{CoreState, Turn}
+use Rattle.world_base.specs.Reading.{changes}
+use Rattle.world_base.specs.Step.{node_step}
+use Rattle.world_base.specs.declared.item.Item.TheVariants.{Cut}
+use Rattle.node_moves.specs.LossyMoves.{LossyMoves, hears_in}
+use Rattle.node_moves.specs.LossyMoves.LossyMoves.{exactly, hears_losing, first_losing, later_losing, tells_losing, expels_losing, forgets, halts, fails, unheard, drops}
+use Rattle.node_moves.specs.LossyRuns.{IsCalm, LossyRuns}
+use Rattle.node_moves.specs.LossyRuns.LossyRuns.{rests, goes_on}
+use Rattle.node_moves.specs.Moves.{Moves, Runs}
+use Rattle.node_moves.specs.Moves.NodeCall.{takes}
+use Rattle.node_moves.specs.Moves.Moves.{hears, opens_one, holds, reads_first, reads_later, closes, refuses, loses_one, loses_next, expels_one, cuts_log, crashes, settles, hands}
+use Rattle.node_moves.specs.Moves.Runs.{rests as rests_exactly, goes_on as goes_exactly}
+use Rattle.node_moves.proofs.LossyNames.{taken_behind, taken_same}
+use Rattle.node_moves.proofs.MovesOfReplica.{move_same}
+use Rattle.node_moves.proofs.PartsOfMoves.{BeginsWith, IsBare, Part, part_in}
+use Rattle.node_moves.proofs.ShutByChanges.{at_replica}
+use Rattle.node_moves.proofs.StepsMove.{First, deeds_begin}
+
+base_of : (core later : CoreState) → later.replica ≡ core.replica → later.replica.state.log.base ≡ core.replica.state.log.base
+base_of core later e = ap (λ (r : CountedReplica State Command). r.state.log.base) e
+
+pub calm_base : (core : CoreState) (turn : Turn) (m : LossyMoves core turn) → hears_in m ≡ false → turn.core.replica.state.log.base ≡ core.replica.state.log.base
+calm_base core turn (exactly m) calm = (move_same core turn m calm).base
+calm_base core turn (hears_losing input did other drives) calm = absurd cc
+calm_base core turn (first_losing now port c connect rest did at first is taken) calm =
+    (taken_behind _ core (changes port (asked connect.keep_alive) (changes port (left_with now rest) core)) did
+    (at_replica port (asked connect.keep_alive) (changes port (left_with now rest) core) ∙ at_replica port (left_with now rest) core) taken).base
+calm_base core turn (later_losing now port c packet rest did at later is taken) calm =
+    (taken_behind _ core (changes port (left_with now rest) core) did (at_replica port (left_with now rest) core) taken).base
+calm_base core turn (tells_losing name did taken) calm = (taken_same (commands.Lost name) core did taken).base
+calm_base core turn (expels_losing client did taken) calm = (taken_same (commands.Expel client) core did taken).base
+calm_base core turn forgets calm = refl
+calm_base core turn halts calm = refl
+calm_base core turn (fails port) calm = base_of core turn.core (at_replica port failing core)
+calm_base core turn unheard calm = refl
+calm_base core turn (drops port piece) calm = base_of core turn.core (at_replica port closed core)
+
+-- so it is in a run of such moves
+pub calm_run_base : {core : CoreState} {turn : Turn} (run : LossyRuns core turn) → IsCalm run → turn.core.replica.state.log.base ≡ core.replica.state.log.base
+calm_run_base rests calm = refl
+calm_run_base {core = core} (goes_on {first = first} m run) calm = calm_run_base run calm.1 ∙ calm_base core first m calm.0
+
+-- ---- a cut
+
+bare_base : {core : CoreState} {turn : Turn} (run : Runs core turn) → IsBare run → turn.core.replica.state.log.base ≡ core.replica.state.log.base
+bare_base rests_exactly bare = refl
+bare_base {core = core} (goes_exactly {first = first} m run) bare = bare_base run bare.1 ∙ (move_same core first m bare.0.0).base
+
+cut_moves : {core : CoreState} {turn : Turn} (m : Moves core turn) → part_in m ≡ Part.cut → turn.core.replica.state.log.base ≡ core.replica.state.committed
+cut_moves (cuts_log can) part = refl
+cut_moves (hears (Receives message) is) part = absurd cc
+cut_moves (hears (Proposes command) is) part = absurd cc
+cut_moves (hears Ticks is) part = absurd cc
+cut_moves (opens_one port) part = absurd cc
+cut_moves (holds port piece) part = absurd cc
+cut_moves (reads_first now port c connect rest at first is room) part = absurd cc
+cut_moves (reads_later now port c packet rest at later is room) part = absurd cc
+cut_moves (closes port) part = absurd cc
+cut_moves (refuses port c code at first is) part = absurd cc
+cut_moves (loses_one port c at proposed) part = absurd cc
+cut_moves (loses_next c at) part = absurd cc
+cut_moves (expels_one client) part = absurd cc
+cut_moves crashes part = absurd cc
+cut_moves settles part = absurd cc
+cut_moves (hands port) part = absurd cc
+
+begins_cut : {core : CoreState} {turn : Turn} (run : Runs core turn) → BeginsWith Part.cut run → turn.core.replica.state.log.base ≡ core.replica.state.committed
+begins_cut rests_exactly begins = absurd cc
+begins_cut (goes_exactly m run) begins = bare_base run begins.1 ∙ cut_moves m begins.0
+
+-- a step that takes a cut, if there is something to cut
+pub cut_step_base : (core : CoreState) → can_cut core.replica.state ≡ true → (node_step Cut core).core.replica.state.log.base ≡ core.replica.state.committed
+cut_step_base core can =
+    let r = subst (λ (b : Bool). First (if b then Part.cut else Part.nothing) core (node_step Cut core)) can (deeds_begin (takes Cut) core) in
+    begins_cut r.0 r.1

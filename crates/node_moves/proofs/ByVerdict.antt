@@ -1,0 +1,38 @@
+-- A pipe whose bytes are read by the verdict on what is held: it gives the packets that were written, in order.
+use Rattle.std.proofs.Common.{◌≡◌, ℕ, List, [], ◌∷◌, ◌++◌, Result, Ok, refl, ap, sym, ◌∙◌, subst, append_assoc}
+use Rattle.exactly_once.proofs.of_packet_base.Growing.{StandsWithMore}
+use Rattle.exactly_once.specs.packet.Stop.{Stop}
+use Rattle.exactly_once.specs.packet.declared.packet.Packet.{Packet}
+use Rattle.exactly_once.specs.packet.Verdict.{verdict}
+use Rattle.exactly_once.proofs.of_packet.PacketReads.{verdict_again}
+use Rattle.exactly_once.proofs.of_packet.MoreBytes.{verdict_grows}
+use Rattle.world_base.specs.cutter.Pipe.{Joins, IsPiped}
+use Rattle.node_moves.specs.Ends.{stream_of}
+
+no_packet : (p : Packet) (rest : List ℕ) → verdict [] ≡ Ok (p, rest) → ⊥
+unfolding verdict
+no_packet p rest e = cc
+
+same_packet : (a b : Packet × List ℕ) → (let r : Result (Packet × List ℕ) Stop = Ok a in r) ≡ Ok b → a ≡ b
+same_packet a b e = cc
+
+longer_read : (held under_way rest : List ℕ) (p : Packet) → verdict held ≡ Ok (p, rest) → verdict (held ++ under_way) ≡ Ok (p, rest ++ under_way)
+longer_read held under_way rest p e = subst (λ (r : Result (Packet × List ℕ) Stop). StandsWithMore under_way r (verdict (held ++ under_way))) e (verdict_grows held under_way)
+
+pub gives_next : (written read : List Packet) (held under_way rest : List ℕ) (p : Packet) → IsPiped written read (stream_of held) under_way → verdict held ≡ Ok (p, rest)
+    → IsPiped written (read ++ p ∷ []) (stream_of rest) under_way
+gives_next written read held under_way rest p h e = by h.rest h.is h.joined
+  where
+    whole : verdict (held ++ under_way) ≡ Ok (p, rest ++ under_way)
+    whole = longer_read held under_way rest p e
+
+    by : (more : List Packet) → written ≡ read ++ more → Joins more (held ++ under_way) → IsPiped written (read ++ p ∷ []) (stream_of rest) under_way
+    by [] is j = absurd (no_packet p (rest ++ under_way) (sym (ap verdict j) ∙ whole))
+    by (q ∷ more) is (front, left, sq, kq, eq, j) =
+        let same = same_packet (p, rest ++ under_way) (q, left) (sym whole ∙ ap verdict eq ∙ verdict_again q front left kq sq) in
+        record {
+          rest = more;
+          is = is ∙ ap (λ (x : Packet × List ℕ). read ++ x.0 ∷ more) (sym same) ∙ sym (append_assoc read (p ∷ []) more);
+          joined = subst (Joins more) (sym (ap (λ (x : Packet × List ℕ). x.1) same)) j;
+          sound = refl;
+        }

@@ -1,0 +1,75 @@
+-- What closing a connection and putting out on it keep holds for each connection still, whatever is
+-- proposed.
+use Rattle.std.proofs.Common.{ℕ, zero, suc, Bool, true, false, if◌then◌else◌, List, [], ◌∷◌, Option, Some, None, map, filter}
+use Rattle.std.specs.List.{find, fold}
+use Rattle.exactly_once.specs.packet.Spelling.{spelling}
+use Rattle.world_base.specs.ballot.Effect.{Effect}
+use Rattle.world_base.specs.ballot.Effect.TheVariants.{To, Out}
+use Rattle.world_base.specs.ballot.Sending.{Outcome}
+use Rattle.world_base.specs.ballot.Serving.{proposed}
+use Rattle.exactly_once.specs.broker_base.State.{State}
+use Rattle.exactly_once.specs.broker_base.Command.{Command}
+use Rattle.exactly_once.specs.broker_base.Command.TheVariants as commands
+use Rattle.exactly_once.specs.broker_base.Output.{Output}
+use Rattle.exactly_once.specs.broker_base.Output.TheVariants as outputs
+use Rattle.exactly_once.specs.broker_base.Connection.{ConnectionName}
+use Rattle.exactly_once.specs.lists.Lists.{Each}
+use Rattle.world_base.specs.declared.Connection.{Connection}
+use Rattle.world_base.specs.Connections.{has_failed, is_listed, is_open_named, closed, put_out}
+use Rattle.world_base.specs.Core.{CoreState, Turn, rules, serves}
+use Rattle.world_base.specs.Failing.{closes_failed, loses_failed, loses_if}
+use Rattle.world_base.specs.Step.{settled}
+use Rattle.world_base.specs.Turns.{quiet, repeated, served, moved, proposes, changes_named}
+use Rattle.node_moves.proofs.Views.{each_kept, each_mapped, each_filtered}
+
+pub record IsKept (P : Connection → Type 0) : Type 0 where
+  pub shut : (c : Connection) → P c → P (closed c)
+  pub put : (bytes : List ℕ) (c : Connection) → P c → P (put_out bytes c)
+
+module _ (P : Connection → Type 0) (kept : IsKept P) where
+  each_named : (name : ConnectionName) (f : Connection → Connection) (core : CoreState) → ((c : Connection) → P c → P (f c)) → Each P core.connections
+      → Each P (changes_named name f core).connections
+  unfolding changes_named
+  each_named name f core low all = each_kept P (is_open_named name) f core.connections low all
+
+  each_served : (core : CoreState) (e : Effect Command Output) → Each P core.connections → Each P (served core e).connections
+  each_served core (Out place (outputs.Send name packet)) all = each_named name (put_out (spelling packet)) core (kept.put (spelling packet)) all
+  each_served core (Out place (outputs.Close name)) all = each_named name closed core kept.shut all
+  each_served core (To receiver message) all = all
+
+  each_delivered : (core : CoreState) (effects : List (Effect Command Output)) → Each P core.connections → Each P (fold served core effects).connections
+  each_delivered core [] all = all
+  each_delivered core (e ∷ effects) all = each_delivered (served core e) effects (each_served core e all)
+
+  each_moved : (outcome : Outcome State Command Output) (core : CoreState) → Each P core.connections → Each P (moved outcome core).core.connections
+  each_moved outcome core all =
+      each_delivered (let k : CoreState = record core { replica = record core.replica { state = outcome.state } } in k) outcome.effects all
+
+  pub each_proposed : (command : Command) (core : CoreState) → Each P core.connections → Each P (proposes command core).core.connections
+  unfolding proposes
+  each_proposed command core all = by (serves core)
+    where
+      by : (b : Bool) → Each P (let t : Turn = if b then moved (proposed rules core.replica.state command) core else quiet core in t).core.connections
+      by true = each_moved (proposed rules core.replica.state command) core all
+      by false = all
+
+  each_lost : (core : CoreState) (o : Option Connection) → Each P core.connections → Each P (loses_if o core).core.connections
+  each_lost core None all = all
+  each_lost core (Some c) all = each_proposed (commands.Lost c.name) (closes_failed core) (each_kept P has_failed closed core.connections kept.shut all)
+
+  each_failed : (core : CoreState) → Each P core.connections → Each P (loses_failed core).core.connections
+  unfolding loses_failed
+  each_failed core all = each_lost core (find has_failed core.connections) all
+
+  pub each_repeated : (n : ℕ) (core : CoreState) → Each P core.connections → Each P (repeated n loses_failed core).core.connections
+  unfolding repeated
+  each_repeated zero core all = all
+  each_repeated (suc n) core all = each_repeated n (loses_failed core).core (each_failed core all)
+
+pub each_settled : (P : Connection → Type 0) → ((c : Connection) → P c → P (closed c)) → (core : CoreState) → Each P core.connections → Each P (settled core).connections
+unfolding settled
+each_settled P shut core all = by (serves core)
+  where
+    by : (b : Bool) → Each P (filter is_listed (if b then core.connections else map closed core.connections))
+    by true = each_filtered P is_listed core.connections all
+    by false = each_filtered P is_listed (map closed core.connections) (each_mapped P closed core.connections shut all)

@@ -1,0 +1,109 @@
+-- All that a node does with an item, when memory may run out, is a run of moves.
+use Rattle.std.proofs.Common.{◌≡◌, inl, inr, ℕ, Bool, true, false, List, [], ◌∷◌, length, refl, sym, ap, subst, append_assoc}
+use Rattle.std.proofs.lemmas.List.{append-nil}
+use Rattle.world_base.specs.ballot.Protocol.{Input}
+use Rattle.world_base.specs.ballot.Protocol.Input.{Receives, Ticks}
+use Rattle.exactly_once.specs.broker_base.Command.{Command}
+use Rattle.exactly_once.specs.broker_base.Connection.{ConnectionName}
+use Rattle.world_base.specs.declared.Port.{Port}
+use Rattle.world_base.specs.declared.item.Item.{Item}
+use Rattle.world_base.specs.declared.item.Item.TheVariants.{Peer, Tick, Opened, Bytes, Ended, Expel, Cut, Crash}
+use Rattle.world_base.specs.Connections.{closed, holding}
+use Rattle.world_base.specs.Core.{CoreState, Turn}
+use Rattle.world_base.specs.Lossy.{Account, joined, quietly}
+use Rattle.world_base.specs.LossyStep.{Cuts, EndsSilent, Holds, LosesAllFailed, Opens, ReadsNext, TakesIn}
+use Rattle.world_base.specs.LossyStep.Cuts.{nothing_to_cut, cuts_log as cuts_log_at, forgets_cut}
+use Rattle.world_base.specs.LossyStep.Ends.{none_open, untold, told}
+use Rattle.world_base.specs.Reading.{changes, open_at, unread_of}
+use Rattle.world_base.specs.Step.{crashed, opens, settled, with_cut}
+use Rattle.node_moves.specs.Ends.{piece_on}
+use Rattle.node_moves.specs.LossyMoves.{forgetful, turn_of}
+use Rattle.node_moves.specs.LossyRuns.{IsRunOn, LossesAreMoves, came_with, heard_with, is_cut}
+use Rattle.node_moves.specs.LossyMoves.LossyMoves.{exactly, hears_losing, forgets, drops}
+use Rattle.node_moves.specs.Moves.{and_then}
+use Rattle.node_moves.specs.Moves.Moves.{holds, opens_one, cuts_log, crashes, settles}
+use Rattle.node_moves.proofs.LossyRuns.{Calm, First, Given, Still, all_failed, calm_join, calm_move, first_calm, first_move, still_ends, still_expelled, still_lost, still_reads, still_repeated, still_silent}
+
+-- what was done is such a run, whatever calm one comes after it
+abbrev Before : CoreState → Account → List (Input Command) → Bool → (ConnectionName → List ℕ) → Type 0
+Before core did inputs may_cut bytes = (next : Turn) → Calm did.core next → First core (and_then (turn_of did) next) inputs may_cut bytes
+
+before_is : (core : CoreState) (one did : Account) (inputs : List (Input Command)) (may_cut : Bool) (bytes : ConnectionName → List ℕ) → did ≡ one → Before core one inputs may_cut bytes
+    → Before core did inputs may_cut bytes
+before_is core one did inputs may_cut bytes is b = subst (λ (d : Account). Before core d inputs may_cut bytes) (sym is) b
+
+before_then : (core : CoreState) (one two : Account) (inputs : List (Input Command)) (may_cut : Bool) (bytes : ConnectionName → List ℕ) → Before core one inputs may_cut bytes
+    → Still one.core two → Before core (joined one two) inputs may_cut bytes
+before_then core one two inputs may_cut bytes b still next tail =
+    subst (λ (given : Given). First core (let t : Turn = record { core = next.core; messages = given } in t) inputs may_cut bytes)
+    (sym (append_assoc one.messages two.messages next.messages)) (b (and_then (turn_of two) next) (calm_join still tail))
+
+before_calm : (core : CoreState) (did : Account) (may_cut : Bool) (bytes : ConnectionName → List ℕ) → ((x : ConnectionName) → bytes x ≡ []) → Still core did → Before core did [] may_cut bytes
+before_calm core did may_cut bytes none still next tail = first_calm may_cut bytes none (calm_join still tail)
+
+-- ---- an item
+
+held : (port : Port) (piece : List ℕ) (now : ℕ) (core : CoreState) (did : Account) → Holds port piece core did
+    → Before core did [] false (λ x. came_with x (Bytes port piece now) core)
+held port piece now core did (inl is) =
+    before_is core (quietly (changes port (holding piece) core)) did [] false _ is
+    (λ next tail. first_move (exactly (holds port piece)) false (λ x. came_with x (Bytes port piece now) core) refl (λ x. refl) (λ e. refl) tt tail)
+held port piece now core did (inr (none_open none is)) =
+    before_is core (quietly core) did [] false _ is (λ next tail. first_calm false (λ x. came_with x (Bytes port piece now) core) (λ x. ap (piece_on x piece) none) tail)
+held port piece now core did (inr (untold c found other is)) =
+    before_is core (quietly (changes port closed core)) did [] false _ is
+    (λ next tail. first_move (drops port piece) false (λ x. came_with x (Bytes port piece now) core) refl (λ x. refl) (λ e. refl) tt tail)
+held port piece now core did (inr (told c found heard proposes)) =
+    λ next tail. first_move (drops port piece) false (λ x. came_with x (Bytes port piece now) core) refl (λ x. refl) (λ e. refl) tt
+    (calm_join (still_lost c.name (changes port closed core) did proposes) tail)
+
+opened : (port : Port) (now : ℕ) (core : CoreState) (did : Account) → Opens port core did → Before core did [] false (λ x. came_with x (Opened port now) core)
+opened port now core did (inl is) =
+    before_is core (quietly (opens port core)) did [] false _ is
+    (before_calm core (quietly (opens port core)) false (λ x. []) (λ x. refl) (calm_move (exactly (opens_one port)) (refl, refl, refl, λ x. refl)))
+opened port now core did (inr is) = before_is core (quietly core) did [] false _ is (λ next tail. first_calm false (λ x. []) (λ x. refl) tail)
+
+cut : (core : CoreState) (did : Account) → Cuts core did → Before core did [] true (λ x. came_with x Cut core)
+cut core did (nothing_to_cut none is) = before_is core (quietly core) did [] true _ is (λ next tail. first_calm true (λ x. []) (λ x. refl) tail)
+cut core did (cuts_log_at can reads is) =
+    before_is core (quietly (with_cut core)) did [] true _ is (λ next tail. first_move (exactly (cuts_log can)) true (λ x. []) refl (λ x. refl) (λ e. absurd cc) reads tail)
+cut core did (forgets_cut can is) =
+    before_is core (quietly (forgetful core)) did [] true _ is
+    (before_calm core (quietly (forgetful core)) true (λ x. []) (λ x. refl) (calm_move forgets (refl, refl, refl, λ x. refl)))
+
+taken_in : (item : Item) (core : CoreState) (did : Account) → TakesIn item core did → Before core did (heard_with item) (is_cut item) (λ x. came_with x item core)
+taken_in (Peer message) core did drives = λ next tail. first_move (hears_losing (Receives message) did refl drives) false (λ x. []) refl (λ x. refl) (λ e. refl) tt tail
+taken_in (Tick now) core did t =
+    before_is core (joined t.one t.two) did (Ticks ∷ []) false _ t.is
+    (before_then core t.one t.two (Ticks ∷ []) false (λ x. []) (λ next tail. first_move (hears_losing Ticks t.one refl t.first) false (λ x. []) refl (λ x. refl) (λ e. refl) tt tail)
+    (still_repeated (length t.one.core.connections) (EndsSilent now) (still_silent now) t.one.core t.two t.next))
+taken_in (Opened port now) core did o = opened port now core did o
+taken_in (Bytes port piece now) core did t =
+    before_is core (joined t.one t.two) did [] false _ t.is
+    (before_then core t.one t.two [] false _ (held port piece now core t.one t.first)
+    (still_repeated (unread_of (open_at port t.one.core)) (ReadsNext now port) (still_reads now port) t.one.core t.two t.next))
+taken_in (Ended port) core did runs = before_calm core did false (λ x. []) (λ x. refl) (still_ends port core did runs)
+taken_in (Expel client) core did runs = before_calm core did false (λ x. []) (λ x. refl) (still_expelled client core did runs)
+taken_in Cut core did c = cut core did c
+taken_in Crash core did is =
+    before_is core (quietly (crashed core)) did [] false _ is (λ next tail. first_move (exactly crashes) false (λ x. []) refl (λ x. refl) (λ e. refl) tt tail)
+
+-- ---- a step
+
+-- the failed ones are reported to the broker, and connections are settled
+tail_of : (core : CoreState) (did : Account) → LosesAllFailed core did → Calm core (let t : Turn = record { core = settled did.core; messages = did.messages } in t)
+tail_of core did runs =
+    subst (λ (given : Given). Calm core (let t : Turn = record { core = settled did.core; messages = given } in t)) (append-nil did.messages)
+    (calm_join (all_failed core did runs) (calm_move (exactly settles) (refl, refl, refl, λ x. refl)))
+
+as_run : (item : Item) (core : CoreState) (turn : Turn) → First core turn (heard_with item) (is_cut item) (λ x. came_with x item core) → IsRunOn item core turn
+as_run item core turn f = record { run = f.run; first = f.first; hears = f.hears; bytes = f.bytes_so; hands = f.hands; cuts = f.cuts; freezes = f.freezes }
+
+pub losses_are_moves : LossesAreMoves
+losses_are_moves item core later messages r =
+    subst (λ (given : Given). IsRunOn item core (let t : Turn = record { core = later; messages = given } in t)) (sym r.handed)
+    (subst (λ (k : CoreState). IsRunOn item core (let t : Turn = record { core = k; messages = r.did.messages } in t)) (sym r.settles)
+    (subst (λ (d : Account). IsRunOn item core (let t : Turn = record { core = settled d.core; messages = d.messages } in t)) (sym r.acts.is)
+    (as_run item core _
+    (taken_in item core r.acts.one r.acts.first (let t : Turn = record { core = settled r.acts.two.core; messages = r.acts.two.messages } in t)
+    (tail_of r.acts.one.core r.acts.two r.acts.next)))))

@@ -1,0 +1,94 @@
+-- After no step a loss is still to be reported to the broker: each loss that is reported leaves one
+-- fewer.
+use Rattle.std.proofs.Common.{◌≡◌, ◌⊎◌, inl, inr, ◌≤◌, ◌<◌, ℕ, Bool, true, false, if◌then◌else◌, length, List, [], ◌∷◌, Option, Some, None, refl, arith}
+use Rattle.std.specs.List.{find}
+use Rattle.exactly_once.specs.broker_base.Command.TheVariants as commands
+use Rattle.exactly_once.specs.lists.Lists.{Each}
+use Rattle.world_base.specs.declared.Connection.{Connection}
+use Rattle.world_base.specs.declared.Stage.{Stage}
+use Rattle.world_base.specs.declared.Stage.TheVariants.{Awaits, Proposed, Over, Failed}
+use Rattle.world_base.specs.Connections.{is_proposed, is_failed, has_failed, closed}
+use Rattle.world_base.specs.Core.{CoreState}
+use Rattle.world_base.specs.Failing.{closes_failed, loses_failed, loses_if}
+use Rattle.world_base.specs.Step.{acts_on, takes_in}
+use Rattle.world_base.specs.Turns.{quiet, proposes}
+use Rattle.node_moves.specs.Behind.{EachLossIsTold}
+use Rattle.node_moves.proofs.EachKept.{each_settled}
+use Rattle.node_moves.proofs.NamesInOrder.{same_le}
+use Rattle.node_moves.proofs.Views.{found_passes, some_none}
+use Rattle.node_moves.proofs.Weights.{IsLight, put_or_failing, total, total_few, total_lowered, total_proposed, comes_to_end}
+
+abbrev untold : Stage → ℕ
+untold Awaits = 1
+untold Proposed = 1
+untold Over = 0
+untold Failed = 1
+
+abbrev untold_weight : Connection → ℕ
+untold_weight c = untold c.stage
+
+one_untold : (s : Stage) → untold s ≤ 1
+one_untold Awaits = omega arith
+one_untold Proposed = omega arith
+one_untold Over = omega arith
+one_untold Failed = omega arith
+
+failing_untold : (s : Stage) → untold (if is_proposed s then Failed else Over) ≤ untold s
+failing_untold Awaits = omega arith
+failing_untold Proposed = omega arith
+failing_untold Over = omega arith
+failing_untold Failed = omega arith
+
+untold_light : IsLight untold_weight
+untold_light =
+    record {
+      shut = λ c. nothing (untold c.stage);
+      put = λ bytes c. put_or_failing (λ d. untold_weight d ≤ untold_weight c) bytes c (same_le (untold c.stage)) (failing_untold c.stage);
+    }
+  where
+    nothing : (n : ℕ) → 0 ≤ n
+    nothing n = omega arith
+
+untold_drops : (s : Stage) → is_failed s ≡ true → 0 < untold s
+untold_drops Awaits e = absurd cc
+untold_drops Proposed e = absurd cc
+untold_drops Over e = absurd cc
+untold_drops Failed e = omega arith
+
+none_found : (test : Connection → Bool) (cs : List Connection) → find test cs ≡ None → Each (λ (c : Connection). test c ≡ false) cs
+none_found test [] e = tt
+none_found test (c ∷ cs) e = by (test c) refl (none_found test cs) e
+  where
+    by : (b : Bool) → test c ≡ b → (find test cs ≡ None → Each (λ (d : Connection). test d ≡ false) cs) → (if b then Some c else find test cs) ≡ None
+        → Each (λ (d : Connection). test d ≡ false) (c ∷ cs)
+    by true is rest f = absurd (some_none c f)
+    by false is rest f = (is, rest f)
+
+abbrev NoneFailed : CoreState → Type 0
+NoneFailed core = Each (λ (c : Connection). has_failed c ≡ false) core.connections
+
+failed_step : (core : CoreState) → (NoneFailed core × (loses_failed core ≡ quiet core))
+    ⊎ (total untold_weight (loses_failed core).core.connections < total untold_weight core.connections)
+unfolding loses_failed
+failed_step core = by (find has_failed core.connections) refl
+  where
+    lowers : (c : Connection) → find has_failed core.connections ≡ Some c
+        → total untold_weight (proposes (commands.Lost c.name) (closes_failed core)).core.connections < total untold_weight core.connections
+    lowers c at =
+        let less = total_lowered untold_weight has_failed closed core.connections c at (untold_drops c.stage (found_passes has_failed core.connections c at)) in
+        let most = total_proposed untold_weight untold_light (commands.Lost c.name) (closes_failed core) in
+        omega (arith, less, most)
+
+    by : (o : Option Connection) → find has_failed core.connections ≡ o → (NoneFailed core × (loses_if o core ≡ quiet core))
+        ⊎ (total untold_weight (loses_if o core).core.connections < total untold_weight core.connections)
+    by None e = inl (none_found has_failed core.connections e, refl)
+    by (Some c) e = inr (lowers c e)
+
+pub each_loss_is_told : EachLossIsTold
+each_loss_is_told item core =
+    each_settled (λ (c : Connection). has_failed c ≡ false) (λ c other. refl) (acts_on item core).core
+    (comes_to_end loses_failed NoneFailed untold_weight failed_step (length taken.connections) taken
+    (total_few untold_weight taken.connections (λ c. one_untold c.stage)))
+  where
+    taken : CoreState
+    taken = (takes_in item core).core

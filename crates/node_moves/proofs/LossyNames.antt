@@ -1,0 +1,208 @@
+-- If memory may run out each open connection has a name of the ballot that its node leads.
+use Rattle.std.proofs.Common.{◌≡◌, inl, inr, ℕ, true, false, not, List, Some, refl, sym, ap, ◌∙◌, subst}
+use Rattle.std.proofs.lemmas.Bool.{both_ways}
+use Rattle.world_base.specs.ballot.Effect.{Effect}
+use Rattle.world_base.specs.ballot.Losses.{Steps}
+use Rattle.world_base.specs.ballot.Protocol.{Input}
+use Rattle.world_base.specs.ballot.Replica.{CountedReplica, ReplicaState, is_active}
+use Rattle.world_base.specs.ballot.Sending.{Outcome}
+use Rattle.exactly_once.specs.broker_base.State.{State}
+use Rattle.exactly_once.specs.broker_base.Command.{Command}
+use Rattle.exactly_once.specs.broker_base.Command.TheVariants as commands
+use Rattle.exactly_once.specs.broker_base.Connection.{ConnectionName}
+use Rattle.exactly_once.specs.broker_base.Output.{Output}
+use Rattle.exactly_once.specs.lists.Lists.{In}
+use Rattle.exactly_once.specs.Story.{is_packet_of}
+use Rattle.world_base.specs.declared.Connection.{Connection}
+use Rattle.world_base.specs.Connections.{asked, failing, closed, is_over, left_with}
+use Rattle.world_base.specs.Core.{CoreState, Turn, rules, serves}
+use Rattle.world_base.specs.Lossy.{Account, Drives, Takes}
+use Rattle.world_base.specs.Reading.{changes}
+use Rattle.world_base.specs.Step.{crashed}
+use Rattle.world_base.specs.Turns.{drives, heard}
+use Rattle.node_moves.specs.Closed.{listed_named}
+use Rattle.node_moves.specs.Ends.{IsOrderly}
+use Rattle.node_moves.specs.Keeping.{AreOfTheBallot, moves_replica}
+use Rattle.node_moves.specs.LossyLaws.{AreWhereItServes, LossyNamesKeepTheirBallot}
+use Rattle.node_moves.specs.LossyMoves.{LossyMoves, halting, hears_in, proposal_of}
+use Rattle.node_moves.specs.LossyMoves.LossyMoves.{exactly, hears_losing, first_losing, later_losing, tells_losing, expels_losing, forgets, halts, fails, unheard, drops}
+use Rattle.node_moves.specs.Moves.{Moves, is_proposal}
+use Rattle.node_moves.specs.Moves.Moves.{hears, opens_one, holds, reads_first, reads_later, closes, refuses, loses_one, loses_next, expels_one, cuts_log, crashes, settles, hands}
+use Rattle.node_moves.proofs.Kept.{left_true}
+use Rattle.node_moves.proofs.LossyOutputs.{delivers_replica}
+use Rattle.node_moves.proofs.LossyShuts.{Loses, driven, lossy_shuts, sent_in}
+use Rattle.node_moves.proofs.MovesOfReplica.{move_same, serves_same}
+use Rattle.node_moves.proofs.NamesInMoves.{by_shuts}
+use Rattle.node_moves.proofs.NamesKeepTheirBallot.{and_false, drives_state, heard_stays, names_keep_their_ballot, only_one, proposed_of}
+use Rattle.node_moves.proofs.OpenBehind.{shuts_open}
+use Rattle.node_moves.proofs.Shut.{Shuts}
+use Rattle.node_moves.proofs.ReplicaLeads.{StaysOr}
+use Rattle.node_moves.proofs.ReplicaStays.{Same, added_same}
+use Rattle.node_moves.proofs.ShutByChanges.{at_replica}
+use Rattle.node_moves.proofs.ShutByOutputs.{bytes_for, driven_shuts}
+
+-- ---- the replica stays in its role and its ballot, and the base of its log
+
+same_state : (core later : CoreState) → later.replica.state ≡ core.replica.state → Same core.replica.state later.replica.state
+same_state core later e =
+    record {
+      role = ap (λ (r : ReplicaState State Command). r.role) e;
+      joined = ap (λ (r : ReplicaState State Command). r.joined) e;
+      stopped = ap (λ (r : ReplicaState State Command). r.stopped) e;
+      base = ap (λ (r : ReplicaState State Command). r.log.base) e;
+    }
+
+same_then : (a b c : CoreState) → Same a.replica.state b.replica.state → Same b.replica.state c.replica.state → Same a.replica.state c.replica.state
+same_then a b c s t = record { role = t.role ∙ s.role; joined = t.joined ∙ s.joined; stopped = t.stopped ∙ s.stopped; base = t.base ∙ s.base }
+
+state_of : (a b : CoreState) → a.replica ≡ b.replica → a.replica.state ≡ b.replica.state
+state_of a b e = ap (λ (r : CountedReplica State Command). r.state) e
+
+pub taken_same : (command : Command) (core : CoreState) (did : Account) → Takes command core did → Same core.replica.state did.core.replica.state
+taken_same command core did t =
+    subst (λ (r : ReplicaState State Command). Same core.replica.state r)
+    (sym (ap (λ (r : CountedReplica State Command). r.state) (delivers_replica did.given (record core { replica = t.replica }) did.core did.messages t.delivers)
+    ∙ t.done.state))
+    (added_same rules core.replica.state command)
+
+-- a command is taken after a change of a connection
+pub taken_behind : (command : Command) (core between : CoreState) (did : Account) → between.replica ≡ core.replica → Takes command between did
+    → Same core.replica.state did.core.replica.state
+taken_behind command core between did same t =
+    same_then core between did.core (same_state core between (state_of between core same)) (taken_same command between did t)
+
+-- ---- a move in which it receives nothing
+
+by_same : (core : CoreState) (turn : Turn) (m : LossyMoves core turn) → IsOrderly core → Loses m → Same core.replica.state turn.core.replica.state
+    → AreWhereItServes core → AreWhereItServes turn.core
+by_same core turn m o may same of serving =
+    record { each = λ x d e lives. by_shuts x core turn.core (sent_in x m) d (of (sym (serves_same core turn.core same) ∙ serving)) same (lossy_shuts core turn m o x may) e lives }
+
+exact_calm : (core : CoreState) (turn : Turn) (m : Moves core turn) → IsOrderly core → moves_replica m ≡ false → AreWhereItServes core → AreWhereItServes turn.core
+exact_calm core turn m o calm of serving =
+    names_keep_their_ballot.moves core turn m o calm (of (sym (serves_same core turn.core (move_same core turn m calm)) ∙ serving))
+
+-- a node that has stopped serves no client
+stopped_not : (core : CoreState) → AreWhereItServes (halting core)
+stopped_not core serving = absurd (both_ways (serves (halting core)) (and_false (is_active core.replica.state.role)) serving)
+
+calm_keeps : (core : CoreState) (turn : Turn) (m : LossyMoves core turn) → IsOrderly core → hears_in m ≡ false → AreWhereItServes core → AreWhereItServes turn.core
+calm_keeps core turn (exactly m) o calm of = exact_calm core turn m o calm of
+calm_keeps core turn (hears_losing input did other drives) o calm of = absurd cc
+calm_keeps core turn (first_losing now port c connect rest did at first is taken) o calm of =
+    by_same core turn (first_losing now port c connect rest did at first is taken) o tt
+    (taken_behind _ core (changes port (asked connect.keep_alive) (changes port (left_with now rest) core)) did
+    (at_replica port (asked connect.keep_alive) (changes port (left_with now rest) core) ∙ at_replica port (left_with now rest) core) taken) of
+calm_keeps core turn (later_losing now port c packet rest did at later is taken) o calm of =
+    by_same core turn (later_losing now port c packet rest did at later is taken) o tt
+    (taken_behind _ core (changes port (left_with now rest) core) did (at_replica port (left_with now rest) core) taken) of
+calm_keeps core turn (tells_losing name did taken) o calm of = by_same core turn (tells_losing name did taken) o tt (taken_same (commands.Lost name) core did taken) of
+calm_keeps core turn (expels_losing client did taken) o calm of = by_same core turn (expels_losing client did taken) o tt (taken_same (commands.Expel client) core did taken) of
+calm_keeps core turn forgets o calm of = by_same core turn forgets o tt (record { role = refl; joined = refl; stopped = refl; base = refl }) of
+calm_keeps core turn halts o calm of = stopped_not core
+calm_keeps core turn (fails port) o calm of =
+    by_same core turn (fails port) o tt (same_state core (changes port failing core) (state_of (changes port failing core) core (at_replica port failing core))) of
+calm_keeps core turn unheard o calm of = by_same core turn unheard o tt (record { role = refl; joined = refl; stopped = refl; base = refl }) of
+calm_keeps core turn (drops port piece) o calm of =
+    by_same core turn (drops port piece) o tt (same_state core (changes port closed core) (state_of (changes port closed core) core (at_replica port closed core))) of
+
+-- ---- a move in which it receives something
+
+lossy_stays : (old new : CountedReplica State Command) (outcome : Outcome State Command Output) (given : List (Effect Command Output)) →
+    StaysOr old.state outcome.state → Steps rules old outcome new given → StaysOr old.state new.state
+lossy_stays old new outcome given or (inl (state, effects, rest)) = subst (λ (r : ReplicaState State Command). StaysOr old.state r) (sym state) or
+lossy_stays old new outcome given or (inr (inl (state, rest), counted)) = subst (λ (r : ReplicaState State Command). StaysOr old.state r) (sym state) or
+lossy_stays old new outcome given or (inr (inr (inl (state, rest)), counted)) = inl (ap (λ (r : ReplicaState State Command). r.joined) state)
+lossy_stays old new outcome given or (inr (inr (inr (state, rest)), counted)) = inl (ap (λ (r : ReplicaState State Command). r.joined) state)
+
+-- it stays in its ballot, or leads none
+heard_keeps : (core later : CoreState) (bytes : ConnectionName → List ℕ) → StaysOr core.replica.state later.replica.state
+    → ((x : ConnectionName) → Shuts (bytes x) (listed_named x core) (listed_named x later)) → AreOfTheBallot core → AreWhereItServes later
+heard_keeps core later bytes or shuts of serving = record { each = λ x d e lives. (serving, led x d e lives) }
+  where
+    joined : StaysOr core.replica.state later.replica.state → later.replica.state.joined ≡ core.replica.state.joined
+    joined (inl same) = same
+    joined (inr passive) =
+        absurd (both_ways (is_active later.replica.state.role) passive (left_true (is_active later.replica.state.role) (not later.replica.state.stopped) serving))
+
+    led : (x : ConnectionName) (d : Connection) → listed_named x later ≡ Some d → is_over d.stage ≡ false → x.ballot ≡ later.replica.state.joined
+    led x d e lives =
+        let was = shuts_open (bytes x) (listed_named x core) (listed_named x later) d (shuts x) e lives in
+        (of.each x was.0 was.1 was.2).1 ∙ sym (joined or)
+
+exact_heard : (core : CoreState) (input : Input Command) → IsOrderly core → AreOfTheBallot core → AreWhereItServes (drives input core).core
+exact_heard core input o of =
+    heard_keeps core (drives input core).core (λ x. bytes_for x (heard input core.replica.state).effects)
+    (subst (λ (r : ReplicaState State Command). StaysOr core.replica.state r) (sym (drives_state input core)) (heard_stays input core.replica.state))
+    (λ x. driven_shuts x input core o) of
+
+lossy_heard : (input : Input Command) (core : CoreState) (did : Account) (other : is_proposal input ≡ false) → (m : Drives input core did) → IsOrderly core
+    → AreOfTheBallot core → AreWhereItServes did.core
+lossy_heard input core did other m o of =
+    heard_keeps core did.core (λ x. bytes_for x did.given)
+    (subst (λ (r : CountedReplica State Command). StaysOr core.replica.state r.state)
+    (sym (delivers_replica did.given (record core { replica = m.replica }) did.core did.messages m.delivers))
+    (lossy_stays core.replica m.replica (heard input core.replica.state) did.given (heard_stays input core.replica.state) m.steps))
+    (λ x. driven x input core did m o) of
+
+where_it_serves : (core : CoreState) → AreOfTheBallot core → AreWhereItServes core
+where_it_serves core of serving = of
+
+exact_keeps : (core : CoreState) (turn : Turn) (m : Moves core turn) → IsOrderly core → AreOfTheBallot core → AreWhereItServes turn.core
+exact_keeps core turn (hears input other) o of = exact_heard core input o of
+exact_keeps core turn (cuts_log can) o of = λ serving. record { each = of.each }
+exact_keeps core turn crashes o of = λ serving. absurd (both_ways (serves (crashed core)) (and_false (is_active core.replica.state.role)) serving)
+exact_keeps core turn (opens_one port) o of = exact_calm core turn (opens_one port) o refl (where_it_serves core of)
+exact_keeps core turn (holds port piece) o of = exact_calm core turn (holds port piece) o refl (where_it_serves core of)
+exact_keeps core turn (reads_first now port c connect rest at first is room) o of =
+    exact_calm core turn (reads_first now port c connect rest at first is room) o refl (where_it_serves core of)
+exact_keeps core turn (reads_later now port c packet rest at later is room) o of =
+    exact_calm core turn (reads_later now port c packet rest at later is room) o refl (where_it_serves core of)
+exact_keeps core turn (closes port) o of = exact_calm core turn (closes port) o refl (where_it_serves core of)
+exact_keeps core turn (refuses port c code at first is) o of = exact_calm core turn (refuses port c code at first is) o refl (where_it_serves core of)
+exact_keeps core turn (loses_one port c at asked) o of = exact_calm core turn (loses_one port c at asked) o refl (where_it_serves core of)
+exact_keeps core turn (loses_next c at) o of = exact_calm core turn (loses_next c at) o refl (where_it_serves core of)
+exact_keeps core turn (expels_one client) o of = exact_calm core turn (expels_one client) o refl (where_it_serves core of)
+exact_keeps core turn settles o of = exact_calm core turn settles o refl (where_it_serves core of)
+exact_keeps core turn (hands port) o of = exact_calm core turn (hands port) o refl (where_it_serves core of)
+
+first_keeps : (core : CoreState) (turn : Turn) (m : LossyMoves core turn) → IsOrderly core → AreOfTheBallot core → AreWhereItServes turn.core
+first_keeps core turn (exactly m) o of = exact_keeps core turn m o of
+first_keeps core turn (hears_losing input did other drives) o of = lossy_heard input core did other drives o of
+first_keeps core turn (first_losing now port c connect rest did at first is taken) o of =
+    calm_keeps core turn (first_losing now port c connect rest did at first is taken) o refl (where_it_serves core of)
+first_keeps core turn (later_losing now port c packet rest did at later is taken) o of =
+    calm_keeps core turn (later_losing now port c packet rest did at later is taken) o refl (where_it_serves core of)
+first_keeps core turn (tells_losing name did taken) o of = calm_keeps core turn (tells_losing name did taken) o refl (where_it_serves core of)
+first_keeps core turn (expels_losing client did taken) o of = calm_keeps core turn (expels_losing client did taken) o refl (where_it_serves core of)
+first_keeps core turn forgets o of = calm_keeps core turn forgets o refl (where_it_serves core of)
+first_keeps core turn halts o of = stopped_not core
+first_keeps core turn (fails port) o of = calm_keeps core turn (fails port) o refl (where_it_serves core of)
+first_keeps core turn unheard o of = calm_keeps core turn unheard o refl (where_it_serves core of)
+first_keeps core turn (drops port piece) o of = calm_keeps core turn (drops port piece) o refl (where_it_serves core of)
+
+-- ---- what is proposed
+
+proposes_of : (core : CoreState) (turn : Turn) (m : LossyMoves core turn) → IsOrderly core → AreOfTheBallot core → (x : ConnectionName) (command : Command)
+    → In command (proposal_of m) → is_packet_of command x ≡ true → x.ballot ≡ core.replica.state.joined
+proposes_of core turn (exactly m) o of x command i named' = names_keep_their_ballot.proposes core turn m o of x command i named'
+proposes_of core turn (first_losing now port c connect rest did at first is taken) o of x command i named' =
+    proposed_of core port c x o of at (only_one x (commands.Connect c.name connect.client connect.clean) command i named')
+proposes_of core turn (later_losing now port c packet rest did at later is taken) o of x command i named' =
+    proposed_of core port c x o of at (only_one x (commands.Packet c.name packet) command i named')
+proposes_of core turn (tells_losing name did taken) o of x command i named' = let z = only_one x (commands.Lost name) command i named' in absurd cc
+proposes_of core turn (expels_losing client did taken) o of x command i named' = let z = only_one x (commands.Expel client) command i named' in absurd cc
+proposes_of core turn (hears_losing input did other drives) o of x command i named' = elim i [ ]
+proposes_of core turn forgets o of x command i named' = elim i [ ]
+proposes_of core turn halts o of x command i named' = elim i [ ]
+proposes_of core turn (fails port) o of x command i named' = elim i [ ]
+proposes_of core turn unheard o of x command i named' = elim i [ ]
+proposes_of core turn (drops port piece) o of x command i named' = elim i [ ]
+
+pub lossy_names_keep_their_ballot : LossyNamesKeepTheirBallot
+lossy_names_keep_their_ballot =
+    record {
+      moves = λ core turn m o calm of. calm_keeps core turn m o calm of;
+      hears = λ core turn m o of. first_keeps core turn m o of;
+      proposes = λ core turn m o of serving x command i is. proposes_of core turn m o (of serving) x command i is;
+    }

@@ -1,0 +1,90 @@
+-- All that a node ever does when memory may run out: what it proposes for a connection is a prefix
+-- of what its client writes, and each packet that is read is in its log at once.
+use Rattle.std.proofs.Common.{◌≡◌, ℕ, List, [], ◌++◌, length, refl, sym, ap, ◌∙◌, subst, filter, append_assoc}
+use Rattle.std.proofs.lemmas.List.{append-nil, length-append}
+use Rattle.std.proofs.lemmas.List.Elements.{filter-append}
+use Rattle.exactly_once.specs.packet.declared.packet.Packet.{Packet}
+use Rattle.world_base.specs.ballot.Logs.{pushed}
+use Rattle.world_base.specs.ballot.Replica.{CountedReplica, ReplicaState}
+use Rattle.exactly_once.specs.broker_base.State.{State}
+use Rattle.exactly_once.specs.broker_base.Command.{Command}
+use Rattle.exactly_once.specs.broker_base.Connection.{ConnectionName}
+use Rattle.exactly_once.specs.Story.{is_packet_of}
+use Rattle.world_base.specs.Connections.{asked, left_with}
+use Rattle.world_base.specs.Core.{CoreState, Turn, rules}
+use Rattle.world_base.specs.Lossy.{Account, Takes}
+use Rattle.world_base.specs.Reading.{changes}
+use Rattle.node_moves.specs.Ends.{IsEnd, IsOrderly, commands_of}
+use Rattle.node_moves.specs.Ends.IsEnd.{not_yet}
+use Rattle.node_moves.specs.LossyLaws.{LossesAreTaken, LossesProposeInOrder, ReadsOn}
+use Rattle.node_moves.specs.LossyMoves.{LossyMoves, came_on, proposal_of}
+use Rattle.node_moves.specs.LossyRuns.{LossyRuns, bytes_on, proposals_of}
+use Rattle.node_moves.specs.LossyMoves.LossyMoves.{exactly, hears_losing, first_losing, later_losing, tells_losing, expels_losing, forgets, halts, fails, unheard, drops}
+use Rattle.node_moves.specs.LossyRuns.LossyRuns.{rests, goes_on}
+use Rattle.node_moves.proofs.LossyOutputs.{delivers_replica}
+use Rattle.node_moves.proofs.LossyReads.{losses_read_in_order}
+use Rattle.node_moves.proofs.ProposesInOrder.{commands_join, front_of, opening_orderly, still_to_come}
+use Rattle.node_moves.proofs.ShutByChanges.{at_replica}
+use Rattle.world_base.proofs.of_ballot.StepRows.{added-log}
+use Rattle.node_moves.proofs.Taken.{reads_are_taken}
+
+-- ---- all that is read
+
+record ReadsThrough (x : ConnectionName) {core : CoreState} {turn : Turn} (run : LossyRuns core turn) (written read : List Packet) (later : List ℕ) : Type 0 where
+  more : List Packet
+  end : IsEnd x turn.core written (read ++ more) later
+  proposed : filter (λ command. is_packet_of command x) (proposals_of run) ≡ commands_of x (length read) more
+
+one_then : (x : ConnectionName) {core : CoreState} {first next : Turn} (m : LossyMoves core first) (run : LossyRuns first.core next) (written read : List Packet) (between later : List ℕ)
+    → (one : ReadsOn x m written read between) → ReadsThrough x run written (read ++ one.more) later → ReadsThrough x (goes_on m run) written read later
+one_then x {next = next} m run written read between later one two =
+    record {
+      more = one.more ++ two.more;
+      end = subst (λ (ps : List Packet). IsEnd x next.core written ps later) (append_assoc read one.more two.more) two.end;
+      proposed = filter-append (λ command. is_packet_of command x) (proposal_of m) (proposals_of run)
+          ∙ ap (λ (l : List Command). l ++ filter (λ command. is_packet_of command x) (proposals_of run)) one.proposed
+          ∙ ap (λ (l : List Command). commands_of x (length read) one.more ++ l) two.proposed
+          ∙ ap (λ (n : ℕ). commands_of x (length read) one.more ++ commands_of x n two.more) (length-append read one.more)
+          ∙ sym (commands_join x (length read) one.more two.more);
+    }
+
+runs_read : (x : ConnectionName) {core : CoreState} {turn : Turn} (run : LossyRuns core turn) (written read : List Packet) (under_way later : List ℕ) → IsOrderly core
+    → IsEnd x core written read under_way → under_way ≡ bytes_on x run ++ later → ReadsThrough x run written read later
+runs_read x {core = core} rests written read under_way later o end same =
+    record { more = []; end = subst (λ (ps : List Packet). IsEnd x core written ps later) (sym (append-nil read)) (subst (IsEnd x core written read) same end); proposed = refl }
+runs_read x {core = core} (goes_on {first = first} m run) written read under_way later o end same =
+    let all = losses_read_in_order core first m o in
+    let one = all.1 x written read under_way (bytes_on x run ++ later) end (same ∙ append_assoc (came_on x m) (bytes_on x run) later) in
+    one_then x m run written read (bytes_on x run ++ later) later one
+    (runs_read x run written (read ++ one.more) (bytes_on x run ++ later) later all.0 one.end refl)
+
+pub losses_propose_in_order : LossesProposeInOrder
+losses_propose_in_order id config turn run x written later some joined =
+    let z = runs_read x run written [] (bytes_on x run ++ later) later (opening_orderly id config)
+    (not_yet (still_to_come x some) refl (record { rest = written; is = refl; joined = joined; sound = refl })) refl in
+    record { read = z.more; end = z.end; front = front_of x turn.core written z.more later z.end; proposed = z.proposed }
+
+-- ---- what is read is taken
+
+taken_log : (command : Command) (core between : CoreState) (did : Account) → between.replica ≡ core.replica → Takes command between did
+    → did.core.replica.state.log ≡ pushed core.replica.state.log command
+taken_log command core between did same t =
+    ap (λ (r : CountedReplica State Command). r.state.log) (delivers_replica did.given (record between { replica = t.replica }) did.core did.messages t.delivers)
+    ∙ ap (λ (r : ReplicaState State Command). r.log) t.done.state ∙ added-log rules between.replica.state command
+    ∙ ap (λ (r : CountedReplica State Command). pushed r.state.log command) same
+
+pub losses_are_taken : LossesAreTaken
+losses_are_taken core turn (exactly m) read = reads_are_taken core turn m read
+losses_are_taken core turn (first_losing now port c connect rest did at first is taken) read =
+    taken_log _ core (changes port (asked connect.keep_alive) (changes port (left_with now rest) core)) did
+    (at_replica port (asked connect.keep_alive) (changes port (left_with now rest) core) ∙ at_replica port (left_with now rest) core) taken
+losses_are_taken core turn (later_losing now port c packet rest did at later is taken) read =
+    taken_log _ core (changes port (left_with now rest) core) did (at_replica port (left_with now rest) core) taken
+losses_are_taken core turn (hears_losing input did other drives) read = absurd cc
+losses_are_taken core turn (tells_losing name did taken) read = absurd cc
+losses_are_taken core turn (expels_losing client did taken) read = absurd cc
+losses_are_taken core turn forgets read = absurd cc
+losses_are_taken core turn halts read = absurd cc
+losses_are_taken core turn (fails port) read = absurd cc
+losses_are_taken core turn unheard read = absurd cc
+losses_are_taken core turn (drops port piece) read = absurd cc

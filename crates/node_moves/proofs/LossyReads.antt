@@ -1,0 +1,232 @@
+-- Each move in which memory may run out reads on in order, on each of a node's connections.
+use Rattle.std.proofs.Common.{◌≡◌, ◌≤◌, ℕ, Bool, true, false, if◌then◌else◌, List, [], ◌∷◌, ◌++◌, length, Option, Some, None, Ok, refl, sym, ap, ◌∙◌, subst, filter, arith}
+use Rattle.std.proofs.lemmas.List.{append-nil}
+use Rattle.exactly_once.specs.packet.declared.packet.Packet.{Packet}
+use Rattle.exactly_once.specs.packet.declared.packet.Packet.TheVariants as packets
+use Rattle.exactly_once.specs.packet.declared.connect.Connect.{Connect}
+use Rattle.exactly_once.specs.packet.Verdict.{verdict}
+use Rattle.world_base.specs.ballot.Losses.{halted, one_more}
+use Rattle.world_base.specs.ballot.Protocol.{Input}
+use Rattle.world_base.specs.ballot.Replica.{CountedReplica, ReplicaState}
+use Rattle.exactly_once.specs.broker_base.State.{State}
+use Rattle.exactly_once.specs.broker_base.Command.{Command}
+use Rattle.exactly_once.specs.broker_base.Command.TheVariants as commands
+use Rattle.exactly_once.specs.broker_base.Connection.{ConnectionName}
+use Rattle.exactly_once.proofs.of_broker_spec.ConnectionNames.{same_name}
+use Rattle.exactly_once.specs.Story.{is_packet_of}
+use Rattle.world_base.specs.declared.Port.{Port}
+use Rattle.world_base.specs.declared.Connection.{Connection}
+use Rattle.world_base.specs.Connections.{asked, closed, failing, is_at, is_first, is_open_at, left_with}
+use Rattle.world_base.specs.Core.{CoreState, Turn, rules}
+use Rattle.world_base.specs.Lossy.{Account, Drives, Takes}
+use Rattle.world_base.specs.Reading.{changes, open_at}
+use Rattle.world_base.specs.Turns.{heard}
+use Rattle.node_moves.specs.Ends.{IsEnd, IsGiven, IsOrderly, commands_of, is_nothing, open_named, piece_on}
+use Rattle.node_moves.specs.Ends.IsEnd.{is_over}
+use Rattle.node_moves.specs.LossyLaws.{LossesReadInOrder, ReadsOn}
+use Rattle.node_moves.specs.Moves.{Moves}
+use Rattle.node_moves.specs.LossyMoves.{LossyMoves, came_on, proposal_of}
+use Rattle.node_moves.specs.LossyMoves.LossyMoves.{exactly, hears_losing, first_losing, later_losing, tells_losing, expels_losing, forgets, halts, fails, unheard, drops}
+use Rattle.node_moves.proofs.Kept.{Stays, changed_orderly, closed_is_mild, heard_up, kept_same, left_true, live, named, named_kept, stays_at, stays_failed, stays_joined}
+use Rattle.node_moves.proofs.LossyOutputs.{failing_is_mild, stays_delivers}
+use Rattle.node_moves.proofs.NamesInOrder.{same_le}
+use Rattle.node_moves.proofs.NamesStayApart.{steps_up}
+use Rattle.node_moves.proofs.ProposesInOrder.{front_of}
+use Rattle.node_moves.proofs.ReadsInOrder.{IsChange, asked_change, end_kept, first_command, found_given, later_command, left_change, nodes_read_in_order, read_then}
+use Rattle.node_moves.proofs.ReplicaStays.{added_same}
+use Rattle.node_moves.proofs.Views.{view_of_changed}
+
+-- ---- the replica
+
+pub replica_orderly : (core : CoreState) (replica : CountedReplica State Command) → core.replica.state.joined ≤ replica.state.joined → IsOrderly core →
+    IsOrderly (record core { replica = replica })
+replica_orderly core replica up o = let within = o.within in record { names = o.names; given = o.given; within = omega (arith, within, up) }
+
+pub stays_replica : (core : CoreState) (replica : CountedReplica State Command) → core.replica.state.joined ≤ replica.state.joined → IsOrderly core →
+    Stays core (record core { replica = replica })
+stays_replica core replica up o =
+    record { kept = λ x. kept_same (open_named x core); last = refl; orderly = replica_orderly core replica up o }
+
+pub stays_drives : (input : Input Command) (core : CoreState) (did : Account) → Drives input core did → IsOrderly core → Stays core did.core
+stays_drives input core did m o =
+    let s = stays_replica core m.replica (steps_up core.replica m.replica (heard input core.replica.state) did.given (heard_up input core) m.steps) o in
+    stays_joined core (record core { replica = m.replica }) did.core s
+    (stays_delivers did.given (record core { replica = m.replica }) did.core did.messages m.delivers s.orderly)
+
+pub taken_joined : (command : Command) (core : CoreState) (did : Account) (t : Takes command core did) → t.replica.state.joined ≡ core.replica.state.joined
+taken_joined command core did t =
+    ap (λ (r : ReplicaState State Command). r.joined) t.done.state ∙ (added_same rules core.replica.state command).joined
+
+pub stays_takes : (command : Command) (core : CoreState) (did : Account) → Takes command core did → IsOrderly core → Stays core did.core
+stays_takes command core did t o =
+    let up = subst (λ (n : ℕ). core.replica.state.joined ≤ n) (sym (taken_joined command core did t)) (same_le core.replica.state.joined) in
+    let s = stays_replica core t.replica up o in
+    stays_joined core (record core { replica = t.replica }) did.core s
+    (stays_delivers did.given (record core { replica = t.replica }) did.core did.messages t.delivers s.orderly)
+
+-- ---- moves that read nothing
+
+none_more : (x : ConnectionName) {core : CoreState} {turn : Turn} (m : LossyMoves core turn) (written read : List Packet) (later : List ℕ)
+    → IsEnd x turn.core written read later → filter (λ command. is_packet_of command x) (proposal_of m) ≡ [] → ReadsOn x m written read later
+none_more x {turn = turn} m written read later end none =
+    record { more = []; end = subst (λ (ps : List Packet). IsEnd x turn.core written ps later) (sym (append-nil read)) end; proposed = none }
+
+abbrev ReadsAll : {core : CoreState} {turn : Turn} → LossyMoves core turn → Type 0
+ReadsAll {core = core} {turn = turn} m = IsOrderly turn.core
+    × ((x : ConnectionName) (written read : List Packet) (under_way later : List ℕ) → IsEnd x core written read under_way → under_way ≡ came_on x m ++ later
+    → ReadsOn x m written read later)
+
+stays_reads : {core : CoreState} {turn : Turn} (m : LossyMoves core turn) → Stays core turn.core → ((x : ConnectionName) → came_on x m ≡ [])
+    → ((x : ConnectionName) → filter (λ command. is_packet_of command x) (proposal_of m) ≡ []) → ReadsAll m
+stays_reads {core = core} {turn = turn} m s no_bytes none = (
+  s.orderly,
+  λ x written read under_way later end same.
+      none_more x m written read later
+      (end_kept x core turn.core written read later
+      (subst (IsEnd x core written read) (same ∙ ap (λ (l : List ℕ). l ++ later) (no_bytes x)) end) (s.kept x) s.last) (none x),
+)
+
+-- ---- a packet is read and taken
+
+abbrev first_move : (now : ℕ) (core : CoreState) (port : Port) (c : Connection) (connect : Connect) (rest : List ℕ) (did : Account) → open_at port core ≡ Some c → is_first c.stage ≡ true
+    → verdict c.unread ≡ Ok (packets.Connect connect, rest)
+    → Takes (commands.Connect c.name connect.client connect.clean) (changes port (asked connect.keep_alive) (changes port (left_with now rest) core)) did
+    → LossyMoves core (record { core = did.core; messages = did.messages })
+first_move now core port c connect rest did at first reads taken = first_losing now port c connect rest did at first reads taken
+
+abbrev later_move : (now : ℕ) (core : CoreState) (port : Port) (c : Connection) (packet : Packet) (rest : List ℕ) (did : Account) → open_at port core ≡ Some c → is_first c.stage ≡ false
+    → verdict c.unread ≡ Ok (packet, rest) → Takes (commands.Packet c.name packet) (changes port (left_with now rest) core) did
+    → LossyMoves core (record { core = did.core; messages = did.messages })
+later_move now core port c packet rest did at later reads taken = later_losing now port c packet rest did at later reads taken
+
+first_reads : (now : ℕ) (core : CoreState) (port : Port) (c : Connection) (connect : Connect) (rest : List ℕ) (did : Account) (at : open_at port core ≡ Some c) (first : is_first c.stage ≡ true)
+    (reads : verdict c.unread ≡ Ok (packets.Connect connect, rest))
+    (taken : Takes (commands.Connect c.name connect.client connect.clean) (changes port (asked connect.keep_alive) (changes port (left_with now rest) core)) did) → IsOrderly core
+    → ReadsAll (first_move now core port c connect rest did at first reads taken)
+first_reads now core port c connect rest did at first reads taken o =
+    (s.orderly, λ x written read under_way rest_of end same. by x written read rest_of (subst (IsEnd x core written read) same end) (named x c) refl)
+  where
+    command : Command
+    command = commands.Connect c.name connect.client connect.clean
+
+    between : CoreState
+    between = changes port (asked connect.keep_alive) (changes port (left_with now rest) core)
+
+    h : IsChange core between port c (λ d. asked connect.keep_alive (left_with now rest d))
+    h = asked_change connect.keep_alive now core port c rest at
+
+    s : Stays between did.core
+    s = stays_takes command between did taken (changed_orderly core between (is_open_at port) (λ d. asked connect.keep_alive (left_with now rest d)) o h.are h.same h.up h.name)
+
+    with_name : (x : ConnectionName) (read : List Packet) (b : Bool) → named x c ≡ b → (more : List Packet) → more ≡ (if b then packets.Connect connect ∷ [] else [])
+        → (b ≡ true → is_first c.stage ≡ is_nothing read) → filter (λ z. is_packet_of z x) (command ∷ []) ≡ commands_of x (length read) more
+    with_name x read true e more is nothing = rw (e, is) (first_command x c connect read e (sym first ∙ nothing refl))
+    with_name x read false e more is nothing = rw (e, is) refl
+
+    by : (x : ConnectionName) (written read : List Packet) (rest_of : List ℕ) → IsEnd x core written read rest_of → (b : Bool) → named x c ≡ b
+        → ReadsOn x (first_move now core port c connect rest did at first reads taken) written read rest_of
+    by x written read rest_of end b e =
+        let z = read_then x core between did.core port c (λ d. asked connect.keep_alive (left_with now rest d)) written read rest_of rest (packets.Connect connect) o h refl refl reads s end b e in
+        record { more = z.0; end = z.1; proposed = with_name x read b e z.0 z.2 z.3 }
+
+later_reads : (now : ℕ) (core : CoreState) (port : Port) (c : Connection) (packet : Packet) (rest : List ℕ) (did : Account) (at : open_at port core ≡ Some c) (later : is_first c.stage ≡ false)
+    (reads : verdict c.unread ≡ Ok (packet, rest)) (taken : Takes (commands.Packet c.name packet) (changes port (left_with now rest) core) did) → IsOrderly core
+    → ReadsAll (later_move now core port c packet rest did at later reads taken)
+later_reads now core port c packet rest did at later reads taken o =
+    (s.orderly, λ x written read under_way rest_of end same. by x written read rest_of (subst (IsEnd x core written read) same end) (named x c) refl)
+  where
+    command : Command
+    command = commands.Packet c.name packet
+
+    between : CoreState
+    between = changes port (left_with now rest) core
+
+    h : IsChange core between port c (left_with now rest)
+    h = left_change now core port c rest at
+
+    s : Stays between did.core
+    s = stays_takes command between did taken (changed_orderly core between (is_open_at port) (left_with now rest) o h.are h.same h.up h.name)
+
+    with_name : (x : ConnectionName) (read : List Packet) (b : Bool) → named x c ≡ b → (more : List Packet) → more ≡ (if b then packet ∷ [] else [])
+        → (b ≡ true → is_first c.stage ≡ is_nothing read) → filter (λ z. is_packet_of z x) (command ∷ []) ≡ commands_of x (length read) more
+    with_name x read true e more is nothing = rw (e, is) (later_command x c packet read e (sym later ∙ nothing refl))
+    with_name x read false e more is nothing = rw (e, is) refl
+
+    by : (x : ConnectionName) (written read : List Packet) (rest_of : List ℕ) → IsEnd x core written read rest_of → (b : Bool) → named x c ≡ b
+        → ReadsOn x (later_move now core port c packet rest did at later reads taken) written read rest_of
+    by x written read rest_of end b e =
+        let z = read_then x core between did.core port c (left_with now rest) written read rest_of rest packet o h refl later reads s end b e in
+        record { more = z.0; end = z.1; proposed = with_name x read b e z.0 z.2 z.3 }
+
+-- ---- bytes are dropped
+
+-- the connection by a port is closed: of one of its name nothing more is read
+closed_end : (x : ConnectionName) (core later : CoreState) (port : Port) (written read : List Packet) (under_way rest : List ℕ) (c : Connection) → IsOrderly core → open_at port core ≡ Some c
+    → named x c ≡ true → open_named x later ≡ None → later.last_name ≡ core.last_name → IsEnd x core written read under_way → IsEnd x later written read rest
+closed_end x core later port written read under_way rest c o at is gone same end =
+    is_over (subst (λ (y : ConnectionName). IsGiven y x) (sym same) given) gone (front_of x core written read under_way end)
+  where
+    given : IsGiven core.last_name x
+    given = subst (IsGiven core.last_name) (same_name c.name x is) (found_given core port c o at)
+
+gone_closed : (x : ConnectionName) (core : CoreState) (port : Port) (c : Connection) → IsOrderly core → open_at port core ≡ Some c → named x c ≡ true →
+    open_named x (changes port closed core) ≡ None
+unfolding changes
+gone_closed x core port c o at is =
+    (view_of_changed live (named x) (is_open_at port) closed core.connections c (o.names x) (λ d e. left_true (live d) (is_at port d) e)
+    (named_kept x closed (λ d. refl)) at is).1
+
+dropped_end : (x : ConnectionName) (core : CoreState) (port : Port) (piece : List ℕ) (written read : List Packet) (later : List ℕ) → IsOrderly core
+    → Stays core (changes port closed core) → (found : Option Connection) → open_at port core ≡ found → IsEnd x core written read (piece_on x piece found ++ later)
+    → IsEnd x (changes port closed core) written read later
+dropped_end x core port piece written read later o s None at end = end_kept x core (changes port closed core) written read later end (s.kept x) s.last
+dropped_end x core port piece written read later o s (Some c) at end = by (named x c) refl
+  where
+    with_test : (b : Bool) → named x c ≡ b → IsEnd x core written read ((if b then piece else []) ++ later)
+    with_test b e = subst (λ (t : Bool). IsEnd x core written read ((if t then piece else []) ++ later)) e end
+
+    by : (b : Bool) → named x c ≡ b → IsEnd x (changes port closed core) written read later
+    by true e =
+        closed_end x core (changes port closed core) port written read (piece ++ later) later c o at e (gone_closed x core port c o at e) s.last (with_test true e)
+    by false e = end_kept x core (changes port closed core) written read later (with_test false e) (s.kept x) s.last
+
+abbrev drop_move : (core : CoreState) (port : Port) (piece : List ℕ) → LossyMoves core (record { core = changes port closed core; messages = [] })
+drop_move core port piece = drops port piece
+
+drop_reads : (core : CoreState) (port : Port) (piece : List ℕ) → IsOrderly core → ReadsAll (drop_move core port piece)
+drop_reads core port piece o =
+    let s = stays_at port closed core o closed_is_mild in (
+      s.orderly,
+      λ x written read under_way later end same.
+          none_more x (drop_move core port piece) written read later
+          (dropped_end x core port piece written read later o s (open_at port core) refl (subst (IsEnd x core written read) same end)) refl,
+    )
+
+-- ---- each move
+
+exact_reads : {core : CoreState} {turn : Turn} (m : Moves core turn) → IsOrderly core → ReadsAll (let k : LossyMoves core turn = exactly m in k)
+exact_reads {core = core} {turn = turn} m o =
+    let r = nodes_read_in_order core turn m o in (
+      r.0,
+      λ x written read under_way later end same.
+          let z = r.1 x written read under_way later end same in record { more = z.more; end = z.end; proposed = z.proposed },
+    )
+
+pub losses_read_in_order : LossesReadInOrder
+losses_read_in_order core turn (exactly m) o = exact_reads m o
+losses_read_in_order core turn (hears_losing input did other drives) o =
+    stays_reads (hears_losing input did other drives) (stays_drives input core did drives o) (λ x. refl) (λ x. refl)
+losses_read_in_order core turn (first_losing now port c connect rest did at first reads taken) o = first_reads now core port c connect rest did at first reads taken o
+losses_read_in_order core turn (later_losing now port c packet rest did at later reads taken) o = later_reads now core port c packet rest did at later reads taken o
+losses_read_in_order core turn (tells_losing name did taken) o =
+    stays_reads (tells_losing name did taken) (stays_takes (commands.Lost name) core did taken o) (λ x. refl) (λ x. refl)
+losses_read_in_order core turn (expels_losing client did taken) o =
+    stays_reads (expels_losing client did taken) (stays_takes (commands.Expel client) core did taken o) (λ x. refl) (λ x. refl)
+losses_read_in_order core turn forgets o =
+    stays_reads forgets (stays_replica core (record core.replica { losses = one_more core.replica.losses }) (same_le core.replica.state.joined) o) (λ x. refl) (λ x. refl)
+losses_read_in_order core turn halts o =
+    stays_reads halts
+    (stays_replica core (record { state = halted rules core.replica.state; losses = one_more core.replica.losses }) (same_le core.replica.state.joined) o) (λ x. refl) (λ x. refl)
+losses_read_in_order core turn (fails port) o = stays_reads (fails port) (stays_at port failing core o failing_is_mild) (λ x. refl) (λ x. refl)
+losses_read_in_order core turn unheard o = stays_reads unheard (stays_failed core o) (λ x. refl) (λ x. refl)
+losses_read_in_order core turn (drops port piece) o = drop_reads core port piece o

@@ -1,0 +1,317 @@
+-- Each step in which memory may run out is a run of moves.
+use Rattle.std.proofs.Common.{◌≡◌, inl, inr, ℕ, zero, suc, Bool, true, false, not, ◌&&◌, List, [], ◌++◌, length, Some, Ok, refl, sym, ap, ◌∙◌, subst, append_assoc}
+use Rattle.std.proofs.lemmas.List.{append-nil}
+use Rattle.exactly_once.specs.packet.declared.packet.Packet.{Packet}
+use Rattle.exactly_once.specs.packet.declared.packet.Packet.TheVariants as packets
+use Rattle.exactly_once.specs.packet.declared.connect.Connect.{Connect}
+use Rattle.exactly_once.specs.packet.Verdict.{verdict}
+use Rattle.world_base.specs.ballot.Effect.{Effect}
+use Rattle.world_base.specs.ballot.Protocol.{Input}
+use Rattle.exactly_once.specs.broker_base.Command.{Command}
+use Rattle.exactly_once.specs.broker_base.Command.TheVariants as commands
+use Rattle.exactly_once.specs.broker_base.Connection.{ConnectionName}
+use Rattle.exactly_once.specs.broker_base.Output.{Output}
+use Rattle.world_base.specs.declared.Port.{Port}
+use Rattle.world_base.specs.declared.Connection.{Connection}
+use Rattle.world_base.specs.Connections.{asked, closed, failing, is_at, is_first, is_open_at, is_over, left_with}
+use Rattle.world_base.specs.Core.{CoreState, Turn}
+use Rattle.world_base.specs.Failing.{closes_failed}
+use Rattle.world_base.specs.Lossy.{Account, Declines, Proposes, Repeated, Then, quietly}
+use Rattle.world_base.specs.Lossy.Declines.{no_room, forgets as forgets_it, stops}
+use Rattle.world_base.specs.LossyStep.{Asks, Begins, Closes, Ends, EndsSilent, LosesAllFailed, LosesFailed, ReadsNext, Shuts}
+use Rattle.world_base.specs.LossyStep.Ends.{none_open, untold, told}
+use Rattle.world_base.specs.LossyStep.EndsSilent.{none_silent, ends_one}
+use Rattle.world_base.specs.LossyStep.LosesFailed.{none_failed, tells_one}
+use Rattle.world_base.specs.LossyStep.ReadsNext.{waits, first, later, refuses as refuses_it, ends}
+use Rattle.world_base.specs.Reading.{changes, open_at, refused}
+use Rattle.world_base.specs.Turns.{quiet}
+use Rattle.node_moves.specs.LossyMoves.{LossyMoves, came_on, forgetful, halting, hears_in, inputs_in, is_handing, turn_of}
+use Rattle.node_moves.specs.LossyRuns.{AllFreeze, CutsNothing, Freezes, HandsNothing, HearsAtFirst, IsCalm, LossyRuns, all_inputs, bytes_on, cuts_in, exactly_cuts}
+use Rattle.node_moves.specs.LossyMoves.LossyMoves.{exactly, hears_losing, first_losing, later_losing, tells_losing, expels_losing, forgets, halts, fails, unheard, drops}
+use Rattle.node_moves.specs.LossyRuns.LossyRuns.{rests, goes_on}
+use Rattle.node_moves.specs.Keeping.{moves_replica}
+use Rattle.node_moves.specs.Moves.{Moves, and_then}
+use Rattle.node_moves.specs.Moves.Moves.{hears, opens_one, holds, reads_first, reads_later, closes, refuses, loses_one, loses_next, expels_one, cuts_log, crashes, settles, hands}
+use Rattle.node_moves.proofs.StepsMove.{twice}
+
+abbrev pub Given : Type 0
+Given = List (Effect Command Output)
+
+-- ---- moves in which nothing is received, nothing comes, and nothing is handed over
+
+abbrev pub IsStill : {core : CoreState} {turn : Turn} → LossyMoves core turn → Type 0
+IsStill m = (hears_in m ≡ false) × (is_handing m ≡ false) × (inputs_in m ≡ []) × ((x : ConnectionName) → came_on x m ≡ [])
+
+abbrev pub AreStill : {core : CoreState} {turn : Turn} → LossyRuns core turn → Type 0
+AreStill rests = Unit {0}
+AreStill (goes_on m run) = IsStill m × AreStill run
+
+-- a run of such
+abbrev pub Calm : CoreState → Turn → Type 0
+Calm core turn = (run : LossyRuns core turn) × AreStill run
+
+calm_then : {core : CoreState} {a b : Turn} (run : LossyRuns core a) → AreStill run → Calm a.core b → Calm core (and_then a b)
+calm_then rests still r = r
+calm_then {b = b} (goes_on {core = core} {first = one} {next = next} m run) still r =
+    let rest = calm_then run still.1 r in
+    subst (λ (given : Given). Calm core (let t : Turn = record { core = b.core; messages = given } in t)) (sym (append_assoc one.messages next.messages b.messages))
+    (goes_on m rest.0, (still.0, rest.1))
+
+pub calm_join : {core : CoreState} {a b : Turn} → Calm core a → Calm a.core b → Calm core (and_then a b)
+calm_join q r = calm_then q.0 q.1 r
+
+pub calm_move : {core : CoreState} {t : Turn} (m : LossyMoves core t) → IsStill m → Calm core t
+calm_move {core = core} {t = t} m still =
+    subst (λ (given : Given). Calm core (let u : Turn = record { core = t.core; messages = given } in u)) (append-nil t.messages) (goes_on m rests, (still, tt))
+
+-- what was done is such a run
+abbrev pub Still : CoreState → Account → Type 0
+Still core did = Calm core (turn_of did)
+
+by_account : (core new : CoreState) (did : Account) → did ≡ quietly new → Calm core (quiet new) → Still core did
+by_account core new did is calm = subst (λ (d : Account). Calm core (turn_of d)) (sym is) calm
+
+by_none : (core : CoreState) (did : Account) → did ≡ quietly core → Still core did
+by_none core did is = by_account core core did is (rests, tt)
+
+still_then : (P Q : CoreState → Account → Type 0) → ((k : CoreState) (d : Account) → P k d → Still k d) →
+    ((k : CoreState) (d : Account) → Q k d → Still k d) → (core : CoreState) (did : Account) → Then P Q core did → Still core did
+still_then P Q p q core did t =
+    subst (λ (d : Account). Still core d) (sym t.is) (calm_join (p core t.one t.first) (q t.one.core t.two t.next))
+
+pub still_repeated : (n : ℕ) (Next : CoreState → Account → Type 0) → ((k : CoreState) (d : Account) → Next k d → Still k d) →
+    (core : CoreState) (did : Account) → Repeated n Next core did → Still core did
+still_repeated zero Next on core did none = by_none core did none
+still_repeated (suc n) Next on core did done = still_then Next (Repeated n Next) on (still_repeated n Next on) core did done
+
+-- after a change in which the replica gives nothing
+still_behind : (core between : CoreState) (did : Account) → Calm core (quiet between) → Still between did → Still core did
+still_behind core between did change more = calm_join change more
+
+-- ---- commands
+
+still_declines : (core : CoreState) (did : Account) → Declines core did → Still core did
+still_declines core did (no_room full is) = by_none core did is
+still_declines core did (forgets_it room is) = by_account core (forgetful core) did is (calm_move forgets (refl, refl, refl, λ x. refl))
+still_declines core did (stops room is) = by_account core (halting core) did is (calm_move halts (refl, refl, refl, λ x. refl))
+
+pub still_lost : (name : ConnectionName) (core : CoreState) (did : Account) → Proposes (commands.Lost name) core did → Still core did
+still_lost name core did (inl taken) = calm_move (tells_losing name did taken) (refl, refl, refl, λ x. refl)
+still_lost name core did (inr declines) = still_declines core did declines
+
+pub still_expelled : (client : List ℕ) (core : CoreState) (did : Account) → Proposes (commands.Expel client) core did → Still core did
+still_expelled client core did (inl taken) = calm_move (expels_losing client did taken) (refl, refl, refl, λ x. refl)
+still_expelled client core did (inr declines) = still_declines core did declines
+
+closing : (port : Port) (core : CoreState) → Calm core (quiet (changes port closed core))
+closing port core = calm_move (exactly (closes port)) (refl, refl, refl, λ x. refl)
+
+-- ---- ends
+
+pub still_ends : (port : Port) (core : CoreState) (did : Account) → Ends port core did → Still core did
+still_ends port core did (none_open none is) = by_none core did is
+still_ends port core did (untold c found other is) = by_account core (changes port closed core) did is (closing port core)
+still_ends port core did (told c found heard proposes) =
+    still_behind core (changes port closed core) did (closing port core) (still_lost c.name (changes port closed core) did proposes)
+
+pub still_silent : (now : ℕ) (core : CoreState) (did : Account) → EndsSilent now core did → Still core did
+still_silent now core did (none_silent none is) = by_none core did is
+still_silent now core did (ends_one port found runs) = still_ends port core did runs
+
+still_failed : (core : CoreState) (did : Account) → LosesFailed core did → Still core did
+still_failed core did (none_failed none is) = by_none core did is
+still_failed core did (tells_one c found proposes) =
+    still_behind core (closes_failed core) did (calm_move unheard (refl, refl, refl, λ x. refl)) (still_lost c.name (closes_failed core) did proposes)
+
+pub all_failed : (core : CoreState) (did : Account) → LosesAllFailed core did → Still core did
+all_failed core did runs = still_repeated (length core.connections) LosesFailed still_failed core did runs
+
+-- ---- a packet is read, and not taken
+
+right_true : (a b : Bool) → (a && b) ≡ true → b ≡ true
+right_true true b e = e
+right_true false b e = absurd cc
+
+closed_left : (now : ℕ) (port : Port) (rest : List ℕ) (core : CoreState) → changes port closed (changes port (left_with now rest) core) ≡ changes port closed core
+unfolding changes
+closed_left now port rest core = ap (λ (l : List Connection). record core { connections = l }) (twice (is_open_at port) closed (left_with now rest) core.connections (λ c e. e))
+
+failing_left : (now : ℕ) (port : Port) (rest : List ℕ) (core : CoreState) → changes port failing (changes port (left_with now rest) core) ≡ changes port failing core
+unfolding changes
+failing_left now port rest core = ap (λ (l : List Connection). record core { connections = l }) (twice (is_open_at port) failing (left_with now rest) core.connections (λ c e. e))
+
+closed_asked : (keep_alive : ℕ) (port : Port) (core : CoreState) → changes port closed (changes port (asked keep_alive) core) ≡ changes port closed core
+unfolding changes
+closed_asked keep_alive port core =
+    ap (λ (l : List Connection). record core { connections = l })
+    (twice (is_open_at port) closed (asked keep_alive) core.connections (λ c e. right_true (not (is_over c.stage)) (is_at port c) e))
+
+forgets_before : (port : Port) (f : Connection → Connection) (core : CoreState) → changes port f (forgetful core) ≡ forgetful (changes port f core)
+unfolding changes
+forgets_before port f core = refl
+
+halts_before : (port : Port) (f : Connection → Connection) (core : CoreState) → changes port f (halting core) ≡ halting (changes port f core)
+unfolding changes
+halts_before port f core = refl
+
+-- the command is not taken, and then the connection is closed so: as if it had been closed before
+declined : (port : Port) (f : Connection → Connection) (core between : CoreState) (did : Account) → changes port f between ≡ changes port f core
+    → Calm core (quiet (changes port f core)) → Then Declines (λ k d. d ≡ quietly (changes port f k)) between did → Still core did
+declined port f core between did same change t =
+    subst (λ (d : Account). Still core d) (sym (t.is ∙ ap (λ (d : Account). let a : Account = record { core = d.core; given = t.one.given ++ d.given; messages = t.one.messages ++ d.messages } in a) t.next))
+    (by t.one t.first)
+  where
+    ends_so : CoreState → Given → Type 0
+    ends_so k messages = Calm core (let u : Turn = record { core = k; messages = messages } in u)
+
+    by : (one : Account) → Declines between one → Calm core (let u : Turn = record { core = changes port f one.core; messages = one.messages ++ [] } in u)
+    by one (no_room full is) = subst (λ (d : Account). ends_so (changes port f d.core) (d.messages ++ [])) (sym is) (subst (λ (k : CoreState). ends_so k []) (sym same) change)
+    by one (forgets_it room is) =
+        subst (λ (d : Account). ends_so (changes port f d.core) (d.messages ++ [])) (sym is)
+        (subst (λ (k : CoreState). ends_so k []) (sym (forgets_before port f between ∙ ap forgetful same))
+        (calm_join change (calm_move forgets (refl, refl, refl, λ x. refl))))
+    by one (stops room is) =
+        subst (λ (d : Account). ends_so (changes port f d.core) (d.messages ++ [])) (sym is)
+        (subst (λ (k : CoreState). ends_so k []) (sym (halts_before port f between ∙ ap halting same))
+        (calm_join change (calm_move halts (refl, refl, refl, λ x. refl))))
+
+-- ---- the next packet
+
+still_connects : (now : ℕ) (port : Port) (c : Connection) (core : CoreState) (connect : Connect) (rest : List ℕ) (did : Account) → open_at port core ≡ Some c → is_first c.stage ≡ true
+    → verdict c.unread ≡ Ok (packets.Connect connect, rest)
+    → Asks (commands.Connect c.name connect.client connect.clean) (Closes port) (changes port (asked connect.keep_alive) (changes port (left_with now rest) core)) did → Still core did
+still_connects now port c core connect rest did at awaits is (inl taken) =
+    calm_move (first_losing now port c connect rest did at awaits is taken) (refl, refl, refl, λ x. refl)
+still_connects now port c core connect rest did at awaits is (inr other) =
+    declined port closed core (changes port (asked connect.keep_alive) (changes port (left_with now rest) core)) did
+    (closed_asked connect.keep_alive port (changes port (left_with now rest) core) ∙ closed_left now port rest core) (closing port core) other
+
+still_begins : (now : ℕ) (port : Port) (c : Connection) (core : CoreState) (packet : Packet) (rest : List ℕ) (did : Account) → open_at port core ≡ Some c → is_first c.stage ≡ true
+    → verdict c.unread ≡ Ok (packet, rest) → Begins port c.name packet (changes port (left_with now rest) core) did → Still core did
+still_begins now port c core (packets.Connect connect) rest did at awaits is runs = still_connects now port c core connect rest did at awaits is runs
+still_begins now port c core _ rest did at awaits is runs =
+    by_account core (changes port closed (changes port (left_with now rest) core)) did runs
+    (subst (λ (k : CoreState). Calm core (quiet k)) (sym (closed_left now port rest core)) (closing port core))
+
+failing_at : (port : Port) (core : CoreState) → Calm core (quiet (changes port failing core))
+failing_at port core = calm_move (fails port) (refl, refl, refl, λ x. refl)
+
+still_says : (now : ℕ) (port : Port) (c : Connection) (core : CoreState) (packet : Packet) (rest : List ℕ) (did : Account) → open_at port core ≡ Some c → is_first c.stage ≡ false
+    → verdict c.unread ≡ Ok (packet, rest) → Asks (commands.Packet c.name packet) (Shuts port) (changes port (left_with now rest) core) did → Still core did
+still_says now port c core packet rest did at proposed is (inl taken) =
+    calm_move (later_losing now port c packet rest did at proposed is taken) (refl, refl, refl, λ x. refl)
+still_says now port c core packet rest did at proposed is (inr other) = by other.next
+  where
+    by : Shuts port other.one.core other.two → Still core did
+    by (inl shut) =
+        declined port closed core (changes port (left_with now rest) core) did (closed_left now port rest core) (closing port core)
+        (record { one = other.one; two = other.two; first = other.first; next = shut; is = other.is })
+    by (inr fails_so) =
+        declined port failing core (changes port (left_with now rest) core) did (failing_left now port rest core) (failing_at port core)
+        (record { one = other.one; two = other.two; first = other.first; next = fails_so; is = other.is })
+
+pub still_reads : (now : ℕ) (port : Port) (core : CoreState) (did : Account) → ReadsNext now port core did → Still core did
+still_reads now port core did (waits c found more is) = by_none core did is
+still_reads now port core did (first c packet rest found awaits is runs) = still_begins now port c core packet rest did found awaits is runs
+still_reads now port core did (later c packet rest found proposed is runs) = still_says now port c core packet rest did found proposed is runs
+still_reads now port core did (refuses_it c code found awaits is runs) =
+    by_account core (changes port (refused code) core) did runs (calm_move (exactly (refuses port c code found awaits is)) (refl, refl, refl, λ x. refl))
+still_reads now port core did (ends runs) = still_ends port core did runs
+
+-- ---- a step
+
+calm_of : {core : CoreState} {turn : Turn} (run : LossyRuns core turn) → AreStill run → IsCalm run
+calm_of rests still = tt
+calm_of (goes_on m run) still = (still.0.0, calm_of run still.1)
+
+hands_of : {core : CoreState} {turn : Turn} (run : LossyRuns core turn) → AreStill run → HandsNothing run
+hands_of rests still = tt
+hands_of (goes_on m run) still = (still.0.1, hands_of run still.1)
+
+inputs_none : {core : CoreState} {turn : Turn} (run : LossyRuns core turn) → AreStill run → all_inputs run ≡ []
+inputs_none rests still = refl
+inputs_none (goes_on m run) still = ap (λ l. l ++ all_inputs run) still.0.2 ∙ inputs_none run still.1
+
+bytes_none : {core : CoreState} {turn : Turn} (run : LossyRuns core turn) → AreStill run → (x : ConnectionName) → bytes_on x run ≡ []
+bytes_none rests still x = refl
+bytes_none (goes_on m run) still x = ap (λ l. l ++ bytes_on x run) (still.0.3 x) ∙ bytes_none run still.1 x
+
+-- in such a move no log is cut
+exactly_still : {core : CoreState} {turn : Turn} (m : Moves core turn) → moves_replica m ≡ false → exactly_cuts m ≡ false
+exactly_still (cuts_log can) calm = absurd cc
+exactly_still m calm = refl
+
+pub still_cuts : {core : CoreState} {turn : Turn} (m : LossyMoves core turn) → hears_in m ≡ false → cuts_in m ≡ false
+still_cuts (exactly m) calm = exactly_still m calm
+still_cuts m calm = refl
+
+pub calm_cuts_none : {core : CoreState} {turn : Turn} (run : LossyRuns core turn) → IsCalm run → CutsNothing run
+calm_cuts_none rests calm = tt
+calm_cuts_none (goes_on m run) calm = (still_cuts m calm.0, calm_cuts_none run calm.1)
+
+still_freezes : {core : CoreState} {turn : Turn} (m : LossyMoves core turn) → hears_in m ≡ false → Freezes m
+still_freezes (exactly (hears input other)) calm = tt
+still_freezes (exactly (opens_one port)) calm = tt
+still_freezes (exactly (holds port piece)) calm = tt
+still_freezes (exactly (reads_first now port c connect rest at awaits is room)) calm = tt
+still_freezes (exactly (reads_later now port c packet rest at proposed is room)) calm = tt
+still_freezes (exactly (closes port)) calm = tt
+still_freezes (exactly (refuses port c code at awaits is)) calm = tt
+still_freezes (exactly (loses_one port c at proposed)) calm = tt
+still_freezes (exactly (loses_next c at)) calm = tt
+still_freezes (exactly (expels_one client)) calm = tt
+still_freezes (exactly (cuts_log can)) calm = absurd cc
+still_freezes (exactly crashes) calm = tt
+still_freezes (exactly settles) calm = tt
+still_freezes (exactly (hands port)) calm = tt
+still_freezes (hears_losing input did other drives) calm = tt
+still_freezes (first_losing now port c connect rest did at awaits is taken) calm = tt
+still_freezes (later_losing now port c packet rest did at proposed is taken) calm = tt
+still_freezes (tells_losing name did taken) calm = tt
+still_freezes (expels_losing client did taken) calm = tt
+still_freezes forgets calm = tt
+still_freezes halts calm = tt
+still_freezes (fails port) calm = tt
+still_freezes unheard calm = tt
+still_freezes (drops port piece) calm = tt
+
+all_freeze : {core : CoreState} {turn : Turn} (run : LossyRuns core turn) → AreStill run → AllFreeze run
+all_freeze rests still = tt
+all_freeze (goes_on m run) still = (still_freezes m still.0.0, all_freeze run still.1)
+
+-- a run in which these are received, at first, or a log is cut if it may be, and these bytes come
+pub record First (core : CoreState) (turn : Turn) (inputs : List (Input Command)) (may_cut : Bool) (bytes : ConnectionName → List ℕ) : Type 0 where
+  pub run : LossyRuns core turn
+  pub first : HearsAtFirst run
+  pub hears : all_inputs run ≡ inputs
+  pub bytes_so : (x : ConnectionName) → bytes_on x run ≡ bytes x
+  pub hands : HandsNothing run
+  pub cuts : may_cut ≡ false → CutsNothing run
+  pub freezes : AllFreeze run
+
+pub first_calm : {core : CoreState} {turn : Turn} (may_cut : Bool) (bytes : ConnectionName → List ℕ) → ((x : ConnectionName) → bytes x ≡ []) → Calm core turn
+    → First core turn [] may_cut bytes
+first_calm may_cut bytes none (rests, still) = record { run = rests; first = tt; hears = refl; bytes_so = λ x. sym (none x); hands = tt; cuts = λ e. tt; freezes = tt }
+first_calm may_cut bytes none (goes_on m run, still) =
+    record {
+      run = goes_on m run;
+      first = calm_of run still.1;
+      hears = inputs_none (goes_on m run) still;
+      bytes_so = λ x. bytes_none (goes_on m run) still x ∙ sym (none x);
+      hands = hands_of (goes_on m run) still;
+      cuts = λ e. calm_cuts_none (goes_on m run) (calm_of (goes_on m run) still);
+      freezes = all_freeze (goes_on m run) still;
+    }
+
+pub first_move : {core : CoreState} {one next : Turn} (m : LossyMoves core one) (may_cut : Bool) (bytes : ConnectionName → List ℕ) → is_handing m ≡ false
+    → ((x : ConnectionName) → came_on x m ≡ bytes x) → (may_cut ≡ false → cuts_in m ≡ false) → Freezes m → Calm one.core next → First core (and_then one next) (inputs_in m) may_cut bytes
+first_move m may_cut bytes no_hand came no_cut frozen (run, still) =
+    record {
+      run = goes_on m run;
+      first = calm_of run still;
+      hears = ap (λ l. inputs_in m ++ l) (inputs_none run still) ∙ append-nil (inputs_in m);
+      bytes_so = λ x. ap (λ l. came_on x m ++ l) (bytes_none run still x) ∙ append-nil (came_on x m) ∙ came x;
+      hands = (no_hand, hands_of run still);
+      cuts = λ e. (no_cut e, calm_cuts_none run (calm_of run still));
+      freezes = (frozen, all_freeze run still);
+    }

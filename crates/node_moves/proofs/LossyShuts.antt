@@ -1,0 +1,122 @@
+-- What each move in which memory may run out does to a connection that may be closed.
+use Rattle.std.proofs.lemmas.Bool.{both_ways}
+use Rattle.std.proofs.Common.{◌≡◌, ◌≤◌, ℕ, true, List, [], ◌++◌, Option, Some, None, refl, sym, ap, ◌∙◌, subst}
+use Rattle.world_base.specs.ballot.Protocol.{Input}
+use Rattle.exactly_once.specs.broker_base.Command.{Command}
+use Rattle.exactly_once.specs.broker_base.Command.TheVariants as commands
+use Rattle.exactly_once.specs.broker_base.Connection.{ConnectionName}
+use Rattle.exactly_once.specs.Sends.{sends_to}
+use Rattle.world_base.specs.declared.Connection.{Connection}
+use Rattle.world_base.specs.Connections.{asked, closed, failing, has_failed, is_open_named, left_with}
+use Rattle.world_base.specs.Core.{CoreState, Turn}
+use Rattle.world_base.specs.Lossy.{Account, Drives, Takes}
+use Rattle.world_base.specs.Reading.{changes}
+use Rattle.world_base.specs.Turns.{heard}
+use Rattle.node_moves.specs.Closed.{listed_named}
+use Rattle.node_moves.specs.Ends.{IsOrderly, open_named}
+use Rattle.node_moves.specs.LossyLaws.{LossesPutInOrder}
+use Rattle.node_moves.specs.LossyMoves.{LossyMoves, given_in, refusal_in}
+use Rattle.node_moves.specs.LossyMoves.LossyMoves.{exactly, hears_losing, first_losing, later_losing, tells_losing, expels_losing, forgets, halts, fails, unheard, drops}
+use Rattle.node_moves.specs.Puts.{outputs_of, spelled}
+use Rattle.node_moves.proofs.Kept.{heard_up, left_true, live, named}
+use Rattle.node_moves.proofs.LossyOutputs.{delivers_shuts, failing_shuts}
+use Rattle.node_moves.proofs.LossyReads.{losses_read_in_order, replica_orderly, taken_joined}
+use Rattle.node_moves.proofs.NamesInOrder.{same_le}
+use Rattle.node_moves.proofs.NamesStayApart.{steps_up}
+use Rattle.node_moves.proofs.NothingOnClosed.{failed_dead}
+use Rattle.node_moves.proofs.PutsInOrder.{puts_in_order}
+use Rattle.node_moves.proofs.Shut.{Shuts, all, shuts_closed, shuts_joined, shuts_same, shuts_tested}
+use Rattle.node_moves.proofs.Shut.Shuts.{nobody, stays_open, is_shut, was_shut}
+use Rattle.node_moves.proofs.ShutByChanges.{asked_shuts, at_orderly, at_shuts, left_shuts}
+use Rattle.node_moves.proofs.ShutByOutputs.{bytes_for, right_true}
+use Rattle.node_moves.proofs.Views.{found_passes, same_some, some_none, view_of_changed}
+
+-- what a move queues for a name
+abbrev pub sent_in : ConnectionName → {core : CoreState} {turn : Turn} → LossyMoves core turn → List ℕ
+sent_in x m = spelled (refusal_in x m ++ sends_to x (outputs_of (given_in m)))
+
+-- ---- the replica
+
+pub driven : (x : ConnectionName) (input : Input Command) (core : CoreState) (did : Account) → Drives input core did → IsOrderly core
+    → Shuts (bytes_for x did.given) (listed_named x core) (listed_named x did.core)
+driven x input core did m o =
+    delivers_shuts x did.given (record core { replica = m.replica }) did.core did.messages m.delivers
+    (replica_orderly core m.replica (steps_up core.replica m.replica (heard input core.replica.state) did.given (heard_up input core) m.steps) o)
+
+taken_shuts : (x : ConnectionName) (command : Command) (core : CoreState) (did : Account) → Takes command core did → IsOrderly core
+    → Shuts (bytes_for x did.given) (listed_named x core) (listed_named x did.core)
+taken_shuts x command core did t o =
+    delivers_shuts x did.given (record core { replica = t.replica }) did.core did.messages t.delivers
+    (replica_orderly core t.replica (subst (λ (n : ℕ). core.replica.state.joined ≤ n) (sym (taken_joined command core did t)) (same_le core.replica.state.joined)) o)
+
+-- ---- each move that loses
+
+-- a move with losses
+abbrev pub Loses : {core : CoreState} {turn : Turn} → LossyMoves core turn → Type 0
+Loses (exactly m) = ⊥
+Loses _ = Unit {0}
+
+pub lossy_shuts : (core : CoreState) (turn : Turn) (m : LossyMoves core turn) → IsOrderly core → (x : ConnectionName) → Loses m
+    → Shuts (sent_in x m) (listed_named x core) (listed_named x turn.core)
+lossy_shuts core turn (exactly m) o x may = absurd may
+lossy_shuts core turn (hears_losing input did other drives) o x may = driven x input core did drives o
+lossy_shuts core turn (first_losing now port c connect rest did at first is taken) o x may =
+    let left : CoreState = changes port (left_with now rest) core in
+    let ordered = at_orderly port (left_with now rest) core o (λ z. refl) in
+    shuts_joined
+    (shuts_joined (at_shuts x port (left_with now rest) core o (λ z. refl) (left_shuts now rest))
+    (at_shuts x port (asked connect.keep_alive) left ordered (λ z. refl) (asked_shuts connect.keep_alive)))
+    (taken_shuts x _ (changes port (asked connect.keep_alive) left) did taken (at_orderly port (asked connect.keep_alive) left ordered (λ z. refl)))
+lossy_shuts core turn (later_losing now port c packet rest did at later is taken) o x may =
+    shuts_joined (at_shuts x port (left_with now rest) core o (λ z. refl) (left_shuts now rest))
+    (taken_shuts x _ (changes port (left_with now rest) core) did taken (at_orderly port (left_with now rest) core o (λ z. refl)))
+lossy_shuts core turn (tells_losing name did taken) o x may = taken_shuts x (commands.Lost name) core did taken o
+lossy_shuts core turn (expels_losing client did taken) o x may = taken_shuts x (commands.Expel client) core did taken o
+lossy_shuts core turn forgets o x may = shuts_same (listed_named x core)
+lossy_shuts core turn halts o x may = shuts_same (listed_named x core)
+lossy_shuts core turn (fails port) o x may = at_shuts x port failing core o (λ z. refl) (failing_shuts [])
+lossy_shuts core turn unheard o x may =
+    shuts_tested x has_failed closed core.connections (o.names x) (λ z. refl) (λ z failed. was_shut (failed_dead z failed) refl refl)
+lossy_shuts core turn (drops port piece) o x may = at_shuts x port closed core o (λ z. refl) (λ z lives. shuts_closed z)
+
+-- ---- what is queued on an open connection
+
+listed_of : (x : ConnectionName) (core : CoreState) (c : Connection) → IsOrderly core → open_named x core ≡ Some c → listed_named x core ≡ Some c
+listed_of x core c o found =
+    (view_of_changed all (named x) (is_open_named x) (λ z. z) core.connections c (o.names x) (λ z t. refl) (λ z. refl) found
+    (right_true (live c) (named x c) (found_passes (is_open_named x) core.connections c found))).0
+
+put_by : (bytes : List ℕ) (o p : Option Connection) (c d : Connection) → Shuts bytes o p → o ≡ Some c → p ≡ Some d → live d ≡ true →
+    d.pending ≡ c.pending ++ bytes
+put_by bytes o None c d nobody before after lives = absurd (some_none d (sym after))
+put_by bytes None (Some e) c d shuts before after lives = elim shuts [ ]
+put_by bytes (Some b) (Some e) c d (stays_open f g h) before after lives =
+    ap (λ (z : Connection). z.pending) (sym (same_some e d after)) ∙ h ∙ ap (λ (z : Connection). z.pending ++ bytes) (same_some b c before)
+put_by bytes (Some b) (Some e) c d (is_shut front f g h i) before after lives = absurd (both_ways (live d) (ap live (sym (same_some e d after)) ∙ g) lives)
+put_by bytes (Some b) (Some e) c d (was_shut f g h) before after lives = absurd (both_ways (live d) (ap live (sym (same_some e d after)) ∙ g) lives)
+
+lossy_puts : (core : CoreState) (turn : Turn) (m : LossyMoves core turn) → IsOrderly core → IsOrderly turn.core → Loses m → (x : ConnectionName) (c d : Connection) →
+    open_named x core ≡ Some c → open_named x turn.core ≡ Some d → d.pending ≡ c.pending ++ sent_in x m
+lossy_puts core turn m o later may x c d before after =
+    put_by (sent_in x m) (listed_named x core) (listed_named x turn.core) c d (lossy_shuts core turn m o x may) (listed_of x core c o before)
+    (listed_of x turn.core d later after) (left_true (live d) (named x d) (found_passes (is_open_named x) turn.core.connections d after))
+
+later_orderly : (core : CoreState) (turn : Turn) (m : LossyMoves core turn) → IsOrderly core → IsOrderly turn.core
+later_orderly core turn m o = (losses_read_in_order core turn m o).0
+
+abbrev lost_puts : (core : CoreState) (turn : Turn) (m : LossyMoves core turn) → IsOrderly core → Loses m → (x : ConnectionName) (c d : Connection) →
+    open_named x core ≡ Some c → open_named x turn.core ≡ Some d → d.pending ≡ c.pending ++ sent_in x m
+lost_puts core turn m o may x c d before after = lossy_puts core turn m o (later_orderly core turn m o) may x c d before after
+
+pub losses_put_in_order : LossesPutInOrder
+losses_put_in_order core turn (exactly m) o no_hand x c d before after = puts_in_order core turn m o no_hand x c d before after
+losses_put_in_order core turn (hears_losing input did other drives) o no_hand x c d before after = lost_puts core turn (hears_losing input did other drives) o tt x c d before after
+losses_put_in_order core turn (first_losing now port b connect rest did at first is taken) o no_hand x c d before after = lost_puts core turn (first_losing now port b connect rest did at first is taken) o tt x c d before after
+losses_put_in_order core turn (later_losing now port b packet rest did at later is taken) o no_hand x c d before after = lost_puts core turn (later_losing now port b packet rest did at later is taken) o tt x c d before after
+losses_put_in_order core turn (tells_losing name did taken) o no_hand x c d before after = lost_puts core turn (tells_losing name did taken) o tt x c d before after
+losses_put_in_order core turn (expels_losing client did taken) o no_hand x c d before after = lost_puts core turn (expels_losing client did taken) o tt x c d before after
+losses_put_in_order core turn forgets o no_hand x c d before after = lost_puts core turn forgets o tt x c d before after
+losses_put_in_order core turn halts o no_hand x c d before after = lost_puts core turn halts o tt x c d before after
+losses_put_in_order core turn (fails port) o no_hand x c d before after = lost_puts core turn (fails port) o tt x c d before after
+losses_put_in_order core turn unheard o no_hand x c d before after = lost_puts core turn unheard o tt x c d before after
+losses_put_in_order core turn (drops port piece) o no_hand x c d before after = lost_puts core turn (drops port piece) o tt x c d before after

@@ -1,0 +1,112 @@
+-- What a move leaves of the replica, if it receives nothing and does not stop.
+use Rattle.std.proofs.Common.{◌≡◌, Bool, true, false, not, ◌&&◌, if◌then◌else◌, List, [], ◌∷◌, ◌++◌, Option, Some, None, refl, sym, ap, ◌∙◌, subst}
+use Rattle.std.specs.List.{find, fold, list_any}
+use Rattle.exactly_once.specs.packet.Spelling.{spelling}
+use Rattle.world_base.specs.ballot.Effect.{Effect}
+use Rattle.world_base.specs.ballot.Effect.TheVariants.{To, Out}
+use Rattle.world_base.specs.ballot.Replica.{CountedReplica, ReplicaState, is_active}
+use Rattle.world_base.specs.ballot.Sending.{Outcome}
+use Rattle.world_base.specs.ballot.Serving.{proposed}
+use Rattle.exactly_once.specs.broker_base.State.{State}
+use Rattle.exactly_once.specs.broker_base.Command.{Command}
+use Rattle.exactly_once.specs.broker_base.Connection.{ConnectionName, is_connection_name}
+use Rattle.exactly_once.specs.broker_base.Output.{Output}
+use Rattle.exactly_once.specs.broker_base.Output.TheVariants as outputs
+use Rattle.world_base.specs.declared.Port.{Port}
+use Rattle.world_base.specs.declared.Connection.{Connection}
+use Rattle.world_base.specs.Connections.{asked, closed, fresh, is_at, left_with, put_out}
+use Rattle.world_base.specs.Core.{CoreState, Turn, rules, serves}
+use Rattle.world_base.specs.Failing.{closes_failed}
+use Rattle.world_base.specs.Handing.{hands_over, left_by}
+use Rattle.world_base.specs.Reading.{changes}
+use Rattle.world_base.specs.Step.{next_name, opens, settled}
+use Rattle.world_base.specs.Turns.{changes_named, moved, proposes, quiet, served}
+use Rattle.node_moves.specs.Keeping.{moves_replica}
+use Rattle.node_moves.specs.Moves.{Moves}
+use Rattle.node_moves.specs.Moves.Moves.{hears, opens_one, holds, reads_first, reads_later, closes, refuses, loses_one, loses_next, expels_one, cuts_log, crashes, settles, hands}
+use Rattle.node_moves.proofs.ReplicaStays.{Same, proposed_same}
+use Rattle.node_moves.proofs.ShutByChanges.{at_replica}
+
+named_replica : (name : ConnectionName) (f : Connection → Connection) (core : CoreState) → (changes_named name f core).replica ≡ core.replica
+unfolding changes_named
+named_replica name f core = refl
+
+served_replica : (core : CoreState) (e : Effect Command Output) → (served core e).replica ≡ core.replica
+served_replica core (Out place (outputs.Send name packet)) = named_replica name (put_out (spelling packet)) core
+served_replica core (Out place (outputs.Close name)) = named_replica name closed core
+served_replica core (To receiver message) = refl
+
+fold_replica : (core : CoreState) (effects : List (Effect Command Output)) → (fold served core effects).replica ≡ core.replica
+fold_replica core [] = refl
+fold_replica core (e ∷ effects) = fold_replica (served core e) effects ∙ served_replica core e
+
+pub moved_replica : (outcome : Outcome State Command Output) (core : CoreState) → (moved outcome core).core.replica.state ≡ outcome.state
+moved_replica outcome core =
+    ap (λ (r : CountedReplica State Command). r.state)
+    (fold_replica (let k : CoreState = record core { replica = record core.replica { state = outcome.state } } in k) outcome.effects)
+
+same_replica : (core later : CoreState) → later.replica ≡ core.replica → Same core.replica.state later.replica.state
+same_replica core later e =
+    record {
+      role = ap (λ (r : CountedReplica State Command). r.state.role) e;
+      joined = ap (λ (r : CountedReplica State Command). r.state.joined) e;
+      stopped = ap (λ (r : CountedReplica State Command). r.state.stopped) e;
+      base = ap (λ (r : CountedReplica State Command). r.state.log.base) e;
+    }
+
+proposes_same : (command : Command) (core : CoreState) → Same core.replica.state (proposes command core).core.replica.state
+unfolding proposes
+proposes_same command core = by (serves core)
+  where
+    by : (b : Bool) → Same core.replica.state (let t : Turn = if b then moved (proposed rules core.replica.state command) core else quiet core in t).core.replica.state
+    by true =
+        subst (λ (r : ReplicaState State Command). Same core.replica.state r) (sym (moved_replica (proposed rules core.replica.state command) core))
+        (proposed_same rules core.replica.state command)
+    by false = record { role = refl; joined = refl; stopped = refl; base = refl }
+
+behind_same : (command : Command) (core between : CoreState) → between.replica ≡ core.replica → Same core.replica.state (proposes command between).core.replica.state
+behind_same command core between e =
+    let s = proposes_same command between in
+    let t = same_replica core between e in
+    record { role = s.role ∙ t.role; joined = s.joined ∙ t.joined; stopped = s.stopped ∙ t.stopped; base = s.base ∙ t.base }
+
+opens_replica : (port : Port) (core : CoreState) → (opens port core).replica ≡ core.replica
+unfolding opens
+opens_replica port core = by ((serves core && not (list_any (is_at port) core.connections)) && is_connection_name (next_name core))
+  where
+    by : (b : Bool) → (let k : CoreState = if b then record core { last_name = next_name core; connections = core.connections ++ fresh port (next_name core) ∷ [] } else core in k).replica ≡ core.replica
+    by true = refl
+    by false = refl
+
+pub settled_replica : (core : CoreState) → (settled core).replica ≡ core.replica
+unfolding settled
+settled_replica core = refl
+
+hands_replica : (port : Port) (core : CoreState) → (hands_over port core).replica ≡ core.replica
+unfolding hands_over
+hands_replica port core = by (find (is_at port) core.connections)
+  where
+    by : (o : Option Connection) → (left_by port core o).replica ≡ core.replica
+    by None = refl
+    by (Some c) = refl
+
+pub move_same : (core : CoreState) (turn : Turn) (m : Moves core turn) → moves_replica m ≡ false → Same core.replica.state turn.core.replica.state
+move_same core turn (hears input other) calm = absurd cc
+move_same core turn (cuts_log can) calm = absurd cc
+move_same core turn crashes calm = absurd cc
+move_same core turn (opens_one port) calm = same_replica core (opens port core) (opens_replica port core)
+move_same core turn (holds port piece) calm = same_replica core turn.core (at_replica port _ core)
+move_same core turn (reads_first now port c connect rest at first is room) calm =
+    behind_same _ core (changes port (asked connect.keep_alive) (changes port (left_with now rest) core)) (at_replica port (asked connect.keep_alive) (changes port (left_with now rest) core) ∙ at_replica port (left_with now rest) core)
+move_same core turn (reads_later now port c packet rest at later is room) calm = behind_same _ core (changes port (left_with now rest) core) (at_replica port (left_with now rest) core)
+move_same core turn (closes port) calm = same_replica core turn.core (at_replica port closed core)
+move_same core turn (refuses port c code at first is) calm = same_replica core turn.core (at_replica port _ core)
+move_same core turn (loses_one port c at asked_before) calm = behind_same _ core (changes port closed core) (at_replica port closed core)
+move_same core turn (loses_next c at) calm = behind_same _ core (closes_failed core) refl
+move_same core turn (expels_one client) calm = behind_same _ core core refl
+move_same core turn settles calm = same_replica core (settled core) (settled_replica core)
+move_same core turn (hands port) calm = same_replica core (hands_over port core) (hands_replica port core)
+
+pub serves_same : (core later : CoreState) → Same core.replica.state later.replica.state → serves later ≡ serves core
+serves_same core later s =
+    ap (λ role. is_active role && not later.replica.state.stopped) s.role ∙ ap (λ b. is_active core.replica.state.role && not b) s.stopped

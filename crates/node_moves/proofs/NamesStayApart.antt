@@ -1,0 +1,342 @@
+-- Names stay apart in each step of a node, also when memory may run out.
+use Rattle.std.proofs.Common.{◌≡◌, inl, inr, ◌≤◌, ◌<◌, ℕ, zero, suc, Bool, true, false, not, ◌&&◌, if◌then◌else◌, List, [], ◌∷◌, ◌++◌, length, Option, Some, None, refl, sym, ap, ◌∙◌, subst, arith}
+use Rattle.std.specs.List.{find, list_any}
+use Rattle.exactly_once.specs.packet.Spelling.{spelling}
+use Rattle.exactly_once.specs.packet.declared.packet.Packet.{Packet}
+use Rattle.exactly_once.specs.packet.declared.packet.Packet.TheVariants as packets
+use Rattle.world_base.specs.ballot.Effect.{Effect}
+use Rattle.world_base.specs.ballot.Losses.{Steps}
+use Rattle.world_base.specs.ballot.Protocol.{Input}
+use Rattle.world_base.specs.ballot.Protocol.Input.{Receives, Ticks}
+use Rattle.world_base.specs.ballot.Replica.{CountedReplica, ReplicaState}
+use Rattle.world_base.specs.ballot.Sending.{Outcome}
+use Rattle.exactly_once.specs.broker_base.State.{State}
+use Rattle.exactly_once.specs.broker_base.Command.{Command}
+use Rattle.exactly_once.specs.broker_base.Command.TheVariants as commands
+use Rattle.exactly_once.specs.broker_base.Connection.{ConnectionName, is_connection_name}
+use Rattle.exactly_once.specs.broker_base.Output.{Output}
+use Rattle.exactly_once.specs.broker_base.Output.TheVariants as outputs
+use Rattle.world_base.specs.declared.Port.{Port}
+use Rattle.world_base.specs.declared.item.Item.{Item}
+use Rattle.world_base.specs.declared.item.Item.TheVariants.{Peer, Tick, Opened, Bytes, Ended, Expel, Cut, Crash}
+use Rattle.world_base.specs.declared.Connection.{Connection}
+use Rattle.world_base.specs.Connections.{asked, closed, failing, fresh, has_failed, holding, is_at, is_open_at, is_open_named, left_with, put_out, changed}
+use Rattle.world_base.specs.Core.{CoreState, rules, serves}
+use Rattle.world_base.specs.Failing.{closes_failed}
+use Rattle.world_base.specs.Handing.{hands_over}
+use Rattle.world_base.specs.Lossy.{Account, Declines, Delivers, Drives, Moves, Proposes, Repeated, Serves, Takes, Then, quietly}
+use Rattle.world_base.specs.Lossy.Declines.{no_room, forgets, stops}
+use Rattle.world_base.specs.Lossy.Delivers.{nothing, does, tells, loses}
+use Rattle.world_base.specs.LossyStep.{ActsOn, Asks, Begins, Closes, Ends, EndsSilent, Holds, LosesFailed, ReadsNext, RunsOn, Shuts, TakesIn}
+use Rattle.world_base.specs.LossyStep.Ends.{none_open, untold, told}
+use Rattle.world_base.specs.LossyStep.EndsSilent.{none_silent, ends_one}
+use Rattle.world_base.specs.LossyStep.LosesFailed.{none_failed, tells_one}
+use Rattle.world_base.specs.LossyStep.ReadsNext.{waits, first, later, refuses, ends}
+use Rattle.world_base.specs.Reading.{changes, open_at, refused, unread_of}
+use Rattle.world_base.specs.Step.{crashed, next_name, opens, settled, with_cut}
+use Rattle.world_base.specs.LossyStep.Cuts.{nothing_to_cut, cuts_log, forgets_cut}
+use Rattle.world_base.specs.Turns.{changes_named}
+use Rattle.node_moves.specs.Apart.{KeepsNames, NamesStayApart}
+use Rattle.node_moves.specs.Closed.{listed_named}
+use Rattle.node_moves.specs.Ends.{IsGiven, IsOrderly, Precedes}
+use Rattle.node_moves.specs.Names.{IsNextName}
+use Rattle.node_moves.proofs.JoinedGrows.{Up}
+use Rattle.node_moves.proofs.Kept.{changed_orderly, heard_up, named, named_kept, put_out_name, stays_handed, stays_settled}
+use Rattle.node_moves.proofs.NamesInOrder.{given_later, next_precedes, not_both, same_le}
+use Rattle.node_moves.proofs.NewNames.{handed_away, opened_new, settled_away}
+use Rattle.node_moves.proofs.Opening.{opens_well}
+use Rattle.node_moves.proofs.ProposesInOrder.{opening_orderly}
+use Rattle.node_moves.proofs.ReplicaStays.{added_same}
+use Rattle.node_moves.proofs.Views.{some_none}
+
+abbrev Keep : CoreState → CoreState → Type 0
+Keep core new = IsOrderly core → KeepsNames core new
+
+keep_same : (core : CoreState) → Keep core core
+keep_same core o = record { orderly = o; given = λ x g. g; gone = λ x g none. none }
+
+keep_both : (a b c : CoreState) → Keep a b → Keep b c → Keep a c
+keep_both a b c one two o =
+    let s = one o in
+    let t = two s.orderly in
+    record {
+      orderly = t.orderly;
+      given = λ x g. t.given x (s.given x g);
+      gone = λ x g none. t.gone x (s.given x g) (s.gone x g none);
+    }
+
+-- ---- one change
+
+-- who is not there does not come by a change
+gone_changed : (name test : Connection → Bool) (f : Connection → Connection) (cs : List Connection) → ((d : Connection) → name (f d) ≡ name d) →
+    find name cs ≡ None → find name (changed test f cs) ≡ None
+gone_changed name test f [] kept none = refl
+gone_changed name test f (c ∷ cs) kept none = by_name (name c) refl none (gone_changed name test f cs kept)
+  where
+    by_test : (t : Bool) → name c ≡ false → find name cs ≡ None → find name (changed test f cs) ≡ None →
+        find name (if t then f c ∷ cs else c ∷ changed test f cs) ≡ None
+    by_test true other e ih = let there : name (f c) ≡ false = kept c ∙ other in rw there e
+    by_test false other e ih = rw other ih
+
+    by_name : (n : Bool) → name c ≡ n → (if n then Some c else find name cs) ≡ None →
+        (find name cs ≡ None → find name (changed test f cs) ≡ None) → find name (changed test f (c ∷ cs)) ≡ None
+    by_name true is e ih = absurd (some_none c e)
+    by_name false is e ih = by_test (test c) is e (ih e)
+
+keep_changed : (core new : CoreState) (test : Connection → Bool) (f : Connection → Connection) →
+    new.connections ≡ changed test f core.connections → new.last_name ≡ core.last_name →
+    core.replica.state.joined ≤ new.replica.state.joined → ((c : Connection) → (f c).name ≡ c.name) → Keep core new
+keep_changed core new test f are same up name o =
+    record {
+      orderly = changed_orderly core new test f o are same up name;
+      given = λ x g. subst (λ (y : ConnectionName). IsGiven y x) (sym same) g;
+      gone = λ x g none. subst (λ (l : List Connection). find (named x) l ≡ None) (sym are)
+          (gone_changed (named x) test f core.connections (named_kept x f name) none);
+    }
+
+keep_at : (port : Port) (f : Connection → Connection) (core : CoreState) → ((c : Connection) → (f c).name ≡ c.name) → Keep core (changes port f core)
+unfolding changes
+keep_at port f core name = keep_changed core (changes port f core) (is_open_at port) f refl refl (same_le core.replica.state.joined) name
+
+keep_named : (to : ConnectionName) (f : Connection → Connection) (core : CoreState) → ((c : Connection) → (f c).name ≡ c.name) →
+    Keep core (changes_named to f core)
+unfolding changes_named
+keep_named to f core name = keep_changed core (changes_named to f core) (is_open_named to) f refl refl (same_le core.replica.state.joined) name
+
+keep_closed : (port : Port) (core : CoreState) → Keep core (changes port closed core)
+keep_closed port core = keep_at port closed core (λ c. refl)
+
+keep_failed : (core : CoreState) → Keep core (closes_failed core)
+keep_failed core = keep_changed core (closes_failed core) has_failed closed refl refl (same_le core.replica.state.joined) (λ c. refl)
+
+-- ---- the replica
+
+keep_replica : (core : CoreState) (replica : CountedReplica State Command) → core.replica.state.joined ≤ replica.state.joined →
+    Keep core (record core { replica = replica })
+keep_replica core replica up o =
+    let within = o.within in
+    record {
+      orderly = record { names = o.names; given = o.given; within = omega (arith, within, up) };
+      given = λ x g. g;
+      gone = λ x g none. none;
+    }
+
+same_up : (r s : ReplicaState State Command) → s ≡ r → r.joined ≤ s.joined
+same_up r s e = subst (λ (t : ReplicaState State Command). r.joined ≤ t.joined) (sym e) (same_le r.joined)
+
+pub steps_up : (old new : CountedReplica State Command) (outcome : Outcome State Command Output) (given : List (Effect Command Output)) →
+    Up old.state outcome → Steps rules old outcome new given → old.state.joined ≤ new.state.joined
+steps_up old new outcome given up (inl (state, effects, rest)) =
+    subst (λ (t : ReplicaState State Command). old.state.joined ≤ t.joined) (sym state) up
+steps_up old new outcome given up (inr (inl (state, rest), counted)) =
+    subst (λ (t : ReplicaState State Command). old.state.joined ≤ t.joined) (sym state) up
+steps_up old new outcome given up (inr (inr (inl (state, rest)), counted)) = same_up old.state new.state state
+steps_up old new outcome given up (inr (inr (inr (state, rest)), counted)) =
+    subst (λ (t : ReplicaState State Command). old.state.joined ≤ t.joined) (sym state) (same_le old.state.joined)
+
+keep_served : (output : Output) (core new : CoreState) → Serves output core new → Keep core new
+keep_served (outputs.Send name packet) core new (inl is) =
+    subst (λ (k : CoreState). Keep core k) (sym is) (keep_named name (put_out (spelling packet)) core (put_out_name (spelling packet)))
+keep_served (outputs.Send name packet) core new (inr is) =
+    subst (λ (k : CoreState). Keep core k) (sym is) (keep_named name failing core (λ c. refl))
+keep_served (outputs.Close name) core new is = subst (λ (k : CoreState). Keep core k) (sym is) (keep_named name closed core (λ c. refl))
+
+keep_delivered : (given : List (Effect Command Output)) (core new : CoreState) (messages : List (Effect Command Output)) →
+    Delivers given core new messages → Keep core new
+keep_delivered _ core _ _ nothing = keep_same core
+keep_delivered _ core new _ (does {place} {output} {core = k} {next = next} {given = given} served more) =
+    keep_both core next new (keep_served output core next served) (keep_delivered given next new _ more)
+keep_delivered _ core new _ (tells {receiver} {message} {given = given} more) = keep_delivered given core new _ more
+keep_delivered _ core new _ (loses {receiver} {message} {given = given} more) = keep_delivered given core new _ more
+
+keep_moved : (outcome : Outcome State Command Output) (core : CoreState) (did : Account) → Up core.replica.state outcome →
+    Moves outcome core did → Keep core did.core
+keep_moved outcome core did up m =
+    keep_both core (record core { replica = m.replica }) did.core
+    (keep_replica core m.replica (steps_up core.replica m.replica outcome did.given up m.steps))
+    (keep_delivered did.given (record core { replica = m.replica }) did.core did.messages m.delivers)
+
+keep_driven : (input : Input Command) (core : CoreState) (did : Account) → Drives input core did → Keep core did.core
+keep_driven input core did m = keep_moved _ core did (heard_up input core) m
+
+keep_taken : (command : Command) (core : CoreState) (did : Account) → Takes command core did → Keep core did.core
+keep_taken command core did t =
+    let same : t.replica.state.joined ≡ core.replica.state.joined =
+    ap (λ (r : ReplicaState State Command). r.joined) t.done.state ∙ (added_same rules core.replica.state command).joined in
+    keep_both core (record core { replica = t.replica }) did.core
+    (keep_replica core t.replica (subst (λ (n : ℕ). core.replica.state.joined ≤ n) (sym same) (same_le core.replica.state.joined)))
+    (keep_delivered did.given (record core { replica = t.replica }) did.core did.messages t.delivers)
+
+-- ---- what was done, one thing after the other
+
+by_account : (core new : CoreState) (did : Account) → did ≡ quietly new → Keep core new → Keep core did.core
+by_account core new did is keep = subst (λ (d : Account). Keep core d.core) (sym is) keep
+
+keep_declined : (core : CoreState) (did : Account) → Declines core did → Keep core did.core
+keep_declined core did (no_room full is) = by_account core core did is (keep_same core)
+keep_declined core did (forgets room is) = by_account core _ did is (keep_replica core _ (same_le core.replica.state.joined))
+keep_declined core did (stops room is) = by_account core _ did is (keep_replica core _ (same_le core.replica.state.joined))
+
+keep_proposed : (command : Command) (core : CoreState) (did : Account) → Proposes command core did → Keep core did.core
+keep_proposed command core did (inl takes) = keep_taken command core did takes
+keep_proposed command core did (inr declines) = keep_declined core did declines
+
+keep_then : (P Q : CoreState → Account → Type 0) → ((k : CoreState) (d : Account) → P k d → Keep k d.core) →
+    ((k : CoreState) (d : Account) → Q k d → Keep k d.core) → (core : CoreState) (did : Account) → Then P Q core did → Keep core did.core
+keep_then P Q p q core did t =
+    subst (λ (d : Account). Keep core d.core) (sym t.is)
+    (keep_both core t.one.core t.two.core (p core t.one t.first) (q t.one.core t.two t.next))
+
+keep_repeated : (n : ℕ) (Next : CoreState → Account → Type 0) → ((k : CoreState) (d : Account) → Next k d → Keep k d.core) →
+    (core : CoreState) (did : Account) → Repeated n Next core did → Keep core did.core
+keep_repeated zero Next on core did none = by_account core core did none (keep_same core)
+keep_repeated (suc n) Next on core did done = keep_then Next (Repeated n Next) on (keep_repeated n Next on) core did done
+
+keep_asked : (command : Command) (Otherwise : CoreState → Account → Type 0) → ((k : CoreState) (d : Account) → Otherwise k d → Keep k d.core) →
+    (core : CoreState) (did : Account) → Asks command Otherwise core did → Keep core did.core
+keep_asked command Otherwise on core did (inl takes) = keep_taken command core did takes
+keep_asked command Otherwise on core did (inr other) = keep_then Declines Otherwise keep_declined on core did other
+
+-- ---- ends
+
+keep_ended : (port : Port) (core : CoreState) (did : Account) → Ends port core did → Keep core did.core
+keep_ended port core did (none_open none is) = by_account core core did is (keep_same core)
+keep_ended port core did (untold c found other is) = by_account core (changes port closed core) did is (keep_closed port core)
+keep_ended port core did (told c found heard proposes) =
+    keep_both core (changes port closed core) did.core (keep_closed port core)
+    (keep_proposed (commands.Lost c.name) (changes port closed core) did proposes)
+
+keep_silent : (now : ℕ) (core : CoreState) (did : Account) → EndsSilent now core did → Keep core did.core
+keep_silent now core did (none_silent none is) = by_account core core did is (keep_same core)
+keep_silent now core did (ends_one port found runs) = keep_ended port core did runs
+
+keep_lost : (core : CoreState) (did : Account) → LosesFailed core did → Keep core did.core
+keep_lost core did (none_failed none is) = by_account core core did is (keep_same core)
+keep_lost core did (tells_one c found proposes) =
+    keep_both core (closes_failed core) did.core (keep_failed core)
+    (keep_proposed (commands.Lost c.name) (closes_failed core) did proposes)
+
+-- ---- reads
+
+keep_shut : (port : Port) (core : CoreState) (did : Account) → Closes port core did → Keep core did.core
+keep_shut port core did is = by_account core (changes port closed core) did is (keep_closed port core)
+
+keep_shuts : (port : Port) (core : CoreState) (did : Account) → Shuts port core did → Keep core did.core
+keep_shuts port core did (inl is) = keep_shut port core did is
+keep_shuts port core did (inr is) = by_account core (changes port failing core) did is (keep_at port failing core (λ c. refl))
+
+keep_begun : (port : Port) (name : ConnectionName) (packet : Packet) (core : CoreState) (did : Account) →
+    Begins port name packet core did → Keep core did.core
+keep_begun port name (packets.Connect connect) core did runs =
+    keep_both core (changes port (asked connect.keep_alive) core) did.core (keep_at port (asked connect.keep_alive) core (λ c. refl))
+    (keep_asked (commands.Connect name connect.client connect.clean) (Closes port) (keep_shut port)
+    (changes port (asked connect.keep_alive) core) did runs)
+keep_begun port name _ core did runs = keep_shut port core did runs
+
+keep_left : (port : Port) (now : ℕ) (rest : List ℕ) (core : CoreState) → Keep core (changes port (left_with now rest) core)
+keep_left port now rest core = keep_at port (left_with now rest) core (λ c. refl)
+
+keep_read : (now : ℕ) (port : Port) (core : CoreState) (did : Account) → ReadsNext now port core did → Keep core did.core
+keep_read now port core did (waits c found more is) = by_account core core did is (keep_same core)
+keep_read now port core did (first c packet rest found awaits is runs) =
+    keep_both core (changes port (left_with now rest) core) did.core (keep_left port now rest core)
+    (keep_begun port c.name packet (changes port (left_with now rest) core) did runs)
+keep_read now port core did (later c packet rest found proposed is runs) =
+    keep_both core (changes port (left_with now rest) core) did.core (keep_left port now rest core)
+    (keep_asked (commands.Packet c.name packet) (Shuts port) (keep_shuts port) (changes port (left_with now rest) core) did runs)
+keep_read now port core did (refuses c code found awaits is runs) =
+    by_account core (changes port (refused code) core) did runs (keep_at port (refused code) core (λ c. refl))
+keep_read now port core did (ends runs) = keep_ended port core did runs
+
+-- ---- a connection is opened
+
+-- one that is not found where it would be taken for one that came
+never_found : (found : Option Connection) → ((d : Connection) → found ≡ Some d → ⊥) → found ≡ None
+never_found None never = refl
+never_found (Some d) never = absurd (never d refl)
+
+next_above : (core : CoreState) (x : ConnectionName) → core.last_name.ballot ≤ core.replica.state.joined → IsNextName core x → Precedes core.last_name x
+next_above core x within n = by (next_precedes core within)
+  where
+    by : Precedes core.last_name (next_name core) → Precedes core.last_name x
+    by (inl above) = inl (subst (λ (b : ℕ). core.last_name.ballot < b) (sym n.ballot) above)
+    by (inr (same, above)) = inr (same ∙ sym n.ballot, subst (λ (k : ℕ). core.last_name.count < k) (sym n.count) above)
+
+given_still : (x : ConnectionName) (port : Port) (core : CoreState) → IsOrderly core → IsGiven core.last_name x → IsGiven (opens port core).last_name x
+unfolding opens
+given_still x port core o g = by ((serves core && not (list_any (is_at port) core.connections)) && is_connection_name (next_name core))
+  where
+    by : (b : Bool) → IsGiven (let k : CoreState = if b then record core { last_name = next_name core; connections = core.connections ++ fresh port (next_name core) ∷ [] } else core in k).last_name x
+    by true = given_later core.last_name (next_name core) x (next_precedes core o.within) g
+    by false = g
+
+keep_opened : (port : Port) (core : CoreState) → Keep core (opens port core)
+keep_opened port core o =
+    record {
+      orderly = (opens_well port core o).orderly;
+      given = λ x g. given_still x port core o g;
+      gone = λ x g none. never_found (listed_named x (opens port core))
+          (λ d there. not_both core.last_name x (next_above core x o.within (opened_new x port core d none there)) g);
+    }
+
+-- ---- an item
+
+keep_item : (item : Item) (core : CoreState) (did : Account) → TakesIn item core did → Keep core did.core
+keep_item (Peer message) core did runs = keep_driven (Receives message) core did runs
+keep_item (Tick now) core did runs =
+    keep_then (Drives Ticks) (λ k d. Repeated (length k.connections) (EndsSilent now) k d) (keep_driven Ticks)
+    (λ k d silent. keep_repeated (length k.connections) (EndsSilent now) (keep_silent now) k d silent) core did
+    (record { one = runs.one; two = runs.two; first = runs.first; next = runs.next; is = runs.is })
+keep_item (Opened port now) core did (inl is) = by_account core (opens port core) did is (keep_opened port core)
+keep_item (Opened port now) core did (inr is) = by_account core core did is (keep_same core)
+keep_item (Bytes port piece now) core did runs =
+    keep_then (Holds port piece) (λ k d. Repeated (unread_of (open_at port k)) (ReadsNext now port) k d) held
+    (λ k d reads. keep_repeated (unread_of (open_at port k)) (ReadsNext now port) (keep_read now port) k d reads) core did
+    (record { one = runs.one; two = runs.two; first = runs.first; next = runs.next; is = runs.is })
+  where
+    held : (k : CoreState) (d : Account) → Holds port piece k d → Keep k d.core
+    held k d (inl is) = by_account k (changes port (holding piece) k) d is (keep_at port (holding piece) k (λ c. refl))
+    held k d (inr ended) = keep_ended port k d ended
+keep_item (Ended port) core did runs = keep_ended port core did runs
+keep_item (Expel client) core did runs = keep_proposed (commands.Expel client) core did runs
+keep_item Cut core did (nothing_to_cut none is) = by_account core core did is (keep_same core)
+keep_item Cut core did (cuts_log can reads is) = by_account core (with_cut core) did is (keep_replica core _ (same_le core.replica.state.joined))
+keep_item Cut core did (forgets_cut can is) = by_account core _ did is (keep_replica core _ (same_le core.replica.state.joined))
+keep_item Crash core did is = by_account core (crashed core) did is (keep_replica core _ (same_le core.replica.state.joined))
+
+keep_acts : (item : Item) (core : CoreState) (did : Account) → ActsOn item core did → Keep core did.core
+keep_acts item core did acts =
+    keep_then (TakesIn item) (λ k d. Repeated (length k.connections) LosesFailed k d) (keep_item item)
+    (λ k d lost. keep_repeated (length k.connections) LosesFailed keep_lost k d lost) core did
+    (record { one = acts.one; two = acts.two; first = acts.first; next = acts.next; is = acts.is })
+
+keep_settled : (core : CoreState) → Keep core (settled core)
+keep_settled core o =
+    let s = stays_settled core o in
+    record {
+      orderly = s.orderly;
+      given = λ x g. subst (λ (y : ConnectionName). IsGiven y x) (sym s.last) g;
+      gone = λ x g none. never_found (listed_named x (settled core)) (λ d there. settled_away x core d o none there);
+    }
+
+keep_handed : (port : Port) (core : CoreState) → Keep core (hands_over port core)
+keep_handed port core o =
+    let s = stays_handed port core o in
+    record {
+      orderly = s.orderly;
+      given = λ x g. subst (λ (y : ConnectionName). IsGiven y x) (sym s.last) g;
+      gone = λ x g none. never_found (listed_named x (hands_over port core)) (λ d there. handed_away x port core d o none there);
+    }
+
+keep_run : (item : Item) (core new : CoreState) (messages : List (Effect Command Output)) → RunsOn item core new messages → Keep core new
+keep_run item core new messages run =
+    keep_both core run.did.core new (keep_acts item core run.did run.acts)
+    (subst (λ (k : CoreState). Keep run.did.core k) (sym run.settles) (keep_settled run.did.core))
+
+pub names_stay_apart : NamesStayApart
+names_stay_apart =
+    record {
+      opens = opening_orderly;
+      steps = keep_run;
+      hands = keep_handed;
+    }

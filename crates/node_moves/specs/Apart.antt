@@ -1,0 +1,30 @@
+-- Names when memory may run out: no two connections of a node have the same name, and no name comes
+-- twice.
+use Rattle.std.specs.Prelude.{◌≡◌, ℕ, List, None}
+use Rattle.world_base.specs.ballot.Config.{Config}
+use Rattle.world_base.specs.ballot.Effect.{Effect}
+use Rattle.exactly_once.specs.broker_base.Command.{Command}
+use Rattle.exactly_once.specs.broker_base.Connection.{ConnectionName}
+use Rattle.exactly_once.specs.broker_base.Output.{Output}
+use Rattle.world_base.specs.declared.item.Item.{Item}
+use Rattle.world_base.specs.declared.Port.{Port}
+use Rattle.world_base.specs.Core.{CoreState, opening_core}
+use Rattle.world_base.specs.Handing.{hands_over}
+use Rattle.world_base.specs.LossyStep.{RunsOn}
+use Rattle.node_moves.specs.Closed.{listed_named}
+use Rattle.node_moves.specs.Ends.{IsGiven, IsOrderly}
+
+-- No two connections have one name. One that was given stays so, and if no connection has it, none
+-- gets it any more.
+pub record KeepsNames (core later : CoreState) : Type 0 where
+  pub orderly : IsOrderly later
+  pub given : (x : ConnectionName) → IsGiven core.last_name x → IsGiven later.last_name x
+  pub gone : (x : ConnectionName) → IsGiven core.last_name x → listed_named x core ≡ None → listed_named x later ≡ None
+
+-- that holds from the opening on, in each step, even if memory runs out, and when bytes are handed
+-- over
+pub record NamesStayApart : Type 0 where
+  pub opens : (id : ℕ) (config : Config) → IsOrderly (opening_core id config)
+  pub steps : (item : Item) (core later : CoreState) (messages : List (Effect Command Output)) →
+      RunsOn item core later messages → IsOrderly core → KeepsNames core later
+  pub hands : (port : Port) (core : CoreState) → IsOrderly core → KeepsNames core (hands_over port core)

@@ -1,0 +1,17 @@
+-- What does not remain after a step of a node.
+use Rattle.std.specs.Prelude.{◌≡◌, ℕ, false}
+use Rattle.exactly_once.specs.lists.Lists.{Each}
+use Rattle.world_base.specs.declared.item.Item.{Item}
+use Rattle.world_base.specs.declared.item.Item.TheVariants.{Tick}
+use Rattle.world_base.specs.declared.Connection.{Connection}
+use Rattle.world_base.specs.Connections.{is_silent, has_failed}
+use Rattle.world_base.specs.Core.{CoreState}
+use Rattle.world_base.specs.Step.{node_step}
+
+-- after a tick no connection is silent
+abbrev pub NoneIsSilent : Type 0
+NoneIsSilent = (now : ℕ) (core : CoreState) → Each (λ (c : Connection). is_silent now c ≡ false) (node_step (Tick now) core).core.connections
+
+-- after a step there is no connection whose loss is still to be reported to the broker
+abbrev pub EachLossIsTold : Type 0
+EachLossIsTold = (item : Item) (core : CoreState) → Each (λ (c : Connection). has_failed c ≡ false) (node_step item core).core.connections

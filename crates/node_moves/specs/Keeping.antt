@@ -1,0 +1,42 @@
+-- Which ballot the names of a node's open connections have.
+use Rattle.std.specs.Prelude.{◌≡◌, ℕ, Bool, true, false, Some}
+use Rattle.world_base.specs.ballot.Config.{Config}
+use Rattle.world_base.specs.ballot.Protocol.{Input}
+use Rattle.exactly_once.specs.broker_base.Command.{Command}
+use Rattle.exactly_once.specs.broker_base.Connection.{ConnectionName}
+use Rattle.exactly_once.specs.lists.Lists.{In}
+use Rattle.exactly_once.specs.Story.{is_packet_of}
+use Rattle.world_base.specs.declared.Connection.{Connection}
+use Rattle.world_base.specs.Connections.{is_over}
+use Rattle.world_base.specs.Core.{CoreState, Turn, opening_core, serves}
+use Rattle.world_base.specs.Step.{crashed, settled, with_cut}
+use Rattle.world_base.specs.Turns.{drives}
+use Rattle.node_moves.specs.Closed.{listed_named}
+use Rattle.node_moves.specs.Ends.{IsOrderly, proposal_of}
+use Rattle.node_moves.specs.Moves.{Moves}
+use Rattle.node_moves.specs.Moves.Moves.{hears, cuts_log, crashes}
+
+-- each open connection has a name of the ballot that the node leads as its active primary
+pub record AreOfTheBallot (core : CoreState) : Type 0 where
+  pub each : (x : ConnectionName) (c : Connection) → listed_named x core ≡ Some c → is_over c.stage ≡ false →
+      (serves core ≡ true) × (x.ballot ≡ core.replica.state.joined)
+
+-- a move in which the replica receives something, cuts its log, or stops
+abbrev pub moves_replica : {core : CoreState} {turn : Turn} → Moves core turn → Bool
+moves_replica (hears input other) = true
+moves_replica (cuts_log can) = true
+moves_replica crashes = true
+moves_replica _ = false
+
+-- This holds from the opening on. Each move preserves it, except that a move in which the replica
+-- receives something, cuts its log, or stops preserves it only together with the settling move
+-- after it, with which each step of a node ends. And then a node proposes under a name only in the
+-- ballot of that name.
+pub record NamesKeepTheirBallot : Type 0 where
+  pub opens : (id : ℕ) (config : Config) → AreOfTheBallot (opening_core id config)
+  pub moves : (core : CoreState) (turn : Turn) (m : Moves core turn) → IsOrderly core → moves_replica m ≡ false → AreOfTheBallot core → AreOfTheBallot turn.core
+  pub hears : (core : CoreState) (input : Input Command) → IsOrderly core → AreOfTheBallot core → AreOfTheBallot (settled (drives input core).core)
+  pub cuts : (core : CoreState) → IsOrderly core → AreOfTheBallot core → AreOfTheBallot (settled (with_cut core))
+  pub stops : (core : CoreState) → IsOrderly core → AreOfTheBallot (settled (crashed core))
+  pub proposes : (core : CoreState) (turn : Turn) (m : Moves core turn) → IsOrderly core → AreOfTheBallot core → (x : ConnectionName) (command : Command) →
+      In command (proposal_of m) → is_packet_of command x ≡ true → x.ballot ≡ core.replica.state.joined

@@ -1,0 +1,15 @@
+pub mod Moves
+pub mod Ends
+pub mod Puts
+pub mod Closed
+pub mod Names
+pub mod Apart
+pub mod Behind
+pub mod Keeping
+pub mod Hearing
+pub mod LossyMoves
+pub mod LossyRuns
+pub mod LossyLaws
+pub use Rattle.world_base.specs.ballot as ballot
+pub use Rattle.world_base.specs.cutter as cutter
+pub use Rattle.world_base.specs as world_base

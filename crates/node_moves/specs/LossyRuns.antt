@@ -1,0 +1,110 @@
+-- What a node may do in a step when memory may run out: a run of moves, one after another.
+use Rattle.std.specs.Prelude.{◌≡◌, ℕ, Bool, true, false, List, [], ◌∷◌, ◌++◌, Some}
+use Rattle.world_base.specs.ballot.Effect.{Effect}
+use Rattle.world_base.specs.ballot.Protocol.{Input}
+use Rattle.world_base.specs.ballot.Protocol.Input.{Receives, Ticks}
+use Rattle.exactly_once.specs.broker_base.Command.{Command}
+use Rattle.exactly_once.specs.broker_base.Connection.{ConnectionName}
+use Rattle.exactly_once.specs.broker_base.Output.{Output}
+use Rattle.world_base.specs.declared.item.Item.{Item}
+use Rattle.world_base.specs.declared.item.Item.TheVariants.{Peer, Tick, Bytes, Cut}
+use Rattle.world_base.specs.Core.{CoreState, Turn, rules}
+use Rattle.world_base.specs.LossyStep.{RunsOn}
+use Rattle.world_base.specs.Reading.{open_at}
+use Rattle.world_base.specs.Turns.{quiet}
+use Rattle.node_moves.specs.Ends.{piece_on}
+use Rattle.node_moves.specs.LossyMoves.{LossyMoves, came_on, hears_in, inputs_in, is_handing, proposal_of}
+use Rattle.node_moves.specs.LossyMoves.LossyMoves.{exactly}
+use Rattle.node_moves.specs.Moves.{Moves, and_then}
+use Rattle.node_moves.specs.Moves.Moves.{cuts_log}
+
+-- moves one after another
+pub data LossyRuns : CoreState → Turn → Type 0 where
+  rests : {core : CoreState} → LossyRuns core (quiet core)
+  goes_on : {core : CoreState} {first next : Turn} → LossyMoves core first → LossyRuns first.core next → LossyRuns core (and_then first next)
+
+-- in no move of a run the replica receives something
+abbrev pub IsCalm : {core : CoreState} {turn : Turn} → LossyRuns core turn → Type 0
+IsCalm rests = Unit {0}
+IsCalm (goes_on m run) = (hears_in m ≡ false) × IsCalm run
+
+-- in none except the first
+abbrev pub HearsAtFirst : {core : CoreState} {turn : Turn} → LossyRuns core turn → Type 0
+HearsAtFirst rests = Unit {0}
+HearsAtFirst (goes_on m run) = IsCalm run
+
+-- the commands that a node proposes in a run, in order, and the bytes that come on the connection
+-- of a name
+abbrev pub proposals_of : {core : CoreState} {turn : Turn} → LossyRuns core turn → List Command
+proposals_of rests = []
+proposals_of (goes_on m run) = proposal_of m ++ proposals_of run
+
+abbrev pub bytes_on : ConnectionName → {core : CoreState} {turn : Turn} → LossyRuns core turn → List ℕ
+bytes_on x rests = []
+bytes_on x (goes_on m run) = came_on x m ++ bytes_on x run
+
+abbrev pub all_inputs : {core : CoreState} {turn : Turn} → LossyRuns core turn → List (Input Command)
+all_inputs rests = []
+all_inputs (goes_on m run) = inputs_in m ++ all_inputs run
+
+-- nothing is handed over in it
+abbrev pub HandsNothing : {core : CoreState} {turn : Turn} → LossyRuns core turn → Type 0
+HandsNothing rests = Unit {0}
+HandsNothing (goes_on m run) = (is_handing m ≡ false) × HandsNothing run
+
+-- whether a log is cut in a move
+abbrev pub exactly_cuts : {core : CoreState} {turn : Turn} → Moves core turn → Bool
+exactly_cuts (cuts_log can) = true
+exactly_cuts _ = false
+
+abbrev pub cuts_in : {core : CoreState} {turn : Turn} → LossyMoves core turn → Bool
+cuts_in (exactly m) = exactly_cuts m
+cuts_in _ = false
+
+-- in no move of a run a log is cut
+abbrev pub CutsNothing : {core : CoreState} {turn : Turn} → LossyRuns core turn → Type 0
+CutsNothing rests = Unit {0}
+CutsNothing (goes_on m run) = (cuts_in m ≡ false) × CutsNothing run
+
+-- the bytes to which a log is cut thaw to its machine
+abbrev pub Freezes : {core : CoreState} {turn : Turn} → LossyMoves core turn → Type 0
+Freezes {core = core} (exactly (cuts_log can)) =
+    rules.thawed (rules.frozen core.replica.state.machine) ≡ Some core.replica.state.machine
+Freezes _ = Unit {0}
+
+abbrev pub AllFreeze : {core : CoreState} {turn : Turn} → LossyRuns core turn → Type 0
+AllFreeze rests = Unit {0}
+AllFreeze (goes_on m run) = Freezes m × AllFreeze run
+
+-- ---- what a node does for an item
+
+-- what the replica receives with an item, and the bytes that come with it on the connection of a
+-- name
+abbrev pub heard_with : Item → List (Input Command)
+heard_with (Peer message) = Receives message ∷ []
+heard_with (Tick now) = Ticks ∷ []
+heard_with _ = []
+
+abbrev pub came_with : ConnectionName → Item → CoreState → List ℕ
+came_with x (Bytes port piece now) core = piece_on x piece (open_at port core)
+came_with x _ core = []
+
+abbrev pub is_cut : Item → Bool
+is_cut Cut = true
+is_cut _ = false
+
+-- Each step that takes an item with losses is a run of such moves: the replica receives what comes
+-- with the item, in the first of them, on each connection the bytes of the item come, nothing is
+-- handed over, no log is cut unless the item is a cut, and what is frozen can be read.
+pub record IsRunOn (item : Item) (core : CoreState) (turn : Turn) : Type 0 where
+  pub run : LossyRuns core turn
+  pub first : HearsAtFirst run
+  pub hears : all_inputs run ≡ heard_with item
+  pub bytes : (x : ConnectionName) → bytes_on x run ≡ came_with x item core
+  pub hands : HandsNothing run
+  pub cuts : is_cut item ≡ false → CutsNothing run
+  pub freezes : AllFreeze run
+
+abbrev pub LossesAreMoves : Type 0
+LossesAreMoves = (item : Item) (core later : CoreState) (messages : List (Effect Command Output)) → RunsOn item core later messages →
+    IsRunOn item core (record { core = later; messages = messages })

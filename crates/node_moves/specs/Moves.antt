@@ -1,0 +1,97 @@
+-- What a node does in a step, move by move: each of its steps is a run of these.
+use Rattle.std.specs.Prelude.{◌≡◌, ℕ, Bool, true, false, List, [], ◌∷◌, ◌++◌, Some, Ok, Err}
+use Rattle.std.specs.List.{find}
+use Rattle.exactly_once.specs.packet.Stop.TheVariants as stops
+use Rattle.exactly_once.specs.packet.RefusalCode.{RefusalCode}
+use Rattle.exactly_once.specs.packet.declared.packet.Packet.{Packet}
+use Rattle.exactly_once.specs.packet.declared.packet.Packet.TheVariants as packets
+use Rattle.exactly_once.specs.packet.declared.connect.Connect.{Connect}
+use Rattle.exactly_once.specs.packet.Verdict.{verdict}
+use Rattle.world_base.specs.ballot.Cutting.{can_cut}
+use Rattle.world_base.specs.ballot.Protocol.{Input}
+use Rattle.world_base.specs.ballot.Protocol.Input.{Receives, Proposes, Ticks}
+use Rattle.exactly_once.specs.broker_base.Command.{Command}
+use Rattle.exactly_once.specs.broker_base.Command.TheVariants as commands
+use Rattle.world_base.specs.declared.Port.{Port}
+use Rattle.world_base.specs.declared.item.Item.{Item}
+use Rattle.world_base.specs.declared.Connection.{Connection}
+use Rattle.world_base.specs.Connections.{has_failed, is_first, is_proposed, asked, holding, left_with, closed}
+use Rattle.world_base.specs.Core.{CoreState, Turn}
+use Rattle.world_base.specs.Failing.{closes_failed}
+use Rattle.world_base.specs.Handing.{hands_over}
+use Rattle.world_base.specs.Reading.{changes, open_at, refused}
+use Rattle.world_base.specs.Step.{node_step, opens, settled, crashed, with_cut}
+use Rattle.world_base.specs.Turns.{quiet, proposes, drives, has_room}
+
+-- whether an input of a replica is a proposal
+abbrev pub is_proposal : Input Command → Bool
+is_proposal (Receives message) = false
+is_proposal (Proposes command) = true
+is_proposal Ticks = false
+
+pub data Moves (core : CoreState) : Turn → Type 0 where
+  -- the replica receives a message or a tick, and its effects are done
+  hears : (input : Input Command) → is_proposal input ≡ false → Moves core (drives input core)
+  -- a connection is opened
+  opens_one : (port : Port) → Moves core (quiet (opens port core))
+  -- bytes come in on an open connection
+  holds : (port : Port) (piece : List ℕ) → Moves core (quiet (changes port (holding piece) core))
+  -- the first packet of an open connection, a CONNECT, is read and proposed, whole at this time;
+  -- the log has room for it
+  reads_first : (now : ℕ) (port : Port) (c : Connection) (connect : Connect) (rest : List ℕ) → open_at port core ≡ Some c → is_first c.stage ≡ true →
+      verdict c.unread ≡ Ok (packets.Connect connect, rest) → has_room core ≡ true →
+      Moves core (proposes (commands.Connect c.name connect.client connect.clean) (changes port (asked connect.keep_alive) (changes port (left_with now rest) core)))
+  -- the same for each later packet
+  reads_later : (now : ℕ) (port : Port) (c : Connection) (packet : Packet) (rest : List ℕ) → open_at port core ≡ Some c → is_first c.stage ≡ false →
+      verdict c.unread ≡ Ok (packet, rest) → has_room core ≡ true →
+      Moves core (proposes (commands.Packet c.name packet) (changes port (left_with now rest) core))
+  -- a connection is closed, and nothing more is read from it
+  closes : (port : Port) → Moves core (quiet (changes port closed core))
+  -- .. with an answer, if its first packet is a CONNECT that is refused with a code
+  refuses : (port : Port) (c : Connection) (code : RefusalCode) → open_at port core ≡ Some c → is_first c.stage ≡ true →
+      verdict c.unread ≡ Err (stops.Refused code) → Moves core (quiet (changes port (refused code) core))
+  -- .. and its loss is to be reported to the broker, if its Connect was proposed
+  loses_one : (port : Port) (c : Connection) → open_at port core ≡ Some c → is_proposed c.stage ≡ true →
+      Moves core (proposes (commands.Lost c.name) (changes port closed core))
+  -- the same for a connection that was closed because there was no room for what was to be sent on
+  -- it
+  loses_next : (c : Connection) → find has_failed core.connections ≡ Some c →
+      Moves core (proposes (commands.Lost c.name) (closes_failed core))
+  -- an Expel of a client is proposed
+  expels_one : (client : List ℕ) → Moves core (proposes (commands.Expel client) core)
+  -- the replica cuts its log
+  cuts_log : can_cut core.replica.state ≡ true → Moves core (quiet (with_cut core))
+  -- the node crashes
+  crashes : Moves core (quiet (crashed core))
+  -- if it no longer serves clients all connections are closed; closed ones with nothing to hand
+  -- over are removed
+  settles : Moves core (quiet (settled core))
+  -- what was queued for a port is handed over
+  hands : (port : Port) → Moves core (quiet (hands_over port core))
+
+-- a turn, and another after it
+abbrev pub and_then : Turn → Turn → Turn
+and_then first next = record { core = next.core; messages = first.messages ++ next.messages }
+
+-- moves one after another
+pub data Runs : CoreState → Turn → Type 0 where
+  rests : {core : CoreState} → Runs core (quiet core)
+  goes_on : {core : CoreState} {first next : Turn} → Moves core first → Runs first.core next → Runs core (and_then first next)
+
+-- a call of a node: it takes an item, or hands over what was queued for a port
+pub data NodeCall : Type 0 where
+  takes : Item → NodeCall
+  gives : Port → NodeCall
+
+abbrev pub done : NodeCall → CoreState → Turn
+done (takes item) core = node_step item core
+done (gives port) core = quiet (hands_over port core)
+
+-- one call after another
+abbrev pub all_done : List NodeCall → CoreState → Turn
+all_done [] core = quiet core
+all_done (deed ∷ deeds) core = and_then (done deed core) (all_done deeds (done deed core).core)
+
+-- all that a node ever does is such a run
+abbrev pub DeedsAreMoves : Type 0
+DeedsAreMoves = (deeds : List NodeCall) (core : CoreState) → Runs core (all_done deeds core)

@@ -1,0 +1,20 @@
+-- Which name a connection gets that a node opens.
+use Rattle.std.specs.Prelude.{◌≡◌, ◌+◌, true, Some, None}
+use Rattle.exactly_once.specs.broker_base.Connection.{ConnectionName}
+use Rattle.world_base.specs.declared.Connection.{Connection}
+use Rattle.world_base.specs.Core.{CoreState, Turn, serves}
+use Rattle.world_base.specs.Step.{accepted}
+use Rattle.node_moves.specs.Closed.{listed_named}
+use Rattle.node_moves.specs.Ends.{IsOrderly}
+use Rattle.node_moves.specs.Moves.{Moves}
+
+-- A name of the ballot that its replica leads as the active primary, with the next number there.
+pub record IsNextName (core : CoreState) (x : ConnectionName) : Type 0 where
+  pub leads : serves core ≡ true
+  pub ballot : x.ballot ≡ core.replica.state.joined
+  pub count : x.count ≡ accepted core + 1
+
+-- the same holds for each connection that is new after a move
+abbrev pub NewNamesAreOfTheBallot : Type 0
+NewNamesAreOfTheBallot = (core : CoreState) (turn : Turn) (m : Moves core turn) → IsOrderly core → (x : ConnectionName) (d : Connection) →
+    listed_named x core ≡ None → listed_named x turn.core ≡ Some d → IsNextName core x

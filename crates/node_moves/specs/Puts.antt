@@ -1,0 +1,52 @@
+-- What a node queues on a connection in a move.
+use Rattle.std.specs.Prelude.{◌≡◌, ℕ, Bool, true, false, if◌then◌else◌, List, [], ◌∷◌, ◌++◌, Some}
+use Rattle.exactly_once.specs.packet.declared.packet.Packet.{Packet}
+use Rattle.exactly_once.specs.packet.Spelling.{spelling}
+use Rattle.world_base.specs.ballot.Effect.{Effect}
+use Rattle.world_base.specs.ballot.Effect.TheVariants.{To, Out}
+use Rattle.world_base.specs.ballot.Serving.{proposed}
+use Rattle.exactly_once.specs.broker_base.Command.{Command}
+use Rattle.exactly_once.specs.broker_base.Command.TheVariants as commands
+use Rattle.exactly_once.specs.broker_base.Output.{Output}
+use Rattle.exactly_once.specs.broker_base.Connection.{ConnectionName}
+use Rattle.exactly_once.specs.Sends.{sends_to}
+use Rattle.world_base.specs.declared.Connection.{Connection}
+use Rattle.world_base.specs.Core.{CoreState, Turn, rules, serves}
+use Rattle.world_base.specs.Turns.{heard}
+use Rattle.node_moves.specs.Moves.{Moves}
+use Rattle.node_moves.specs.Moves.Moves.{hears, reads_first, reads_later, loses_one, loses_next, expels_one, hands}
+use Rattle.node_moves.specs.Ends.{IsOrderly, open_named}
+
+-- the effects of its replica in a move
+abbrev pub given_in : {core : CoreState} {turn : Turn} → Moves core turn → List (Effect Command Output)
+given_in {core = core} (hears input is) = (heard input core.replica.state).effects
+given_in {core = core} (reads_first now port c connect rest at first is room) =
+    (proposed rules core.replica.state (commands.Connect c.name connect.client connect.clean)).effects
+given_in {core = core} (reads_later now port c packet rest at later is room) = (proposed rules core.replica.state (commands.Packet c.name packet)).effects
+given_in {core = core} (loses_one port c at asked) = if serves core then (proposed rules core.replica.state (commands.Lost c.name)).effects else []
+given_in {core = core} (loses_next c at) = if serves core then (proposed rules core.replica.state (commands.Lost c.name)).effects else []
+given_in {core = core} (expels_one client) = if serves core then (proposed rules core.replica.state (commands.Expel client)).effects else []
+given_in _ = []
+
+-- the broker's outputs among it
+abbrev pub outputs_of : List (Effect Command Output) → List Output
+outputs_of [] = []
+outputs_of (Out place output ∷ effects) = output ∷ outputs_of effects
+outputs_of (To receiver message ∷ effects) = outputs_of effects
+
+-- packets as bytes, joined
+abbrev pub spelled : List Packet → List ℕ
+spelled [] = []
+spelled (p ∷ ps) = spelling p ++ spelled ps
+
+abbrev pub is_handing : {core : CoreState} {turn : Turn} → Moves core turn → Bool
+is_handing (hands port) = true
+is_handing _ = false
+
+-- On a connection that stays open a move queues the packets that the outputs of this move send to
+-- it, in order, after what was queued before; except for handing over, nothing else changes what is
+-- queued.
+abbrev pub PutsInOrder : Type 0
+PutsInOrder = (core : CoreState) (turn : Turn) (m : Moves core turn) → IsOrderly core → is_handing m ≡ false →
+    (x : ConnectionName) (c d : Connection) → open_named x core ≡ Some c → open_named x turn.core ≡ Some d →
+    d.pending ≡ c.pending ++ spelled (sends_to x (outputs_of (given_in m)))

@@ -1,0 +1,138 @@
+// Laws of what a node does. The calls do nothing; their contracts are the laws.
+
+ghost use Rattle.node_moves.specs.Apart.{NamesStayApart};
+ghost use Rattle.node_moves.specs.Behind.{EachLossIsTold, NoneIsSilent};
+ghost use Rattle.node_moves.specs.Closed.{NothingOnClosed};
+ghost use Rattle.node_moves.specs.Ends.{NodesProposeInOrder, NodesReadInOrder, ReadsAreTaken};
+ghost use Rattle.node_moves.specs.Hearing.{DeedsHearAtFirst};
+ghost use Rattle.node_moves.specs.Keeping.{NamesKeepTheirBallot};
+ghost use Rattle.node_moves.specs.LossyLaws.{LossesAreTaken, LossesProposeInOrder, LossesPutInOrder, LossesPutNothingOnClosed, LossesReadInOrder, LossyNamesAreOfTheBallot, LossyNamesKeepTheirBallot};
+ghost use Rattle.node_moves.specs.LossyRuns.{LossesAreMoves};
+ghost use Rattle.node_moves.specs.Moves.{DeedsAreMoves};
+ghost use Rattle.node_moves.specs.Names.{NewNamesAreOfTheBallot};
+ghost use Rattle.node_moves.specs.Puts.{PutsInOrder};
+
+/// Everything that a node does, its steps and the handing over of bytes, is a run of a few moves:
+/// what it reads from a client it proposes, and nothing else; the effects of its replica are done
+/// at once.
+pub fn deeds_are_moves()
+    ensures { DeedsAreMoves }
+{}
+
+/// Each step of a node, and each handing over of bytes, is such a run in which the replica receives
+/// something, or stops, only in the first move.
+pub fn deeds_hear_at_first()
+    ensures { DeedsHearAtFirst }
+{}
+
+/// In each move, on each connection, a node reads the next packets that the client writes, or none,
+/// and proposes just these under the connection's name, the CONNECT first; and no two of its
+/// connections have one name (MQTT 3.1, 4.6).
+pub fn nodes_read_in_order()
+    ensures { NodesReadInOrder }
+{}
+
+/// From its opening on a node proposes under the name of a connection the commands of a prefix of
+/// what the client writes on it, each once and in order, however the bytes are cut and whatever
+/// else happens.
+pub fn nodes_propose_in_order()
+    ensures { NodesProposeInOrder }
+{}
+
+/// Each packet that a node reads is in its log at once, after everything that was there; so it
+/// reads none after one that its log did not take.
+pub fn reads_are_taken()
+    ensures { ReadsAreTaken }
+{}
+
+/// On a connection that stays open a move of a node queues the packets that its replica's outputs
+/// send to it, in order, after what was queued before, and nothing else.
+pub fn puts_in_order()
+    ensures { PutsInOrder }
+{}
+
+/// On a connection that is closed nothing more is sent: after each move of a node it has the same
+/// bytes to hand over as before, or is closed in this move, and was sent a prefix of what the
+/// replica's outputs send to it, or the node's own answer to a CONNECT that it refuses.
+pub fn nothing_on_closed()
+    ensures { NothingOnClosed }
+{}
+
+/// A connection that is new after a move has a name of the ballot that the node leads as its active
+/// primary, with the next number there.
+pub fn new_names_are_of_the_ballot()
+    ensures { NewNamesAreOfTheBallot }
+{}
+
+/// After a tick no connection is silent for longer than its keep alive allows (MQTT 3.1.2.10).
+pub fn none_is_silent()
+    ensures { NoneIsSilent }
+{}
+
+/// After each step the loss of every connection that was closed in it, because there was no room
+/// for what was to be sent, is reported to the broker.
+pub fn each_loss_is_told()
+    ensures { EachLossIsTold }
+{}
+
+/// Each open connection of a node has a name of the ballot that the node leads, except between the
+/// moment at which its replica receives something and the settling move after it; so it proposes
+/// under a name only in the ballot of that name.
+pub fn names_keep_their_ballot()
+    ensures { NamesKeepTheirBallot }
+{}
+
+/// No two connections of a node have one name, and no connection gets a name again that was given
+/// and that no connection has. This holds from the opening on, in each step, also in one in which
+/// memory ran out, and when bytes are handed over.
+pub fn names_stay_apart()
+    ensures { NamesStayApart }
+{}
+
+/// Each step of a node in which memory ran out is a run of moves, too, in which something may be
+/// lost: the replica receives what comes with the item, and on each connection the bytes of the
+/// item come.
+pub fn losses_are_moves()
+    ensures { LossesAreMoves }
+{}
+
+/// In each such move, on each connection, a node reads the next packets that the client writes, or
+/// none, and proposes just these: none is skipped while the connection is open.
+pub fn losses_read_in_order()
+    ensures { LossesReadInOrder }
+{}
+
+/// From its opening on, even if memory runs out, a node proposes under the name of a connection the
+/// commands of a prefix of what the client writes on it, each once and in order.
+pub fn losses_propose_in_order()
+    ensures { LossesProposeInOrder }
+{}
+
+/// Each packet that is read in such a move is in the node's log at once: a connection is closed if
+/// one of its packets is not taken.
+pub fn losses_are_taken()
+    ensures { LossesAreTaken }
+{}
+
+/// On a connection that stays open such a move queues all that its replica's outputs send to it, in
+/// order, and nothing else.
+pub fn losses_put_in_order()
+    ensures { LossesPutInOrder }
+{}
+
+/// On a connection that is closed after such a move no more was sent than a prefix of what is sent
+/// to it, and nothing if it was closed before.
+pub fn losses_put_nothing_on_closed()
+    ensures { LossesPutNothingOnClosed }
+{}
+
+/// A connection that is new after such a move has the next name of the ballot that the node leads.
+pub fn lossy_names_are_of_the_ballot()
+    ensures { LossyNamesAreOfTheBallot }
+{}
+
+/// After such a move each open connection of a node that serves has a name of the ballot that it
+/// leads.
+pub fn lossy_names_keep_their_ballot()
+    ensures { LossyNamesKeepTheirBallot }
+{}

@@ -1,0 +1,15 @@
+//! What a node does, in the terms of the model of clients and nodes: all it does as moves, and what
+//! these do to one of its connections. Its functions do nothing; their contracts are the laws.
+#![tactic(auto)]
+
+mod laws;
+
+pub use laws::{
+    deeds_are_moves, deeds_hear_at_first, each_loss_is_told, losses_are_moves, losses_are_taken,
+    losses_propose_in_order, losses_put_in_order, losses_put_nothing_on_closed,
+    losses_read_in_order, lossy_names_are_of_the_ballot, lossy_names_keep_their_ballot,
+    names_keep_their_ballot, names_stay_apart, new_names_are_of_the_ballot, nodes_propose_in_order,
+    nodes_read_in_order, none_is_silent, nothing_on_closed, puts_in_order, reads_are_taken,
+};
+pub use world_base;
+pub use world_base::ballot;

@@ -1,0 +1,28 @@
+-- What a node of a group gives while it leads a ballot may be sent on its open ends.
+use Rattle.std.proofs.Common.{◌≡◌, ℕ, List, [], ◌∷◌, ◌++◌, set, ap, sym, ◌∙◌, subst, arith}
+use Rattle.snapshots.specs.whole.Applying.{outputs_between}
+use Rattle.snapshots.specs.Giving.{given_of}
+use Rattle.snapshots.specs.agreement.World.{outputs}
+use Rattle.snapshots.proofs.Orders.{answers_while_it_leads}
+use Rattle.exactly_once.specs.broker_base.Output.{Output}
+use Rattle.packet_world.specs.World.{with_client}
+use Rattle.packet_world.specs.Goes.{Reached}
+use Rattle.packet_world.specs.PutOut.{GroupsPutOut, broker_rules, end_given}
+use Rattle.packet_world.proofs.PutOut.{given_is_put_out}
+
+same_rest : {X : Type 0} (xs ys zs : List X) → xs ++ ys ≡ xs ++ zs → ys ≡ zs
+same_rest [] ys zs e = e
+same_rest (x ∷ xs) ys zs e = same_rest xs ys zs (tail e)
+  where
+    tail : x ∷ (xs ++ ys) ≡ x ∷ (xs ++ zs) → xs ++ ys ≡ xs ++ zs
+    tail e = cc
+
+pub groups_put_out : GroupsPutOut
+groups_put_out config a b past later came more n ballot leads old new stood stands given is cs w reached agreed i j c κ e pipe is_open seen =
+    let z = answers_while_it_leads broker_rules config a b past later w.agreed came more agreed n ballot leads old new stood stands in
+    let low = z.0 in
+    let same : outputs (outputs_between broker_rules w.agreed e.seen new.committed) ≡ given =
+    ap (λ k. outputs (outputs_between broker_rules w.agreed k new.committed)) seen
+    ∙ same_rest (given_of n came) (outputs (outputs_between broker_rules w.agreed old.committed new.committed)) given (sym z.2 ∙ is) in
+    subst (λ (l : List (ℕ × Output)). Reached cs (with_client i (record c { ends = set c.ends j (end_given κ.name new.committed l e) }) w)) same
+    (given_is_put_out cs w i j c κ e new.committed reached pipe is_open (omega (arith, low, seen)) z.1)

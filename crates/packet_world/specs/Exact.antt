@@ -1,0 +1,52 @@
+-- What holds for every world of clients and nodes.
+use Rattle.std.specs.Prelude.{◌≤◌, ℕ, suc, List, [], ◌∷◌, length, filter}
+use Rattle.exactly_once.specs.broker_base.Connection.{ConnectionName}
+use Rattle.exactly_once.specs.broker_base.Place.{Client}
+use Rattle.exactly_once.specs.broker_base.Commands.{past_of, usual_limits}
+use Rattle.exactly_once.specs.broker_base.EndingLaws.{connects_of, EndsWithTheSession}
+use Rattle.exactly_once.specs.broker_base.Command.{Command}
+use Rattle.snapshots.specs.lists.Lists.{Each, IsPrefixOf}
+use Rattle.exactly_once.specs.client_base.Keeper.{Written}
+use Rattle.exactly_once.specs.Sends.{put_to}
+use Rattle.exactly_once.specs.Sides.{Connection}
+use Rattle.exactly_once.specs.Story.{command_of, is_packet_of}
+use Rattle.exactly_once.specs.InStep.{IsInStep}
+use Rattle.exactly_once.specs.Lives.{ExactlyOnceOverSessions}
+use Rattle.packet_world.specs.World.{End, ClientEnds, World, story_of, AreApart}
+use Rattle.packet_world.specs.Goes.{Reached}
+
+-- the commands that a connection's written packets become
+abbrev pub commands_from : ConnectionName → ℕ → List Written → List Command
+commands_from x n (w ∷ more) = command_of x n w.packet ∷ commands_from x (suc n) more
+commands_from x n [] = []
+
+-- A connection's commands in the agreed list are a prefix of what its client wrote, in order; what
+-- its node sent is a prefix of the answers to it; and its client handled a prefix of that.
+pub record PipeInOrder (agreed : List Command) (κ : Connection) (e : End) : Type 0 where
+  pub up : IsPrefixOf (filter (λ command. is_packet_of command κ.name) agreed) (commands_from κ.name 0 κ.written)
+  pub down : IsPrefixOf e.put (put_to usual_limits (past_of usual_limits agreed) κ.name)
+  pub handled : κ.handled ≤ length e.put
+
+-- each connection
+abbrev pub PipesInOrder : List Command → List Connection → List End → Type 0
+PipesInOrder agreed (κ ∷ connections) (e ∷ ends) = PipeInOrder agreed κ e × PipesInOrder agreed connections ends
+PipesInOrder agreed [] [] = Unit {0}
+PipesInOrder agreed _ _ = ⊥
+
+-- what a client is promised over its sessions, as long as it is in step
+abbrev pub IsExactInStep : List Command → ClientEnds → Type 0
+IsExactInStep agreed c = IsInStep (story_of agreed c) → ExactlyOnceOverSessions usual_limits (story_of agreed c)
+
+pub record WorldIsExact (w : World) : Type 0 where
+  -- connections carry packets in order, both ways
+  pub pipes : Each (λ (c : ClientEnds). PipesInOrder w.agreed c.connections c.ends) w.clients
+  -- the publications of each client that is in step are published once, and it accepts in order in
+  -- each of its sessions
+  pub clients : Each (IsExactInStep w.agreed) w.clients
+  -- an ended session gets nothing more, since each connection has a name of its own
+  pub names : (x : ConnectionName) → connects_of x (past_of usual_limits w.agreed) ≤ 1
+  pub sessions : EndsWithTheSession usual_limits (past_of usual_limits w.agreed)
+
+-- this holds for every world that clients with identifiers of their own reach
+abbrev pub WorldsAreExact : Type 0
+WorldsAreExact = (cs : List Client) (w : World) → AreApart cs → Reached cs w → WorldIsExact w

@@ -1,0 +1,61 @@
+-- The outputs of a node are sent on the ends of its connections.
+use Rattle.std.specs.Prelude.{◌≡◌, ◌≤◌, ℕ, true, List, ◌∷◌, ◌++◌, length, map, set, slice_get, Some}
+use Rattle.snapshots.specs.machine.Machine.{Rules}
+use Rattle.snapshots.specs.whole.Applying.{outputs_between}
+use Rattle.snapshots.specs.ballot_base.declared.config.Config.{Config}
+use Rattle.snapshots.specs.ballot_base.Replica.{ReplicaState}
+use Rattle.snapshots.specs.Giving.{LeadsOn, given_of}
+use Rattle.snapshots.specs.Past.{Moment, Past, IsAgreed}
+use Rattle.snapshots.specs.agreement.World.{outputs}
+use Rattle.exactly_once.specs.broker_base.Connection.{ConnectionName}
+use Rattle.exactly_once.specs.broker_base.Place.{Client}
+use Rattle.exactly_once.specs.broker_base.Commands.{usual_limits}
+use Rattle.exactly_once.specs.broker_base.Command.{Command}
+use Rattle.exactly_once.specs.broker_base.Command.TheVariants as commands
+use Rattle.exactly_once.specs.broker_base.Output.{Output}
+use Rattle.exactly_once.specs.broker_base.State.{State, empty_state}
+use Rattle.exactly_once.specs.broker_base.Step.{step}
+use Rattle.broker_form.specs.Form.{frozen, thawed}
+use Rattle.exactly_once.specs.Sends.{sends_to}
+use Rattle.exactly_once.specs.Sides.{Connection}
+use Rattle.packet_world.specs.World.{End, ClientEnds, World, with_client}
+use Rattle.packet_world.specs.Goes.{HasPipe, Reached}
+
+-- the broker's machine, with a window of 64, frozen to form 2
+abbrev pub broker_rules : Rules State Command Output
+broker_rules =
+    record {
+      opening = empty_state 64;
+      start_of = commands.Start;
+      after = λ state command. (step usual_limits 64 state command).0;
+      gives = λ state command. (step usual_limits 64 state command).1;
+      frozen = frozen;
+      thawed = thawed;
+    }
+
+-- the outputs that a node gave, without their places
+abbrev pub answered : List (ℕ × Output) → List Output
+answered given = map (λ (row : ℕ × Output). row.1) given
+
+-- the end of a connection whose node has applied the list up to a place and output this, of which
+-- it sent what is for the connection
+abbrev pub end_given : ConnectionName → ℕ → List (ℕ × Output) → End → End
+end_given x past given e = record e { seen = past; put = e.put ++ sends_to x (answered given) }
+
+-- The outputs of the machine at the next places of the agreed list, none left out, may be sent on
+-- an open end: the world reaches a state that has them.
+abbrev pub GivenIsPutOut : Type 0
+GivenIsPutOut = (cs : List Client) (w : World) (i j : ℕ) (c : ClientEnds) (κ : Connection) (e : End) (past : ℕ) → Reached cs w → HasPipe w i c j κ e →
+    e.is_open ≡ true → e.seen ≤ past → past ≤ length w.agreed →
+    Reached cs (with_client i (record c { ends = set c.ends j (end_given κ.name past (outputs (outputs_between broker_rules w.agreed e.seen past)) e) }) w)
+
+-- The same holds for all outputs of a node of a group between two moments of a ballot that it
+-- leads, on an open end that has what the node output before.
+abbrev pub GroupsPutOut : Type 0
+GroupsPutOut = (config : Config) (a b : Moment State Command Output) (past later : List (Moment State Command Output))
+    (came : Past broker_rules config (a ∷ past)) (more : Past broker_rules config (b ∷ later)) (n ballot : ℕ) → LeadsOn n ballot came b later more →
+    (old new : ReplicaState State Command) → slice_get a.world.nodes n ≡ Some old → slice_get b.world.nodes n ≡ Some new →
+    (given : List (ℕ × Output)) → given_of n more ≡ given_of n came ++ given →
+    (cs : List Client) (w : World) → Reached cs w → IsAgreed config (b ∷ later) w.agreed →
+    (i j : ℕ) (c : ClientEnds) (κ : Connection) (e : End) → HasPipe w i c j κ e → e.is_open ≡ true → e.seen ≡ old.committed →
+    Reached cs (with_client i (record c { ends = set c.ends j (end_given κ.name new.committed given e) }) w)

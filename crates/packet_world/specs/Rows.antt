@@ -1,0 +1,18 @@
+-- A short run of a world, computed to its end: another node takes over while a publication is in
+-- transit.
+use Rattle.std.specs.Prelude.{◌≡◌, List, [], ◌∷◌, map, reverse}
+use Rattle.exactly_once.specs.session_base.declared.publication.Publication.{Publication}
+use Rattle.exactly_once.specs.Headline.{accepted_on}
+use Rattle.exactly_once.specs.Rows.{writer, news, commands_there}
+use Rattle.packet_world.specs.World.{ClientEnds, World}
+use Rattle.packet_world.specs.Goes.{Reached}
+
+abbrev pub accepted_by : ClientEnds → List Publication
+accepted_by c = accepted_on c.connections
+
+-- the list of that story, oldest first, with the same end: what was published once is accepted once
+pub record AcceptsOnce : Type 0 where
+  pub end : World
+  pub reached : Reached (writer ∷ []) end
+  pub agreed : reverse end.agreed ≡ commands_there
+  pub accepted : map accepted_by end.clients ≡ (news ∷ []) ∷ []

@@ -1,0 +1,43 @@
+-- How the agreed list of a world continues if nodes agree: what is said about a later list, and
+-- that a world comes to it.
+use Rattle.std.specs.Prelude.{◌≡◌, ℕ, true, List, map, filter, take}
+use Rattle.exactly_once.specs.broker_base.Place.{Client}
+use Rattle.exactly_once.specs.broker_base.Command.{Command}
+use Rattle.snapshots.specs.lists.Lists.{In, IsPrefixOf}
+use Rattle.exactly_once.specs.Sides.{Connection}
+use Rattle.exactly_once.specs.Story.{is_packet_of}
+use Rattle.packet_world.specs.World.{End, ClientEnds, World, AreApart}
+use Rattle.packet_world.specs.Goes.{HasPipe, Reached, is_of_connection}
+use Rattle.packet_world.specs.Exact.{commands_from}
+
+-- a command is of a connection that is there
+pub record IsOfPipe (w : World) (command : Command) : Type 0 where
+  pub i : ℕ
+  pub j : ℕ
+  pub client : ClientEnds
+  pub connection : Connection
+  pub end : End
+  pub pipe : HasPipe w i client j connection end
+  pub named : is_packet_of command connection.name ≡ true
+
+-- The list only grew; for each connection it has a prefix of the packets that the node read and
+-- proposed, in order; and it has packets only of such connections.
+pub record IsServed (w : World) (later : List Command) : Type 0 where
+  pub grows : IsPrefixOf w.agreed later
+  pub order : (i j : ℕ) (c : ClientEnds) (κ : Connection) (e : End) → HasPipe w i c j κ e →
+      IsPrefixOf (filter (λ command. is_packet_of command κ.name) later) (commands_from κ.name 0 (take e.read κ.written))
+  pub known : (command : Command) → In command later → is_of_connection command ≡ true → IsOfPipe w command
+
+-- a client, except how much of what it wrote is in the list
+abbrev pub untaken : ClientEnds → ClientEnds
+untaken c = record c { connections = map (λ (κ : Connection). record κ { taken = 0 }) c.connections }
+
+-- Then the world comes to this list, command by command, and all else stays as it is.
+pub record ComesTo (cs : List Client) (w : World) (later : List Command) : Type 0 where
+  pub behind : World
+  pub reached : Reached cs behind
+  pub agreed : behind.agreed ≡ later
+  pub clients : map untaken behind.clients ≡ map untaken w.clients
+
+abbrev pub WorldsAreServed : Type 0
+WorldsAreServed = (cs : List Client) (w : World) (later : List Command) → AreApart cs → Reached cs w → IsServed w later → ComesTo cs w later

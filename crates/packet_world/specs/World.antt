@@ -1,0 +1,56 @@
+-- Clients and nodes as the two ends of their connections, over the list of commands that the nodes
+-- agree on.
+use Rattle.std.specs.Prelude.{◌≡◌, ℕ, Bool, true, false, List, [], ◌∷◌, map, set}
+use Rattle.exactly_once.specs.packet.declared.packet.Packet.{Packet}
+use Rattle.exactly_once.specs.broker_base.Connection.{ConnectionName, same_connection}
+use Rattle.exactly_once.specs.broker_base.Place.{Client}
+use Rattle.exactly_once.specs.broker_base.Commands.{past_of, usual_limits}
+use Rattle.exactly_once.specs.broker_base.Command.{Command}
+use Rattle.snapshots.specs.lists.Lists.{Each}
+use Rattle.exactly_once.specs.client_base.Keeper.{Keeper, new_keeper}
+use Rattle.exactly_once.specs.Sides.{Connection}
+use Rattle.exactly_once.specs.Story.{Story, any_named}
+
+-- the node's end of a connection
+pub record End : Type 0 where
+  pub read : ℕ  -- how many packets it read from the connection and proposed as commands
+  pub seen : ℕ  -- how many places of the agreed list its node applied
+  pub put : List Packet  -- what it sent on the connection
+  pub is_open : Bool
+
+abbrev pub new_end : ℕ → End
+new_end seen = record { read = 0; seen = seen; put = []; is_open = true }
+
+-- a client with its connections, the newest first, and the nodes' ends of these in the same order
+pub record ClientEnds : Type 0 where
+  pub keeper : Keeper
+  pub connections : List Connection
+  pub ends : List End
+
+abbrev pub new_client : Client → ClientEnds
+new_client c = record { keeper = new_keeper c; connections = []; ends = [] }
+
+pub record World : Type 0 where
+  pub agreed : List Command
+  pub clients : List ClientEnds
+
+-- nothing is agreed, and no client has a connection
+abbrev pub opening : List Client → World
+opening cs = record { agreed = []; clients = map new_client cs }
+
+-- no two are equal
+abbrev pub AreApart : List Client → Type 0
+AreApart (c ∷ cs) = Each (λ d. c ≡ d → ⊥) cs × AreApart cs
+AreApart [] = Unit {0}
+
+-- the story of one client of the world
+abbrev pub story_of : List Command → ClientEnds → Story
+story_of agreed c = record { past = past_of usual_limits agreed; connections = c.connections; keeper = c.keeper }
+
+-- no connection ever had this name
+abbrev pub IsFresh : ConnectionName → List ClientEnds → Type 0
+IsFresh x = Each (λ (c : ClientEnds). any_named (same_connection x) c.connections ≡ false)
+
+-- the client at this place is changed
+abbrev pub with_client : ℕ → ClientEnds → World → World
+with_client i c w = record w { clients = set w.clients i c }

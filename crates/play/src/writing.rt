@@ -1,0 +1,64 @@
+// The lines of a transcript.
+
+ghost use Rattle.std.specs.Prelude.{◌≡◌, ◌++◌, OnOk};
+ghost use Rattle.play.specs.Lines.{accepted_line, done_line, end_line, idle_line};
+
+use script::packet::ClientId;
+use std::alloc::{AllocError, Global};
+use user_client::client::Accepted;
+use user_client::{print_line, print_text};
+
+/// Appends the line of an event that could not happen: `7 idle`.
+pub fn write_idle(alloc: Global, index: u64, text: &mut Vec<u8>) -> Result<(), AllocError>
+    ensures { OnOk result (text.new.items ≡ text.old.items ++ idle_line index) }
+{
+    let line = format!(in alloc; "{index} idle\n")?;
+    text.extend_from_slice(line.as_str().as_bytes())
+}
+
+/// Appends the line of an event that happened, with how many messages were sent so far and how long
+/// the agreed list is: `7 ok msgs=3 agreed=1`.
+pub fn write_done(
+    alloc: Global,
+    index: u64,
+    messages: u64,
+    agreed: u64,
+    text: &mut Vec<u8>,
+) -> Result<(), AllocError>
+    ensures { OnOk result (text.new.items ≡ text.old.items ++ done_line index messages agreed) }
+{
+    let line = format!(in alloc; "{index} ok msgs={messages} agreed={agreed}\n")?;
+    text.extend_from_slice(line.as_str().as_bytes())
+}
+
+/// Appends the line of a publication that a client accepted: `accepted b 1 2 0 t/1 x`, with the
+/// client's name and the number of its session; the rest as a subscriber prints it.
+pub fn write_accepted(
+    alloc: Global,
+    client: &ClientId,
+    accepted: &Accepted,
+    text: &mut Vec<u8>,
+) -> Result<(), AllocError>
+    ensures { OnOk result (text.new.items ≡ text.old.items ++ accepted_line client.now accepted.now) }
+{
+    let session = accepted.session;
+    let session = format!(in alloc; " {session} ")?;
+    text.extend_from_slice(b"accepted ")?;
+    print_text(client.as_str().as_bytes(), text)?;
+    text.extend_from_slice(session.as_str().as_bytes())?;
+    print_line(accepted, text)
+}
+
+/// Appends the last line, with how long the agreed list is and which ballot is active:
+/// `end agreed=8 active=2`.
+pub fn write_end(
+    alloc: Global,
+    agreed: u64,
+    active: u64,
+    text: &mut Vec<u8>,
+) -> Result<(), AllocError>
+    ensures { OnOk result (text.new.items ≡ text.old.items ++ end_line agreed active) }
+{
+    let line = format!(in alloc; "end agreed={agreed} active={active}\n")?;
+    text.extend_from_slice(line.as_str().as_bytes())
+}

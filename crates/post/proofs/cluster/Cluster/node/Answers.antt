@@ -1,0 +1,16 @@
+use Rattle.std.proofs.Common.{rules, ◌≡◌, ◌≢◌, ℕ, List, false, subst}
+use Rattle.std.proofs.lemmas.Iterator.{YieldsList-from_slice, first_from_find}
+use borrow.Author.Tests.{tests}
+use Rattle.master.specs.lists.Lists.{has_id}
+use Rattle.post.specs.declared.peer.Peer.{Peer}
+use Rattle.post.proofs.NoneAmong.{none_among, of_none}
+use Rattle.post.proofs.cluster.Cluster.node.Goals as goal
+
+pub returns-clause-none : goal.returns-clause-none
+returns-clause-none c = λ none.
+    subst (λ (numbers : List ℕ). has_id c.args.number numbers ≡ false) c.self.view_is
+    (none_among c.args.number c.self.inside.nodes.items
+    (of_none _ _ _
+    (first_from_find _ _ _ (λ (peer : Peer). peer.number ≡ c.args.number) (λ (peer : Peer). peer.number ≢ c.args.number)
+    c.find.ensures.ran (YieldsList-from_slice c.self.inside.nodes.items (search rules))
+    (λ x q k. search (rules, tests)) (λ x q k. search (rules, tests))) none))

@@ -1,0 +1,246 @@
+// The nodes of a program, and their master.
+
+ghost use Rattle.std.specs.Prelude.{◌≡◌, IfOk, IfSome, IsErrOf, IsOk, None, false, true};
+ghost use Rattle.master.specs.ballot_base.LawfulConfig.{is_lawful};
+ghost use Rattle.master.specs.lists.Lists.{has_id};
+ghost use Rattle.post.specs.Numbers.{numbers_of};
+
+use crate::carrier::{Carrier, Given, carry_all};
+use crate::choosing::{Shown, primary_of};
+use crate::messaging_master::{Answer, MASTER, MessagingMaster};
+use crate::order_error::OrderError;
+use crate::parcel::Parcel;
+use crate::peer::Peer;
+use master::AssignError;
+use node::packet::ClientId;
+use node::{Config, Members, Memory, OpeningError, Status};
+use std::alloc::Global;
+use std::marker::Model;
+use std::sync::{Mutex, Wait};
+use std::thread;
+use std::time::{Clock, Duration};
+
+/// How long to wait between two looks, in milliseconds.
+const LOOK_MILLIS: u64 = 1;
+
+/// How many times to look whether a node is served.
+const LOOKS: u32 = 1_000;
+
+/// How many times to look whether a node has stopped that was ordered to crash.
+const STOP_LOOKS: u32 = 40;
+
+/// The nodes that serve in one program, with what they send each other, and the master that gives
+/// ballots their configurations.
+#[derive(Drop)]
+pub struct Cluster {
+    nodes: Vec<Peer>,
+    master: Mutex<MessagingMaster>,
+    alloc: Global,
+}
+
+impl Model for Cluster {
+    ghost use Rattle.std.specs.Prelude.{ℕ, List};
+    ghost use Rattle.post.specs.Numbers.{numbers_of};
+
+    ghost Value = { List ℕ };
+
+    ghost view = { λ peers. numbers_of peers.nodes.items };
+}
+
+impl Cluster {
+    /// Returns the nodes of these numbers, and a master whose ballot 1 has this configuration.
+    /// `BadMembers` comes if no ballot may have it; the other error is that memory ran out.
+    pub fn new(alloc: Global, numbers: &[u8], config: &Config) -> Result<Cluster, OpeningError>
+        ensures ok { IfOk result (λ peers. peers ≡ numbers.now) }
+        ensures lawful { IsOk result → is_lawful config.now.members config.now.primary ≡ true }
+        ensures bad { IsErrOf result OpeningError.BadMembers →
+            is_lawful config.now.members config.now.primary ≡ false }
+    {
+        let nodes = peers_of(alloc, numbers)?;
+        let Ok(master) = MessagingMaster::new(Config {
+            members: Members::from_slice(alloc, config.members.as_slice())?,
+            primary: config.primary,
+        }) else {
+            return Err(OpeningError::BadMembers);
+        };
+        Ok(Cluster {
+            nodes,
+            master: Mutex::new(master),
+            alloc,
+        })
+    }
+
+    /// Gives the next ballot to a configuration, and sends it to its primary. Returns the ballot.
+    /// It becomes active once each of its members holds all that was agreed. `BadMembers` comes for
+    /// members that no ballot may have, and for one that is no node here. If memory runs out,
+    /// nothing changes.
+    pub fn assign<R: Wait>(&self, rt: &R, config: Config) -> Result<u64, OrderError> {
+        if !self.has_all(config.members.as_slice()) {
+            return Err(OrderError::Refused(AssignError::BadMembers));
+        }
+        match self.node(config.primary) {
+            Some(node) => node.assign(rt, self.alloc, &self.master, config),
+            None => Err(OrderError::Refused(AssignError::BadMembers)),
+        }
+    }
+
+    /// Crashes a node, for good. Returns whether there is a node of this number that has not
+    /// stopped, and was not ordered to crash before. The order is queued for the node, and then the
+    /// node gets some time to obey. If memory runs out, the node is not crashed.
+    pub fn crash<R: Wait + Clock>(&self, rt: &R, number: u8) -> Result<bool, Memory> {
+        let Some(node) = self.node(number) else {
+            return Ok(false);
+        };
+        let Some(status) = self.status(rt, number) else {
+            return Ok(false);
+        };
+        if status.stopped || !node.leave_crash(rt)? {
+            return Ok(false);
+        }
+        await_stop(rt, node);
+        Ok(true)
+    }
+
+    /// Queues the order to end the session of a client for the running active primary of the
+    /// highest ballot, by what each node published after its last change: no node is asked. Returns
+    /// whether there is such a node. If memory runs out, the order is not queued.
+    pub fn expel<R: Wait + Clock>(&self, rt: &R, client: &ClientId) -> Result<bool, Memory> {
+        let shown = self.shown(rt)?;
+        let Some(number) = primary_of(shown.as_slice()) else {
+            return Ok(false);
+        };
+        let Some(node) = self.node(number) else {
+            return Ok(false);
+        };
+        node.leave_expel(rt, client)?;
+        Ok(true)
+    }
+
+    // Returns the status of each node that is served, after its last change.
+    fn shown<R: Wait + Clock>(&self, rt: &R) -> Result<Vec<Shown>, Memory> {
+        let mut shown = Vec::with_capacity(self.alloc, self.nodes.len())?;
+        for node in &self.nodes {
+            if let Some(status) = self.status(rt, node.number) {
+                shown.push(Shown {
+                    number: node.number,
+                    status,
+                })?;
+            }
+        }
+        Ok(shown)
+    }
+
+    /// Returns the status of a node after its last change. There is none if no node has this
+    /// number, or if it is not served within a second.
+    pub fn status<R: Wait + Clock>(&self, rt: &R, number: u8) -> Option<Status> {
+        let node = self.node(number)?;
+        for _ in 0..LOOKS {
+            let status = node.status(rt);
+            if status.is_some() {
+                return status;
+            }
+            thread::sleep(rt, Duration::from_millis(LOOK_MILLIS));
+        }
+        None
+    }
+
+    /// Says whether there are several nodes.
+    pub fn are_several(&self) -> bool {
+        self.nodes.len() > 1
+    }
+
+    // Says whether each of these numbers is that of a node.
+    fn has_all(&self, numbers: &[u8]) -> bool {
+        numbers.iter().all(|number| self.node(*number).is_some())
+    }
+
+    /// Returns the node of a number.
+    pub fn node(&self, number: u8) -> Option<&Peer>
+        ensures some { IfSome result (λ node. node.now.number ≡ number) }
+        ensures none { result ≡ None → has_id number self.now ≡ false }
+    {
+        self.nodes.iter().find(|node| node.number == number)
+    }
+
+    /// Hands on what steps of a node gave for others, in its order. What goes to nobody is lost.
+    pub fn hand_on<R: Wait>(&self, rt: &R, given: Given) {
+        carry_all(rt, &mut Round { peers: self }, given);
+    }
+
+    // Leaves a message that a step of a node gave for a node.
+    fn leave<R: Wait>(&self, rt: &R, parcel: Parcel)
+        requires { parcel.receiver ≡ 0 → ⊥ }
+    {
+        match self.node(parcel.receiver()) {
+            Some(node) => node.leave_parcel(rt, parcel),
+            None => parcel.lose(self),
+        }
+    }
+
+    // Lets the master answer a message that a step of a node gave for it.
+    fn ask_master<R: Wait>(&self, rt: &R, parcel: Parcel)
+        requires { parcel.receiver ≡ 0 }
+    {
+        match self.answer(rt, parcel) {
+            Some(answer) => self.leave_answer(rt, answer),
+            None => {}
+        }
+    }
+
+    // Returns the master's answer to a message that a step of a node gave for it.
+    fn answer<R: Wait>(&self, rt: &R, parcel: Parcel) -> Option<Answer>
+        requires { parcel.receiver ≡ 0 }
+    {
+        let mut master = self.master.lock(rt);
+        parcel.ask(&mut master)
+    }
+
+    // Queues an answer of the master for its receiver.
+    fn leave_answer<R: Wait>(&self, rt: &R, answer: Answer) {
+        match self.node(answer.receiver()) {
+            Some(node) => node.leave_answer(rt, answer),
+            None => answer.lose(self),
+        }
+    }
+}
+
+// Waits until a node has stopped, but not for long.
+fn await_stop<R: Wait + Clock>(rt: &R, node: &Peer) {
+    for _ in 0..STOP_LOOKS {
+        if matches!(node.status(rt), Some(status) if status.stopped) {
+            return;
+        }
+        thread::sleep(rt, Duration::from_millis(LOOK_MILLIS));
+    }
+}
+
+// Returns a peer for each number.
+fn peers_of(alloc: Global, numbers: &[u8]) -> Result<Vec<Peer>, Memory>
+    ensures { IfOk result (λ nodes. numbers_of nodes.items ≡ numbers.now) }
+{
+    let mut nodes = Vec::with_capacity(alloc, numbers.len())?;
+    for number in numbers {
+        nodes.push(Peer::new(alloc, *number))?;
+    }
+    Ok(nodes)
+}
+
+/// The nodes and the master, as receivers of messages.
+#[derive(Drop)]
+struct Round<'a> {
+    peers: &'a Cluster,
+}
+
+impl<'a> Carrier for Round<'a> {
+    // No clause is about what is behind a lock.
+    ghost carries = { λ _ _ _ _. Unit {0} };
+
+    fn carry<R: Wait>(&mut self, rt: &R, parcel: Parcel) {
+        let peers = self.peers;
+        if parcel.receiver() == MASTER {
+            peers.ask_master(rt, parcel);
+        } else {
+            peers.leave(rt, parcel);
+        }
+    }
+}

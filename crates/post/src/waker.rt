@@ -1,0 +1,41 @@
+// Lets a thread sleep until there is something for it to do.
+
+use std::sync::{Mutex, Wait};
+use std::thread::Parker;
+use std::time::Duration;
+
+/// Wakes a thread, at the cost of a wake-up only if it sleeps.
+#[derive(Drop)]
+pub(crate) struct Waker {
+    asleep: Mutex<bool>,
+    parker: Parker,
+}
+
+impl Waker {
+    pub(crate) fn new() -> Waker {
+        Waker {
+            asleep: Mutex::new(false),
+            parker: Parker::new(),
+        }
+    }
+
+    /// Wakes the thread, if it sleeps or is about to.
+    pub(crate) fn ring<R: Wait>(&self, rt: &R) {
+        let mut asleep = self.asleep.lock(rt);
+        if *asleep {
+            *asleep = false;
+            self.parker.unpark();
+        }
+    }
+
+    /// The thread is about to sleep: it looks once more for what there is behind this call.
+    pub(crate) fn doze<R: Wait>(&self, rt: &R) {
+        *self.asleep.lock(rt) = true;
+    }
+
+    /// Sleeps until the bell rings, at most this long.
+    pub(crate) fn sleep<R: Wait>(&self, rt: &R, time: Duration) {
+        self.parker.park_timeout(rt, time);
+        *self.asleep.lock(rt) = false;
+    }
+}

@@ -1,0 +1,33 @@
+-- Which part of a frozen session may come after which.
+use Rattle.std.specs.Prelude.{ℕ, Bool, true, not, ◌&&◌, ◌||◌, nat_lt, List, Option, Some, None}
+use Rattle.lists.specs.Lists.{has_id}
+use Rattle.session_base.specs.declared.publication.Publication.{Publication}
+use Rattle.session_base.specs.Subscriptions.{HeldFilter, is_held}
+use Rattle.session_base.specs.Queue.{Flight, ids_of, is_released}
+use Rattle.session_base.specs.Counted.{last_of}
+
+-- a filter that is not held yet
+abbrev pub is_new_filter : List HeldFilter → HeldFilter → Bool
+is_new_filter front held = not (is_held held.0 front)
+
+-- an identifier above the last one, if there is one
+abbrev pub is_over : Option ℕ → ℕ → Bool
+is_over (Some last) id = nat_lt last id
+is_over None id = true
+
+abbrev pub is_above : List ℕ → ℕ → Bool
+is_above front id = is_over (last_of front) id
+
+-- the last entry, if there is one, is released
+abbrev pub was_released : Option Flight → Bool
+was_released (Some last) = is_released last
+was_released None = true
+
+-- an entry with an identifier of its own; a released one comes only after released ones
+abbrev pub may_follow : List Flight → Flight → Bool
+may_follow front flight =
+    not (has_id flight.0 (ids_of front)) && (not (is_released flight) || was_released (last_of front))
+
+-- anything
+abbrev pub anything : List Publication → Publication → Bool
+anything front p = true

@@ -1,0 +1,109 @@
+-- The session that is read from bytes. It is the same in both forms, except the window: how many
+-- entries are in flight at most.
+use Rattle.std.specs.Prelude.{ℕ, ◌+◌, ◌-◌, Bool, not, ◌==◌, nat_lt, nat_le, if◌then◌else◌, List, length, Result, Ok}
+use Rattle.std.specs.Int.{w32, from_be_bytes}
+use Rattle.packet_base.specs.declared.stop.Stop.{Stop}
+use Rattle.packet_base.specs.Reading.{◌>>=◌, ◌>>◌, byte_at, front_at, number_at, id_at, topic_at, filter_at}
+use Rattle.packet.specs.QoS.{qos_of}
+use Rattle.packet.specs.declared.qos.QoS.{QoS}
+use Rattle.packet.specs.Spelling.{longest_body}
+use Rattle.session_base.specs.declared.publication.Publication.{Publication}
+use Rattle.session_base.specs.declared.awaits.Awaits.{Awaits}
+use Rattle.session_base.specs.declared.awaits.Awaits.TheVariants as waits_for
+use Rattle.session_base.specs.Publication.{is_answered, is_acknowledged}
+use Rattle.session_base.specs.Subscriptions.{HeldFilter}
+use Rattle.session_base.specs.Queue.{Flight}
+use Rattle.session_base.specs.Session.{SessionState}
+use Rattle.session_base.specs.Counted.{keep, counted_at}
+pub use Rattle.session_base.specs.Writing.{long_number, one_byte, publication_bytes, held_bytes, awaits_bytes, flight_bytes, state_bytes, HasLength, IsWritable}
+pub use Rattle.session_base.specs.Follows.{is_new_filter, is_over, is_above, was_released, may_follow, anything}
+
+-- a byte that is 0 or 1
+unfoldable pub flag_at : List ℕ → Result (Bool × List ℕ) Stop
+flag_at bytes = do
+  byte ← byte_at bytes
+  keep (nat_lt byte.0 2)
+  Ok (byte.0 == 1, byte.1)
+
+unfoldable pub long_number_at : List ℕ → Result (ℕ × List ℕ) Stop
+long_number_at bytes = do
+  front ← front_at 4 bytes
+  Ok (from_be_bytes w32 front.0, front.1)
+
+unfoldable pub qos_at : List ℕ → Result (QoS × List ℕ) Stop
+qos_at bytes = do
+  byte ← byte_at bytes
+  qos ← qos_of byte.0
+  Ok (qos, byte.1)
+
+-- how many bytes the body of a PUBLISH has that carries the publication: topic with its length,
+-- identifier, payload
+abbrev pub body_length : Publication → ℕ
+body_length p = 2 + length p.topic + (if is_answered p.qos then 2 else 0) + length p.payload
+
+-- a publication whose PUBLISH is within the limit
+abbrev pub sized : Publication → Result Publication Stop
+sized p = do
+  keep (nat_le (body_length p) longest_body)
+  Ok p
+
+unfoldable pub publication_at : List ℕ → Result (Publication × List ℕ) Stop
+publication_at bytes = do
+  retain ← flag_at bytes
+  qos ← qos_at retain.1
+  topic ← topic_at qos.1
+  len ← long_number_at topic.1
+  payload ← front_at len.0 len.1
+  p ← sized (record { retain = retain.0; qos = qos.0; topic = topic.0; payload = payload.0 })
+  Ok (p, payload.1)
+
+unfoldable pub held_at : List ℕ → Result (HeldFilter × List ℕ) Stop
+held_at bytes = do
+  filter ← filter_at bytes
+  qos ← qos_at filter.1
+  Ok ((filter.0, qos.0), qos.1)
+
+-- a publication that waits: at QoS 1 or 2
+unfoldable pub waiting_at : List ℕ → Result (Publication × List ℕ) Stop
+waiting_at bytes = do
+  p ← publication_at bytes
+  keep (is_answered p.0.qos)
+  Ok p
+
+-- one that waits for PUBACK is of QoS 1, one that waits for PUBREC of QoS 2
+unfoldable pub sent_at : Bool → List ℕ → Result (Awaits × List ℕ) Stop
+sent_at acknowledged bytes = do
+  p ← waiting_at bytes
+  keep (if acknowledged then is_acknowledged p.0.qos else not (is_acknowledged p.0.qos))
+  Ok (if acknowledged then waits_for.Puback p.0 else waits_for.Pubrec p.0, p.1)
+
+unfoldable pub awaits_at : List ℕ → Result (Awaits × List ℕ) Stop
+awaits_at bytes = do
+  state ← byte_at bytes
+  keep (nat_lt state.0 3)
+  if state.0 == 2 then Ok (waits_for.Pubcomp, state.1) else sent_at (state.0 == 0) state.1
+
+unfoldable pub flight_at : List ℕ → Result (Flight × List ℕ) Stop
+flight_at bytes = do
+  id ← id_at bytes
+  awaits ← awaits_at id.1
+  Ok ((id.0, awaits.0), awaits.1)
+
+-- ---- a session
+
+-- at most 64 subscriptions, no more entries in flight than this window, and 4,096 entries in flight
+-- and waiting
+unfoldable pub state_at : ℕ → List ℕ → Result (SessionState × List ℕ) Stop
+state_at window bytes = do
+  subscriptions ← counted_at byte_at is_new_filter held_at 64 bytes
+  received ← counted_at number_at is_above id_at 65535 subscriptions.1
+  in_flight ← counted_at number_at may_follow flight_at window received.1
+  waiting ← counted_at number_at anything waiting_at (4096 - length in_flight.0) in_flight.1
+  Ok (
+    record {
+      subscriptions = subscriptions.0;
+      received = received.0;
+      queue = record { in_flight = in_flight.0; waiting = waiting.0 };
+    },
+    waiting.1,
+  )

@@ -1,0 +1,50 @@
+-- What a session is frozen to is read as that session, and what is read is frozen as it stood.
+use Rattle.std.specs.Prelude.{◌≡◌, ℕ, ◌≤◌, ◌<◌, List, ◌++◌, length, get_or, Ok, IfOk}
+use Rattle.std.specs.List.{AllByRecursion}
+use Rattle.std.specs.List.Sorted.{IsStrictlySortedBy}
+use Rattle.std.specs.Ordering.{nat_cmp}
+use Rattle.packet_base.specs.Spelling.{IsId}
+use Rattle.lists.specs.Lists.{IsDistinct}
+use Rattle.session_base.specs.KeepingLaws.{AreFiltersApart}
+use Rattle.session_base.specs.OrderLaws.{IsReleasedFirst}
+use Rattle.session_base.specs.Queue.{ids_of}
+use Rattle.session_base.specs.Session.{SessionState}
+use Rattle.session_base.specs.InRange.{IsHeld, IsQueue}
+use Rattle.session_base.specs.Form.{state_bytes, state_at}
+
+-- a session that has a form: each filter once, received identifiers rising, those in flight
+-- distinct, the released entries first, no more of each than it may hold, and each in its range
+pub record HasForm (s : SessionState) : Type 0 where
+  pub filters_apart : AreFiltersApart s.subscriptions
+  pub filters : AllByRecursion IsHeld s.subscriptions
+  pub few_filters : length s.subscriptions ≤ 64
+  pub rising : IsStrictlySortedBy nat_cmp s.received
+  pub received : AllByRecursion IsId s.received
+  pub distinct : IsDistinct (ids_of s.queue.in_flight)
+  pub released_first : IsReleasedFirst s.queue.in_flight
+  pub queue : IsQueue 4096 s.queue
+
+-- no more of its entries are in flight than the window allows
+abbrev pub FitsIn : ℕ → SessionState → Type 0
+FitsIn window s = length s.queue.in_flight ≤ window
+
+-- whatever bytes follow, and whatever the window is, if no more is in flight
+abbrev pub FrozenIsRead : Type 0
+FrozenIsRead =
+    (window : ℕ) → window ≤ 4096 → (s : SessionState) (rest : List ℕ) → HasForm s → FitsIn window s →
+    state_at window (state_bytes s ++ rest) ≡ Ok (s, rest)
+
+-- each number is a byte
+abbrev pub AreBytes : List ℕ → Type 0
+AreBytes bytes = (i : ℕ) → get_or bytes i 0 < 256
+
+-- a session that was read has a form
+abbrev pub ReadHasForm : Type 0
+ReadHasForm =
+    (window : ℕ) → window ≤ 4096 → (bytes : List ℕ) → AreBytes bytes →
+    IfOk (state_at window bytes) (λ x. HasForm x.0 × FitsIn window x.0 × AreBytes x.1)
+
+-- what was read is written as it stood, in front of the bytes that are left
+abbrev pub ReadIsFrozen : Type 0
+ReadIsFrozen =
+    (window : ℕ) → (bytes : List ℕ) → AreBytes bytes → IfOk (state_at window bytes) (λ x. bytes ≡ state_bytes x.0 ++ x.1)

@@ -1,0 +1,61 @@
+-- A worked example with something in every part of a session, each byte by hand: two filters, two
+-- received identifiers, an entry in flight of each kind, two that wait.
+use Rattle.std.specs.Prelude.{◌≡◌, ℕ, true, false, List, [], ◌∷◌, ◌++◌, codes}
+use Rattle.packet.specs.declared.qos.QoS.TheVariants as levels
+use Rattle.session_base.specs.declared.publication.Publication.{Publication}
+use Rattle.session_base.specs.declared.awaits.Awaits.TheVariants as waits_for
+use Rattle.session_base.specs.Queue.{Queue}
+use Rattle.session_base.specs.Session.{SessionState}
+use Rattle.session_base.specs.Form.{state_bytes}
+
+-- the entries in flight that have a publication
+abbrev pub at_least_once : Publication
+at_least_once = record { retain = false; qos = levels.AtLeastOnce; topic = codes "t/1"; payload = codes "x" }
+
+abbrev pub exactly_once : Publication
+exactly_once = record { retain = false; qos = levels.ExactlyOnce; topic = codes "t/1"; payload = codes "y" }
+
+-- what waits: a retained copy at QoS 1, and a publication without a payload
+abbrev pub retained_copy : Publication
+retained_copy = record { retain = true; qos = levels.AtLeastOnce; topic = codes "t/2"; payload = codes "z" }
+
+abbrev pub without_payload : Publication
+without_payload = record { retain = false; qos = levels.ExactlyOnce; topic = codes "t/1"; payload = [] }
+
+abbrev pub full_queue : Queue
+full_queue = record {
+  in_flight = (3, waits_for.Pubcomp) ∷ (1, waits_for.Puback at_least_once) ∷ (2, waits_for.Pubrec exactly_once) ∷ [];
+  waiting = retained_copy ∷ without_payload ∷ [];
+}
+
+abbrev pub full_session : SessionState
+full_session = record {
+  subscriptions = (codes "t/#", levels.AtMostOnce) ∷ (codes "t/1", levels.ExactlyOnce) ∷ [];
+  received = 1 ∷ 258 ∷ [];
+  queue = full_queue;
+}
+
+-- `t/#` at QoS 0 and `t/1` at QoS 2; received are 1 and 258
+abbrev pub filters_by_hand : List ℕ
+filters_by_hand =
+    2 ∷ 0 ∷ 3 ∷ 0x74 ∷ 0x2F ∷ 0x23 ∷ 0 ∷ 0 ∷ 3 ∷ 0x74 ∷ 0x2F ∷ 0x31 ∷ 2 ∷ 0 ∷ 2 ∷ 0 ∷ 1 ∷ 1 ∷ 2 ∷ []
+
+-- 3 awaits PUBCOMP, 1 awaits PUBACK, 2 awaits PUBREC
+abbrev pub flights_by_hand : List ℕ
+flights_by_hand =
+    0 ∷ 3 ∷ 0 ∷ 3 ∷ 2
+    ∷ 0 ∷ 1 ∷ 0 ∷ 0 ∷ 1 ∷ 0 ∷ 3 ∷ 0x74 ∷ 0x2F ∷ 0x31 ∷ 0 ∷ 0 ∷ 0 ∷ 1 ∷ 0x78
+    ∷ 0 ∷ 2 ∷ 1 ∷ 0 ∷ 2 ∷ 0 ∷ 3 ∷ 0x74 ∷ 0x2F ∷ 0x31 ∷ 0 ∷ 0 ∷ 0 ∷ 1 ∷ 0x79 ∷ []
+
+-- two wait
+abbrev pub waiting_by_hand : List ℕ
+waiting_by_hand =
+    0 ∷ 2
+    ∷ 1 ∷ 1 ∷ 0 ∷ 3 ∷ 0x74 ∷ 0x2F ∷ 0x32 ∷ 0 ∷ 0 ∷ 0 ∷ 1 ∷ 0x7A
+    ∷ 0 ∷ 2 ∷ 0 ∷ 3 ∷ 0x74 ∷ 0x2F ∷ 0x31 ∷ 0 ∷ 0 ∷ 0 ∷ 0 ∷ []
+
+abbrev pub full_session_by_hand : List ℕ
+full_session_by_hand = filters_by_hand ++ flights_by_hand ++ waiting_by_hand
+
+abbrev pub FullSessionIsFrozen : Type 0
+FullSessionIsFrozen = state_bytes full_session ≡ full_session_by_hand

@@ -1,0 +1,58 @@
+-- The bytes to which a session is frozen. Numbers are big-endian, a text has its length in two
+-- bytes before it.
+use Rattle.std.specs.Prelude.{ℕ, ◌<◌, ◌^◌, List, [], ◌∷◌, ◌++◌, length}
+use Rattle.std.specs.Int.{w32, to_be_bytes}
+use Rattle.packet_base.specs.Spelling.{number, text, bit}
+use Rattle.packet.specs.QoS.{qos_number}
+use Rattle.session_base.specs.declared.publication.Publication.{Publication}
+use Rattle.session_base.specs.declared.awaits.Awaits.{Awaits}
+use Rattle.session_base.specs.declared.awaits.Awaits.TheVariants as waits_for
+use Rattle.session_base.specs.Subscriptions.{HeldFilter}
+use Rattle.session_base.specs.Queue.{Flight}
+use Rattle.session_base.specs.Session.{SessionState}
+use Rattle.session_base.specs.Counted.{counted}
+
+-- a number of four bytes
+abbrev pub long_number : ℕ → List ℕ
+long_number n = to_be_bytes w32 n
+
+-- one byte
+abbrev pub one_byte : ℕ → List ℕ
+one_byte n = n ∷ []
+
+-- RETAIN, QoS, topic, payload with its length
+abbrev pub publication_bytes : Publication → List ℕ
+publication_bytes p = bit p.retain ∷ qos_number p.qos ∷ (text p.topic ++ (long_number (length p.payload) ++ p.payload))
+
+-- a filter with its QoS
+abbrev pub held_bytes : HeldFilter → List ℕ
+held_bytes held = text held.0 ++ one_byte (qos_number held.1)
+
+-- what an entry waits for: 0 PUBACK, 1 PUBREC, 2 PUBCOMP, with its publication if it still has one
+abbrev pub awaits_bytes : Awaits → List ℕ
+awaits_bytes (waits_for.Puback p) = 0 ∷ publication_bytes p
+awaits_bytes (waits_for.Pubrec p) = 1 ∷ publication_bytes p
+awaits_bytes waits_for.Pubcomp = 2 ∷ []
+
+abbrev pub flight_bytes : Flight → List ℕ
+flight_bytes flight = number flight.0 ++ awaits_bytes flight.1
+
+-- subscriptions in the order of their first granting, received identifiers, what is in flight, what
+-- waits
+abbrev pub state_bytes : SessionState → List ℕ
+state_bytes s =
+    counted one_byte held_bytes s.subscriptions
+    ++ (counted number number s.received
+    ++ (counted number flight_bytes s.queue.in_flight ++ counted number publication_bytes s.queue.waiting))
+
+-- ---- what can be written
+
+-- the payload's length fits four bytes
+abbrev pub HasLength : Publication → Type 0
+HasLength p = length p.payload < 2 ^ 32
+
+-- the same for an entry's publication, if it has one
+abbrev pub IsWritable : Awaits → Type 0
+IsWritable (waits_for.Puback p) = HasLength p
+IsWritable (waits_for.Pubrec p) = HasLength p
+IsWritable waits_for.Pubcomp = Unit {0}

@@ -1,0 +1,161 @@
+// Reads the parts of a frozen session from the front of the bytes that are left. Bytes that are not
+// of the form stop the reading; the reader is not to be used after an error.
+
+ghost use Rattle.std.specs.Prelude.{◌≡◌, Ok};
+ghost use Rattle.packet.specs.QoS.{qos_of};
+ghost use Rattle.packet.specs.Spelling.{longest_body};
+ghost use Rattle.packet_base.specs.Outcome.{Gives, Reads};
+ghost use Rattle.session_base.specs.Counted.{keep};
+ghost use Rattle.session_base.specs.Form.{flag_at, long_number_at, qos_at, body_length, publication_at, held_at, waiting_at, sent_at, awaits_at, flight_at};
+
+use crate::{Awaits, Publication};
+use packet::{PacketId, Payload, QoS};
+use packet_base::topics::{Filter, MalformedKind};
+use packet_base::{Reader, Stop};
+use std::alloc::Global;
+
+/// The most bytes of a body, this broker's own limit.
+const LONGEST_BODY: usize = 1_048_572;
+
+/// Continues if the test holds; otherwise the bytes are not of the form.
+pub fn keep(test: bool) -> Result<(), Stop>
+    ensures { Gives (λ x. x) result (keep test) }
+{
+    if test {
+        return Ok(());
+    }
+    Err(Stop::Malformed(MalformedKind::Shape))
+}
+
+/// Reads a byte that is 0 or 1.
+#[tactic(auto, unfolding(crate::specs::Form::flag_at))]
+pub fn read_flag(reader: &mut Reader) -> Result<bool, Stop>
+    ensures { Reads (λ x. x) result reader.new (flag_at reader.old) }
+{
+    let byte = reader.byte()?;
+    keep(byte < 2)?;
+    Ok(byte == 1)
+}
+
+/// Reads a number of four bytes, the high one first.
+#[tactic(auto, unfolding(crate::specs::Form::long_number_at))]
+pub fn read_long_number(reader: &mut Reader) -> Result<u32, Stop>
+    ensures { Reads (λ x. x) result reader.new (long_number_at reader.old) }
+{
+    let front = reader.front(4)?;
+    Ok(u32::from_be_bytes([front[0], front[1], front[2], front[3]]))
+}
+
+/// Reads a QoS in one byte, 0 to 2.
+#[tactic(auto, unfolding(crate::specs::Form::qos_at))]
+pub fn read_qos(reader: &mut Reader) -> Result<QoS, Stop>
+    ensures { Reads (λ x. x) result reader.new (qos_at reader.old) }
+{
+    qos_of(reader.byte()?)
+}
+
+fn qos_of(number: u8) -> Result<QoS, Stop>
+    ensures { Gives (λ x. x) result (qos_of number) }
+{
+    match number {
+        0 => Ok(QoS::AtMostOnce),
+        1 => Ok(QoS::AtLeastOnce),
+        2 => Ok(QoS::ExactlyOnce),
+        _ => Err(Stop::Malformed(MalformedKind::Qos)),
+    }
+}
+
+/// Reads a publication whose PUBLISH is within the size limit of a packet.
+#[tactic(auto, unfolding(crate::specs::Form::publication_at))]
+pub fn read_publication(alloc: Global, reader: &mut Reader) -> Result<Publication, Stop>
+    ensures { Reads (λ x. x) result reader.new (publication_at reader.old) }
+{
+    let retain = read_flag(reader)?;
+    let qos = read_qos(reader)?;
+    let topic = reader.topic(alloc)?;
+    let len = read_long_number(reader)?;
+    let payload = payload_of(alloc, reader.front(len as usize)?)?;
+    let publication = Publication {
+        retain,
+        qos,
+        topic,
+        payload,
+    };
+    keep(body_length(&publication) <= LONGEST_BODY)?;
+    Ok(publication)
+}
+
+fn payload_of(alloc: Global, bytes: &[u8]) -> Result<Payload, Stop>
+    ensures { Gives (λ x. x) result (Ok bytes.now) }
+{
+    match Payload::new(alloc, bytes) {
+        Ok(payload) => Ok(payload),
+        Err(_) => Err(Stop::Malformed(MalformedKind::Memory)),
+    }
+}
+
+/// Returns how many bytes the body of a PUBLISH has that carries the publication.
+pub fn body_length(publication: &Publication) -> usize
+    ensures { result ≡ body_length publication.now }
+{
+    let id = if publication.qos == QoS::AtMostOnce {
+        0
+    } else {
+        2
+    };
+    2 + publication.topic.as_str().len() + id + publication.payload.as_slice().len()
+}
+
+/// Reads a filter with its QoS.
+#[tactic(auto, unfolding(crate::specs::Form::held_at))]
+pub fn read_held(alloc: Global, reader: &mut Reader) -> Result<(Filter, QoS), Stop>
+    ensures { Reads (λ x. x) result reader.new (held_at reader.old) }
+{
+    let filter = reader.filter(alloc)?;
+    let qos = read_qos(reader)?;
+    Ok((filter, qos))
+}
+
+/// Reads a publication that waits: at QoS 1 or 2.
+#[tactic(auto, unfolding(crate::specs::Form::waiting_at))]
+pub fn read_waiting(alloc: Global, reader: &mut Reader) -> Result<Publication, Stop>
+    ensures { Reads (λ x. x) result reader.new (waiting_at reader.old) }
+{
+    let publication = read_publication(alloc, reader)?;
+    keep(publication.qos != QoS::AtMostOnce)?;
+    Ok(publication)
+}
+
+/// Reads an entry in flight: its identifier, and what it waits for.
+#[tactic(auto, unfolding(crate::specs::Form::flight_at))]
+pub fn read_flight(alloc: Global, reader: &mut Reader) -> Result<(PacketId, Awaits), Stop>
+    ensures { Reads (λ x. x) result reader.new (flight_at reader.old) }
+{
+    let id = reader.id()?;
+    let awaits = read_awaits(alloc, reader)?;
+    Ok((id, awaits))
+}
+
+#[tactic(auto, unfolding(crate::specs::Form::awaits_at))]
+fn read_awaits(alloc: Global, reader: &mut Reader) -> Result<Awaits, Stop>
+    ensures { Reads (λ x. x) result reader.new (awaits_at reader.old) }
+{
+    let state = reader.byte()?;
+    keep(state < 3)?;
+    if state == 2 {
+        return Ok(Awaits::Pubcomp);
+    }
+    read_sent(alloc, state == 0, reader)
+}
+
+#[tactic(auto, unfolding(crate::specs::Form::sent_at))]
+fn read_sent(alloc: Global, acknowledged: bool, reader: &mut Reader) -> Result<Awaits, Stop>
+    ensures { Reads (λ x. x) result reader.new (sent_at acknowledged reader.old) }
+{
+    let publication = read_waiting(alloc, reader)?;
+    keep(acknowledged == (publication.qos == QoS::AtLeastOnce))?;
+    if acknowledged {
+        return Ok(Awaits::Puback(publication));
+    }
+    Ok(Awaits::Pubrec(publication))
+}

@@ -1,7 +1,0 @@
-use Rattle.broker_base.proofs.PacketOfNobody.{window_is_steady}
-use Rattle.broker_base.specs.Commands.{usual_limits}
-use Rattle.story.proofs.keeping.Told.{told_stories_accept}
-use Rattle.story.proofs.laws.stories_accept_in_order.Goals as goal
-
-pub returns : goal.returns
-returns c = record { usual = told_stories_accept usual_limits window_is_steady.0; steady = told_stories_accept }

@@ -1,5 +1,0 @@
-use Rattle.story.proofs.sessions.FirstSession.{unexpelled_in_step}
-use Rattle.story.proofs.laws.unexpelled_lives_are_in_step.Goals as goal
-
-pub returns : goal.returns
-returns c = unexpelled_in_step

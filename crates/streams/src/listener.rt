@@ -1,0 +1,79 @@
+// The place where a node serves its clients: its listener and its door.
+
+use crate::connection_table::ConnectionTable;
+use node::Memory;
+use std::alloc::Global;
+use std::net::{Net, SocketAddr, TcpListener, TcpStream};
+use std::sync::Wait;
+use std::time::{Clock, Duration};
+use std::{io, thread};
+
+/// How many connections a node serves at once.
+pub const CONNECTIONS: u8 = 60;
+
+/// How long a thread sleeps before it tries again to accept, or to wake those that do, in
+/// milliseconds.
+const PAUSE_MILLIS: u64 = 1;
+
+/// How often the threads that wait for clients are woken when the door is closed.
+const WAKES: u32 = 10_000;
+
+/// The place where a node serves its clients: its listener and its door.
+#[derive(Drop)]
+pub struct Listener {
+    /// The node's number.
+    pub number: u8,
+    listener: TcpListener,
+    /// The connections that are served.
+    pub door: ConnectionTable,
+}
+
+impl Listener {
+    /// Returns the place of the node of this number, whose clients connect to the listener. The
+    /// only error is that memory runs out.
+    pub fn new(alloc: Global, number: u8, listener: TcpListener) -> Result<Listener, Memory> {
+        Ok(Listener {
+            number,
+            listener,
+            door: ConnectionTable::new(alloc)?,
+        })
+    }
+
+    /// Returns the address to which clients connect. The errors are those of the listener.
+    pub fn address(&self) -> io::Result<SocketAddr> {
+        self.listener.local_addr()
+    }
+
+    /// Returns the stream of the next client. There is none once the door is closed.
+    pub fn accept<R: Wait + Clock>(&self, rt: &R) -> Option<TcpStream> {
+        for _ in rt.forever() {
+            if !self.door.begin_wait(rt) {
+                return None;
+            }
+            let came = self.listener.accept();
+            if !self.door.end_wait(rt) {
+                return None;
+            }
+            match came {
+                Ok((stream, _)) => return Some(stream),
+                Err(_) => thread::sleep(rt, Duration::from_millis(PAUSE_MILLIS)),
+            }
+        }
+        unreachable!()
+    }
+
+    /// Ends all connections, and admits no more: the threads that wait for clients continue.
+    pub fn close<R: Wait + Clock + Net<Stream = TcpStream>>(&self, rt: &R) {
+        self.door.close(rt);
+        for _ in 0..WAKES {
+            if !self.door.is_waited_at(rt) {
+                return;
+            }
+            if let Ok(address) = self.address() {
+                // If the listener cannot be reached, the next client that comes wakes a thread.
+                let _ = TcpStream::connect(rt, address);
+            }
+            thread::sleep(rt, Duration::from_millis(PAUSE_MILLIS));
+        }
+    }
+}

@@ -1,0 +1,10 @@
+-- Fewer levels are left at each call, counted twice.
+use Rattle.std.proofs.Common.{◌+◌, ◌*◌, length}
+use Rattle.topics.specs.Text.{levels_of}
+use Rattle.subs.proofs.nodes.Nodes.+find_at.Given as goal
+
+abbrev pub decreases-find_at : goal.decreases-find_at
+decreases-find_at l = 2 * length (levels_of l.topic)
+
+abbrev pub decreases-find_behind : goal.decreases-find_behind
+decreases-find_behind l = 2 * length (levels_of l.behind) + 1

@@ -1,0 +1,45 @@
+-- The rows of each filter, gathered before the nodes are made.
+use Rattle.std.specs.Prelude.{ℕ, List, [], ◌∷◌, bytes_eq, Option, None, option_and_then, if◌then◌else◌, map}
+use Rattle.std.specs.Map.{lookup, update_all}
+use Rattle.subs_base.specs.packet.declared.qos.QoS.{QoS}
+use Rattle.subs_base.specs.Content.{Content, with_row}
+use Rattle.subs_base.specs.ListIndex.{Filters, Clients}
+use Rattle.subs.specs.declared.group.Group.{Group}
+use Rattle.subs.specs.declared.group.Group.TheVariants as kinds
+
+-- rows as they came: the last of a client counts
+abbrev pub row_in : List (List ℕ × QoS) → List ℕ → Option QoS
+row_in rows = update_all bytes_eq (λ _. None) rows
+
+-- each filter with its rows
+abbrev pub Groups : Type 0
+Groups = List (List ℕ × List (List ℕ × QoS))
+
+-- the rows of a group, in the order in which they came
+abbrev pub told : Group → List (List ℕ × QoS)
+told (kinds.One client qos) = (client, qos) ∷ []
+told (kinds.More rows) = rows.items
+
+-- the groups as lists
+abbrev pub groups_of : List (List ℕ × Group) → Groups
+groups_of entries = map (λ entry. (entry.0, told entry.1)) entries
+
+-- the QoS at each client and filter
+abbrev pub gathered : Groups → Content
+gathered groups client filter = option_and_then (λ rows. row_in rows client) (lookup (bytes_eq filter) groups)
+
+-- these rows are put in, filter by filter
+abbrev pub all_put : Groups → Content → Content
+all_put [] content = content
+all_put (group ∷ groups) content =
+    all_put groups (λ client filter. if bytes_eq group.0 filter then row_in group.1 client else content client filter)
+
+-- these filters of a client are set, one by one
+abbrev pub filters_told : List ℕ → Filters → Content → Content
+filters_told client [] content = content
+filters_told client (held ∷ more) content = filters_told client more (with_row content client held.0 held.1)
+
+-- and those of all clients
+abbrev pub clients_told : Clients → Content → Content
+clients_told [] content = content
+clients_told (entry ∷ rest) content = clients_told rest (filters_told entry.0 entry.1 content)

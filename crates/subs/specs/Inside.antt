@@ -1,0 +1,66 @@
+-- What a node and the vector of nodes show.
+use Rattle.std.specs.Prelude.{◌≡◌, ℕ, Bool, true, false, is_some, List, bytes_eq, codes, ◌&&◌, Option, None, option_map, option_and_then, if◌then◌else◌, [], ◌∷◌}
+use Rattle.std.specs.BTreeMap.{get_by}
+use Rattle.std.specs.Cmp.Lexicographic.{slice_cmp}
+use Rattle.std.specs.Ordering.{nat_cmp}
+use Rattle.slab.specs.Slab as slab
+use Rattle.topics.specs.Text.{Levels}
+use Rattle.subs_base.specs.packet.declared.qos.QoS.{QoS}
+use Rattle.subs_base.specs.Content.{Content}
+use Rattle.subs_base.specs.ListIndex.{Filters, at}
+use Rattle.subs.specs.declared.node.Node.{Node}
+use Rattle.subs.specs.Rows.{row_at}
+use Rattle.subs.specs.Shape.{Shape}
+
+-- the clients of a node
+abbrev pub held_in : Node → Bool → List ℕ → Option QoS
+held_in node true client = row_at node.rest client
+held_in node false client = row_at node.here client
+
+-- the children of a node, `+` and the others
+abbrev pub child_in : Node → List ℕ → Option ℕ
+child_in node level =
+    option_map (λ id. id.number)
+    (if bytes_eq level (codes "+") then node.plus else get_by (λ key. slice_cmp nat_cmp level key.items) node.named)
+
+-- the nodes of the vector
+abbrev pub shape_of : slab.Slab Node → Shape
+shape_of nodes =
+    record {
+      child = λ at level. option_and_then (λ node. child_in node level) (slab.get nodes at);
+      held = λ at rest client. option_and_then (λ node. held_in node rest client) (slab.get nodes at);
+      used = λ at. is_some (slab.get nodes at);
+    }
+
+-- at the levels of a filter and a client the QoS of that subscription
+abbrev pub Asked : Type 0
+Asked = Levels → List ℕ → Option QoS
+
+-- no subscription
+abbrev pub nothing : Asked
+nothing filter client = None
+
+abbrev pub same_levels : Levels → Levels → Bool
+same_levels [] [] = true
+same_levels [] (level ∷ rest) = false
+same_levels (part ∷ parts) [] = false
+same_levels (part ∷ parts) (level ∷ rest) = bytes_eq part level && same_levels parts rest
+
+-- this is what the client asks for at the filter of these levels
+abbrev pub with_asked : Asked → Levels → List ℕ → Option QoS → Asked
+with_asked before filter client kept f c =
+    if same_levels filter f && bytes_eq client c then kept else before f c
+
+-- these are the clients of the filter of these levels
+abbrev pub with_rows : Asked → Levels → (List ℕ → Option QoS) → Asked
+with_rows before filter kept f c = if same_levels filter f then kept c else before f c
+
+-- the client's subscriptions of these filters are removed
+abbrev pub cleared : List ℕ → Filters → Content → Content
+cleared client filters before c f =
+    if bytes_eq client c && is_some (at f filters) then None else before c f
+
+-- the node has no row and no child
+pub record HoldsNothing (node : Node) : Type 0 where
+  pub child : (level : List ℕ) → child_in node level ≡ None
+  pub held : (rest : Bool) (client : List ℕ) → held_in node rest client ≡ None

@@ -1,0 +1,35 @@
+-- What the vector of nodes shows from its root.
+use Rattle.std.specs.Prelude.{◌≡◌, ℕ, List, Option, Some, option_map}
+use Rattle.topics.specs.Text.{Levels, levels}
+use Rattle.subs_base.specs.packet.declared.qos.QoS.{QoS}
+use Rattle.subs_base.specs.Content.{Content}
+use Rattle.subs.specs.declared.nodes.Nodes.{Nodes}
+use Rattle.subs.specs.Shape.{Shape, rows}
+use Rattle.subs.specs.Ways.{led, IsTree}
+use Rattle.subs.specs.Inside.{shape_of}
+
+abbrev pub shape : Nodes → Shape
+shape nodes = shape_of nodes.slab
+
+abbrev pub root_of : Nodes → Option ℕ
+root_of nodes = option_map (λ id. id.number) nodes.root
+
+-- the QoS of each client at the levels of each filter
+abbrev pub rows_of : Nodes → Levels → List ℕ → Option QoS
+rows_of nodes = rows (shape nodes) (root_of nodes)
+
+-- the nodes are a tree: what a node number may be
+abbrev pub IsSound : Nodes → Type 0
+IsSound nodes = IsTree (shape nodes).child (shape nodes).used (root_of nodes)
+
+-- these levels lead to the node
+abbrev pub LeadsTo : Nodes → Levels → ℕ → Type 0
+LeadsTo nodes path at = led (shape nodes).child (root_of nodes) path ≡ Some at
+
+-- some levels lead to it
+abbrev pub IsThere : Nodes → ℕ → Type 0
+IsThere nodes at = (path : Levels) × LeadsTo nodes path at
+
+-- the same at the text of each filter
+abbrev pub content_in : Nodes → Content
+content_in nodes client filter = rows_of nodes (levels filter) client

@@ -1,0 +1,56 @@
+-- Which clients a walk along a topic's levels finds (MQTT 4.7.1).
+use Rattle.std.specs.Prelude.{◌≡◌, ℕ, true, false, List, [], ◌∷◌, codes, Option, Some, None, option_and_then, if◌then◌else◌, nat_lt}
+use Rattle.std.specs.BTreeMap.{BTreeMap, get}
+use Rattle.std.specs.Cmp.Lexicographic.{slice_cmp}
+use Rattle.std.specs.Ordering.{nat_cmp}
+use Rattle.topics.specs.Text.{Levels, levels}
+use Rattle.topics.specs.Matching.{starts_with}
+use Rattle.subs_base.specs.packet.declared.qos.QoS.{QoS}
+use Rattle.subs_base.specs.packet.QoS.{qos_number}
+use Rattle.subs.specs.Shape.{Shape}
+
+-- the greater of two QoS, none being the least
+abbrev pub greatest : Option QoS → Option QoS → Option QoS
+greatest None q = q
+greatest (Some p) None = Some p
+greatest (Some p) (Some q) = if nat_lt (qos_number p) (qos_number q) then Some q else Some p
+
+-- each client is at the greater of what it had and what it is given
+abbrev pub Raises : BTreeMap (List ℕ) QoS → BTreeMap (List ℕ) QoS → (List ℕ → Option QoS) → Type 0
+Raises old new given =
+    (client : List ℕ)
+    → get (slice_cmp nat_cmp) new client ≡ greatest (get (slice_cmp nat_cmp) old client) (given client)
+
+-- some client is given something
+abbrev pub GivesSome : (List ℕ → Option QoS) → Type 0
+GivesSome given = (client : List ℕ) × (qos : QoS) × (given client ≡ Some qos)
+
+-- the greatest QoS of the client's filters below a node that match these levels of a topic
+abbrev pub found_at : Shape → ℕ → Levels → List ℕ → Option QoS
+found_at shape at [] client = greatest (shape.held at true client) (shape.held at false client)
+found_at shape at (level ∷ rest) client =
+    greatest (shape.held at true client)
+    (greatest
+    (option_and_then (λ below. found_at shape below rest client) (shape.child at level))
+    (option_and_then (λ below. found_at shape below rest client) (shape.child at (codes "+"))))
+
+-- the same after the node of a level, if there is one
+abbrev pub found_behind : Shape → Option ℕ → Levels → List ℕ → Option QoS
+found_behind shape node rest client = option_and_then (λ below. found_at shape below rest client) node
+
+-- the same for the filters that continue with this level
+abbrev pub found_below : Shape → ℕ → List ℕ → Levels → List ℕ → Option QoS
+found_below shape at level rest client = option_and_then (λ below. found_at shape below rest client) (shape.child at level)
+
+-- a topic that begins with `$`, which is 36, is matched by no wildcard at the front (MQTT 4.7.2)
+abbrev pub found_named : Shape → ℕ → Levels → List ℕ → Option QoS
+found_named shape at [] client = None
+found_named shape at (level ∷ rest) client = found_below shape at level rest client
+
+abbrev pub found_from : Shape → ℕ → List ℕ → List ℕ → Option QoS
+found_from shape at topic client =
+    if starts_with 36 topic then found_named shape at (levels topic) client else found_at shape at (levels topic) client
+
+-- the same from the root, if there is one
+abbrev pub found_for : Shape → Option ℕ → List ℕ → List ℕ → Option QoS
+found_for shape root topic client = option_and_then (λ at. found_from shape at topic client) root

@@ -1,0 +1,28 @@
+-- Which node levels lead to, and what keeps the nodes a tree.
+use Rattle.std.specs.Prelude.{◌≡◌, ℕ, Bool, true, false, [], ◌∷◌, Option, Some, option_and_then, if◌then◌else◌}
+use Rattle.topics.specs.Text.{Levels}
+use Rattle.topics.specs.Matching.{is_all}
+use Rattle.subs.specs.Shape.{Children}
+
+-- the node that levels lead to from a node
+abbrev pub reach : Children → ℕ → Levels → Option ℕ
+reach child at [] = Some at
+reach child at (level ∷ rest) = option_and_then (λ below. reach child below rest) (child at level)
+
+-- and from the root
+abbrev pub led : Children → Option ℕ → Levels → Option ℕ
+led child root path = option_and_then (λ at. reach child at path) root
+
+-- where the rows of a filter are: along which levels, and whether at `#` beside the node
+abbrev pub place : Levels → Levels × Bool
+place [] = ([], false)
+place (level ∷ rest) = if is_all level rest then ([], true) else (level ∷ (place rest).0, (place rest).1)
+
+-- no two paths lead to one node, and each node that a path leads to is used
+pub record IsTree (child : Children) (marked : ℕ → Bool) (root : Option ℕ) : Type 0 where
+  pub one_way : (p q : Levels) (at : ℕ) → led child root p ≡ Some at → led child root q ≡ Some at → p ≡ q
+  pub used : (p : Levels) (at : ℕ) → led child root p ≡ Some at → marked at ≡ true
+
+-- some path leads to the node
+abbrev pub IsReached : Children → Option ℕ → ℕ → Type 0
+IsReached child root at = (path : Levels) × (led child root path ≡ Some at)

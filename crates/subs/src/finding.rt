@@ -1,0 +1,117 @@
+// A walk along the levels of a topic.
+
+ghost use Rattle.std.specs.Prelude.{◌≡◌, OnOk, OnErr, option_and_then, option_map};
+ghost use Rattle.std.specs.BTreeMap.{Updates, get};
+ghost use Rattle.std.specs.Cmp.Lexicographic.{slice_cmp};
+ghost use Rattle.std.specs.Ordering.{nat_cmp};
+ghost use Rattle.topics.specs.Text.{levels_of};
+ghost use Rattle.std.specs.Prelude.{Some};
+ghost use Rattle.subs.specs.Rows.{row_at};
+ghost use Rattle.subs.specs.Standing.{shape, root_of};
+ghost use Rattle.subs.specs.Walk.{greatest, Raises, GivesSome, found_at, found_below, found_for, found_behind};
+
+use crate::node_id::NodeId;
+use crate::nodes::Nodes;
+use crate::rows::Rows;
+use crate::slots::child;
+use std::alloc::AllocError;
+use std::collections::BTreeMap;
+use subs_base::packet::{ClientId, QoS};
+use topics::split_level;
+
+/// The clients that were found, with the QoS of each.
+type Found = BTreeMap<ClientId, QoS>;
+
+impl Nodes {
+    /// Raises each client of a filter that matches the topic to its QoS there. No wildcard at the
+    /// front matches a topic that begins with `$` (MQTT 4.7.2).
+    pub(crate) fn find(&self, topic: &[u8], found: &mut Found) -> Result<(), AllocError>
+        ensures ok { OnOk result (Raises found.old found.new (found_for (shape self.now) (root_of self.now) topic.now)) }
+        ensures some { OnErr result (GivesSome (found_for (shape self.now) (root_of self.now) topic.now)) }
+    {
+        let Some(root) = self.root else {
+            return Ok(());
+        };
+        if !topic.starts_with(b"$".as_slice()) {
+            return self.find_at(root, Some(topic), found);
+        }
+        let (level, behind) = split_level(topic);
+        self.find_behind(child(&self.slab, root, level), behind, found)
+    }
+
+    // Does the same for the filters that continue after a node.
+    #[cycle(find_at)]
+    fn find_at(&self, at: NodeId, topic: Option<&[u8]>, found: &mut Found) -> Result<(), AllocError>
+        ensures ok { OnOk result
+            (Raises found.old found.new (found_at (shape self.now) at.number (levels_of topic.entry))) }
+        ensures some { OnErr result (GivesSome (found_at (shape self.now) at.number (levels_of topic.entry))) }
+    {
+        let Some(node) = self.slab.get(at.number) else {
+            return Ok(());
+        };
+        raise_all(&node.rest, found)?;
+        let Some(text) = topic else {
+            return raise_all(&node.here, found);
+        };
+        let (level, behind) = split_level(text);
+        self.find_behind(node.child(level), behind, found)?;
+        self.find_behind(node.plus, behind, found)
+    }
+
+    // Does the same after the node of a level, if there is one.
+    #[cycle(find_at)]
+    fn find_behind(
+        &self,
+        below: Option<NodeId>,
+        behind: Option<&[u8]>,
+        found: &mut Found,
+    ) -> Result<(), AllocError>
+        ensures ok { OnOk result
+            (Raises found.old found.new (found_behind (shape self.now) (option_map (λ id. id.number) below) (levels_of behind.entry))) }
+        ensures some { OnErr result
+            (GivesSome (found_behind (shape self.now) (option_map (λ id. id.number) below) (levels_of behind.entry))) }
+    {
+        match below {
+            Some(below) => self.find_at(below, behind, found),
+            None => Ok(()),
+        }
+    }
+}
+
+/// Raises each of the clients to its QoS there.
+fn raise_all(rows: &Rows, found: &mut Found) -> Result<(), AllocError>
+    ensures ok { OnOk result (Raises found.old found.new (row_at rows.now)) }
+    ensures some { OnErr result (GivesSome (row_at rows.now)) }
+{
+    match rows {
+        Rows::Empty => Ok(()),
+        Rows::One(client, qos) => raise(client, *qos, found),
+        Rows::Many(clients) => raise_each(clients, found),
+    }
+}
+
+/// Raises each of the clients of a map to its QoS there.
+fn raise_each(clients: &BTreeMap<ClientId, QoS>, found: &mut Found) -> Result<(), AllocError>
+    ensures ok { OnOk result (Raises found.old found.new (get (slice_cmp nat_cmp) clients.now)) }
+    ensures some { OnErr result (GivesSome (get (slice_cmp nat_cmp) clients.now)) }
+{
+    for (client, qos) in clients {
+        raise(client, *qos, found)?;
+    }
+    Ok(())
+}
+
+/// Sets the client's QoS to this one, if it is greater than what is there.
+fn raise(client: &ClientId, qos: QoS, found: &mut Found) -> Result<(), AllocError>
+    ensures { OnOk result (Updates (slice_cmp nat_cmp) found.old found.new client.now
+        (greatest (get (slice_cmp nat_cmp) found.old client.now) (Some qos))) }
+{
+    if let Some(best) = found.get_mut(client) {
+        if best.number() < qos.number() {
+            *best = qos;
+        }
+        return Ok(());
+    }
+    found.insert(client.clone()?, qos)?;
+    Ok(())
+}

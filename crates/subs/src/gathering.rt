@@ -1,0 +1,86 @@
+// The nodes of a whole list: its rows are gathered by filter, and then each filter's rows are put
+// at its node at once.
+
+ghost use Rattle.std.specs.Prelude.{◌≡◌, IfOk, OnOk};
+ghost use Rattle.std.specs.BTreeMap.{IsOrdered};
+ghost use Rattle.std.specs.Cmp.Lexicographic.{slice_cmp};
+ghost use Rattle.std.specs.Ordering.{nat_cmp};
+ghost use Rattle.subs_base.specs.Content.{no_subscriptions, with_row};
+ghost use Rattle.subs_base.specs.ListIndex.{content_of};
+ghost use Rattle.subs_base.specs.Inside.{listed};
+ghost use Rattle.subs.specs.Gathered.{gathered, groups_of, clients_told, filters_told};
+ghost use Rattle.subs.specs.Standing.{content_in, IsSound};
+
+use crate::group::Group;
+use crate::nodes::Nodes;
+use indexmap::IndexMap;
+use std::alloc::{AllocError, Global};
+use std::collections::BTreeMap;
+use subs_base::packet::{ClientId, QoS};
+use topics::Filter;
+
+/// Each filter with its clients, in the order in which they came.
+pub(crate) type Groups = IndexMap<Filter, Group>;
+
+/// Returns the clients of each filter of a list.
+pub(crate) fn gather(
+    alloc: Global,
+    clients: &BTreeMap<ClientId, BTreeMap<Filter, QoS>>,
+) -> Result<Groups, AllocError>
+    ensures { IfOk result (λ groups. gathered (groups_of groups.entries) ≡ content_of (listed clients.now.entries)) }
+{
+    let mut groups = IndexMap::new(alloc);
+    for (client, filters) in clients {
+        gather_filters(alloc, &mut groups, client, filters)?;
+    }
+    Ok(groups)
+}
+
+/// Puts in a client with its filters.
+fn gather_filters(
+    alloc: Global,
+    groups: &mut Groups,
+    client: &ClientId,
+    filters: &BTreeMap<Filter, QoS>,
+) -> Result<(), AllocError>
+    ensures rows { OnOk result
+        (gathered (groups_of groups.new.entries)
+        ≡ filters_told client.now filters.now.entries (gathered (groups_of groups.old.entries))) }
+    ensures ordered { IsOrdered (slice_cmp nat_cmp) filters.now }
+{
+    for (filter, qos) in filters {
+        add_row(alloc, groups, filter, (client.clone()?, *qos))?;
+    }
+    Ok(())
+}
+
+/// Puts in a client at a filter.
+fn add_row(
+    alloc: Global,
+    groups: &mut Groups,
+    filter: &Filter,
+    row: (ClientId, QoS),
+) -> Result<(), AllocError>
+    ensures { OnOk result
+        (gathered (groups_of groups.new.entries)
+        ≡ with_row (gathered (groups_of groups.old.entries)) row.0 filter.now row.1) }
+{
+    if let Some(group) = groups.get_mut(filter) {
+        return group.add(alloc, row);
+    }
+    groups.insert(filter.clone()?, Group::One(row.0, row.1))?;
+    Ok(())
+}
+
+/// Returns the nodes of these filters.
+pub(crate) fn nodes_of(alloc: Global, groups: Groups) -> Result<Nodes, AllocError>
+    ensures content { IfOk result (λ nodes. content_in nodes ≡ gathered (groups_of groups.entries)) }
+    ensures sound { IfOk result IsSound }
+{
+    let mut nodes = Nodes::new(alloc);
+    for (filter, group) in groups {
+        let rows = group.into_rows(alloc)?;
+        nodes.put(filter.as_str().as_bytes(), rows)?;
+    }
+    Ok(nodes)
+}

@@ -1,0 +1,46 @@
+// The rows of one filter while a list is gathered.
+
+ghost use Rattle.std.specs.Prelude.{◌≡◌, ◌++◌, ◌∷◌, [], OnOk, IfOk};
+ghost use Rattle.subs.specs.Gathered.{told, row_in};
+ghost use Rattle.subs.specs.Rows.{row_at};
+
+use crate::rows::Rows;
+use std::alloc::{AllocError, Global};
+use std::collections::BTreeMap;
+use subs_base::packet::{ClientId, QoS};
+
+/// The rows of one filter in the order in which they came. A single one takes no memory of its own.
+#[derive(Drop)]
+pub(crate) enum Group {
+    One(ClientId, QoS),
+    More(Vec<(ClientId, QoS)>),
+}
+
+impl Group {
+    /// Adds a row after the others.
+    pub(crate) fn add(&mut self, alloc: Global, row: (ClientId, QoS)) -> Result<(), AllocError>
+        ensures { OnOk result (told self.new ≡ told self.old ++ row ∷ []) }
+    {
+        match self {
+            Group::One(client, qos) => {
+                let first = (client.clone()?, *qos);
+                *self = Group::More(Vec::from_array(alloc, [first, row])?);
+            }
+            Group::More(rows) => rows.push(row)?,
+        }
+        Ok(())
+    }
+
+    /// Returns the same rows by their clients; of each client the last row counts.
+    pub(crate) fn into_rows(self, alloc: Global) -> Result<Rows, AllocError>
+        ensures { IfOk result (λ rows. row_at rows ≡ row_in (told self)) }
+    {
+        match self {
+            Group::One(client, qos) => Ok(Rows::One(client, qos)),
+            Group::More(rows) => {
+                let clients = BTreeMap::from_iter(alloc, rows)?;
+                Ok(Rows::Many(clients))
+            }
+        }
+    }
+}

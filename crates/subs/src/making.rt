@@ -1,0 +1,87 @@
+// The nodes along the levels of a filter are made where they are missing.
+
+ghost use Rattle.std.specs.Prelude.{◌≡◌, ◌++◌, [], ◌∷◌, List, ℕ, OnErr, IfOk, None};
+ghost use Rattle.topics.specs.Text.{Levels, levels_of};
+ghost use Rattle.subs.specs.Ways.{place};
+ghost use Rattle.subs.specs.Standing.{shape, rows_of, IsSound, LeadsTo, IsThere};
+
+use crate::node_id::NodeId;
+use crate::nodes::{Nodes, is_all};
+use crate::slots::{Place, child, close, link, open};
+use std::alloc::AllocError;
+use topics::split_level;
+
+impl Nodes {
+    /// Returns the place of the filter that continues with this text after a node. Nodes that are
+    /// missing are made; if memory runs out some of them may stay.
+    pub(crate) fn make_place(
+        &mut self,
+        at: NodeId,
+        text: Option<&[u8]>,
+    ) -> Result<Place, AllocError>
+        requires sound { IsSound self.old }
+        requires there { IsThere self.old at.number }
+        ensures leads { IfOk result (λ made. (path : Levels) → LeadsTo self.old path at.number
+            → LeadsTo self.new (path ++ (place (levels_of text.entry)).0) made.node.number) }
+        ensures side { IfOk result (λ made. made.rest ≡ (place (levels_of text.entry)).1) }
+        ensures rows { rows_of self.new ≡ rows_of self.old }
+        ensures sound { IsSound self.new }
+        ensures root { self.new.root ≡ self.old.root }
+        ensures none { OnErr result ((path : Levels) (client : List ℕ) → LeadsTo self.old path at.number
+            → rows_of self.old (path ++ levels_of text.entry) client ≡ None) }
+    {
+        let Some(text) = text else {
+            return Ok(Place {
+                node: at,
+                rest: false,
+            });
+        };
+        let (level, behind) = split_level(text);
+        if is_all(level, behind) {
+            return Ok(Place {
+                node: at,
+                rest: true,
+            });
+        }
+        let child = self.child_or_new(at, level)?;
+        self.make_place(child, behind)
+    }
+
+    // Returns the node after a level, which is made if there is none.
+    fn child_or_new(&mut self, at: NodeId, level: &[u8]) -> Result<NodeId, AllocError>
+        requires sound { IsSound self.old }
+        requires there { IsThere self.old at.number }
+        ensures leads { IfOk result (λ child. (path : Levels) → LeadsTo self.old path at.number
+            → LeadsTo self.new (path ++ level.now ∷ []) child.number) }
+        ensures rows { rows_of self.new ≡ rows_of self.old }
+        ensures sound { IsSound self.new }
+        ensures root { self.new.root ≡ self.old.root }
+        ensures none { OnErr result ((shape self.old).child at.number level.now ≡ None) }
+    {
+        match child(&self.slab, at, level) {
+            Some(child) => Ok(child),
+            None => self.add_child(at, level),
+        }
+    }
+
+    // Makes the node after a level.
+    fn add_child(&mut self, at: NodeId, level: &[u8]) -> Result<NodeId, AllocError>
+        requires sound { IsSound self.old }
+        requires there { IsThere self.old at.number }
+        requires none { (shape self.old).child at.number level.now ≡ None }
+        ensures leads { IfOk result (λ child. (path : Levels) → LeadsTo self.old path at.number
+            → LeadsTo self.new (path ++ level.now ∷ []) child.number) }
+        ensures rows { rows_of self.new ≡ rows_of self.old }
+        ensures sound { IsSound self.new }
+        ensures root { self.new.root ≡ self.old.root }
+    {
+        let child = open(&mut self.slab, self.alloc)?;
+        match link(&mut self.slab, self.alloc, at, level, child) {
+            Ok(()) => Ok(child),
+            Err(error) => {
+                close(&mut self.slab, child);
+                Err(error)
+            }
+        }
+    }
+}

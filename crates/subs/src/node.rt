@@ -1,0 +1,141 @@
+// A node: the clients of the filters that end at it, and the numbers of the nodes of the next
+// levels.
+
+ghost use Rattle.std.specs.Prelude.{◌≡◌, OnOk, OnErr, ◌↔◌, IsTrue, IsSome, is_some, true, false, Some, None, option_map};
+ghost use Rattle.subs.specs.Rows.{row_at};
+ghost use Rattle.subs.specs.Inside.{held_in, child_in, HoldsNothing};
+ghost use Rattle.subs.specs.Changes.{SetsRow, SetsSide, SetsChild};
+
+use crate::node_id::NodeId;
+use crate::rows::Rows;
+use std::alloc::{AllocError, Global};
+use std::collections::BTreeMap;
+use subs_base::packet::{ClientId, QoS};
+
+/// The subscriptions of the filters that end with the same levels, and the nodes of the next
+/// levels.
+#[derive(Debug, Drop)]
+pub(crate) struct Node {
+    /// The clients of the filter that ends here.
+    pub(crate) here: Rows,
+    /// Those of the filter with `#` after it.
+    pub(crate) rest: Rows,
+    /// The nodes of the next levels, except `+`.
+    named: BTreeMap<Vec<u8>, NodeId>,
+    /// The node of `+`.
+    pub(crate) plus: Option<NodeId>,
+}
+
+impl Node {
+    /// Returns a node that holds nothing.
+    pub(crate) fn new(alloc: Global) -> Node
+        ensures { HoldsNothing result }
+    {
+        Node {
+            here: Rows::Empty,
+            rest: Rows::Empty,
+            named: BTreeMap::new(alloc),
+            plus: None,
+        }
+    }
+
+    /// Returns the node after the level.
+    pub(crate) fn child(&self, level: &[u8]) -> Option<NodeId>
+        ensures { option_map (λ id. id.number) result ≡ child_in self.now level.now }
+    {
+        if level == b"+".as_slice() {
+            return self.plus;
+        }
+        self.named.get(level).copied()
+    }
+
+    /// Puts a node after a level.
+    pub(crate) fn set_child(
+        &mut self,
+        alloc: Global,
+        level: &[u8],
+        child: NodeId,
+    ) -> Result<(), AllocError>
+        ensures ok { OnOk result (SetsChild (child_in self.old) (child_in self.new) level.now (Some child.number)) }
+        ensures err { OnErr result (child_in self.new ≡ child_in self.old) }
+        ensures rows { held_in self.new ≡ held_in self.old }
+    {
+        if level == b"+".as_slice() {
+            self.plus = Some(child);
+            return Ok(());
+        }
+        self.named.insert(Vec::from_slice(alloc, level)?, child)?;
+        Ok(())
+    }
+
+    /// Removes the node after a level.
+    pub(crate) fn drop_child(&mut self, level: &[u8])
+        ensures child { SetsChild (child_in self.old) (child_in self.new) level.now None }
+        ensures rows { held_in self.new ≡ held_in self.old }
+    {
+        if level == b"+".as_slice() {
+            self.plus = None;
+            return;
+        }
+        self.named.remove(level);
+    }
+
+    /// Sets the client's row, at `#` beside the node or at its own filter.
+    pub(crate) fn set(
+        &mut self,
+        alloc: Global,
+        rest: bool,
+        client: &ClientId,
+        qos: QoS,
+    ) -> Result<(), AllocError>
+        ensures ok { OnOk result (SetsRow (held_in self.old) (held_in self.new) rest client.now (Some qos)) }
+        ensures err { OnErr result (held_in self.new ≡ held_in self.old) }
+        ensures absent { OnErr result (held_in self.old rest client.now ≡ None) }
+        ensures child { child_in self.new ≡ child_in self.old }
+    {
+        if rest {
+            return self.rest.set(alloc, client, qos);
+        }
+        self.here.set(alloc, client, qos)
+    }
+
+    /// Puts these rows in place of those at `#` beside the node, or at its own filter.
+    pub(crate) fn put(&mut self, rest: bool, rows: Rows)
+        ensures rows { SetsSide (held_in self.old) (held_in self.new) rest (row_at rows) }
+        ensures child { child_in self.new ≡ child_in self.old }
+    {
+        if rest {
+            self.rest = rows;
+            return;
+        }
+        self.here = rows;
+    }
+
+    /// Takes the client's row out, and says whether there was one.
+    pub(crate) fn clear(&mut self, rest: bool, client: &ClientId) -> bool
+        ensures found { result ≡ is_some (held_in self.old rest client.now) }
+        ensures after { SetsRow (held_in self.old) (held_in self.new) rest client.now None }
+        ensures child { child_in self.new ≡ child_in self.old }
+    {
+        if rest {
+            return self.rest.clear(client);
+        }
+        self.here.clear(client)
+    }
+
+    /// Says whether the node has neither clients nor children.
+    pub(crate) fn is_empty(&self) -> bool
+        ensures { IsTrue result → HoldsNothing self.now }
+    {
+        if !self.here.is_empty() {
+            return false;
+        }
+        if !self.rest.is_empty() {
+            return false;
+        }
+        if !self.named.is_empty() {
+            return false;
+        }
+        self.plus.is_none()
+    }
+}

@@ -1,0 +1,159 @@
+// The nodes, named by their numbers: one for each list of levels that some filter begins with.
+
+ghost use Rattle.std.specs.Prelude.{◌≡◌, OnOk, OnErr, IfOk, IfSome, ◌↔◌, IsTrue, IsSome, Some, None, option_map};
+ghost use Rattle.topics.specs.Text.{levels, levels_of};
+ghost use Rattle.topics.specs.Matching.{is_all};
+ghost use Rattle.subs.specs.Ways.{reach, place};
+ghost use Rattle.subs.specs.Inside.{nothing, with_asked, with_rows};
+ghost use Rattle.subs.specs.Rows.{row_at};
+ghost use Rattle.subs.specs.Standing.{shape, root_of, rows_of, IsSound};
+
+use crate::node::Node;
+use crate::node_id::NodeId;
+use crate::rows::Rows;
+use crate::slots::{Place, child, clear_at, open, put_at, set_at};
+use slab::Slab;
+use std::alloc::{AllocError, Global};
+use subs_base::packet::{ClientId, QoS};
+use topics::split_level;
+
+/// Nodes in a vector. The numbers of removed nodes are used again.
+#[derive(Debug, Drop)]
+pub(crate) struct Nodes {
+    pub(crate) slab: Slab<Node>,
+    pub(crate) root: Option<NodeId>,
+    pub(crate) alloc: Global,
+}
+
+impl Nodes {
+    /// Returns a vector without nodes.
+    pub(crate) fn new(alloc: Global) -> Nodes
+        ensures rows { rows_of result ≡ nothing }
+        ensures sound { IsSound result }
+    {
+        Nodes {
+            slab: Slab::new(alloc),
+            root: None,
+            alloc,
+        }
+    }
+
+    /// Sets the client's subscription of the filter with this text. If memory runs out it leaves
+    /// the rows as they were, and removes the nodes that it made.
+    pub(crate) fn set(&mut self, text: &[u8], client: &ClientId, qos: QoS) -> Result<(), AllocError>
+        requires { IsSound self.old }
+        ensures ok { OnOk result (rows_of self.new ≡ with_asked (rows_of self.old) (levels text.now) client.now (Some qos)) }
+        ensures err { OnErr result (rows_of self.new ≡ rows_of self.old) }
+        ensures absent { OnErr result (rows_of self.old (levels text.now) client.now ≡ None) }
+        ensures sound { IsSound self.new }
+    {
+        let root = self.make_root()?;
+        let set = self.set_below(root, text, client, qos);
+        if set.is_err() {
+            self.prune(root, Some(text));
+        }
+        set
+    }
+
+    /// Puts these rows in place of those of the filter with this text. If memory runs out some
+    /// nodes that hold nothing may stay.
+    pub(crate) fn put(&mut self, text: &[u8], rows: Rows) -> Result<(), AllocError>
+        requires { IsSound self.old }
+        ensures ok { OnOk result (rows_of self.new ≡ with_rows (rows_of self.old) (levels text.now) (row_at rows)) }
+        ensures sound { OnOk result (IsSound self.new) }
+    {
+        let root = self.make_root()?;
+        let place = self.make_place(root, Some(text))?;
+        put_at(&mut self.slab, place, rows);
+        Ok(())
+    }
+
+    /// Removes the client's subscription of the filter with this text, and says whether there was
+    /// one. Nodes that then hold nothing are removed.
+    pub(crate) fn clear(&mut self, text: &[u8], client: &ClientId) -> bool
+        requires { IsSound self.old }
+        ensures found { IsTrue result ↔ IsSome (rows_of self.old (levels text.now) client.now) }
+        ensures after { rows_of self.new ≡ with_asked (rows_of self.old) (levels text.now) client.now None }
+        ensures sound { IsSound self.new }
+    {
+        let Some(root) = self.root else {
+            return false;
+        };
+        let Some(place) = self.find_place(root, Some(text)) else {
+            return false;
+        };
+        let found = clear_at(&mut self.slab, place, client);
+        self.prune(root, Some(text));
+        found
+    }
+
+    // Returns the root, which is made if there is none.
+    fn make_root(&mut self) -> Result<NodeId, AllocError>
+        requires { IsSound self.old }
+        ensures sound { IsSound self.new }
+        ensures rows { rows_of self.new ≡ rows_of self.old }
+        ensures root { IfOk result (λ root. root_of self.new ≡ Some root.number) }
+        ensures none { OnErr result (root_of self.old ≡ None) }
+    {
+        if let Some(root) = self.root {
+            return Ok(root);
+        }
+        let root = open(&mut self.slab, self.alloc)?;
+        self.root = Some(root);
+        Ok(root)
+    }
+
+    // Makes the nodes of the filter, and sets the client's row there.
+    fn set_below(
+        &mut self,
+        root: NodeId,
+        text: &[u8],
+        client: &ClientId,
+        qos: QoS,
+    ) -> Result<(), AllocError>
+        requires sound { IsSound self.old }
+        requires root { root_of self.old ≡ Some root.number }
+        ensures ok { OnOk result (rows_of self.new ≡ with_asked (rows_of self.old) (levels text.now) client.now (Some qos)) }
+        ensures err { OnErr result (rows_of self.new ≡ rows_of self.old) }
+        ensures absent { OnErr result (rows_of self.old (levels text.now) client.now ≡ None) }
+        ensures sound { IsSound self.new }
+        ensures root { self.new.root ≡ self.old.root }
+    {
+        let place = self.make_place(root, Some(text))?;
+        set_at(&mut self.slab, self.alloc, place, client, qos)
+    }
+
+    // Returns the place of the filter that continues with this text after a node, if its nodes are
+    // there.
+    fn find_place(&self, at: NodeId, text: Option<&[u8]>) -> Option<Place>
+        ensures node { option_map (λ found. found.node.number) result
+            ≡ reach (shape self.now).child at.number (place (levels_of text.entry)).0 }
+        ensures side { IfSome result (λ found. found.rest ≡ (place (levels_of text.entry)).1) }
+    {
+        let Some(text) = text else {
+            return Some(Place {
+                node: at,
+                rest: false,
+            });
+        };
+        let (level, behind) = split_level(text);
+        if is_all(level, behind) {
+            return Some(Place {
+                node: at,
+                rest: true,
+            });
+        }
+        match child(&self.slab, at, level) {
+            Some(child) => self.find_place(child, behind),
+            None => None,
+        }
+    }
+}
+
+/// Says whether the level matches every rest: `#` with nothing after it (MQTT 4.7.1.2).
+#[tactic(auto, using(topics::proofs::LevelByLevel::is_last_levels))]
+pub(crate) fn is_all(level: &[u8], behind: Option<&[u8]>) -> bool
+    ensures { result ≡ is_all level.now (levels_of behind.entry) }
+{
+    level == b"#".as_slice() && behind.is_none()
+}

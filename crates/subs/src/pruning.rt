@@ -1,0 +1,55 @@
+// Nodes that no longer hold anything are removed.
+
+ghost use Rattle.std.specs.Prelude.{◌≡◌, ◌++◌, ℕ};
+ghost use Rattle.topics.specs.Text.{Levels};
+ghost use Rattle.subs.specs.Standing.{rows_of, IsSound, LeadsTo, IsThere};
+
+use crate::node_id::NodeId;
+use crate::nodes::Nodes;
+use crate::slots::{child, close, is_empty, unlink};
+use topics::split_level;
+
+impl Nodes {
+    /// Removes the nodes that hold nothing, of those along these levels after a node, the last
+    /// first.
+    pub(crate) fn prune(&mut self, at: NodeId, text: Option<&[u8]>)
+        requires sound { IsSound self.old }
+        requires there { IsThere self.old at.number }
+        ensures rows { rows_of self.new ≡ rows_of self.old }
+        ensures sound { IsSound self.new }
+        ensures root { self.new.root ≡ self.old.root }
+
+        // The nodes on the way to this one stay.
+        ensures ways { (path behind : Levels) (k : ℕ) → LeadsTo self.old (path ++ behind) at.number
+            → LeadsTo self.old path k → LeadsTo self.new path k }
+    {
+        let Some(text) = text else {
+            return;
+        };
+        let (level, behind) = split_level(text);
+        let Some(child) = child(&self.slab, at, level) else {
+            return;
+        };
+        self.prune(child, behind);
+        self.drop_empty(at, level);
+    }
+
+    // Removes the node after a level if it holds nothing.
+    fn drop_empty(&mut self, at: NodeId, level: &[u8])
+        requires sound { IsSound self.old }
+        requires there { IsThere self.old at.number }
+        ensures rows { rows_of self.new ≡ rows_of self.old }
+        ensures sound { IsSound self.new }
+        ensures root { self.new.root ≡ self.old.root }
+        ensures ways { (path behind : Levels) (k : ℕ) → LeadsTo self.old (path ++ behind) at.number
+            → LeadsTo self.old path k → LeadsTo self.new path k }
+    {
+        let Some(below) = child(&self.slab, at, level) else {
+            return;
+        };
+        if is_empty(&self.slab, below) {
+            unlink(&mut self.slab, at, level);
+            close(&mut self.slab, below);
+        }
+    }
+}

@@ -1,0 +1,123 @@
+// The clients of one filter.
+
+ghost use Rattle.std.specs.Prelude.{◌≡◌, [], OnOk, OnErr, IfOk, IsTrue, is_some, Some, None};
+ghost use Rattle.std.specs.Cmp.Lexicographic.{slice_cmp};
+ghost use Rattle.std.specs.Ordering.{nat_cmp};
+ghost use Rattle.std.specs.BTreeMap.{Updates, get};
+ghost use Rattle.subs.specs.declared.rows.Rows.TheVariants.{One};
+ghost use Rattle.subs.specs.Rows.{listed, row_at, SetsAt};
+
+use std::alloc::{AllocError, Global};
+use std::collections::BTreeMap;
+use subs_base::packet::{ClientId, QoS};
+
+/// The clients of one filter, with the QoS of their subscriptions. A single client takes no memory
+/// of its own: most filters have one.
+#[derive(Debug, Drop)]
+pub(crate) enum Rows {
+    Empty,
+    One(ClientId, QoS),
+    Many(BTreeMap<ClientId, QoS>),
+}
+
+impl Rows {
+    /// Sets the client's row. If memory runs out all rows stay as they were.
+    pub(crate) fn set(
+        &mut self,
+        alloc: Global,
+        client: &ClientId,
+        qos: QoS,
+    ) -> Result<(), AllocError>
+        ensures ok { OnOk result (SetsAt self.old self.new client.now (Some qos)) }
+        ensures err { OnErr result (row_at self.new ≡ row_at self.old) }
+        ensures absent { OnErr result (row_at self.old client.now ≡ None) }
+    {
+        match self {
+            Rows::Empty => {
+                *self = Rows::One(client.clone()?, qos);
+                Ok(())
+            }
+            Rows::One(held, kept) => {
+                if *held == *client {
+                    *kept = qos;
+                    return Ok(());
+                }
+                *self = both(alloc, held, *kept, client, qos)?;
+                Ok(())
+            }
+            Rows::Many(rows) => set_client(rows, client, qos),
+        }
+    }
+
+    /// Takes the client's row out, and says whether there was one. It takes no memory.
+    pub(crate) fn clear(&mut self, client: &ClientId) -> bool
+        ensures found { result ≡ is_some (row_at self.old client.now) }
+        ensures after { SetsAt self.old self.new client.now None }
+    {
+        match self {
+            Rows::Empty => false,
+            Rows::One(held, _) => {
+                let found = *held == *client;
+                if found {
+                    *self = Rows::Empty;
+                }
+                found
+            }
+            Rows::Many(rows) => clear_client(rows, client),
+        }
+    }
+
+    /// Says whether there is no client.
+    pub(crate) fn is_empty(&self) -> bool
+        ensures { IsTrue result → listed self.now ≡ [] }
+    {
+        match self {
+            Rows::Empty => true,
+            Rows::One(_, _) => false,
+            Rows::Many(rows) => rows.is_empty(),
+        }
+    }
+}
+
+/// Returns the rows of two clients.
+fn both(
+    alloc: Global,
+    held: &ClientId,
+    kept: QoS,
+    client: &ClientId,
+    qos: QoS,
+) -> Result<Rows, AllocError>
+    ensures { IfOk result (λ rows. SetsAt (One held.now kept) rows client.now (Some qos)) }
+{
+    let mut rows = BTreeMap::new(alloc);
+    rows.insert(held.clone()?, kept)?;
+    rows.insert(client.clone()?, qos)?;
+    Ok(Rows::Many(rows))
+}
+
+/// Sets the client's row in a map.
+fn set_client(
+    clients: &mut BTreeMap<ClientId, QoS>,
+    client: &ClientId,
+    qos: QoS,
+) -> Result<(), AllocError>
+    ensures ok { OnOk result
+        (Updates (slice_cmp nat_cmp) clients.old clients.new client.now (Some qos)) }
+    ensures err { OnErr result (clients.new.entries ≡ clients.old.entries) }
+    ensures absent { OnErr result (get (slice_cmp nat_cmp) clients.old client.now ≡ None) }
+{
+    if let Some(kept) = clients.get_mut(client) {
+        *kept = qos;
+        return Ok(());
+    }
+    clients.insert(client.clone()?, qos)?;
+    Ok(())
+}
+
+/// Takes the client's row out of a map, and says whether there was one.
+fn clear_client(clients: &mut BTreeMap<ClientId, QoS>, client: &ClientId) -> bool
+    ensures found { result ≡ is_some (get (slice_cmp nat_cmp) clients.old client.now) }
+    ensures after { Updates (slice_cmp nat_cmp) clients.old clients.new client.now None }
+{
+    clients.remove(client).is_some()
+}

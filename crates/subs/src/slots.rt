@@ -1,0 +1,127 @@
+// The vector of nodes: one is put in or taken out, or a row or a child of one is changed.
+
+ghost use Rattle.std.specs.Prelude.{◌≡◌, OnOk, OnErr, IfOk, IsTrue, is_some, true, Some, None, option_map};
+ghost use Rattle.subs.specs.Changes.{Writes, Fills, Links, Opens, Closes, IsBare};
+ghost use Rattle.subs.specs.Inside.{shape_of};
+ghost use Rattle.subs.specs.Rows.{row_at};
+
+use crate::node::Node;
+use crate::node_id::NodeId;
+use crate::rows::Rows;
+use slab::Slab;
+use std::alloc::{AllocError, Global};
+use subs_base::packet::{ClientId, QoS};
+
+/// Where the rows of a filter are: at a node, or at `#` beside it.
+#[derive(Clone, Copy, Debug)]
+pub(crate) struct Place {
+    pub(crate) node: NodeId,
+    pub(crate) rest: bool,
+}
+
+/// Puts in a node that holds nothing.
+pub(crate) fn open(nodes: &mut Slab<Node>, alloc: Global) -> Result<NodeId, AllocError>
+    ensures opens { IfOk result (λ id. Opens (shape_of nodes.old) (shape_of nodes.new) id.number) }
+    ensures bare { IfOk result (λ id. IsBare (shape_of nodes.new) id.number) }
+    ensures err { OnErr result (shape_of nodes.new ≡ shape_of nodes.old) }
+{
+    let number = nodes.insert(Node::new(alloc))?;
+    Ok(NodeId { number })
+}
+
+/// Takes out a node that holds nothing: its number is used again.
+pub(crate) fn close(nodes: &mut Slab<Node>, at: NodeId)
+    requires { IsBare (shape_of nodes.old) at.number }
+    ensures { Closes (shape_of nodes.old) (shape_of nodes.new) at.number }
+{
+    nodes.try_remove(at.number);
+}
+
+/// Returns the node after a level of a node.
+pub(crate) fn child(nodes: &Slab<Node>, at: NodeId, level: &[u8]) -> Option<NodeId>
+    ensures { option_map (λ id. id.number) result ≡ (shape_of nodes.now).child at.number level.now }
+{
+    match nodes.get(at.number) {
+        Some(node) => node.child(level),
+        None => None,
+    }
+}
+
+/// Says whether the node holds nothing.
+pub(crate) fn is_empty(nodes: &Slab<Node>, at: NodeId) -> bool
+    ensures { IsTrue result → IsBare (shape_of nodes.now) at.number }
+{
+    match nodes.get(at.number) {
+        Some(node) => node.is_empty(),
+        None => false,
+    }
+}
+
+/// Puts a node after a level of another.
+pub(crate) fn link(
+    nodes: &mut Slab<Node>,
+    alloc: Global,
+    at: NodeId,
+    level: &[u8],
+    child: NodeId,
+) -> Result<(), AllocError>
+    requires { (shape_of nodes.old).used at.number ≡ true }
+    ensures ok { OnOk result (Links (shape_of nodes.old) (shape_of nodes.new) at.number level.now (Some child.number)) }
+    ensures err { OnErr result (shape_of nodes.new ≡ shape_of nodes.old) }
+{
+    match nodes.get_mut(at.number) {
+        Some(node) => node.set_child(alloc, level, child),
+        None => Ok(()),
+    }
+}
+
+/// Removes what is after a level of a node.
+pub(crate) fn unlink(nodes: &mut Slab<Node>, at: NodeId, level: &[u8])
+    requires { (shape_of nodes.old).used at.number ≡ true }
+    ensures { Links (shape_of nodes.old) (shape_of nodes.new) at.number level.now None }
+{
+    if let Some(node) = nodes.get_mut(at.number) {
+        node.drop_child(level);
+    }
+}
+
+/// Sets the client's row at a place.
+pub(crate) fn set_at(
+    nodes: &mut Slab<Node>,
+    alloc: Global,
+    place: Place,
+    client: &ClientId,
+    qos: QoS,
+) -> Result<(), AllocError>
+    requires { (shape_of nodes.old).used place.node.number ≡ true }
+    ensures ok { OnOk result (Writes (shape_of nodes.old) (shape_of nodes.new) place.node.number place.rest client.now (Some qos)) }
+    ensures err { OnErr result (shape_of nodes.new ≡ shape_of nodes.old) }
+    ensures absent { OnErr result ((shape_of nodes.old).held place.node.number place.rest client.now ≡ None) }
+{
+    match nodes.get_mut(place.node.number) {
+        Some(node) => node.set(alloc, place.rest, client, qos),
+        None => Ok(()),
+    }
+}
+
+/// Puts these rows in place of those at a place.
+pub(crate) fn put_at(nodes: &mut Slab<Node>, place: Place, rows: Rows)
+    requires { (shape_of nodes.old).used place.node.number ≡ true }
+    ensures { Fills (shape_of nodes.old) (shape_of nodes.new) place.node.number place.rest (row_at rows) }
+{
+    if let Some(node) = nodes.get_mut(place.node.number) {
+        node.put(place.rest, rows);
+    }
+}
+
+/// Takes the client's row at a place out, and says whether there was one.
+pub(crate) fn clear_at(nodes: &mut Slab<Node>, place: Place, client: &ClientId) -> bool
+    requires { (shape_of nodes.old).used place.node.number ≡ true }
+    ensures found { result ≡ is_some ((shape_of nodes.old).held place.node.number place.rest client.now) }
+    ensures after { Writes (shape_of nodes.old) (shape_of nodes.new) place.node.number place.rest client.now None }
+{
+    match nodes.get_mut(place.node.number) {
+        Some(node) => node.clear(place.rest, client),
+        None => false,
+    }
+}

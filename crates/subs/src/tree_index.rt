@@ -1,0 +1,132 @@
+// The index as a tree of the filters' levels.
+
+ghost use Rattle.std.specs.Prelude.{◌≡◌, ◌++◌, IfOk, OnOk, OnErr, take, length};
+ghost use Rattle.std.specs.BTreeMap.{IsOrdered, get};
+ghost use Rattle.std.specs.Cmp.Lexicographic.{slice_cmp};
+ghost use Rattle.std.specs.Ordering.{nat_cmp};
+ghost use Rattle.subs_base.specs.ListIndex.{content_of};
+ghost use Rattle.subs.specs.Inside.{cleared};
+ghost use Rattle.subs.specs.Walk.{GivesSome};
+ghost use Rattle.subs.specs.Standing.{content_in, IsSound};
+
+use crate::gathering::{gather, nodes_of};
+use crate::nodes::Nodes;
+use std::alloc::{AllocError, Global};
+use std::collections::BTreeMap;
+use std::marker::Model;
+use subs_base::packet::{ClientId, QoS};
+use subs_base::{ListIndex, SubIndex};
+use topics::{Filter, TopicName};
+
+/// An index that walks the levels of a topic: the cost of a publication depends on its levels and
+/// the rows that are found, not on other subscriptions.
+#[derive(Debug, Drop)]
+pub struct TreeIndex {
+    /// Each client with its filters, which are removed with it.
+    clients: ListIndex,
+    pub(crate) nodes: Nodes,
+    alloc: Global,
+}
+
+impl Model for TreeIndex {
+    ghost use Rattle.std.specs.Prelude.{◌≡◌};
+    ghost use Rattle.subs_base.specs.ListIndex.{Clients, content_of};
+    ghost use Rattle.subs.specs.Standing.{content_in, IsSound};
+
+    ghost Value = { Clients };
+
+    ghost view = { λ index. index.clients };
+
+    ghost invariant = { λ index. (content_of index.clients ≡ content_in index.nodes) × IsSound index.nodes };
+}
+
+impl SubIndex for TreeIndex {
+    ghost content = { content_of };
+
+    fn new(alloc: Global) -> TreeIndex {
+        TreeIndex {
+            clients: ListIndex::new(alloc),
+            nodes: Nodes::new(alloc),
+            alloc,
+        }
+    }
+
+    fn set(&mut self, client: &ClientId, filter: &Filter, qos: QoS) -> Result<(), AllocError> {
+        self.clients.set(client, filter, qos)?;
+        let text = filter.as_str().as_bytes();
+        let set = self.nodes.set(text, client, qos);
+        if set.is_err() {
+            self.clients.clear(client, filter);
+        }
+        set
+    }
+
+    fn clear(&mut self, client: &ClientId, filter: &Filter) -> bool {
+        self.clients.clear(client, filter);
+        self.nodes.clear(filter.as_str().as_bytes(), client)
+    }
+
+    fn drop_client(&mut self, client: &ClientId) {
+        if let Some(filters) = self.clients.filters_of(client) {
+            clear_all(&mut self.nodes, filters, client);
+        }
+        self.clients.drop_client(client);
+    }
+
+    fn granted(
+        &self,
+        topic: &TopicName,
+        rows: &mut Vec<(ClientId, QoS)>,
+    ) -> Result<(), AllocError> {
+        let mut found = BTreeMap::new(self.alloc);
+        self.nodes.find(topic.as_str().as_bytes(), &mut found)?;
+        let before = rows.len();
+        let appended = append_rows(&found, rows);
+        if appended.is_err() {
+            rows.truncate(before);
+        }
+        appended
+    }
+}
+
+impl TreeIndex {
+    /// Builds the tree of a whole list in one pass, in place of a `set` for each of its filters.
+    pub fn of_list(alloc: Global, clients: ListIndex) -> Result<TreeIndex, AllocError>
+        ensures { IfOk result (λ index. index ≡ clients) }
+    {
+        let groups = gather(alloc, clients.clients())?;
+        let nodes = nodes_of(alloc, groups)?;
+        Ok(TreeIndex {
+            clients,
+            nodes,
+            alloc,
+        })
+    }
+}
+
+/// Removes the client's subscriptions of these filters.
+fn clear_all(nodes: &mut Nodes, filters: &BTreeMap<Filter, QoS>, client: &ClientId)
+    requires { IsSound nodes.old }
+    ensures after { content_in nodes.new ≡ cleared client.now filters.now.entries (content_in nodes.old) }
+    ensures sound { IsSound nodes.new }
+{
+    for (filter, _) in filters {
+        nodes.clear(filter.as_str().as_bytes(), client);
+    }
+}
+
+/// Appends the rows. If memory runs out, some of them may be there.
+fn append_rows(
+    found: &BTreeMap<ClientId, QoS>,
+    rows: &mut Vec<(ClientId, QoS)>,
+) -> Result<(), AllocError>
+    ensures ok { OnOk result (rows.new.items ≡ rows.old.items ++ found.now.entries) }
+    ensures ordered { IsOrdered (slice_cmp nat_cmp) found.now }
+    ensures err { OnErr result (rows.old.items ≡ take (length rows.old.items) rows.new.items) }
+    ensures some { OnErr result (GivesSome (get (slice_cmp nat_cmp) found.now)) }
+{
+    for (client, qos) in found {
+        rows.push((client.clone()?, *qos))?;
+    }
+    Ok(())
+}

@@ -1,9 +1,0 @@
--- Once those that are left are added, all are.
-use Rattle.std.proofs.Common.{◌≡◌}
-use Rattle.subs_tree.specs.Gathered.{gathered, groups_of, filters_told}
-use Rattle.subs_tree.proofs.gathering.gather_filters.Given as goal
-
-abbrev pub invariant-loop-filter : goal.invariant-loop-filter
-invariant-loop-filter l =
-    filters_told l.client l.filter-iterator (gathered (groups_of l.groups.entries))
-    ≡ filters_told l.client l.filters.entries (gathered (groups_of l.fn.groups.entries))

@@ -1,0 +1,278 @@
+-- CutGroupsAnswer.antt: the primary of a led ballot answers the next command, whichever logs were cut.
+use Rattle.std.proofs.Common.{◌≡◌, ℕ, ◌+◌, ◌*◌, ◌<◌, ◌⊎◌, inl, inr, false, List, [], ◌∷◌, ◌++◌, length, map, set, Some, refl, ap, ap₂, sym, ◌∙◌, subst, arith}
+use Rattle.std.specs.Prelude.{slice_get}
+use Rattle.std.proofs.lemmas.Bool.{cases_eq}
+use Rattle.std.proofs.lemmas.List.{length-map, map-append}
+use Rattle.snapshots.specs.lists.Lists.{In}
+use Rattle.snapshots.proofs.of_lists.Places.{get_set, get_set_other}
+use Rattle.snapshots.specs.machine.Machine.{Rules, replay}
+use Rattle.snapshots.specs.agreement.Past.{Moment as WholeMoment, Past as WholePast}
+use Rattle.snapshots.specs.agreement.Past.Past.{went_on as whole_went_on}
+use Rattle.snapshots.specs.agreement.Steps.MayHappen.{node_takes}
+use Rattle.snapshots.specs.agreement.World.{messages as whole_messages, outputs as whole_outputs}
+use Rattle.snapshots.specs.whole.Messages.{Effect as WholeEffect, Message as WholeMessage}
+use Rattle.snapshots.specs.whole.Messages.{Body as bodies}
+use Rattle.snapshots.specs.whole.Messages.{Effect as effects}
+use Rattle.snapshots.specs.whole.Protocol.{received as whole_received, replica_step as whole_step}
+use Rattle.snapshots.specs.whole.Protocol.Input.{Proposes as whole_proposes}
+use Rattle.snapshots.specs.whole.Replica.{ReplicaState as WholeState}
+use Rattle.snapshots.specs.whole.Sending.{Outcome as WholeOutcome}
+use Rattle.snapshots.specs.ballot_base.declared.config.Config.{Config}
+use Rattle.snapshots.specs.ballot_base.declared.message.Body.{Body}
+use Rattle.snapshots.specs.ballot_base.declared.message.Body.TheVariants.{NewBallot, Join, State, Install, Installed, Activate, Activated, Superseded, Append, Held, Commit}
+use Rattle.snapshots.specs.ballot_base.declared.message.Effect.{Effect}
+use Rattle.snapshots.specs.ballot_base.declared.message.Effect.TheVariants.{To, Out}
+use Rattle.snapshots.specs.ballot_base.declared.message.Message.{Message}
+use Rattle.snapshots.specs.ballot_base.Protocol.{received, replica_step}
+use Rattle.snapshots.specs.ballot_base.Protocol.Input.{Proposes}
+use Rattle.snapshots.specs.ballot_base.Replica.{ReplicaState}
+use Rattle.snapshots.specs.ballot_base.Sending.{Outcome}
+use Rattle.snapshots.specs.ballot_base.Serving.{most_places}
+use Rattle.snapshots.specs.Past.{Moment, Past, whole_moment}
+use Rattle.snapshots.specs.Past.Past.{went_on}
+use Rattle.snapshots.specs.Steps.{MayHappen}
+use Rattle.snapshots.specs.Steps.MayHappen.{node_goes}
+use Rattle.snapshots.specs.Whole.{whole, whole_body, whole_effects, whole_message}
+use Rattle.snapshots.specs.World.{messages, whole_letter}
+use Rattle.snapshots.specs.World.NodeGoes.{takes}
+use Rattle.snapshots.proofs.PastsAgree.{agreed_grows}
+use Rattle.snapshots.proofs.PastsKept.{StandsFor, past_stands}
+use Rattle.snapshots.proofs.Views.{get_whole, outputs_whole}
+use Rattle.ways_out.specs.Deliveries.{AreApart, Delivered as WholeDelivered, NodeIs, numbers_from}
+use Rattle.ways_out.specs.Deliveries.{after_outcome as whole_after_outcome}
+use Rattle.ways_out.specs.Following.{Follows, Serves}
+use Rattle.ways_out.specs.Laws.{AnswersCommand as WholeAnswers, IsHeldByAll as WholeHeldByAll}
+use Rattle.ways_out.proofs.Answering.{commands_are_answered}
+use Rattle.ways_out.specs.Answering.{AnswersCommand, AnswersLast, CutGroupsAnswer, IsHeldByAll}
+use Rattle.ways_out.specs.CutWaysDeliveries.{after_outcome}
+use Rattle.ways_out.proofs.Ahead.{AreLike}
+use Rattle.ways_out.proofs.CutGroupsLed.{follows_still, node_still, serves_still}
+use Rattle.ways_out.proofs.Followed.{Followed, Goes, MomentLike, NodeLike, followed, get_back, messages_whole, thinned_same, whole_thinned_same}
+use Rattle.ways_out.proofs.Followed as following
+use Rattle.ways_out.proofs.LogsLike.{wholly}
+use Rattle.ways_out.proofs.SameRows.{IsSame, proposed_same}
+
+-- ---- effects
+
+record Splits {C O : Type 0} (archive : List C) (place : ℕ) (os : List O) (more : List (WholeEffect C O)) (es : List (Effect C O)) : Type 0 where
+  rest : List (Effect C O)
+  is : es ≡ map (Out place) os ++ rest
+  same : whole_effects archive rest ≡ more
+
+cons_parts : {X : Type 0} (x y : X) (xs ys : List X) → x ∷ xs ≡ y ∷ ys → (x ≡ y) × (xs ≡ ys)
+cons_parts x y xs ys e = (cc, cc)
+
+out_parts : {C O : Type 0} (p q : ℕ) (x y : O) → (let a : WholeEffect C O = effects.Out p x in a) ≡ effects.Out q y → (p ≡ q) × (x ≡ y)
+out_parts p q x y e = (cc, cc)
+
+-- what corresponds to outputs, and then more, are these outputs, and then more
+splits : {C O : Type 0} (archive : List C) (place : ℕ) (os : List O) (more : List (WholeEffect C O)) (es : List (Effect C O)) →
+    whole_effects archive es ≡ map (effects.Out place) os ++ more → Splits archive place os more es
+splits archive place [] more es e = record { rest = es; is = refl; same = e }
+splits archive place (o ∷ os) more [] e = cc
+splits {C = C} {O = O} archive place (o ∷ os) more (To to m ∷ es) e =
+    absurd (never (cons_parts (effects.To to (whole_message archive m)) (effects.Out place o) (whole_effects archive es) (map (effects.Out place) os ++ more) e).0)
+  where
+    never : (let a : WholeEffect C O = effects.To to (whole_message archive m) in a) ≡ effects.Out place o → ⊥
+    never f = cc
+splits {C = C} {O = O} archive place (o ∷ os) more (Out p x ∷ es) e =
+    let z = cons_parts (effects.Out p x) (effects.Out place o) (whole_effects archive es) (map (effects.Out place) os ++ more) e in
+    let y = out_parts p place x o z.0 in
+    let t = splits archive place os more es z.1 in
+    record { rest = t.rest; is = ap₂ (λ (a : Effect C O) (l : List (Effect C O)). a ∷ l) (ap₂ (λ (i : ℕ) (v : O). let a : Effect C O = Out i v in a) y.0 y.1) t.is; same = t.same }
+
+-- a Held is the same on whole logs
+held_back : {C : Type 0} (archive : List C) (m : Message C) (from b n : ℕ) → whole_message archive m ≡ (let x : WholeMessage C = record { from = from; body = bodies.Held b n } in x) →
+    m ≡ record { from = from; body = Held b n }
+held_back {C = C} archive m from b n e = by m.body refl (ap (λ (x : WholeMessage C). x.body) e)
+  where
+    from_is : m.from ≡ from
+    from_is = ap (λ (x : WholeMessage C). x.from) e
+
+    by : (body : Body C) → m.body ≡ body → whole_body archive body ≡ bodies.Held b n → m ≡ record { from = from; body = Held b n }
+    by (Held c k) is f =
+        let one : c ≡ b = cc in let two : k ≡ n = cc in
+        ap₂ (λ (x : ℕ) (y : Body C). let z : Message C = record { from = x; body = y } in z) from_is (is ∙ ap₂ (λ x y. let z : Body C = Held x y in z) one two)
+    by (Activate c) is f = cc
+    by (NewBallot c members a old) is f = cc
+    by (Join c a) is f = cc
+    by (State c log) is f = cc
+    by (Install c log) is f = cc
+    by (Installed c held) is f = cc
+    by (Activated c) is f = cc
+    by (Superseded c) is f = cc
+    by (Append c place d) is f = cc
+    by (Commit c held) is f = cc
+
+-- an outcome that answers on whole logs answers if they are cut
+answers_cut : {S C O : Type 0} (rules : Rules S C O) (archive : List C) (ballot : ℕ) (log : List C) (c : C) (os : List ℕ) (m : ℕ) (ow : WholeOutcome S C O) (o : Outcome S C O) →
+    WholeAnswers rules ballot log c os m ow → AreLike rules ballot ow (wholly archive o) → AnswersCommand rules archive ballot log c os m o
+answers_cut rules archive ballot log c os m ow o z like =
+    record {
+      rest = s.rest;
+      silent = outputs_whole archive s.rest ∙ ap whole_outputs s.same ∙ z.silent;
+      gives = s.is;
+      serves = serves_still rules ballot ballot (log ++ c ∷ []) os m ow.state (whole archive o.state) like.state z.serves;
+    }
+  where
+    s : Splits archive (length log) (rules.gives (replay rules log) c) z.rest o.effects
+    s = splits archive (length log) (rules.gives (replay rules log) c) z.rest o.effects (like.effects ∙ z.gives)
+
+-- ---- the proposal
+
+module _ {S C O : Type 0} (rules : Rules S C O) (config : Config) (a : Moment S C O) (past : List (Moment S C O)) (came : Past rules config (a ∷ past)) (ballot place : ℕ)
+    (r : ReplicaState S C) (log : List C) (os : List ℕ) (c : C) (stands : slice_get a.world.nodes place ≡ Some r)
+    (serves : Serves ballot log os (place + 1) (whole a.world.archive r)) (room : length log < most_places) where
+  q : StandsFor rules config a past
+  q = past_stands rules config a past came
+
+  abbrev W : WholeState S C
+  W = whole a.world.archive r
+
+  there_now : slice_get (whole_moment a).world.nodes place ≡ Some W
+  there_now = get_whole (whole a.world.archive) a.world.nodes place r stands
+
+  abbrev o : Outcome S C O
+  o = replica_step rules r (Proposes c)
+
+  abbrev ow : WholeOutcome S C O
+  ow = whole_step rules W (whole_proposes c)
+
+  same : IsSame a.world.archive o ow
+  same = let z = q.kept.nodes place r stands in proposed_same rules a.world.archive r c (record { within = z.0.within; low = z.1 })
+
+  law : (os ≡ [] → WholeAnswers rules ballot log c [] (place + 1) ow)
+      × ((front : List ℕ) (last : ℕ) → os ≡ front ++ last ∷ [] → AreApart os → (In (place + 1) os → ⊥) →
+      ((m : ℕ) → In m os → NodeIs (Follows ballot log) (whole_moment a).world.nodes m) → WholeHeldByAll rules (whole_moment a) place ballot W log c front last)
+  law = commands_are_answered rules config (whole_moment a) q.earlier q.kept.came ballot place W log os c there_now serves room
+
+  pub alone : os ≡ [] → AnswersCommand rules a.world.archive ballot log c [] (place + 1) o
+  alone none = answers_cut rules a.world.archive ballot log c [] (place + 1) ow o (law.0 none) (record { state = inl same.state; effects = same.effects })
+
+  -- the moment after it
+  abbrev first : Moment S C O
+  first = after_outcome place o a
+
+  abbrev first_whole : WholeMoment S C O
+  first_whole = whole_after_outcome place ow (whole_moment a)
+
+  first_like : MomentLike rules ballot first_whole first
+  first_like =
+      record {
+        master = refl;
+        sent = map-append (whole_letter a.world.archive) a.world.sent (messages o.effects)
+            ∙ ap (λ (us : List (ℕ × WholeMessage C)). map (whole_letter a.world.archive) a.world.sent ++ us) (messages_whole a.world.archive o.effects ∙ ap whole_messages same.effects);
+        nodes = λ i s e. by i s e (cases_eq i place);
+      }
+    where
+      by : (i : ℕ) (s : WholeState S C) → slice_get (set (whole_moment a).world.nodes place ow.state) i ≡ Some s → (i ≡ place) ⊎ (i ≡ place → ⊥) → NodeLike rules ballot first.world i s
+      by i s e (inl here) =
+          let f : Some ow.state ≡ Some s = sym (get_set (whole_moment a).world.nodes place W ow.state there_now) ∙ ap (slice_get (set (whole_moment a).world.nodes place ow.state)) (sym here) ∙ e in
+          let g : ow.state ≡ s = cc in
+          record {
+            replica = o.state;
+            stands = ap (slice_get (set a.world.nodes place o.state)) here ∙ get_set a.world.nodes place r o.state stands;
+            like = inl (same.state ∙ g);
+          }
+      by i s e (inr other) =
+          let z = get_back (whole a.world.archive) a.world.nodes i s (sym (get_set_other (whole_moment a).world.nodes place i ow.state other) ∙ e) in
+          record { replica = z.0; stands = get_set_other a.world.nodes place i o.state other ∙ z.1; like = inl z.2 }
+
+  runs : r.stopped ≡ false
+  runs = serves.leads.runs
+
+  step : MayHappen rules a.master a.world first.master first.world
+  step = node_goes (takes place r (Proposes c) stands runs tt (inl (refl, thinned_same o.effects)))
+
+  first_goes : Goes rules config (a ∷ past) first
+  first_goes = record { between = []; came = went_on came step; grown = λ xs ys x y. agreed_grows rules config first (a ∷ past) xs ys x y }
+
+  first_came : WholePast rules config (first_whole ∷ whole_moment a ∷ q.earlier)
+  first_came = whole_went_on q.kept.came (node_takes place W (whole_proposes c) there_now runs tt (inl (refl, whole_thinned_same ow.effects)))
+
+  as_many : length (whole_moment a).world.sent ≡ length a.world.sent
+  as_many = length-map a.world.sent (whole_letter a.world.archive)
+
+  -- ---- with others
+
+  module _ (front : List ℕ) (last : ℕ) (h : WholeHeldByAll rules (whole_moment a) place ballot W log c front last) where
+    abbrev numbers : ℕ → List ℕ
+    numbers k = numbers_from k (length front + 1) ++ numbers_from (k + (length front + 1)) (length front)
+
+    abbrev Way : Type 0
+    Way = Followed rules config ballot (a ∷ past) first (numbers (length a.world.sent)) h.before
+
+    way : Way
+    way =
+        followed rules config ballot (a ∷ past) (subst (λ k. WholeDelivered rules ballot first_whole (numbers k) h.before) as_many h.delivered) (whole_moment a ∷ q.earlier) first_came first
+        first_goes first_like
+
+    abbrev answer : WholeMessage C
+    answer = record { from = last; body = bodies.Held ballot (length log + 1) }
+
+    module _ (w : Way) where
+      came_last : slice_get h.before.world.sent (length a.world.sent + 2 * length front + 1) ≡ Some (place + 1, answer)
+      came_last = subst (λ k. slice_get h.before.world.sent (k + 2 * length front + 1) ≡ Some (place + 1, answer)) as_many h.comes
+
+      pub comes : slice_get w.end.world.sent (length a.world.sent + 2 * length front + 1) ≡ Some (place + 1, record { from = last; body = Held ballot (length log + 1) })
+      comes = by (get_back (whole_letter w.end.world.archive) w.end.world.sent (length a.world.sent + 2 * length front + 1) (place + 1, answer)
+          (ap (λ l. slice_get l (length a.world.sent + 2 * length front + 1)) w.like.sent ∙ came_last))
+        where
+          by : (y : ℕ × Message C) × (slice_get w.end.world.sent (length a.world.sent + 2 * length front + 1) ≡ Some y) × (whole_letter w.end.world.archive y ≡ (place + 1, answer)) →
+              slice_get w.end.world.sent (length a.world.sent + 2 * length front + 1) ≡ Some (place + 1, record { from = last; body = Held ballot (length log + 1) })
+          by ((to, m), at, is) =
+              at ∙ ap₂ (λ (i : ℕ) (y : Message C). Some (let z : ℕ × Message C = (i, y) in z)) (ap (λ (y : ℕ × WholeMessage C). y.0) is)
+              (held_back w.end.world.archive m last ballot (length log + 1) (ap (λ (y : ℕ × WholeMessage C). y.1) is))
+
+      at_place : h.primary.place ≡ place
+      at_place = let e = h.primary.number in omega (arith, e)
+
+      stands_last : slice_get h.before.world.nodes place ≡ Some h.primary.replica
+      stands_last = ap (slice_get h.before.world.nodes) (sym at_place) ∙ h.primary.stands
+
+      pub last_answers : AnswersLast rules w.end place ballot log c (front ++ last ∷ []) last
+      last_answers =
+          record {
+            replica = z.replica;
+            stands = z.stands;
+            runs = following.goes_r rules config ballot (a ∷ past) h.before w.whole_before w.whole_came w.end w.goes w.like (length a.world.sent + 2 * length front + 1) place h.primary.replica
+                answer came_last stands_last h.primary.is.0 h.primary.is.1.serves.leads.joined;
+            answers = answers_cut rules w.end.world.archive ballot log c (front ++ last ∷ []) (place + 1) ended (received rules z.replica last (Held ballot (length log + 1))) h.primary.is.1
+                (subst (λ (m : Message C). AreLike rules ballot ended (wholly w.end.world.archive (received rules z.replica m.from m.body))) is_held
+                (following.all rules config ballot (a ∷ past) h.before w.whole_before w.whole_came w.end w.goes w.like (length a.world.sent + 2 * length front + 1) place h.primary.replica
+                answer came_last stands_last h.primary.is.0 h.primary.is.1.serves.leads.joined));
+          }
+        where
+          ended : WholeOutcome S C O
+          ended = whole_received rules h.primary.replica last (bodies.Held ballot (length log + 1))
+
+          z : NodeLike rules ballot w.end.world place h.primary.replica
+          z = w.like.nodes place h.primary.replica stands_last
+
+          is_held : following.m rules config ballot (a ∷ past) h.before w.whole_before w.whole_came w.end w.goes w.like (length a.world.sent + 2 * length front + 1) place h.primary.replica
+              answer came_last stands_last h.primary.is.0 h.primary.is.1.serves.leads.joined ≡ record { from = last; body = Held ballot (length log + 1) }
+          is_held = held_back w.end.world.archive _ last ballot (length log + 1)
+              (following.is_x rules config ballot (a ∷ past) h.before w.whole_before w.whole_came w.end w.goes w.like (length a.world.sent + 2 * length front + 1) place h.primary.replica
+              answer came_last stands_last h.primary.is.0 h.primary.is.1.serves.leads.joined)
+
+      pub held_by_all : IsHeldByAll rules a place ballot r log c front last
+      held_by_all =
+          record {
+            quiet = outputs_whole a.world.archive o.effects ∙ ap whole_outputs same.effects ∙ h.quiet;
+            before = w.end;
+            delivered = w.delivered;
+            archive = w.archive;
+            master = w.like.master ∙ h.master;
+            sent = sym (length-map w.end.world.sent (whole_letter w.end.world.archive)) ∙ ap length w.like.sent ∙ h.sent ∙ ap (λ k. k + 2 * (length front + 1)) as_many;
+            comes = comes;
+            primary = last_answers;
+            each = λ m i. node_still rules ballot (Follows ballot (log ++ c ∷ [])) m h.before w.end w.like (follows_still rules ballot ballot (log ++ c ∷ []) m) (h.each m i);
+          }
+
+  pub with_others : (front : List ℕ) (last : ℕ) → os ≡ front ++ last ∷ [] → AreApart os → (In (place + 1) os → ⊥) →
+      ((m : ℕ) → In m os → NodeIs (Follows ballot log) (whole_moment a).world.nodes m) → IsHeldByAll rules a place ballot r log c front last
+  with_others front last e apart out each = let h = law.1 front last e apart out each in held_by_all front last h (way front last h)
+
+pub cut_groups_answer : {S C O : Type 0} (rules : Rules S C O) → CutGroupsAnswer rules
+cut_groups_answer rules config a past came ballot place r log os c stands serves room =
+    (alone rules config a past came ballot place r log os c stands serves room, with_others rules config a past came ballot place r log os c stands serves room)

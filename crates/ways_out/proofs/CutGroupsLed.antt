@@ -1,0 +1,179 @@
+-- CutGroupsLed.antt: from every moment of a group whose nodes cut their logs there is a way out.
+use Rattle.std.proofs.Common.{◌≡◌, ℕ, ◌+◌, ◌-◌, ◌⊎◌, inl, inr, List, [], ◌∷◌, ◌++◌, length, map, None, Option, refl, ap, sym, ◌∙◌, subst, length-append, ◌*◌}
+use Rattle.std.proofs.lemmas.Bool.{both_ways}
+use Rattle.std.proofs.lemmas.List.{length-map, map-append}
+use Rattle.snapshots.specs.lists.Lists.{In}
+use Rattle.snapshots.specs.machine.Machine.{Rules}
+use Rattle.snapshots.specs.agreement.MasterState.{AssignRefusal, MasterState, master_behind, refusal}
+use Rattle.snapshots.specs.agreement.Past.{Moment as WholeMoment, Past as WholePast}
+use Rattle.snapshots.specs.agreement.Past.Past.{went_on as whole_went_on}
+use Rattle.snapshots.specs.agreement.Steps.{MayHappen as WholeMayHappen, world_behind as whole_behind}
+use Rattle.snapshots.specs.agreement.Steps.MayHappen.{master_assigns as whole_assigns}
+use Rattle.snapshots.specs.whole.Messages.Body.{Held}
+use Rattle.snapshots.specs.whole.Messages.{Message as WholeMessage}
+use Rattle.snapshots.specs.whole.Replica.{ReplicaState as WholeState, is_active}
+use Rattle.snapshots.proofs.of_agreement.Changing.OtherMembers.{others_in}
+use Rattle.snapshots.proofs.of_agreement.Masters.Assigns.{lawful_is, not_refused}
+use Rattle.snapshots.specs.ballot_base.declared.config.Config.{Config}
+use Rattle.snapshots.specs.ballot_base.Replica.{others}
+use Rattle.snapshots.specs.Past.{IsAgreed, Moment, Past, whole_moment}
+use Rattle.snapshots.specs.Past.Past.{went_on}
+use Rattle.snapshots.specs.Steps.{MayHappen, world_behind}
+use Rattle.snapshots.specs.Steps.MayHappen.{master_assigns}
+use Rattle.snapshots.specs.Whole.{whole}
+use Rattle.snapshots.specs.World.{whole_letter}
+use Rattle.snapshots.proofs.Continues.{agreed_back}
+use Rattle.snapshots.proofs.PastsAgree.{agreed_grows}
+use Rattle.snapshots.proofs.PastsKept.{StandsFor, past_stands}
+use Rattle.snapshots.proofs.Views.{get_whole}
+use Rattle.ways_out.specs.Deliveries.{Delivered as WholeDelivered, NodeIs, way_out}
+use Rattle.ways_out.specs.Deliveries.{assigned_moment as whole_assigned}
+use Rattle.ways_out.specs.Following.{Follows, Serves}
+use Rattle.ways_out.specs.Laws.{CanBeLed, IsLed, StartsGiveNothing}
+use Rattle.ways_out.specs.Laws.{LeadsOut as WholeLeadsOut}
+use Rattle.ways_out.proofs.AllAgreed.{what_all_hold_is_agreed}
+use Rattle.ways_out.proofs.HasWayOut.{has_way_out}
+use Rattle.ways_out.specs.CutWaysDeliveries.{assigned_moment}
+use Rattle.ways_out.specs.CutWaysLaws.{CutGroupsHaveWaysOut, LeadsOut}
+use Rattle.ways_out.proofs.Ahead.{IsLike}
+use Rattle.ways_out.proofs.Followed.{Followed, Goes, MomentLike, followed, get_back}
+
+-- ---- the Assign
+
+assign_goes : {S C O : Type 0} (rules : Rules S C O) (config : Config) (a : Moment S C O) (past : List (Moment S C O)) (new : Config) →
+    Past rules config (a ∷ past) → refusal a.master new ≡ None → Goes rules config (a ∷ past) (assigned_moment new a)
+assign_goes {S = S} {C = C} {O = O} rules config a past new came granted =
+    record {
+      between = [];
+      came = went_on came (subst (λ (o : Option AssignRefusal). MayHappen rules a.master a.world (master_behind a.master new o) (world_behind a.master a.world new o)) granted
+          (master_assigns new));
+      grown = λ xs ys p q. agreed_grows rules config (assigned_moment new a) (a ∷ past) xs ys p q;
+    }
+
+whole_assign : {S C O : Type 0} (rules : Rules S C O) (config : Config) (a : WholeMoment S C O) (past : List (WholeMoment S C O)) (new : Config) →
+    WholePast rules config (a ∷ past) → refusal a.master new ≡ None → WholePast rules config (whole_assigned new a ∷ a ∷ past)
+whole_assign rules config a past new came granted =
+    whole_went_on came (subst (λ (o : Option AssignRefusal). WholeMayHappen rules a.master a.world (master_behind a.master new o) (whole_behind a.master a.world new o)) granted
+    (whole_assigns new))
+
+assign_like : {S C O : Type 0} (rules : Rules S C O) (ballot : ℕ) (a : Moment S C O) (new : Config) → MomentLike rules ballot (whole_assigned new (whole_moment a)) (assigned_moment new a)
+assign_like rules ballot a new =
+    record {
+      master = refl;
+      sent = map-append (whole_letter a.world.archive) a.world.sent _;
+      nodes = λ n p e. let z = get_back (whole a.world.archive) a.world.nodes n p e in record { replica = z.0; stands = z.1; like = inl z.2 };
+    }
+
+-- ---- at the end
+
+pub serves_still : {S C O : Type 0} (rules : Rules S C O) (ballot b : ℕ) (log : List C) (os : List ℕ) (m : ℕ) (p s : WholeState S C) → IsLike rules ballot p s → Serves b log os m p → Serves b log os m s
+serves_still {S = S} {C = C} rules ballot b log os m p s (inl same) z = subst (λ (x : WholeState S C). Serves b log os m x) (sym same) z
+serves_still rules ballot b log os m p s (inr a) z = absurd (both_ways (is_active p.role) a.passive (ap is_active z.leads.role))
+
+pub follows_still : {S C O : Type 0} (rules : Rules S C O) (ballot b : ℕ) (log : List C) (m : ℕ) (p s : WholeState S C) → IsLike rules ballot p s → Follows b log m p → Follows b log m s
+follows_still {S = S} {C = C} rules ballot b log m p s (inl same) z = subst (λ (x : WholeState S C). Follows b log m x) (sym same) z
+follows_still {S = S} {C = C} rules ballot b log m p s (inr a) z =
+    subst (λ (x : WholeState S C). Follows b log m x) (sym a.is)
+    (record { runs = z.runs; id = z.id; joined = z.joined; held = z.held; role = z.role; log_is = z.log_is })
+
+pub node_still : {S C O : Type 0} (rules : Rules S C O) (ballot : ℕ) (P : ℕ → WholeState S C → Type 0) (m : ℕ) (a : WholeMoment S C O) (b : Moment S C O) → MomentLike rules ballot a b →
+    ((p s : WholeState S C) → IsLike rules ballot p s → P m p → P m s) → NodeIs P a.world.nodes m → NodeIs P (whole_moment b).world.nodes m
+node_still rules ballot P m a b like keeps z =
+    let n = like.nodes z.place z.replica z.stands in
+    record {
+      place = z.place;
+      number = z.number;
+      replica = whole b.world.archive n.replica;
+      stands = get_whole (whole b.world.archive) b.world.nodes z.place n.replica n.stands;
+      is = keeps z.replica (whole b.world.archive n.replica) n.like z.is;
+    }
+
+module _ {S C O : Type 0} (rules : Rules S C O) (silent : StartsGiveNothing rules) (config : Config) (a : Moment S C O) (past : List (Moment S C O))
+    (came : Past rules config (a ∷ past)) (new : Config) (place source : ℕ) (log : List C) (can : CanBeLed (whole_moment a) new place source log) where
+  stood : StandsFor rules config a past
+  stood = past_stands rules config a past came
+
+  -- on whole logs
+  out : WholeLeadsOut rules config (whole_moment a ∷ stood.earlier) (whole_moment a) new place log
+  out = has_way_out rules silent config (whole_moment a) stood.earlier stood.kept.came new place source log can
+
+  abbrev ballot : ℕ
+  ballot = a.master.given + 1
+
+  abbrev longer : List C
+  longer = log ++ rules.start_of ballot ∷ []
+
+  abbrev numbers : List ℕ
+  numbers = way_out (length a.world.sent) (length a.master.members) place (length new.members - 1)
+
+  as_many : length (whole_moment a).world.sent ≡ length a.world.sent
+  as_many = length-map a.world.sent (whole_letter a.world.archive)
+
+  came_so : WholeDelivered rules ballot (whole_assigned new (whole_moment a)) numbers out.last
+  came_so = subst (λ (k : ℕ). WholeDelivered rules ballot (whole_assigned new (whole_moment a)) (way_out k (length a.master.members) place (length new.members - 1)) out.last) as_many out.delivered
+
+  abbrev Way : Type 0
+  Way = Followed rules config ballot (a ∷ past) (assigned_moment new a) numbers out.last
+
+  way : Way
+  way =
+      followed rules config ballot (a ∷ past) came_so (whole_moment a ∷ stood.earlier)
+      (whole_assign rules config (whole_moment a) stood.earlier new stood.kept.came can.granted) (assigned_moment new a)
+      (assign_goes rules config a past new came can.granted) (assign_like rules ballot a new)
+
+  -- what is led there is led here
+  led_by : (w : Way) → IsLed ballot new longer (whole_moment w.end)
+  led_by w =
+      record {
+        active = ap (λ (m : MasterState). m.active) w.like.master ∙ out.led.active;
+        members = ap (λ (m : MasterState). m.members) w.like.master ∙ out.led.members;
+        primary = node_still rules ballot (Serves ballot longer (others new.primary new.members)) new.primary out.last w.end w.like
+            (serves_still rules ballot ballot longer (others new.primary new.members) new.primary) out.led.primary;
+        each = λ m i. node_still rules ballot (Follows ballot longer) m out.last w.end w.like (follows_still rules ballot ballot longer m) (out.led.each m i);
+      }
+
+  -- and agreed, as all hold it
+  agreed_by : (w : Way) → IsAgreed config (w.end ∷ (w.goes.between ++ (a ∷ past))) longer
+  agreed_by w =
+      agreed_back config (map whole_moment (w.end ∷ (w.goes.between ++ (a ∷ past)))) (whole_moment w.end ∷ q.earlier) longer q.covers
+      (what_all_hold_is_agreed rules config (whole_moment w.end) q.earlier q.kept.came new.primary longer (others new.primary new.members)
+      (record {
+        primary_serves = subst (λ b. NodeIs (Serves b longer (others new.primary new.members)) (whole_moment w.end).world.nodes new.primary) (sym led.active) led.primary;
+        member = subst (λ ms. In new.primary ms) (sym led.members) (lawful_is new (not_refused a.master new can.granted).0).0;
+        all_named = λ m i ne. others_of m (subst (λ ms. In m ms) led.members i) ne;
+        told = λ m i. subst (λ (us : List (ℕ × WholeMessage C)). In (new.primary, record { from = m; body = Held (whole_moment w.end).master.active (length longer) }) us) (sym w.like.sent)
+            (subst (λ b. In (new.primary, record { from = m; body = Held b (length longer) }) out.last.world.sent) (sym led.active)
+            (subst (λ n. In (new.primary, record { from = m; body = Held ballot n }) out.last.world.sent) (sym (length-append log (rules.start_of ballot ∷ []))) (out.told m i)));
+      }))
+    where
+      q : StandsFor rules config w.end (w.goes.between ++ (a ∷ past))
+      q = past_stands rules config w.end (w.goes.between ++ (a ∷ past)) w.goes.came
+
+      led : IsLed ballot new longer (whole_moment w.end)
+      led = led_by w
+
+      others_of : (m : ℕ) → In m new.members → (m ≡ new.primary → ⊥) → In m (others new.primary new.members)
+      others_of m i ne = by_case (others_in new.primary new.members m i)
+        where
+          by_case : (m ≡ new.primary) ⊎ In m (others new.primary new.members) → In m (others new.primary new.members)
+          by_case (inl e) = absurd (ne e)
+          by_case (inr j) = j
+
+  pub leads_out : LeadsOut rules config (a ∷ past) a new place log
+  leads_out = by way
+    where
+      by : Way → LeadsOut rules config (a ∷ past) a new place log
+      by w =
+          record {
+            last = w.end;
+            delivered = w.delivered;
+            archive = w.archive;
+            sent = ap (λ k. k + 1) (sym (length-map w.end.world.sent (whole_letter w.end.world.archive)) ∙ ap length w.like.sent) ∙ out.sent
+                ∙ ap (λ k. k + length a.master.members + 5 * length new.members) as_many;
+            events = subst (λ (k : ℕ). length (way_out k (length a.master.members) place (length new.members - 1)) + 1 ≡ 4 * length new.members + 2) as_many out.events;
+            led = led_by w;
+            goes = record { between = w.goes.between; came = w.goes.came; agrees = agreed_by w; grown = λ xs p. w.goes.grown xs longer p (agreed_by w) };
+          }
+
+pub cut_groups_have_ways_out : {S C O : Type 0} (rules : Rules S C O) → CutGroupsHaveWaysOut rules
+cut_groups_have_ways_out rules silent config a past came new place source log can = leads_out rules silent config a past came new place source log can

@@ -1,0 +1,43 @@
+-- Laws.antt: the way to the next ballot, for groups whose nodes cut their logs. What is said about
+-- logs is said about whole ones.
+use Rattle.std.specs.Prelude.{ℕ, ◌+◌, ◌-◌, ◌*◌, ◌≡◌, List, [], ◌∷◌, ◌++◌, length}
+use Rattle.snapshots.specs.machine.Machine.{Rules}
+use Rattle.snapshots.specs.lists.Lists.{IsPrefixOf}
+use Rattle.snapshots.specs.ballot_base.declared.config.Config.{Config}
+use Rattle.snapshots.specs.Past.{IsAgreed, Moment, Past, whole_moment}
+use Rattle.ways_out.specs.Deliveries.{way_out}
+use Rattle.ways_out.specs.Laws.{CanBeLed, IsLed, StartsGiveNothing}
+use Rattle.ways_out.specs.CutWaysDeliveries.{Delivered, assigned_moment}
+
+-- a past continues to a later moment, if this list is agreed; what was agreed before begins it
+pub record GoesOnTo {S C O : Type 0} (rules : Rules S C O) (config : Config)
+    (past : List (Moment S C O)) (b : Moment S C O) (agreed : List C) : Type 0 where
+  pub between : List (Moment S C O)
+  pub came : Past rules config (b ∷ (between ++ past))
+  pub agrees : IsAgreed config (b ∷ (between ++ past)) agreed
+  pub grown : (xs : List C) → IsAgreed config past xs → IsPrefixOf xs agreed
+
+-- a way out: after an Assign of the configuration come the messages of `way_out`; then the next
+-- ballot is led, and the whole log that was fetched is agreed with the ballot's start after it
+pub record LeadsOut {S C O : Type 0} (rules : Rules S C O) (config : Config)
+    (past : List (Moment S C O)) (a : Moment S C O) (new : Config) (place : ℕ) (log : List C) :
+    Type 0 where
+  pub last : Moment S C O
+  pub delivered : Delivered rules (a.master.given + 1) (assigned_moment new a)
+      (way_out (length a.world.sent) (length a.master.members) place (length new.members - 1)) last
+  -- no log is cut on the way
+  pub archive : last.world.archive ≡ a.world.archive
+  -- how many messages were sent then, and how many events led there, with the Assign
+  pub sent : length last.world.sent + 1
+      ≡ length a.world.sent + length a.master.members + 5 * length new.members
+  pub events : length (way_out (length a.world.sent) (length a.master.members) place
+      (length new.members - 1)) + 1 ≡ 4 * length new.members + 2
+  pub led : IsLed (a.master.given + 1) new (log ++ rules.start_of (a.master.given + 1) ∷ []) (whole_moment last)
+  pub goes : GoesOnTo rules config past last (log ++ rules.start_of (a.master.given + 1) ∷ [])
+
+-- if starts have no output, there is a way out at each moment of a group, whichever logs were cut
+abbrev pub CutGroupsHaveWaysOut : {S C O : Type 0} → Rules S C O → Type 0
+CutGroupsHaveWaysOut {S} {C} {O} rules =
+    StartsGiveNothing rules → (config : Config) (a : Moment S C O) (past : List (Moment S C O)) →
+    Past rules config (a ∷ past) → (new : Config) (place source : ℕ) (log : List C) →
+    CanBeLed (whole_moment a) new place source log → LeadsOut rules config (a ∷ past) a new place log

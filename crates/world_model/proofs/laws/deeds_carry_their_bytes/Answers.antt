@@ -1,5 +1,0 @@
-use Rattle.world_model.proofs.DeedsCarry.{deeds_carry_their_bytes}
-use Rattle.world_model.proofs.laws.deeds_carry_their_bytes.Goals as goal
-
-pub returns : goal.returns
-returns c = deeds_carry_their_bytes
