@@ -20,7 +20,10 @@ pub use escaping_nodes::master;
 pub use escaping_nodes::world_nodes::Idle;
 pub use event::Event;
 pub use headline::ballot;
-pub use headline::world_base::{Command, Config, Members, Memory, OpeningError};
+pub use headline::world_base::{
+    Body, Command, Config, ConnectionId, Effect, Handed, Item, Members, Memory, Message, NodeCore,
+    OpeningError, Output, Piece, Port, Standing, Status,
+};
 pub use laws::{an_open_past_the_last_changes_nothing, uncounted_is_exact};
 pub use world::World;
 pub use world_pipes;
