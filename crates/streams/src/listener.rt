@@ -1,4 +1,6 @@
-// The place where a node serves its clients: its listener and its door.
+// The place where a node serves its clients: its listener and its connections.
+
+ghost use Rattle.std.specs.Prelude.{◌≡◌, IfOk};
 
 use crate::connection_table::ConnectionTable;
 use node::Memory;
@@ -18,7 +20,7 @@ const PAUSE_MILLIS: u64 = 1;
 /// How often the threads that wait for clients are woken when the door is closed.
 const WAKES: u32 = 10_000;
 
-/// The place where a node serves its clients: its listener and its door.
+/// The place where a node serves its clients: its listener and its connections.
 #[derive(Drop)]
 pub struct Listener {
     /// The node's number.
@@ -31,7 +33,9 @@ pub struct Listener {
 impl Listener {
     /// Returns the place of the node of this number, whose clients connect to the listener. The
     /// only error is that memory runs out.
-    pub fn new(alloc: Global, number: u8, listener: TcpListener) -> Result<Listener, Memory> {
+    pub fn new(alloc: Global, number: u8, listener: TcpListener) -> Result<Listener, Memory>
+        ensures { IfOk result (λ made. made.number ≡ number) }
+    {
         Ok(Listener {
             number,
             listener,
