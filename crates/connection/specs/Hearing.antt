@@ -1,6 +1,6 @@
 -- What is reported of a connection: that it was opened, each piece that came on it, and that it
 -- ended.
-use Rattle.std.specs.Prelude.{◌≡◌, ℕ, ◌≤◌, List, [], ◌∷◌, ◌++◌, length, map, Option}
+use Rattle.std.specs.Prelude.{◌≡◌, ℕ, ◌≤◌, Bool, true, false, List, [], ◌∷◌, ◌++◌, length, map, Option}
 use Rattle.std.specs.List.{flat_map}
 use Rattle.std.specs.Io.KnownBytes.{Consumes, IsAtEnd}
 use Rattle.node_base.specs.Counted.{counted_once}
@@ -41,6 +41,16 @@ EndsSo endings.Refused pieces lost behind = (pieces ≡ []) × (lost ≡ [])
 EndsSo endings.End pieces lost behind = (lost ≡ []) × IsAtEnd behind
 EndsSo endings.Fault pieces lost behind = lost ≡ []
 EndsSo endings.Memory pieces lost behind = length lost ≤ PIECE_BYTES
+
+-- whether a connection that ended so was let in
+abbrev pub was_let_in : Ending → Bool
+was_let_in endings.Refused = false
+was_let_in _ = true
+
+-- the hearer was asked whether the connection may be read, and gave this answer
+pub record WasLet {H : Type 0} (lets : H → Bool → Type 0) (answer : Bool) : Type 0 where
+  pub hearer : H
+  pub answered : lets hearer answer
 
 -- the count of the device's failed calls: it rises by one if a call failed, and not otherwise
 abbrev pub faults_after : Ending → ℕ → ℕ

@@ -9,11 +9,14 @@ use world_base::Item;
 /// The receiver of a connection's reports: a lane to a node's inbox with its clock, or a node
 /// itself.
 pub trait Hearer {
-    ghost use Rattle.std.specs.Prelude.{List};
+    ghost use Rattle.std.specs.Prelude.{Bool, List};
     ghost use Rattle.world_base.specs.declared.item.Item.{Item};
 
     // Everything that was reported to it, oldest first.
     ghost heard: { Self → List Item };
+
+    // Asked whether the connection may be read, it gives an answer that this allows.
+    ghost lets: { Self → Bool → Type 0 };
 
     /// Returns the time with which an item is reported, in milliseconds.
     fn now<R: Clock>(&self, rt: &R) -> u64;
@@ -23,5 +26,6 @@ pub trait Hearer {
         ensures { heard self.new ≡ heard self.old ++ item ∷ [] };
 
     /// Says whether the connection that was opened may be read.
-    fn lets_in<R: Wait>(&self, rt: &R) -> bool;
+    fn lets_in<R: Wait>(&self, rt: &R) -> bool
+        ensures { lets self.now result };
 }

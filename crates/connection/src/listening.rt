@@ -1,7 +1,7 @@
 // Reporting what comes on a connection.
 
-ghost use Rattle.std.specs.Prelude.{◌≡◌, length};
-ghost use Rattle.connection.specs.Hearing.{Hears, faults_after};
+ghost use Rattle.std.specs.Prelude.{◌≡◌, true, length, IfErr};
+ghost use Rattle.connection.specs.Hearing.{Hears, WasLet, faults_after, was_let_in};
 ghost use Rattle.connection.specs.Inside.{HearsOn, HearsPiece, faults_so_far};
 
 use crate::ending::Ending;
@@ -25,6 +25,10 @@ pub fn listen<R: Wait + Clock, H: Hearer, D: Read>(
     ensures hears { Hears port (H.heard hearer.old) (H.heard hearer.new)
         result (D.remaining device.old.device) (D.remaining device.new.device) }
 
+    // The hearer was asked whether the connection may be read. It was not read exactly if the answer
+    // was no.
+    ensures let_in { WasLet H.lets (was_let_in result) }
+
     // A fault is reported exactly if one more call of the device failed.
     ensures faults { device.new.faults ≡ faults_after result device.old.faults }
 {
@@ -47,6 +51,7 @@ fn hear_on<R: Wait + Clock, H: Hearer, D: Read>(
 ) -> Ending
     ensures hears { HearsOn port opened (H.heard hearer.old) (H.heard hearer.new)
         result (D.remaining device.old.device) (D.remaining device.new.device) }
+    ensures let_in { WasLet H.lets (was_let_in result) }
     ensures faults { device.new.faults ≡ faults_after result device.old.faults }
 {
     if !hearer.lets_in(rt) {
@@ -80,6 +85,7 @@ fn hear_piece<R: Wait + Clock, H: Hearer, D: Read>(
     requires { length room.old ≡ PIECE_BYTES }
     ensures hears { HearsPiece port last (H.heard hearer.old) (H.heard hearer.new)
         result (D.remaining device.old.device) (D.remaining device.new.device) }
+    ensures read { IfErr result (λ ending. was_let_in ending ≡ true) }
     ensures faults { device.new.faults ≡ faults_so_far result device.old.faults }
 {
     let count = match device.read_piece(room) {

@@ -32,6 +32,8 @@ struct LaneReporter<J: Naming> {
 impl<J: Naming> Hearer for LaneReporter<J> {
     ghost heard = { λ ear. ear.lane.sent };
 
+    ghost lets = { λ ear answer. answer ≡ ear.is_open };
+
     fn now<R: Clock>(&self, _rt: &R) -> u64 {
         5
     }

@@ -1,4 +1,4 @@
-use Rattle.std.proofs.Common.{refl, ◌∙◌}
+use Rattle.std.proofs.Common.{refl, sym, subst, ◌∙◌}
 use Rattle.connection.proofs.PiecesJoin.{ends_behind, none_for_memory, none_yet, one_more, refused}
 use Rattle.connection.proofs.listening.hear_on.Goals as goal
 
@@ -22,3 +22,21 @@ loop-preserved g c = record {
 
 pub returns-then-not-lets_in-clause-hears : goal.returns-then-not-lets_in-clause-hears
 returns-then-not-lets_in-clause-hears g c = refused _ _ _ _
+
+pub returns-then-not-lets_in-clause-let_in : goal.returns-then-not-lets_in-clause-let_in
+returns-then-not-lets_in-clause-let_in g c = record {
+  hearer = c.args.hearer.now;
+  answered = subst (g.H.Hearer.lets c.args.hearer.now) c.if-not-lets_in.true c.lets_in.ensures;
+}
+
+pub returns-in_default-clause-let_in : goal.returns-in_default-clause-let_in
+returns-in_default-clause-let_in g c = record {
+  hearer = c.args.hearer.now;
+  answered = subst (g.H.Hearer.lets c.args.hearer.now) c.if-not-lets_in.false c.lets_in.ensures;
+}
+
+pub returns-in-Err-clause-let_in : goal.returns-in-Err-clause-let_in
+returns-in-Err-clause-let_in g c = record {
+  hearer = c.args.hearer.now;
+  answered = subst (g.H.Hearer.lets c.args.hearer.now) (c.if-not-lets_in.false ∙ sym c.in-Err.ensures.read) c.lets_in.ensures;
+}
