@@ -1,16 +1,14 @@
-// Laws of what a node does. The calls do nothing; their contracts are the laws.
+// Laws of what a node does. The calls do nothing; their contracts are the laws. A move in which
+// nothing is lost is a case of those in which something may be (`exactly`), so a law of these holds
+// of it too.
 
 ghost use Rattle.node_moves.specs.Apart.{NamesStayApart};
 ghost use Rattle.node_moves.specs.Behind.{EachLossIsTold, NoneIsSilent};
-ghost use Rattle.node_moves.specs.Closed.{NothingOnClosed};
-ghost use Rattle.node_moves.specs.Ends.{NodesProposeInOrder, NodesReadInOrder, ReadsAreTaken};
 ghost use Rattle.node_moves.specs.Hearing.{DeedsHearAtFirst};
 ghost use Rattle.node_moves.specs.Keeping.{NamesKeepTheirBallot};
 ghost use Rattle.node_moves.specs.LossyLaws.{LossesAreTaken, LossesProposeInOrder, LossesPutInOrder, LossesPutNothingOnClosed, LossesReadInOrder, LossyNamesAreOfTheBallot, LossyNamesKeepTheirBallot};
 ghost use Rattle.node_moves.specs.LossyRuns.{LossesAreMoves};
 ghost use Rattle.node_moves.specs.Moves.{DeedsAreMoves};
-ghost use Rattle.node_moves.specs.Names.{NewNamesAreOfTheBallot};
-ghost use Rattle.node_moves.specs.Puts.{PutsInOrder};
 
 /// Everything that a node does, its steps and the handing over of bytes, is a run of a few moves:
 /// what it reads from a client it proposes, and nothing else; the effects of its replica are done
@@ -23,45 +21,6 @@ pub fn deeds_are_moves()
 /// something, or stops, only in the first move.
 pub fn deeds_hear_at_first()
     ensures { DeedsHearAtFirst }
-{}
-
-/// In each move, on each connection, a node reads the next packets that the client writes, or none,
-/// and proposes just these under the connection's name, the CONNECT first; and no two of its
-/// connections have one name (MQTT 3.1, 4.6).
-pub fn nodes_read_in_order()
-    ensures { NodesReadInOrder }
-{}
-
-/// From its opening on a node proposes under the name of a connection the commands of a prefix of
-/// what the client writes on it, each once and in order, however the bytes are cut and whatever
-/// else happens.
-pub fn nodes_propose_in_order()
-    ensures { NodesProposeInOrder }
-{}
-
-/// Each packet that a node reads is in its log at once, after everything that was there; so it
-/// reads none after one that its log did not take.
-pub fn reads_are_taken()
-    ensures { ReadsAreTaken }
-{}
-
-/// On a connection that stays open a move of a node queues the packets that its replica's outputs
-/// send to it, in order, after what was queued before, and nothing else.
-pub fn puts_in_order()
-    ensures { PutsInOrder }
-{}
-
-/// On a connection that is closed nothing more is sent: after each move of a node it has the same
-/// bytes to hand over as before, or is closed in this move, and was sent a prefix of what the
-/// replica's outputs send to it, or the node's own answer to a CONNECT that it refuses.
-pub fn nothing_on_closed()
-    ensures { NothingOnClosed }
-{}
-
-/// A connection that is new after a move has a name of the ballot that the node leads as its active
-/// primary, with the next number there.
-pub fn new_names_are_of_the_ballot()
-    ensures { NewNamesAreOfTheBallot }
 {}
 
 /// After a tick no connection is silent for longer than its keep alive allows (MQTT 3.1.2.10).

@@ -8,8 +8,7 @@ pub use laws::{
     deeds_are_moves, deeds_hear_at_first, each_loss_is_told, losses_are_moves, losses_are_taken,
     losses_propose_in_order, losses_put_in_order, losses_put_nothing_on_closed,
     losses_read_in_order, lossy_names_are_of_the_ballot, lossy_names_keep_their_ballot,
-    names_keep_their_ballot, names_stay_apart, new_names_are_of_the_ballot, nodes_propose_in_order,
-    nodes_read_in_order, none_is_silent, nothing_on_closed, puts_in_order, reads_are_taken,
+    names_keep_their_ballot, names_stay_apart, none_is_silent,
 };
 pub use world_base;
 pub use world_base::ballot;
