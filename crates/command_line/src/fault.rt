@@ -1,9 +1,11 @@
 // Why what the user wrote could not be read.
 
 ghost use Rattle.std.specs.Prelude.{◌≡◌};
+ghost use Rattle.command_line.specs.Refusals.{table_number};
 
 use clap::Error;
 use std::alloc::{AllocError, AllocFailed};
+use std::{error, fmt};
 
 /// Why a command line gives no job.
 #[derive(Debug, Drop)]
@@ -25,6 +27,30 @@ pub enum TableFault {
     /// Memory ran out.
     Memory,
 }
+
+impl TableFault {
+    /// Returns the number of this refusal, the same in every program and document of this broker.
+    pub fn number(self) -> u8
+        ensures { result ≡ table_number self }
+    {
+        match self {
+            TableFault::Shape => 10,
+            TableFault::Memory => 12,
+        }
+    }
+}
+
+impl fmt::Display for TableFault {
+    fn fmt<W: fmt::Write>(&self, f: &mut fmt::Formatter<W>) -> fmt::Result {
+        let text = match self {
+            TableFault::Shape => "table of nodes",
+            TableFault::Memory => "out of memory",
+        };
+        write!(f, "{text}")
+    }
+}
+
+impl error::Error for TableFault {}
 
 impl From<AllocError> for LineFault {
     ghost use Rattle.command_line.specs.declared.fault.LineFault.TheVariants.{Memory};

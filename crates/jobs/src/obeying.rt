@@ -8,7 +8,7 @@ ghost use Rattle.jobs.specs.declared.obeying.Order.TheVariants as orders;
 use crate::fault::Fault;
 use command_line::ListeningNode;
 use command_line::packet::ClientId;
-use server::{Cluster, Config, Members, OrderError, Status};
+use server::{Cluster, Config, Members, Status};
 use std::alloc::Global;
 use std::io::{BufRead, ErrorKind, Write};
 use std::sync::Wait;
@@ -153,8 +153,7 @@ where
             Ok(ballot) => {
                 let _ = writeln!(output, "ballot {ballot}");
             }
-            Err(OrderError::Refused(error)) => refuse(output, error.number()),
-            Err(OrderError::Memory) => refuse(output, NO_MEMORY),
+            Err(error) => refuse(output, error.number()),
         },
         Order::Crash(number) => match peers.crash(rt, number) {
             Ok(true) => {

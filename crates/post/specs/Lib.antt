@@ -1,3 +1,4 @@
+pub mod Refusals
 pub mod Carrying
 pub mod Counting
 pub mod Crowding

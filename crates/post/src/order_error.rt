@@ -1,6 +1,7 @@
 // Why an order was not done.
 
 ghost use Rattle.std.specs.Prelude.{◌≡◌};
+ghost use Rattle.post.specs.Refusals.{order_number};
 
 use master::AssignError;
 use node::Memory;
@@ -14,6 +15,18 @@ pub enum OrderError {
     Refused(AssignError),
     /// Memory ran out. Nothing was changed.
     Memory,
+}
+
+impl OrderError {
+    /// Returns the number of this refusal, the same in every program and document of this broker.
+    pub fn number(self) -> u8
+        ensures { result ≡ order_number self }
+    {
+        match self {
+            OrderError::Refused(error) => error.number(),
+            OrderError::Memory => Memory.number(),
+        }
+    }
 }
 
 impl fmt::Display for OrderError {
