@@ -1,4 +1,4 @@
-//! Nodes, their inboxes, their connections, and devices that fail. It has only tests.
+//! Nodes, their inboxes, and the gates of nodes. It has only tests.
 #![tactic(auto)]
 
 #[cfg(test)]

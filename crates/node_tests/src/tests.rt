@@ -1,9 +1,6 @@
-// Nodes, their inboxes, their connections, and the devices of these.
+// Nodes, their inboxes, and the gates of nodes.
 
-mod connections;
-mod devices;
 mod echoing;
-mod fakes;
 mod gates;
 mod inboxes;
 mod nodes;

@@ -2,14 +2,11 @@
 // client finds its session at another node.
 
 mod answers;
-mod client;
 mod crowds;
 mod cuts;
 mod expulsions;
 mod gates;
-mod heard;
 mod lagging;
 mod nodes;
 mod row;
 mod takeovers;
-mod visits;

@@ -1,9 +1,9 @@
 // What one client is answered, and when it is closed.
 
-use super::client::{connect, fills, join, open};
 use super::nodes::fault_in;
 use super::row::{Row, Table};
 use server::Listener;
+use server_clients::{connect, fills, join, open};
 use std::alloc::{AllocError, Global};
 use std::io::{Read, Write};
 use std::net::{Net, TcpStream};

@@ -1,11 +1,11 @@
 // Many clients, at the same time and one after another.
 
-use super::client::{
-    Pair, SUBSCRIBE, SUBSCRIBED, connect, is_answered, is_closed, is_open_for, join, open,
-};
 use super::nodes::fault_in;
 use super::row::{Row, Table};
 use server::Listener;
+use server_clients::{
+    Pair, SUBSCRIBE, SUBSCRIBED, connect, is_answered, is_closed, is_open_for, join, open,
+};
 use std::alloc::{AllocError, Global};
 use std::io::{Read, Write};
 use std::net::{Net, TcpStream};

@@ -1,9 +1,9 @@
 // Nodes that cut their logs, as their reports show.
 
-use super::client::{is_answered, join};
 use super::crowds::large_publish;
 use super::nodes::listen_all;
 use server::{Config, Listener, Members, NoGate, NodeReport, serve_gated};
+use server_clients::{is_answered, join};
 use std::io::Write;
 use std::net::{Net, TcpListener, TcpStream};
 use std::sync::Wait;

@@ -1,13 +1,13 @@
 // A client whose session an administrator ends.
 
-use super::client::{
-    Pair, SUBSCRIBE, SUBSCRIBED, is_answered, is_closed, is_delivered, is_silent, join, publish,
-};
-use super::heard::Heard;
 use super::nodes::fault_in;
 use super::row::{Row, Table};
 use server::packet::ClientId;
 use server::{Cluster, Listener};
+use server_clients::{
+    Heard, Pair, SUBSCRIBE, SUBSCRIBED, is_answered, is_closed, is_delivered, is_silent, join,
+    publish,
+};
 use std::net::{Net, TcpStream};
 use std::sync::Wait;
 use std::thread;

@@ -1,11 +1,9 @@
 // Nodes that are held at a gate.
 
-use super::client::{Pair, is_answered, is_silent, publish};
-use super::heard::Heard;
 use super::lagging::{are_bytes_bounded, are_places_bounded};
 use super::nodes::{listen_all, opening};
-use super::visits::visits;
 use server::{Cluster, Gate, Listener, NodeReport, serve_gated};
+use server_clients::{Heard, Pair, is_answered, is_silent, publish, visits};
 use std::io::Write;
 use std::net::{Net, TcpListener, TcpStream};
 use std::sync::{Mutex, Wait};

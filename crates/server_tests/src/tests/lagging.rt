@@ -1,11 +1,10 @@
 // A member that is held, while a client sends on. What the primary takes then is bounded.
 
 use super::answers::Flood;
-use super::client::{join, waits_to_write};
 use super::crowds::large_publish;
 use super::gates::Bar;
-use super::visits::visits;
 use server::{Cluster, Listener};
+use server_clients::{join, visits, waits_to_write};
 use std::io::Write;
 use std::net::{Net, TcpStream};
 use std::sync::Wait;

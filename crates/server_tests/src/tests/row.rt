@@ -6,8 +6,8 @@ use super::crowds::{
 };
 use super::expulsions::expels;
 use super::takeovers::{moves, takes_over};
-use super::visits::visits;
 use server::{Cluster, Listener};
+use server_clients::visits;
 use std::net::{Net, TcpStream};
 use std::sync::Wait;
 use std::time::Clock;

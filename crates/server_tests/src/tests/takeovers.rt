@@ -1,11 +1,11 @@
 // Sessions that continue at another node.
 
-use super::client::{Pair, connect, fills, is_answered, is_delivered, is_silent, open, publish};
-use super::heard::Heard;
 use super::nodes::{fault_in, moves_to};
 use super::row::{Row, Table};
-use super::visits::visits;
 use server::{Cluster, Listener};
+use server_clients::{
+    Heard, Pair, connect, fills, is_answered, is_delivered, is_silent, open, publish, visits,
+};
 use std::io::Write;
 use std::net::{Net, TcpStream};
 use std::sync::Wait;

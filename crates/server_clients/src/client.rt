@@ -1,17 +1,18 @@
 // Clients over real sockets: their bytes, and those that MQTT 3.1.1 answers.
 
-use server::Listener;
 use std::io::{Read, Write};
 use std::net::{Net, TcpStream};
 use std::time::Duration;
+use streams::Listener;
 
-/// SUBSCRIBE to `t/#` at QoS 2, and its SUBACK.
-pub(super) const SUBSCRIBE: [u8; 10] = [0x82, 8, 0, 1, 0, 3, 0x74, 0x2F, 0x23, 2];
+/// SUBSCRIBE to `t/#` at QoS 2.
+pub const SUBSCRIBE: [u8; 10] = [0x82, 8, 0, 1, 0, 3, 0x74, 0x2F, 0x23, 2];
 
-pub(super) const SUBSCRIBED: [u8; 5] = [0x90, 3, 0, 1, 2];
+/// The SUBACK of `SUBSCRIBE`.
+pub const SUBSCRIBED: [u8; 5] = [0x90, 3, 0, 1, 2];
 
 /// CONNECT of the client of this letter with keep alive 60; its session is clean or kept.
-pub(super) fn connect(letter: u8, clean: bool) -> [u8; 15] {
+pub fn connect(letter: u8, clean: bool) -> [u8; 15] {
     let flags = if clean { 2 } else { 0 };
     [
         0x10, 13, 0, 4, 0x4D, 0x51, 0x54, 0x54, 4, flags, 0, 60, 0, 1, letter,
@@ -19,12 +20,12 @@ pub(super) fn connect(letter: u8, clean: bool) -> [u8; 15] {
 }
 
 /// Returns a PUBLISH on `t/1` at QoS 2, with this first byte, identifier and payload.
-pub(super) fn publish(first: u8, id: u8, payload: u8) -> [u8; 10] {
+pub fn publish(first: u8, id: u8, payload: u8) -> [u8; 10] {
     [first, 8, 0, 3, 0x74, 0x2F, 0x31, 0, id, payload]
 }
 
 /// Opens a stream to a place. A read of it ends after ten seconds.
-pub(super) fn open<R>(rt: &R, place: Option<&Listener>) -> Option<TcpStream>
+pub fn open<R>(rt: &R, place: Option<&Listener>) -> Option<TcpStream>
 where
     R: Net<Stream = TcpStream>,
 {
@@ -44,7 +45,7 @@ fn waits_for(stream: &TcpStream, milliseconds: u64) -> bool {
 }
 
 /// Says whether a write on this stream ends after this many milliseconds from now on.
-pub(super) fn waits_to_write(stream: &TcpStream, milliseconds: u64) -> bool {
+pub fn waits_to_write(stream: &TcpStream, milliseconds: u64) -> bool {
     stream
         .set_write_timeout(Some(Duration::from_millis(milliseconds)))
         .is_ok()
@@ -52,12 +53,7 @@ pub(super) fn waits_to_write(stream: &TcpStream, milliseconds: u64) -> bool {
 
 /// Opens a stream of the client of this letter. There is none unless its CONNECT is accepted and
 /// the CONNACK says this of its session.
-pub(super) fn join<R>(
-    rt: &R,
-    place: Option<&Listener>,
-    letter: u8,
-    has_session: bool,
-) -> Option<TcpStream>
+pub fn join<R>(rt: &R, place: Option<&Listener>, letter: u8, has_session: bool) -> Option<TcpStream>
 where
     R: Net<Stream = TcpStream>,
 {
@@ -72,14 +68,14 @@ where
 
 /// The streams of a subscriber, client `h`, and a publisher, client `s`.
 #[derive(Drop)]
-pub(super) struct Pair {
-    pub(super) hearer: TcpStream,
-    pub(super) speaker: TcpStream,
+pub struct Pair {
+    pub hearer: TcpStream,
+    pub speaker: TcpStream,
 }
 
 impl Pair {
     /// Opens both, as `join` does.
-    pub(super) fn join<R>(rt: &R, place: Option<&Listener>, has_session: bool) -> Option<Pair>
+    pub fn join<R>(rt: &R, place: Option<&Listener>, has_session: bool) -> Option<Pair>
     where
         R: Net<Stream = TcpStream>,
     {
@@ -91,13 +87,13 @@ impl Pair {
     }
 
     /// Says whether the subscriber subscribes to `t/#` at QoS 2.
-    pub(super) fn subscribes(&mut self) -> bool {
+    pub fn subscribes(&mut self) -> bool {
         is_answered(&mut self.hearer, &SUBSCRIBE, &SUBSCRIBED)
     }
 }
 
 /// Says whether these bytes are answered by those, of which there are at most ten.
-pub(super) fn is_answered(stream: &mut TcpStream, sent: &[u8], wanted: &[u8]) -> bool {
+pub fn is_answered(stream: &mut TcpStream, sent: &[u8], wanted: &[u8]) -> bool {
     let mut room = [0; 10];
     let is_filled = match room.get_mut(..wanted.len()) {
         Some(got) => fills(stream, sent, got),
@@ -107,30 +103,30 @@ pub(super) fn is_answered(stream: &mut TcpStream, sent: &[u8], wanted: &[u8]) ->
 }
 
 /// Says whether a publication at QoS 2 is answered by PUBREC, and its PUBREL by PUBCOMP.
-pub(super) fn is_delivered(speaker: &mut TcpStream, publish: [u8; 10]) -> bool {
+pub fn is_delivered(speaker: &mut TcpStream, publish: [u8; 10]) -> bool {
     let id = publish[8];
     is_answered(speaker, &publish, &[0x50, 2, 0, id])
         && is_answered(speaker, &[0x62, 2, 0, id], &[0x70, 2, 0, id])
 }
 
 /// Says whether these bytes are answered by as many as there is room for.
-pub(super) fn fills(stream: &mut TcpStream, sent: &[u8], room: &mut [u8]) -> bool {
+pub fn fills(stream: &mut TcpStream, sent: &[u8], room: &mut [u8]) -> bool {
     stream.write_all(sent).is_ok() && stream.read_exact(room).is_ok()
 }
 
 /// Says whether nothing comes for a third of a second, and the stream stays open.
-pub(super) fn is_silent(stream: &mut TcpStream) -> bool {
+pub fn is_silent(stream: &mut TcpStream) -> bool {
     is_open_for(stream, 333)
 }
 
 /// Says whether nothing comes for this many milliseconds, and the stream stays open.
-pub(super) fn is_open_for(stream: &mut TcpStream, milliseconds: u64) -> bool {
+pub fn is_open_for(stream: &mut TcpStream, milliseconds: u64) -> bool {
     let mut room = [0; 1];
     waits_for(stream, milliseconds) && stream.read(&mut room).is_err() && waits_for(stream, 10_000)
 }
 
 /// Says whether the server ends the stream within two seconds, and sends nothing.
-pub(super) fn is_closed(stream: &mut TcpStream) -> bool {
+pub fn is_closed(stream: &mut TcpStream) -> bool {
     let mut room = [0; 1];
     waits_for(stream, 2_000) && matches!(stream.read(&mut room), Ok(0))
 }

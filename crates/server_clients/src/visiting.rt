@@ -1,8 +1,8 @@
 // A client that sends all that it has at once.
 
-use super::client::{fills, open};
-use server::Listener;
+use crate::client::{fills, open};
 use std::net::{Net, TcpStream};
+use streams::Listener;
 
 // CONNECT of client `a`, SUBSCRIBE to `t/#` and PUBLISH of `x` on `t/1`, both at QoS 2.
 const SENT: [u8; 35] = [
@@ -22,7 +22,7 @@ fn are_answers(got: &[u8]) -> bool {
 }
 
 /// Says whether client `a` is answered if it sends all at once.
-pub(super) fn visits<R>(rt: &R, place: Option<&Listener>) -> bool
+pub fn visits<R>(rt: &R, place: Option<&Listener>) -> bool
 where
     R: Net<Stream = TcpStream>,
 {

@@ -1,6 +1,5 @@
 // Devices in memory of which one call fails.
 
-use connection::node_base::Counted;
 use std::alloc::Global;
 use std::io;
 use std::io::{ErrorKind, Read, Write};

@@ -5,15 +5,15 @@ use std::net::TcpStream;
 
 /// What a subscriber accepted of publications at QoS 2, each once (MQTT 4.3.3).
 #[derive(Drop)]
-pub(super) struct Heard {
+pub struct Heard {
     /// Their payloads.
-    pub(super) payloads: Vec<u8>,
+    pub payloads: Vec<u8>,
     /// The identifiers whose PUBREL has not come.
     unreleased: Vec<[u8; 2]>,
 }
 
 impl Heard {
-    pub(super) fn new<R: AllocGlobal>(rt: &R) -> Heard {
+    pub fn new<R: AllocGlobal>(rt: &R) -> Heard {
         Heard {
             payloads: Vec::new(rt.alloc()),
             unreleased: Vec::new(rt.alloc()),
@@ -22,7 +22,7 @@ impl Heard {
 
     /// Takes the next packet, a PUBLISH or a PUBREL, and returns the answer to it. There is none if
     /// something else comes.
-    pub(super) fn hear(&mut self, stream: &mut TcpStream) -> Option<[u8; 4]> {
+    pub fn hear(&mut self, stream: &mut TcpStream) -> Option<[u8; 4]> {
         let mut head = [0; 2];
         stream.read_exact(&mut head).ok()?;
         if head == [0x34, 8] || head == [0x3C, 8] {
@@ -57,7 +57,7 @@ impl Heard {
     }
 
     /// Says whether the next packet comes, and its answer is sent.
-    pub(super) fn answers(&mut self, stream: &mut TcpStream) -> bool {
+    pub fn answers(&mut self, stream: &mut TcpStream) -> bool {
         match self.hear(stream) {
             Some(answer) => stream.write_all(&answer).is_ok(),
             None => false,
@@ -66,7 +66,7 @@ impl Heard {
 
     /// Says whether the publication of this payload comes as one of the next twenty packets, all of
     /// which are answered, and no handshake stays open.
-    pub(super) fn hears(&mut self, stream: &mut TcpStream, payload: u8) -> bool {
+    pub fn hears(&mut self, stream: &mut TcpStream, payload: u8) -> bool {
         for _ in 0..20 {
             if !self.answers(stream) {
                 return false;

@@ -1,0 +1,5 @@
+//! Connections over devices that fail. It has only tests.
+#![tactic(auto)]
+
+#[cfg(test)]
+mod tests;

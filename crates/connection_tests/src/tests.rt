@@ -1,0 +1,5 @@
+// Connections, and the devices below them, any call of which may fail.
+
+mod connections;
+mod devices;
+mod fakes;
