@@ -7,7 +7,8 @@ use Rattle.atomic_table.specs.Seated.{TableId}
 use Rattle.crossbeam_queue.specs.Passes.{Pass, view, IsSamePass}
 use Rattle.mailbox.specs.declared.view.View.{View}
 use Rattle.mailbox.specs.Delivery.{items_of, taker_view}
-use Rattle.mailbox.specs.Inside.{Took, ReceiverKept, heard}
+use Rattle.mailbox.specs.Inside.{Took, heard}
+use Rattle.mailbox.specs.Kept.{ReceiverKept}
 use Rattle.mailbox.proofs.ItemsOfALane.{items_of-append, items_of-same, items_of-other}
 use Rattle.mailbox.proofs.StepsKeepTheRule.{same_or_other}
 

@@ -8,7 +8,7 @@ use Rattle.std.proofs.Math.Seq.{take-append_seam}
 use Rattle.std.specs.List.{All}
 use Rattle.mailbox.specs.Delivery.{items_of}
 use Rattle.mailbox.specs.Ends.{Sender, Taker, fresh_lanes, as_made, AreAllLanes, ArrivesWhole, unmet}
-use Rattle.mailbox.specs.Inside.{IsTaken}
+use Rattle.mailbox.specs.Kept.{IsTaken}
 use Rattle.mailbox.proofs.ItemsOfALane.{items_of-append}
 
 -- a fact that reads only f of each element goes over to a list with the same f of each

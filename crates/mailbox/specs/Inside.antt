@@ -1,11 +1,7 @@
--- What each use of a pass does to what is known, and what lanes and receivers keep.
-use Rattle.std.specs.Prelude.{◌≡◌, ℕ, ◌+◌, ◌-◌, ◌*◌, ◌^◌, ◌<◌, ◌≤◌, false, List, [], ◌∷◌, ◌++◌, length, slice_index}
-use Rattle.atomic_table.specs.Seated.{TableId}
-use Rattle.crossbeam_queue.specs.Passes.{Pass, view}
-use Rattle.mailbox.specs.declared.inbox.TheConstants.{INBOX_ITEMS}
+-- What each use of a pass does to what is known.
+use Rattle.std.specs.Prelude.{◌≡◌, ℕ, ◌+◌, ◌-◌, ◌^◌, ◌<◌, ◌≤◌, false, List, [], ◌∷◌, ◌++◌, length}
 use Rattle.mailbox.specs.declared.view.View.{View}
-use Rattle.mailbox.specs.Delivery.{items_of, lane_view, nothing, receiver_view, taker_view}
-use Rattle.mailbox.specs.Ends.{Sender, Taker}
+use Rattle.mailbox.specs.Delivery.{items_of, lane_view, nothing, receiver_view}
 
 module _ {T : Type 0} where
   -- a pass that knows nothing
@@ -82,71 +78,3 @@ module _ {T : Type 0} where
   -- the lane's part, which knows now how much of it was taken
   abbrev pub lane_part : View T → View T
   lane_part v = lane_view v.lane v.sent (length (items_of v.lane v.taken)) v.may v.told
-
--- what a lane keeps: its pass, for the inbox that its number names, knows what the lane shows
-pub record LaneKept {T : Type 0}
-    (queue : TableId) (room : ℕ) (pass : Pass (ℕ × T) (View T)) (name : TableId) (lane count : ℕ)
-    : Type 0 where
-  pub of_queue : pass.table_id ≡ queue
-  pub at_rest : pass.me.1 ≡ []
-  pub named : queue ≡ name
-  pub has_room : room ≡ INBOX_ITEMS
-  pub role :
-      view pass
-      ≡ lane_view lane (view pass).sent (view pass).met (2 ^ 55 - length (view pass).sent) (view pass).told
-  pub few : length (view pass).sent ≤ 2 ^ 55
-  pub counted : count ≡ length (view pass).sent
-
--- what a receiver keeps: the same, and how many items of each lane it took
-pub record ReceiverKept {T : Type 0}
-    (queue : TableId) (room : ℕ) (pass : Pass (ℕ × T) (View T)) (name : TableId) (counts : List ℕ)
-    : Type 0 where
-  pub of_queue : pass.table_id ≡ queue
-  pub at_rest : pass.me.1 ≡ []
-  pub named : queue ≡ name
-  pub has_room : room ≡ INBOX_ITEMS
-  pub role : view pass ≡ taker_view (length counts) (view pass).taken (view pass).told
-  pub counted :
-      (lane : ℕ)
-      → lane < length counts
-      → slice_index counts lane ≡ length (items_of lane (view pass).taken)
-
--- what a receipt keeps: its pass, for the inbox that its number names, knows what it says
-pub record ReceiptKept {T : Type 0} (pass : Pass (ℕ × T) (View T)) (name : TableId) : Type 0 where
-  pub of_queue : pass.table_id ≡ name
-  pub at_rest : pass.me.1 ≡ []
-  pub role : view pass ≡ record nobody { told = (view pass).told }
-
--- what a dealer keeps: its pass, for the inbox that its number names, has made this many lanes
-pub record DealerKept {T : Type 0}
-    (queue : TableId) (room : ℕ) (pass : Pass (ℕ × T) (View T)) (name : TableId) (counts : List ℕ)
-    : Type 0 where
-  pub of_queue : pass.table_id ≡ queue
-  pub at_rest : pass.me.1 ≡ []
-  pub named : queue ≡ name
-  pub has_room : room ≡ INBOX_ITEMS
-  pub role :
-      view pass
-      ≡ receiver_view (length counts) [] (2 ^ 64 - length counts * 2 ^ 55) (2 ^ 64) nothing
-  pub few : length counts ≤ 64
-  pub counted : (lane : ℕ) → slice_index counts lane ≡ 0
-
--- what an inbox without lanes keeps
-pub record InboxKept {T : Type 0}
-    (queue : TableId) (room : ℕ) (pass : Pass (ℕ × T) (View T))
-    : Type 0 where
-  pub of_queue : pass.table_id ≡ queue
-  pub at_rest : pass.me.1 ≡ []
-  pub has_room : room ≡ INBOX_ITEMS
-  pub has_slots : queue.slots ≡ INBOX_ITEMS
-  pub role : view pass ≡ receiver_view 0 [] (2 ^ 64) (2 ^ 64) nothing
-
--- what the receiver took more is what was appended to the list
-pub record TakesMore {T : Type 0} (old new : Taker T) (list longer : List (ℕ × T)) : Type 0 where
-  pub more : List (ℕ × T)
-  pub history : new ≡ record old { taken = old.taken ++ more }
-  pub listed : longer ≡ list ++ more
-
--- all that a lane sent was taken
-abbrev pub IsTaken : {T : Type 0} → List (ℕ × T) → Sender T → Type 0
-IsTaken taken s = items_of s.lane taken ≡ s.sent

@@ -1,4 +1,5 @@
 pub mod Delivery
 pub mod Ends
 pub mod Inside
+pub mod Kept
 pub mod Naming

@@ -29,7 +29,7 @@ impl<T: Drop, J: Naming> Model for Dealer<T, J> {
     ghost use Rattle.std.specs.Prelude.{[], length};
     ghost use Rattle.std.specs.Arc.{arc_value};
     ghost use Rattle.crossbeam_queue.specs.Passes.{ruled_capacity};
-    ghost use Rattle.mailbox.specs.Inside.{DealerKept};
+    ghost use Rattle.mailbox.specs.Kept.{DealerKept};
 
     ghost view = { λ d. record { inbox = d.inbox; lanes = length d.counts.items; taken = [] } };
 

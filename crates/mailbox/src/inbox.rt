@@ -36,7 +36,7 @@ impl<T: Drop> Model for Inbox<T> {
 
     ghost use Rattle.std.specs.Arc.{arc_value};
     ghost use Rattle.crossbeam_queue.specs.Passes.{ruled_capacity};
-    ghost use Rattle.mailbox.specs.Inside.{InboxKept};
+    ghost use Rattle.mailbox.specs.Kept.{InboxKept};
 
     ghost view = { λ n. (arc_value n.queue).table.shared.table_id };
 

@@ -32,7 +32,7 @@ impl<T: Drop, J: Naming> Model for Lane<T, J> {
 
     ghost use Rattle.std.specs.Arc.{arc_value};
     ghost use Rattle.crossbeam_queue.specs.Passes.{view as known_by, ruled_capacity};
-    ghost use Rattle.mailbox.specs.Inside.{LaneKept};
+    ghost use Rattle.mailbox.specs.Kept.{LaneKept};
 
     ghost view = { λ l. record {
       inbox = l.inbox;

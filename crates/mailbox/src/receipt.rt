@@ -20,7 +20,7 @@ impl<T: Drop, J: Naming> Model for Receipt<T, J> {
     ghost Value = { Receipted };
 
     ghost use Rattle.crossbeam_queue.specs.Passes.{view as known_by};
-    ghost use Rattle.mailbox.specs.Inside.{ReceiptKept};
+    ghost use Rattle.mailbox.specs.Kept.{ReceiptKept};
 
     ghost view = { λ r. record { inbox = r.inbox; told = (known_by r.pass).told } };
 

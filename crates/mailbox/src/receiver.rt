@@ -3,7 +3,7 @@
 ghost use Rattle.std.specs.Prelude.{◌≡◌, ◌++◌, ◌∷◌, [], ◌<◌, ◌≤◌, length, take, ◌*◌, ◌^◌, IfSome, IfNone, IfOk, OnOk, All, EachIndex, IsTrue, ◌↔◌, map, slice_index, vec_capacity};
 ghost use Rattle.mailbox.specs.Delivery.{items_of, nothing};
 ghost use Rattle.mailbox.specs.Ends.{Taker, Sender, WasEmpty, HasArrived, AreAllLanes, ArrivesWhole, unmet};
-ghost use Rattle.mailbox.specs.Inside.{TakesMore, IsTaken};
+ghost use Rattle.mailbox.specs.Kept.{TakesMore, IsTaken};
 
 use crate::inbox::INBOX_ITEMS;
 use crate::lane::Lane;
@@ -33,7 +33,7 @@ impl<T: Drop, J: Naming> Model for Receiver<T, J> {
     ghost use Rattle.std.specs.Prelude.{length};
     ghost use Rattle.std.specs.Arc.{arc_value};
     ghost use Rattle.crossbeam_queue.specs.Passes.{view as known_by, ruled_capacity};
-    ghost use Rattle.mailbox.specs.Inside.{ReceiverKept};
+    ghost use Rattle.mailbox.specs.Kept.{ReceiverKept};
 
     ghost view = { λ r. record {
       inbox = r.inbox;

@@ -1,4 +1,4 @@
-use Rattle.mailbox.specs.Inside.{TakesMore}
+use Rattle.mailbox.specs.Kept.{TakesMore}
 use Rattle.mailbox.proofs.receiver.Receiver.drain.Given as goal
 
 abbrev pub invariant-loop : goal.invariant-loop

@@ -3,7 +3,7 @@ use Rattle.std.specs.Prelude.{slice_index_or}
 use Rattle.std.proofs.lemmas.List.Elements.{AllWithin-more_set}
 use Rattle.std.proofs.Math.Seq.{map-set_same}
 use Rattle.mailbox.specs.Ends.{unmet}
-use Rattle.mailbox.specs.Inside.{IsTaken}
+use Rattle.mailbox.specs.Kept.{IsTaken}
 use Rattle.mailbox.proofs.LanesSettle.{all_like, met_all}
 use Rattle.mailbox.proofs.receiver.Receiver.meets_all.Goals as goal
 

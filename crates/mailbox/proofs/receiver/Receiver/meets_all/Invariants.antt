@@ -1,7 +1,7 @@
 use Rattle.std.proofs.Common.{◌≡◌, map}
 use Rattle.std.specs.List.{AllWithin}
 use Rattle.mailbox.specs.Ends.{unmet}
-use Rattle.mailbox.specs.Inside.{IsTaken}
+use Rattle.mailbox.specs.Kept.{IsTaken}
 use Rattle.mailbox.proofs.receiver.Receiver.meets_all.Given as goal
 
 abbrev pub invariant-loop-lane : goal.invariant-loop-lane
