@@ -20,7 +20,8 @@ pub record Opens (core : CountedCore) : Type 0 where
 abbrev pub EachOpens : (ℕ → CountedCore) → Type 0
 EachOpens first_of = (inbox : ℕ) → ∥ Opens (first_of inbox) ∥₁
 
--- whatever its inbox's number, the node began as the node of this number in this configuration of ballot 1
+-- whatever its inbox's number, the node began as the node of this number in this configuration of
+-- ballot 1
 abbrev pub EachOpensAs : ℕ → Config → (ℕ → CountedCore) → Type 0
 EachOpensAs number config first_of =
     (inbox : ℕ) → first_of inbox ≡ record { core = opening_core number config; losses = 0 }

@@ -24,8 +24,9 @@ use std::mem;
 /// How many items may wait when a message of another node is queued.
 const MOST_WAITING: usize = 524_288;
 
-/// What the other nodes and the master have for a node, in the order of leaving. It stands behind a lock, so its type
-/// says where each item is from, and how many messages of other nodes wait at most.
+/// What the other nodes and the master have for a node, in the order in which it was queued. It is
+/// behind a lock, so its type says where each item comes from, and how many messages of other nodes
+/// wait at most.
 #[derive(Drop)]
 pub(crate) struct Outbox {
     number: u8,
@@ -67,8 +68,8 @@ impl Outbox {
         self.items.is_empty()
     }
 
-    /// Leaves an item after all that waits, in the place of the newest if it supersedes that one. Returns whether there was room
-    /// and memory for it; if not, it is lost.
+    /// Queues an item after all that waits, or replaces the newest if it supersedes that one.
+    /// Returns whether there was room and memory for it; if not, it is lost.
     pub(crate) fn leave(&mut self, item: Item) -> bool
         requires { IsPosted self.old.number item }
         ensures left { result ≡ true →

@@ -59,8 +59,8 @@ impl Parcel {
         is_urgent_message(&self.message)
     }
 
-    /// Leaves the message in a tray of its node, as [`Outbox::leave`]. Returns whether there was room
-    /// and memory for it; if not, it is lost.
+    /// Queues the message in a tray of its node, as [`Outbox::leave`]. Returns whether there was
+    /// room and memory for it; if not, it is lost.
     pub(crate) fn lay(self, tray: &mut Outbox) -> bool
         requires { self.receiver ≡ tray.old.number }
         ensures left { result ≡ true → tray.new ≡ record tray.old {

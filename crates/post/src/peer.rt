@@ -17,7 +17,8 @@ use std::alloc::Global;
 use std::sync::{Mutex, Wait};
 use std::time::Duration;
 
-/// A node, and what waits for it. One thread, its own, takes what waits, and sleeps until something comes.
+/// A node, and what waits for it. One thread, its own, takes what waits, and sleeps until something
+/// comes.
 #[derive(Drop)]
 pub struct Peer {
     /// The node's number.

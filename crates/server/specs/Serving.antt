@@ -36,8 +36,8 @@ pub record SendsRow (lane : ℕ) (before behind : List Item) : Type 0 where
   pub count : ℕ
   pub tells : TellsEach lane before count behind
 
--- The own thread's lane of a node of this number, which had sent these items, sent the time, cuts of the log, and letters for
--- the node.
+-- The own thread's lane of a node of this number, which had sent these items, sent the time, cuts
+-- of the log, and letters for the node.
 pub data SendsOwn (node : ℕ) (before : List Item) : List Item → Type 0 where
   starts : SendsOwn node before before
   ticks : {sent : List Item} (now : ℕ) → SendsOwn node before sent → SendsOwn node before (sent ++ Tick now ∷ [])

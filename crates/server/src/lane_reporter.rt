@@ -30,7 +30,8 @@ impl<'e, 'a, J: NodeNaming, S: Stated<J>, G: Gate> Hearer for LaneReporter<'e, '
         shared.seat.now(rt)
     }
 
-    // Bytes are told once the node takes more of them, and count as on their way until it has taken them.
+    // Bytes are reported once the node takes more of them, and count as in transit until it has
+    // taken them.
     fn tell<R: Wait + Clock>(&mut self, rt: &R, item: Item) {
         let shared = self.shared;
         let place = self.link.place;

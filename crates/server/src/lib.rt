@@ -1,7 +1,7 @@
-//! Nodes that serve clients over TCP, and the master beside them. Each of a node's threads has a lane to its inbox
-//! for good: it accepts a client, reads its bytes, sends them by the lane, and then takes what waits in the inbox
-//! itself, so that no bytes are handed from thread to thread before they are answered. One of them, the node's own,
-//! takes what other nodes and the master have for it.
+//! Nodes that serve clients over TCP, and their master. Each of a node's threads has a lane to its
+//! inbox for good: it accepts a client, reads its bytes, sends them by the lane, and then takes
+//! what waits in the inbox itself, so that no bytes are handed from thread to thread before they
+//! are answered. One of them, the node's own, takes what other nodes and the master have for it.
 #![tactic(auto)]
 
 mod blocked_writer;

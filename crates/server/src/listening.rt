@@ -160,8 +160,8 @@ fn serve<G: Gate + Sync, R: Threads + Wait + Clock + Sync>(
     Ok(NodeReport { number, report })
 }
 
-// The same by an inbox whose number names it, with the node, for all threads. The node opened as the one of its place's
-// number in the configuration.
+// The same by an inbox whose number names it, with the node, for all threads. The node opened as
+// the one of its place's number in the configuration.
 fn serve_named<J: NodeNaming + Send + Sync, G: Gate + Sync, R: Threads + Wait + Clock + Sync>(
     rt: &R,
     alloc: Global,
@@ -194,7 +194,8 @@ fn serve_named<J: NodeNaming + Send + Sync, G: Gate + Sync, R: Threads + Wait + 
     shared.close(rt, back.as_mut_slice())
 }
 
-// The same at the type that a node's state has. That it may be shared by threads is asked here alone.
+// The same at the type that a node's state has. That it may be shared by threads is required here
+// alone.
 fn run_state<J: NodeNaming + Send + Sync, G: Gate + Sync, R: Threads + Wait + Clock + Sync>(
     rt: &R,
     shared: &Shared<J, NodeState<J>, G>,

@@ -1,5 +1,5 @@
-// The node's own thread: it takes what other nodes have for it, tells the time, has the log cut, and ends connections whose first
-// packet does not come.
+// The node's own thread: it takes what other nodes have for it, tells the time, has the log cut,
+// and ends connections whose first packet does not come.
 
 ghost use Rattle.std.specs.Prelude.{◌≡◌};
 ghost use Rattle.post.specs.Letters.{IsLeft};
@@ -52,8 +52,8 @@ impl<'a, J: NodeNaming, S: Stated<J>, G: Gate> Shared<'a, J, S, G> {
         unreachable!()
     }
 
-    // Tells the node the time, if it was told so long ago that it is due, and then has the log cut, if that is due. Returns
-    // when the node was told the time last.
+    // Tells the node the time, if it was told so long ago that it is due, and then has the log cut,
+    // if that is due. Returns when the node was told the time last.
     fn tick<R: Wait + Clock>(&self, rt: &R, lane: &mut Lane<Item, J>, told: Told) -> Told
         ensures { SendsOwn self.now.seat.node.now.number lane.old.sent lane.new.sent }
     {

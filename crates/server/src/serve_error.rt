@@ -9,8 +9,8 @@ use std::fmt;
 /// Why nodes are not served.
 #[derive(Clone, Copy, Debug, PartialEq, Eq)]
 pub enum ServeError {
-    /// No ballot may have the configuration: no member, more than 7, not strictly rising, one outside 1 to
-    /// 15, or a primary that is no member; or a node has a number outside 1 to 15.
+    /// No ballot may have the configuration: no member, more than 7, not strictly rising, one
+    /// outside 1 to 15, or a primary that is no member; or a node has a number outside 1 to 15.
     BadMembers,
     /// Memory ran out.
     Memory,

@@ -25,8 +25,9 @@ const CONNECTIONS_OF_LANE: u64 = 1 << 56;
 const PORTS_APART: u64 = 256;
 
 impl<'a, J: NodeNaming, S: Stated<J>, G: Gate> Shared<'a, J, S, G> {
-    /// Serves one client after the other by a lane, until the door is closed: the lane, which sent for each
-    /// in turn all that is told of its connection, at a port that no other has, and nothing else.
+    /// Serves one client after the other by a lane, until the door is closed. Returns the lane,
+    /// which sent for each in turn all that is reported of its connection, at a port that no other
+    /// has, and nothing else.
     pub(crate) fn serve_lane<R: Wait + Clock>(&self, rt: &R, lane: Lane<Item, J>) -> Lane<Item, J>
         ensures { SendsRow lane.lane lane.sent result.sent }
     {
@@ -83,8 +84,8 @@ impl<'a, J: NodeNaming, S: Stated<J>, G: Gate> Shared<'a, J, S, G> {
         Arc::new(self.alloc, link).ok()
     }
 
-    // Tells the node of a connection by a lane, until it ends: the lane, which sent that the connection was
-    // opened, each piece that came, and that it ended.
+    // Reports a connection to the node by a lane, until it ends. Returns the lane, which sent that
+    // the connection was opened, each piece that came, and that it ended.
     fn serve_link<R: Wait + Clock>(
         &self,
         rt: &R,

@@ -20,8 +20,9 @@ use streams::{CONNECTIONS, IdleLanes, Link};
 const FEW: usize = 8;
 
 impl<'a, J: NodeNaming, S: Stated<J>, G: Gate> Shared<'a, J, S, G> {
-    /// Sends an item by a lane, and takes what waits in the inbox, that item with it. The connection at this place is
-    /// written to first. Once it returns the node has taken all that the lane sent, and the lane knows it.
+    /// Sends an item by a lane, and takes what waits in the inbox, that item with it. The
+    /// connection at this place is written to first. Once it returns the node has taken all that
+    /// the lane sent, and the lane knows it.
     pub(crate) fn send<R: Wait + Clock>(
         &self,
         rt: &R,
@@ -51,8 +52,8 @@ impl<'a, J: NodeNaming, S: Stated<J>, G: Gate> Shared<'a, J, S, G> {
         unreachable!()
     }
 
-    /// Takes what waits in the inbox, with all that this lane sent, and then writes what was put out, to the connection
-    /// at this place first.
+    /// Takes what waits in the inbox, with all that this lane sent, and then writes what was put
+    /// out, to the connection at this place first.
     pub(crate) fn turn<R: Wait + Clock>(&self, rt: &R, lane: &mut Lane<Item, J>, first: usize)
         ensures { lane.new ≡ all_met lane.old }
     {

@@ -15,7 +15,8 @@ use streams::CONNECTIONS;
 /// The lane of the node's own thread.
 pub(crate) const OWN_LANE: u8 = 0;
 
-/// A lane for the node's own thread, for each connection, and for the thread that closes what comes on top.
+/// A lane for the node's own thread, for each connection, and for the thread that closes surplus
+/// clients.
 pub(crate) const LANES: u8 = CONNECTIONS + 2;
 
 /// How many threads a node has: one for each lane, and one that continues with full sockets.
@@ -24,8 +25,8 @@ pub(crate) const THREADS: usize = LANES as usize + 1;
 /// A lane, unless its thread has it in hand. The thread that goes on with full sockets has none.
 pub(crate) type LaneSlot<J> = Option<Lane<Item, J>>;
 
-/// Works with each lane by a thread of its own, until the door is closed. Where threads are wanting lanes
-/// wait until others come back, the node's own before all the others.
+/// Works with each lane by a thread of its own, until the door is closed. If threads are missing,
+/// lanes wait until others come back; the node's own comes before all the others.
 pub(crate) fn run<J, S, G, R>(rt: &R, shared: &Shared<J, S, G>, desks: &mut [LaneSlot<J>])
 where
     J: NodeNaming + Send + Sync,
@@ -40,7 +41,8 @@ where
 }
 
 impl<'a, J: NodeNaming, S: Stated<J>, G: Gate> Shared<'a, J, S, G> {
-    // Works with the lane of a desk, and puts it back. Where there is none it goes on with full sockets.
+    // Works with the lane of a desk, and puts it back. If there is none, continues with full
+    // sockets.
     fn run_lane<R: Wait + Clock>(&self, rt: &R, desk: &mut LaneSlot<J>)
         ensures { ComesBack self.now.seat.node.now.number desk.old desk.new }
     {

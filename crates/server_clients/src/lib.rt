@@ -1,5 +1,5 @@
-//! Clients over real sockets, for tests of a server: the bytes that they send, those that MQTT 3.1.1
-//! answers, and what a subscriber accepted.
+//! Clients over real sockets, for tests of a server: the bytes that they send, those that MQTT
+//! 3.1.1 answers, and what a subscriber accepted.
 #![tactic(auto)]
 
 mod client;

@@ -9,7 +9,8 @@ use Rattle.node.specs.Handing.{answer_of, bytes_of, listed_at}
 use Rattle.node.specs.State.{Replays, Seen}
 use Rattle.streams.specs.declared.port_tap.PortTap.{PortTap}
 
--- whatever its inbox's number, a node began as the one of this number in this configuration of ballot 1
+-- whatever its inbox's number, a node began as the one of this number in this configuration of
+-- ballot 1
 pub record Began (first_of : ℕ → CountedCore) : Type 0 where
   pub number : ℕ
   pub config : Config
