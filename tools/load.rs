@@ -1,13 +1,13 @@
-//! Loads an MQTT 3.1.1 broker on loopback and prints what came as one line of JSON.
+//! Loads an MQTT 3.1.1 broker on loopback and prints its measurements as one line of JSON.
 //!
 //!     load flow HOST PORT       publishers send numbered messages to subscribers
 //!     load connects HOST PORT   clients connect and disconnect, one after the other
 //!     load drain HOST PORT      messages wait in a queue until their subscriber comes back
 //!
-//! Options are `--NAME VALUE`: `seconds`, `qos`, `size` of a payload, `window` (publications that one publisher has under way),
+//! Options are `--NAME VALUE`: `seconds`, `qos`, `size` of a payload, `window` (publications of one publisher that are not answered yet),
 //! `publishers`, `subscribers`, `each` (1: publisher i to subscriber i, 0: all to all), `rate` (messages a second of each publisher;
 //! 0: as fast as windows let), `ahead` (how far a publisher may be before its slowest subscriber), `kept` (1: the subscribers'
-//! sessions are kept ones), `idle` (clients that are connected beside and do nothing), `parallel`, `messages`, `pid` (a process whose processor time and memory are read).
+//! sessions are kept ones), `idle` (further clients that are connected and do nothing), `parallel`, `messages`, `pid` (a process whose processor time and memory are read).
 //! Each run is bounded in time. Build: `rustc --edition 2021 -O -o load tools/load.rs`.
 
 use std::collections::{HashMap, HashSet};
@@ -109,7 +109,7 @@ fn put_answer(out: &mut Vec<u8>, first: u8, id: &[u8]) {
 
 // ---- a client
 
-/// A connection, with what came and was not looked at.
+/// A connection, with bytes that came and were not read.
 struct Client {
     stream: TcpStream,
     bytes: Vec<u8>,
@@ -130,7 +130,7 @@ impl Client {
         }
     }
 
-    /// Returns the first byte of the next whole packet that came, and where its body stands.
+    /// Returns the first byte of the next whole packet that came, and where its body is.
     fn next(&mut self) -> Option<(u8, usize, usize)> {
         let came = &self.bytes[self.read..self.filled];
         let (mut length, mut at) = (0, 1);
@@ -219,7 +219,7 @@ impl Flow {
         self.began.elapsed().as_nanos() as u64
     }
 
-    /// Writes what a subscriber looks at into a payload: the time, the publisher and the number.
+    /// Writes what a subscriber reads into a payload: the time, the publisher and the number.
     fn mark(&self, payload: &mut [u8], publisher: usize, number: u64) {
         payload[..8].copy_from_slice(&self.nanoseconds().to_be_bytes());
         payload[8..12].copy_from_slice(&(publisher as u32).to_be_bytes());
@@ -276,7 +276,7 @@ impl Times {
 
 // ---- publishers
 
-/// What a publisher has under way, and the times until each was answered.
+/// What a publisher sent that is not answered yet, and the times until each was answered.
 struct Sending {
     free: Vec<u16>,
     since: HashMap<u16, Instant>,
@@ -292,7 +292,7 @@ impl Sending {
                 5 => put_answer(out, 0x62, &id),
                 4 | 7 => {
                     let id = u16::from_be_bytes(id);
-                    let since = self.since.remove(&id).expect("an answer to what is under way");
+                    let since = self.since.remove(&id).expect("an answer to what was sent");
                     self.times.add(since.elapsed().as_nanos() as u64);
                     self.free.push(id);
                 }

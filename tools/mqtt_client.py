@@ -6,7 +6,7 @@ import time
 
 
 def text(value):
-    """Returns a text with its length in front (1.5.3)."""
+    """Returns a text with its length before it (1.5.3)."""
     return struct.pack(">H", len(value)) + value
 
 
@@ -140,7 +140,7 @@ class Client:
         return None
 
     def accept(self, qos, body):
-        """Answers a PUBLISH, and returns it where it is new."""
+        """Answers a PUBLISH, and returns it if it is new."""
         at = 2 + int.from_bytes(body[:2], "big")
         topic, number, payload = body[2:at], int.from_bytes(body[at : at + 2], "big"), body[at + (2 if qos else 0) :]
         if qos == 1:

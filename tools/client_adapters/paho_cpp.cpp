@@ -1,4 +1,4 @@
-// An adapter of the Paho C++ client, which stands on the Paho C client (see tools/clients).
+// An adapter of the Paho C++ client, which uses the Paho C client (see tools/clients).
 #include <atomic>
 #include <chrono>
 #include <iostream>

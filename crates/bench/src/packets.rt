@@ -78,7 +78,7 @@ fn decode_all(alloc: Global, count: u32, bytes: &[u8]) -> Result<()> {
         };
         match decode(alloc, rest)? {
             Step::Whole(_, len) => at = at.saturating_add(len),
-            Step::More => bail!("a packet is cut short at {at}"),
+            Step::More => bail!("a packet is incomplete at {at}"),
         }
     }
     Ok(())

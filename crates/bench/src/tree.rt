@@ -159,7 +159,7 @@ fn clear_nanos<I: SubIndex>(
 ) -> Result<u128> {
     let start = rt.process_cpu_time()?;
     let all = some.iter().all(|client| index.clear(client, filter));
-    ensure!(all, "a client has not its filter");
+    ensure!(all, "a client does not have its filter");
     nanos_each(rt, start, CHANGES)
 }
 

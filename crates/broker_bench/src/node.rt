@@ -88,7 +88,7 @@ fn figure(
     let mut out = Vec::new(rt.alloc());
     gather(rt.alloc(), node, connections, &mut out)?;
     let nanos = time(rt, node, traffic, looks, &mut out)?;
-    ensure!(node.losses() == 0, "a step found no memory");
+    ensure!(node.losses() == 0, "a step ran out of memory");
     ensure!(node.status().committed == places, "packets are missing");
     Ok(nanos)
 }
@@ -151,6 +151,6 @@ fn look(node: &mut NodeCore, port: u64, out: &mut Vec<u8>) -> Result<()> {
     out.clear();
     match node.outgoing(Port(port), out) {
         Ok(_) => Ok(()),
-        Err(_) => Err(anyhow!("no memory for what is handed over")),
+        Err(_) => Err(anyhow!("out of memory for the bytes to send")),
     }
 }

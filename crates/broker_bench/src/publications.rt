@@ -46,7 +46,7 @@ fn measure_with(
     let nanos = publish(rt, clients, qos)?;
     let number = qos.number();
     println!(rt;
-        "QoS {number}, to {subscribers}, {beside} sessions beside: {nanos} ns a publication"
+        "QoS {number}, to {subscribers}, {beside} other sessions: {nanos} ns a publication"
     )?;
     Ok(())
 }

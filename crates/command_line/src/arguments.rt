@@ -119,7 +119,7 @@ fn free_option<'a>(alloc: Global, name: &'a str, value: &'a str, help: &'a str) 
 pub(crate) fn escape<'a>(alloc: Global) -> Arg<'a>
     ensures { IsArgument (free_option (codes "escape")) result }
 {
-    let help = "Tells the way out to these members, as 1,2, in place of the transcript";
+    let help = "Prints the way out to these members, as 1,2, instead of the transcript";
     free_option(alloc, "escape", "MEMBERS", help)
 }
 
@@ -127,7 +127,7 @@ pub(crate) fn escape<'a>(alloc: Global) -> Arg<'a>
 pub(crate) fn client<'a>(alloc: Global) -> Arg<'a>
     ensures { IsArgument (free_option (codes "client")) result }
 {
-    let help = "The client that the way out brings back; goes with --escape";
+    let help = "The client that the way out brings back; used with --escape";
     free_option(alloc, "client", "ID", help)
 }
 

@@ -31,10 +31,10 @@ Example:
 
 const AFTER_PLAY: &str =
     "The first line opens the world: nodes, members, primary, clients. Each later
-line is one event, and is answered by what came of it. With --escape and --client
-it prints lines that may follow the script instead: they lead to a ballot of these
+line is one event, and is answered by its result. With --escape and --client it
+prints lines that may follow the script instead: they lead to a ballot of these
 members, the first of them its primary, and to the client back with its session.
-Where there are none, it says `vbroker: idle`, with status 3.
+If there are none, it prints `vbroker: idle`, with status 3.
 
 Examples:
   vbroker play examples/primary_crashes.script
@@ -132,7 +132,7 @@ fn subscribe<'a>(alloc: Global) -> Result<Command<'a>, AllocError>
 fn play<'a>(alloc: Global) -> Result<Command<'a>, AllocError>
     ensures { IfOk result (IsCommand play_app) }
 {
-    let about = "Plays a script of nodes and clients in memory, and prints what came of it";
+    let about = "Plays a script of nodes and clients in memory, and prints a transcript";
     let command = bare(alloc, "play", about, AFTER_PLAY);
     let command = add(command, arguments::escape(alloc))?;
     let command = add(command, arguments::client(alloc))?;

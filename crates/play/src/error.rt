@@ -25,7 +25,7 @@ impl fmt::Display for PlayError {
         match self {
             PlayError::Line(number) => write!(f, "script line {number}"),
             PlayError::Memory => write!(f, "out of memory"),
-            PlayError::Losses => write!(f, "memory was wanting in the world"),
+            PlayError::Losses => write!(f, "the world ran out of memory"),
             PlayError::Idle => write!(f, "no way out"),
         }
     }

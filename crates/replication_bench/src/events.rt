@@ -54,7 +54,7 @@ fn measure_in(
     let mut course = Course::new();
     begin(rt.alloc(), world, &mut course)?;
     let times = time(rt, world, &mut course, publications, events, ends)?;
-    ensure!(world.losses() == 0, "memory was wanting");
+    ensure!(world.losses() == 0, "memory ran out");
     print(rt, &course, times)?;
     print_world(rt, world)
 }

@@ -55,7 +55,7 @@ fn print(rt: &HostRuntime, events: u64, nanos: u128, agreed: u64, asked: u64) ->
 fn let_happen(group: &mut Group<Tally>, events: u64, asks: bool) -> Result<u64> {
     let mut asked = 0u64;
     for number in 0..events {
-        ensure!(happens(group, number), "a step found no memory");
+        ensure!(happens(group, number), "a step ran out of memory");
         if asks {
             asked = asked.saturating_add(group.agreed_len());
         }

@@ -46,7 +46,7 @@ fn serve(group: &mut Group<Tally>, places: u64) -> Result<()> {
     for number in 0..places {
         ensure!(
             group.step(&proposal(number)).is_ok(),
-            "a step found no memory"
+            "a step ran out of memory"
         );
     }
     Ok(())

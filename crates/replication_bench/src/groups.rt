@@ -26,7 +26,7 @@ pub fn proposal(number: u64) -> Event<TallyCommand> {
 /// Returns the length of the agreed list of a group in which memory suffices.
 pub fn agreed_at_last(group: &Group<Tally>) -> Result<u64> {
     if group.losses() != 0 {
-        bail!("memory was wanting");
+        bail!("memory ran out");
     }
     Ok(group.agreed_len())
 }

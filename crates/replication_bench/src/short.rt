@@ -26,7 +26,7 @@ fn run_with(rt: &HostRuntime, publications: &Publications) -> Result<()> {
 fn run_in(rt: &HostRuntime, world: &mut World, publications: &Publications) -> Result<()> {
     let mut course = Course::new();
     go_on(rt.alloc(), world, &mut course, publications)?;
-    ensure!(world.losses() == 0, "memory was wanting");
+    ensure!(world.losses() == 0, "memory ran out");
     let first = taken_in(rt.alloc(), world, 1)?;
     let second = taken_in(rt.alloc(), world, 3)?;
     println!(rt; "{TAKEOVERS} takeovers, taken in {first} and {second}")?;

@@ -94,7 +94,7 @@ fn answer(packet: &[u8], out: &mut Vec<u8>) -> Result<u64> {
         0x34 => put_answer(0x50, packet.get(7..), out, 0),
         0x50 => put_answer(0x62, packet.get(2..), out, 0),
         0x62 => put_answer(0x70, packet.get(2..), out, 1),
-        _ => bail!("a packet of kind {first} came"),
+        _ => bail!("an unexpected packet of kind {first}"),
     }
 }
 
@@ -102,7 +102,7 @@ fn answer(packet: &[u8], out: &mut Vec<u8>) -> Result<u64> {
 fn put_answer(first: u8, rest: Option<&[u8]>, out: &mut Vec<u8>, done: u64) -> Result<u64> {
     let id = rest.unwrap_or(&[]);
     let (Some(high), Some(low)) = (id.first(), id.get(1)) else {
-        bail!("a packet came with no identifier");
+        bail!("a packet has no identifier");
     };
     out.extend_from_slice(&[first, 2, *high, *low])?;
     Ok(done)

@@ -38,7 +38,7 @@ fn exchange<R: Clock>(rt: &R, stream: &mut TcpStream, bytes: &mut [u8]) -> Resul
     stream.write_all(bytes)?;
     stream.read_exact(bytes)?;
     let time = start.elapsed(rt)?;
-    ensure!(bytes.chunks(2).all(is_response), "what came is no PINGRESP");
+    ensure!(bytes.chunks(2).all(is_response), "an answer is no PINGRESP");
     Ok(time)
 }
 

@@ -47,7 +47,7 @@ impl<'a> Publisher<'a> {
         let patience = load.time.saturating_add(Duration::from_secs(PATIENCE));
         for _ in 0..u64::MAX {
             let passed = start.elapsed(rt)?;
-            ensure!(passed < patience, "a subscriber stays behind");
+            ensure!(passed < patience, "a subscriber lags");
             let last = self.last(group, passed >= load.time);
             if self.sent >= last && self.under_way() == 0 {
                 break;

@@ -57,7 +57,7 @@ fn simulate(rt: &HostRuntime, options: &Options) -> Result<()> {
         }
     }
     let (seeds, events) = (options.seeds, options.events);
-    println!(rt; "{seeds} runs of {events} events: all that was promised holds")?;
+    println!(rt; "{seeds} runs of {events} events: every check passed")?;
     Ok(())
 }
 
