@@ -162,12 +162,21 @@ impl Cluster {
         self.nodes.iter().find(|node| node.number == number)
     }
 
-    /// Hands on what steps of a node gave for others, in its order. What goes to nobody is lost.
+    /// Delivers what steps of a node gave for others, in order. A message for a number that no node
+    /// has is lost. A message of a node wakes nobody: the caller has it taken, or calls
+    /// [`Cluster::wake_urgent`], once it has released the node's lock.
     pub fn hand_on<R: Wait>(&self, rt: &R, given: Given) {
         carry_all(rt, &mut Round { peers: self }, given);
     }
 
-    // Leaves a message that a step of a node gave for a node.
+    /// Wakes the own thread of each node for which something urgent waits.
+    pub fn wake_urgent<R: Wait>(&self, rt: &R) {
+        for node in &self.nodes {
+            node.wake_if_urgent(rt);
+        }
+    }
+
+    // Queues a message that a step of a node gave for a node.
     fn leave<R: Wait>(&self, rt: &R, parcel: Parcel)
         requires { parcel.receiver ≡ 0 → ⊥ }
     {

@@ -1,6 +1,7 @@
 // What waits for a node.
 
 ghost use Rattle.std.specs.Prelude.{◌≡◌, ◌↔◌, ◌+◌, ◌++◌, ◌∷◌, [], None, Some, true, false, IfOk, IsErrOf, OnErr, OnOk};
+ghost use Rattle.std.specs.List.{list_any};
 ghost use Rattle.master.specs.agreement.MasterState.{refusal};
 ghost use Rattle.master.specs.agreement.MasterState.AssignRefusal.{bad_members, ballots_spent};
 ghost use Rattle.node.specs.Command.{Command};
@@ -11,10 +12,12 @@ ghost use Rattle.post.specs.Letters.{IsLeft, IsPosted};
 ghost use Rattle.post.specs.Mastering.{letter_of};
 ghost use Rattle.post.specs.Superseding.{newest, still_waiting, supersedes_one};
 ghost use Rattle.post.specs.Waiting.{has_room, is_of_node};
+ghost use Rattle.post.specs.Waking.{is_long, wakes};
 
 use crate::messaging_master::{Answer, MASTER, MessagingMaster};
 use crate::order_error::OrderError;
 use crate::superseding::supersedes;
+use crate::waking::is_any_urgent;
 use master::AssignError;
 use node::{Config, Item};
 use std::alloc::Global;
@@ -23,6 +26,10 @@ use std::mem;
 
 /// How many items may wait when a message of another node is queued.
 const MOST_WAITING: usize = 524_288;
+
+/// How many items may wait, at most, for a thread that queued one of them to take them in place of
+/// the node's own thread.
+const FEW: usize = 16;
 
 /// What the other nodes and the master have for a node, in the order in which it was queued. It is
 /// behind a lock, so its type says where each item comes from, and how many messages of other nodes
@@ -66,6 +73,22 @@ impl Outbox {
         ensures { (result ≡ true) ↔ (self.now.items ≡ []) }
     {
         self.items.is_empty()
+    }
+
+    /// Says whether an item waits that wakes the node. Few of the other items come in a row, since
+    /// each supersedes the one before it.
+    pub(crate) fn is_urgent(&self) -> bool
+        ensures { result ≡ list_any wakes self.now.items }
+    {
+        is_any_urgent(self.items.as_slice())
+    }
+
+    /// Says whether so much waits that the node's own thread should take it, in parallel to the
+    /// giver.
+    pub(crate) fn is_long(&self) -> bool
+        ensures { result ≡ is_long self.now.items }
+    {
+        self.items.len() > FEW
     }
 
     /// Queues an item after all that waits, or replaces the newest if it supersedes that one.

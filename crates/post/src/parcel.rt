@@ -7,12 +7,10 @@ ghost use Rattle.node.specs.declared.Item.TheVariants.{Peer};
 ghost use Rattle.post.specs.Letters.{WasGiven};
 ghost use Rattle.post.specs.Mastering.{answer_to, letter_if, master_after};
 ghost use Rattle.post.specs.Superseding.{still_waiting};
-ghost use Rattle.post.specs.Waking.{wakes};
 
 use crate::cluster::Cluster;
 use crate::messaging_master::{Answer, MessagingMaster};
 use crate::outbox::Outbox;
-use crate::waking::is_urgent_message;
 use node::{Command, Item, Message};
 use std::marker::Model;
 
@@ -52,15 +50,8 @@ impl Parcel {
         self.receiver
     }
 
-    /// Returns whether the message wakes the node for which it is left.
-    pub(crate) fn is_urgent(&self) -> bool
-        ensures { result ≡ wakes (Peer self.now.message) }
-    {
-        is_urgent_message(&self.message)
-    }
-
-    /// Queues the message in a tray of its node, as [`Outbox::leave`]. Returns whether there was
-    /// room and memory for it; if not, it is lost.
+    /// Queues the message in a tray of its node, as [`Outbox::leave`]. Returns whether there was room
+    /// and memory for it; if not, it is lost.
     pub(crate) fn lay(self, tray: &mut Outbox) -> bool
         requires { self.receiver ≡ tray.old.number }
         ensures left { result ≡ true → tray.new ≡ record tray.old {

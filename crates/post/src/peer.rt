@@ -17,8 +17,15 @@ use std::alloc::Global;
 use std::sync::{Mutex, Wait};
 use std::time::Duration;
 
-/// A node, and what waits for it. One thread, its own, takes what waits, and sleeps until something
-/// comes.
+// Whether an item waits that wakes the node, and whether many wait.
+#[derive(Clone, Copy)]
+struct Urgency {
+    is_urgent: bool,
+    is_long: bool,
+}
+
+/// A node, and what waits for it. Its own thread takes what waits, and sleeps until something
+/// comes. Another thread may take it too, if it holds the node's lane.
 #[derive(Drop)]
 pub struct Peer {
     /// The node's number.
@@ -59,20 +66,10 @@ impl Peer {
         is_left
     }
 
-    /// Leaves a message of another node for the node, and wakes it unless it is a Commit. If there
-    /// is no room or memory for it, it is lost, as the protocol allows.
+    /// Queues a message of another node for the node, and wakes nobody: its giver does so, or has
+    /// it taken, once it has released its own node's lock. If there is no room or memory for it, it
+    /// is lost, as the protocol allows.
     pub(crate) fn leave_parcel<R: Wait>(&self, rt: &R, parcel: Parcel)
-        requires { parcel.receiver ≡ self.now.number }
-    {
-        let urgent = parcel.is_urgent();
-        self.lay_parcel(rt, parcel);
-        if urgent {
-            self.bell.ring(rt);
-        }
-    }
-
-    // Puts a message of another node into the node's tray.
-    fn lay_parcel<R: Wait>(&self, rt: &R, parcel: Parcel)
         requires { parcel.receiver ≡ self.now.number }
     {
         let mut tray = self.tray.lock(rt);
@@ -187,6 +184,33 @@ impl Peer {
     /// Says whether something waits for the node.
     pub fn is_wanted<R: Wait>(&self, rt: &R) -> bool {
         !self.tray.lock(rt).is_empty()
+    }
+
+    /// Says whether a thread that queued something for the node should do its turn: few items wait,
+    /// one of them is urgent, and the node's own thread sleeps. If more wait, wakes that thread.
+    pub fn wants_help<R: Wait>(&self, rt: &R) -> bool {
+        let waiting = self.urgency(rt);
+        if waiting.is_urgent && waiting.is_long {
+            self.bell.ring(rt);
+            return false;
+        }
+        waiting.is_urgent && self.bell.is_asleep(rt)
+    }
+
+    // Returns how urgent it is to take what waits.
+    fn urgency<R: Wait>(&self, rt: &R) -> Urgency {
+        let tray = self.tray.lock(rt);
+        Urgency {
+            is_urgent: tray.is_urgent(),
+            is_long: tray.is_long(),
+        }
+    }
+
+    /// Wakes the node's own thread, if something urgent waits.
+    pub(crate) fn wake_if_urgent<R: Wait>(&self, rt: &R) {
+        if self.urgency(rt).is_urgent {
+            self.bell.ring(rt);
+        }
     }
 
     /// Wakes the node's own thread, if it sleeps or is about to.

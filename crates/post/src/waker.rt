@@ -28,7 +28,12 @@ impl Waker {
         }
     }
 
-    /// The thread is about to sleep: it looks once more for what there is behind this call.
+    /// Says whether the thread sleeps or is about to.
+    pub(crate) fn is_asleep<R: Wait>(&self, rt: &R) -> bool {
+        *self.asleep.lock(rt)
+    }
+
+    /// Says that the thread is about to sleep: it looks for work once more after this call.
     pub(crate) fn doze<R: Wait>(&self, rt: &R) {
         *self.asleep.lock(rt) = true;
     }

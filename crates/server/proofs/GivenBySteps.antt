@@ -16,10 +16,9 @@ each_in : {X : Type 0} (P : X → Type 0) (xs : List X) → ((x : X) → In x xs
 each_in P [] f = tt
 each_in P (x ∷ xs) f = (f x here, each_in P xs (λ y i. f y (there i)))
 
--- a node that began as the one of a number began as one that opens
-pub each_opens : (number : ℕ) (config : Config) (first_of : ℕ → CountedCore)
-    → EachOpensAs number config first_of → EachOpens first_of
-each_opens number config first_of opens = λ inbox. ∣ record { number = number; config = config; is = opens inbox } ∣₁
+-- nodes each of which began as the one of its number began as ones that open
+pub each_opens : (config : Config) (first_of : ℕ → CountedCore) → EachOpensAs config first_of → EachOpens first_of
+each_opens config first_of opens = λ inbox. ∣ record { number = inbox; config = config; is = opens inbox } ∣₁
 
 pub given_more : (first_of : ℕ → CountedCore) (old new : Seen) (before behind : List (Effect Command Output))
     → EachOpens first_of → Replays (first_of old.taker.inbox) old.taker.taken old.node

@@ -1,6 +1,7 @@
 mod AllMet
 mod CutsApart
 mod GivenBySteps
+mod Namesakes
 mod OwnSendsJoin
 mod PortsApart
 mod TurnsEnd

@@ -1,9 +1,10 @@
 -- OwnSendsJoin.antt: what a node's own thread sends at first and then is what it sends.
-use Rattle.std.proofs.Common.{◌≡◌, ℕ, List, [], ◌∷◌, ◌++◌, sym, subst}
+use Rattle.std.proofs.Common.{◌≡◌, ℕ, List, [], ◌∷◌, ◌++◌, ◌∙◌, ap, sym, subst}
+use Rattle.post.specs.mailbox.Ends.{Sender}
 use Rattle.post.specs.node.declared.Item.{Item}
 use Rattle.post.specs.node.declared.Item.TheVariants.{Tick, Cut}
 use Rattle.post.specs.Letters.{IsLeft}
-use Rattle.server.specs.Serving.{SendsOwn}
+use Rattle.server.specs.Serving.{OwnSender, SendsOwn}
 use Rattle.server.specs.Serving.SendsOwn.{starts, ticks, cuts, hands}
 
 pub own_join : (node : ℕ) (before sent behind : List Item)
@@ -28,3 +29,11 @@ pub own_letter : (node : ℕ) (item : Item) (before behind : List Item)
     → IsLeft node item → behind ≡ before ++ item ∷ [] → SendsOwn node before behind
 own_letter node item before behind letter sent =
     subst (λ (items : List Item). SendsOwn node before items) (sym sent) (hands item starts letter)
+
+-- what a node's own lane sent in addition, if the lane is that node's
+pub own_more : (own : OwnSender) (number node : ℕ) (before : Sender Item) (behind : List Item)
+    → record { number = number; lane = before } ≡ own → own.number ≡ node
+    → SendsOwn number [] before.sent → SendsOwn node before.sent behind → SendsOwn number [] behind
+own_more own number node before behind view is first next =
+    own_join number [] before.sent behind first
+    (subst (λ (n : ℕ). SendsOwn n before.sent behind) (sym (ap (λ (seen : OwnSender). seen.number) view ∙ is)) next)

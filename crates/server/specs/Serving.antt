@@ -3,6 +3,7 @@ use Rattle.std.specs.Prelude.{◌≡◌, ℕ, ◌+◌, ◌*◌, List, [], ◌∷
 use Rattle.post.specs.node.declared.Item.{Item}
 use Rattle.post.specs.node.declared.Item.TheVariants.{Tick, Cut}
 use Rattle.post.specs.node.declared.Port.{Port}
+use Rattle.post.specs.mailbox.Ends.{Sender}
 use Rattle.streams.specs.connection.declared.ending.Ending.{Ending}
 use Rattle.streams.specs.connection.Hearing.{Hears}
 use Rattle.post.specs.Letters.{IsLeft}
@@ -36,8 +37,14 @@ pub record SendsRow (lane : ℕ) (before behind : List Item) : Type 0 where
   pub count : ℕ
   pub tells : TellsEach lane before count behind
 
--- The own thread's lane of a node of this number, which had sent these items, sent the time, cuts
--- of the log, and letters for the node.
+-- a node's own lane, by which everything is sent to it that does not come from its clients, and the
+-- node's number
+pub record OwnSender : Type 0 where
+  pub number : ℕ
+  pub lane : Sender Item
+
+-- The own lane of a node of this number, which had sent these items, sent the time, cuts of the
+-- log, and letters for the node.
 pub data SendsOwn (node : ℕ) (before : List Item) : List Item → Type 0 where
   starts : SendsOwn node before before
   ticks : {sent : List Item} (now : ℕ) → SendsOwn node before sent → SendsOwn node before (sent ++ Tick now ∷ [])

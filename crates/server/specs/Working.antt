@@ -1,16 +1,11 @@
--- What a lane sends in its whole life.
-use Rattle.std.specs.Prelude.{◌≡◌, ℕ, ◌<◌, List, Option, Some, None}
+-- What a lane of connections sends in its whole life.
+use Rattle.std.specs.Prelude.{◌≡◌, Option, Some, None}
 use Rattle.post.specs.node.declared.Item.{Item}
 use Rattle.post.specs.mailbox.Ends.{Sender}
-use Rattle.server.specs.Serving.{SendsOwn, SendsRow}
+use Rattle.server.specs.Serving.{SendsRow}
 
--- what the thread of a lane of a node sends, by the lane's number: lane 0 is the node's own
-pub record SendsSo (node lane : ℕ) (before behind : List Item) : Type 0 where
-  pub own : lane ≡ 0 → SendsOwn node before behind
-  pub row : 0 < lane → SendsRow lane before behind
-
--- a lane went to its thread and came back
-abbrev pub ComesBack : ℕ → Option (Sender Item) → Option (Sender Item) → Type 0
-ComesBack node None back = back ≡ None
-ComesBack node (Some lane) None = ⊥
-ComesBack node (Some lane) (Some back) = SendsSo node lane.lane lane.sent back.sent
+-- a lane was given to its thread, which served connections by it, and came back
+abbrev pub ComesBack : Option (Sender Item) → Option (Sender Item) → Type 0
+ComesBack None back = back ≡ None
+ComesBack (Some lane) None = ⊥
+ComesBack (Some lane) (Some back) = SendsRow lane.lane lane.sent back.sent

@@ -22,7 +22,7 @@ impl<'a, J: NodeNaming, S: Stated<J>, G: Gate> Shared<'a, J, S, G> {
         ensures { SendsOwn self.now.seat.node.now.number lane.old.sent lane.new.sent }
     {
         if cuts_after(self.seat.node.number, ticks) {
-            self.send(rt, lane, Item::Cut, 0);
+            self.send(rt, lane, Item::Cut);
         }
     }
 
@@ -32,7 +32,7 @@ impl<'a, J: NodeNaming, S: Stated<J>, G: Gate> Shared<'a, J, S, G> {
     {
         let wants_cut = self.node.lock(rt).state().wants_cut();
         if wants_cut {
-            self.send(rt, lane, Item::Cut, 0);
+            self.send(rt, lane, Item::Cut);
         }
     }
 }

@@ -2,7 +2,7 @@
 
 ghost use Rattle.std.specs.Prelude.{◌≡◌, ◌≤◌, ◌++◌, ◌∷◌, []};
 
-use crate::shared::Shared;
+use crate::served_node::ServedNode;
 use post::mailbox::Lane;
 use post::node::{Gate, Item, NodeNaming, Standing, Stated};
 use std::alloc::Global;
@@ -14,7 +14,8 @@ use streams::connection::{Hearer, PIECE_BYTES};
 /// A connection's lane. What is reported to it is what the lane sent.
 #[derive(Drop)]
 pub(crate) struct LaneReporter<'e, 'a, J: NodeNaming, S: Stated<J>, G: Gate> {
-    pub(crate) shared: &'e Shared<'a, J, S, G>,
+    pub(crate) node: &'e ServedNode<'a, J, S, G>,
+    pub(crate) all: &'e [ServedNode<'a, J, S, G>],
     pub(crate) link: &'e Arc<Link, Global>,
     pub(crate) lane: Lane<Item, J>,
 }
@@ -26,18 +27,23 @@ impl<'e, 'a, J: NodeNaming, S: Stated<J>, G: Gate> Hearer for LaneReporter<'e, '
     ghost lets = { λ _ _. Unit {0} };
 
     fn now<R: Clock>(&self, rt: &R) -> u64 {
-        let shared = self.shared;
-        shared.seat.now(rt)
+        let node = self.node;
+        node.shared.seat.now(rt)
     }
 
     // Bytes are reported once the node takes more of them, and count as in transit until it has
-    // taken them.
+    // taken them. Then nodes for which something was queued have their turns. After that, what this
+    // node queued is written, to this connection first.
     fn tell<R: Wait + Clock>(&mut self, rt: &R, item: Item) {
-        let shared = self.shared;
+        let node = self.node;
+        let all = self.all;
+        let shared = &node.shared;
         let place = self.link.place;
         let entering = shared.await_room(rt, self.link.port, size_of(&item));
-        shared.send(rt, &mut self.lane, item, place);
+        shared.send(rt, &mut self.lane, item);
         shared.seat.node.take_in(rt, entering);
+        node.help(rt, all);
+        shared.write_busy(rt, place, true);
     }
 
     // A port that is not yet reported to the node counts as one that the node closed, so a link is
@@ -47,7 +53,8 @@ impl<'e, 'a, J: NodeNaming, S: Stated<J>, G: Gate> Hearer for LaneReporter<'e, '
         let Ok(link) = Arc::try_clone(self.link) else {
             return false;
         };
-        let shared = self.shared;
+        let node = self.node;
+        let shared = &node.shared;
         let standing = shared.node.lock(rt).state().standing(self.link.port);
         let door = &shared.seat.place.door;
         door.list(rt, link);

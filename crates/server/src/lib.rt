@@ -1,20 +1,25 @@
 //! Nodes that serve clients over TCP, and their master. Each of a node's threads has a lane to its
 //! inbox for good: it accepts a client, reads its bytes, sends them by the lane, and then takes
 //! what waits in the inbox itself, so that no bytes are handed from thread to thread before they
-//! are answered. One of them, the node's own, takes what other nodes and the master have for it.
+//! are answered. What a node has for another is taken there by the same thread, if no other does
+//! so; otherwise by that node's own thread, which also takes what the master has for it.
 #![tactic(auto)]
 
 mod blocked_writer;
 mod cutting;
+mod helping;
 mod lane_reporter;
 mod laws;
 mod listening;
 mod node_context;
 mod node_report;
+mod opening;
 mod outcome;
+mod own_lane;
 mod own_thread;
 mod room;
 mod serve_error;
+mod served_node;
 mod serving;
 mod shared;
 mod starting;

@@ -2,35 +2,34 @@
 
 ghost use Rattle.std.specs.Prelude.{◌≡◌};
 ghost use Rattle.post.specs.Letters.{EachOpensAs};
+ghost use Rattle.server.specs.Opening.{AreNamed};
 
-use crate::node_context::NodeContext;
+use crate::node_context::Seats;
 use crate::node_report::NodeReport;
+use crate::opening::{Opened, open_all};
 use crate::outcome::Outcome;
 use crate::serve_error::ServeError;
-use crate::shared::Shared;
+use crate::served_node::ServedNode;
 use crate::starting::can_start;
-use crate::working::{LANES, LaneSlot, THREADS, run};
+use crate::working::THREADS;
 use post::Cluster;
-use post::mailbox::{Inbox, Lane};
-use post::node::{
-    Config, Gate, Item, Memory, NoGate, Node, NodeCore, NodeNaming, NodeState, OpeningError, Report,
-};
+use post::node::{Config, Gate, Memory, NoGate, NodeNaming, NodeState, OpeningError, Stated};
 use std::alloc::Global;
 use std::marker::Brand;
 use std::net::{Net, TcpStream};
-use std::sync::{Mutex, Wait};
+use std::sync::Wait;
 use std::thread;
-use std::thread::{Parker, Threads};
+use std::thread::Threads;
 use std::time::{Clock, Instant};
-use streams::{CONNECTIONS, Listener};
+use streams::Listener;
 
 /// Serves the clients of several nodes, each at its place, while `attend` runs with these nodes,
 /// and returns what that returned; then all connections are ended. The nodes open in ballot 1 of
 /// this configuration.
 ///
-/// The errors are those of the opening, and [`ServeError::Threads`] if fewer threads can be started
-/// than the nodes need: then nothing is served. A node for which none can be started later is not
-/// served.
+/// The errors are those of the opening, `BadMembers` if two places have one number, and
+/// [`ServeError::Threads`] if fewer threads can be started than the nodes need: then nothing is
+/// served. A node for which none can be started later is not served.
 pub fn serve_while<R, T, F>(
     rt: &R,
     alloc: Global,
@@ -95,38 +94,13 @@ where
     let Ok(start) = Instant::now(rt) else {
         return Err(ServeError::Clock);
     };
-    let Ok(outcome) = Outcome::new(alloc, places.len()) else {
-        return Err(ServeError::Memory);
+    let seats = Seats {
+        peers: &peers,
+        places,
+        start,
     };
-    let outcome = Mutex::new(outcome);
-    let told = &outcome;
-    let group = &peers;
-    let answer = thread::scope(
-        thread::scope_env(),
-        rt,
-        |scope|
-            requires callable { F.IsAlwaysCallable attend }
-        {
-            for place in places {
-                if let Some(seat) = NodeContext::new(group, place, start) {
-                    let served = scope.spawn(move || tell(
-                        rt,
-                        told,
-                        serve(rt, alloc, seat, config, gate),
-                    ));
-                    if served.is_err() {
-                        tell(rt, told, Err(ServeError::Threads));
-                    }
-                }
-            }
-            let answer = attend(group);
-            for place in places {
-                place.close(rt);
-            }
-            answer
-        },
-    );
-    Ok((answer, outcome.into_inner().into_reports()?))
+    let opened = open_all(alloc, seats, config)?;
+    serve_named::<Brand, R, G, T, F>(rt, alloc, seats, config, opened, gate, attend)
 }
 
 // Returns the peers of the nodes of these places, and their master.
@@ -135,81 +109,115 @@ fn open_post(alloc: Global, places: &[Listener], config: &Config) -> Result<Clus
     Cluster::new(alloc, numbers.as_slice(), config)
 }
 
-// Keeps what became of a node.
-fn tell<R: Wait>(rt: &R, told: &Mutex<Outcome>, served: Result<NodeReport, ServeError>) {
-    told.lock(rt).keep(served);
-}
-
-// Serves the clients that come to a node's place, until the place's door is closed.
-fn serve<G: Gate + Sync, R: Threads + Wait + Clock + Sync>(
+// Serves with nodes that are named by their numbers, with their inboxes, for all threads. Each
+// opened as the one of its number in the configuration.
+fn serve_named<J, R, G, T, F>(
     rt: &R,
     alloc: Global,
-    seat: NodeContext<'_>,
+    seats: Seats<'_>,
     config: &Config,
+    opened: Vec<Opened>,
     gate: Option<&G>,
-) -> Result<NodeReport, ServeError> {
-    let number = seat.place.number;
-    if number == 0 || number > 15 {
-        return Err(ServeError::BadMembers);
-    }
-    let core = NodeCore::new(alloc, number, config)?;
-    let Ok(inbox) = Inbox::new(alloc) else {
+    attend: F,
+) -> Result<(T, Vec<NodeReport>), ServeError>
+where
+    J: NodeNaming + Send + Sync,
+    R: Threads + Wait + Clock + Sync + Net<Stream = TcpStream>,
+    G: Gate + Sync,
+    T: Drop,
+    F: FnOnce(&Cluster) -> T,
+    requires callable { F.IsAlwaysCallable attend }
+    requires named { AreNamed J.inbox_of J.first_of opened.items }
+    requires opens { EachOpensAs config.now J.first_of }
+{
+    let Ok(mut outcome) = Outcome::new(alloc, opened.len()) else {
         return Err(ServeError::Memory);
     };
-    let report = serve_named::<Brand, G, R>(rt, alloc, seat, config, inbox, core, gate)?;
-    Ok(NodeReport { number, report })
+    let nodes = start_all::<J, R, G>(rt, alloc, seats, config, opened, gate)?;
+    let (answer, all_started) = serve_states(rt, seats.peers, nodes.as_slice(), attend);
+    if !all_started {
+        outcome.keep(Err(ServeError::Threads));
+    }
+    for node in nodes {
+        outcome.keep(node.close(rt));
+    }
+    Ok((answer, outcome.into_reports()?))
 }
 
-// The same by an inbox whose number names it, with the node, for all threads. The node opened as
-// the one of its place's number in the configuration.
-fn serve_named<J: NodeNaming + Send + Sync, G: Gate + Sync, R: Threads + Wait + Clock + Sync>(
+// Returns the nodes that serve, made of those that opened.
+fn start_all<'a, J: NodeNaming, R: Wait, G: Gate>(
     rt: &R,
     alloc: Global,
-    seat: NodeContext<'_>,
-    config: &Config,
-    inbox: Inbox<Item>,
-    core: NodeCore,
-    gate: Option<&G>,
-) -> Result<Report, Memory>
-    requires named { inbox ≡ J.inbox_of seat.place.now.number }
-    requires first { core ≡ J.first_of seat.place.now.number }
-    requires opens { EachOpensAs seat.place.now.number config.now J.first_of }
+    seats: Seats<'a>,
+    config: &'a Config,
+    opened: Vec<Opened>,
+    gate: Option<&'a G>,
+) -> Result<Vec<ServedNode<'a, J, NodeState<J>, G>>, Memory>
+    requires named { AreNamed J.inbox_of J.first_of opened.items }
+    requires opens { EachOpensAs config.now J.first_of }
 {
-    let (receiver, lanes) = inbox.named::<J>(seat.place.number, LANES)?;
-    let mut back = Vec::with_capacity(alloc, lanes.len())?;
-    seat.node.publish(rt, core.status());
-    let mut desks: Vec<LaneSlot<J>> = lanes.into_iter().map(Some).collect(alloc)?;
-    // The desk of the thread that goes on with full sockets has no lane.
-    desks.push(None)?;
-    let shared = Shared {
-        alloc,
-        node: Node::start(alloc, NodeState::new(receiver, core), gate)?,
-        seat,
-        config,
-        late: Mutex::new(Vec::with_capacity(alloc, usize::from(CONNECTIONS))?),
-        late_waker: Parker::new(),
-    };
-    run_state(rt, &shared, desks.as_mut_slice());
-    gather(desks, &mut back);
-    shared.close(rt, back.as_mut_slice())
-}
-
-// The same at the type that a node's state has. That it may be shared by threads is required here
-// alone.
-fn run_state<J: NodeNaming + Send + Sync, G: Gate + Sync, R: Threads + Wait + Clock + Sync>(
-    rt: &R,
-    shared: &Shared<J, NodeState<J>, G>,
-    desks: &mut [LaneSlot<J>],
-) {
-    run::<J, NodeState<J>, G, R>(rt, shared, desks);
-}
-
-// Collects the lanes that came back.
-fn gather<J: NodeNaming>(desks: Vec<LaneSlot<J>>, back: &mut Vec<Lane<Item, J>>) {
-    for desk in desks {
-        if let Some(lane) = desk {
-            // There is room for it.
-            let _ = back.push(lane);
+    let mut nodes = Vec::with_capacity(alloc, opened.len())?;
+    for one in opened {
+        // Each has its place.
+        if let Some(seat) = seats.seat_of(one.number) {
+            nodes.push(ServedNode::start(rt, alloc, seat, config, one, gate)?)?;
         }
     }
+    Ok(nodes)
+}
+
+// Serves with the type that a node's state has. That threads may share it is proved only here.
+fn serve_states<J, R, G, T, F>(
+    rt: &R,
+    peers: &Cluster,
+    nodes: &[ServedNode<'_, J, NodeState<J>, G>],
+    attend: F,
+) -> (T, bool)
+where
+    J: NodeNaming + Send + Sync,
+    R: Threads + Wait + Clock + Sync + Net<Stream = TcpStream>,
+    G: Gate + Sync,
+    T: Drop,
+    F: FnOnce(&Cluster) -> T,
+    requires { F.IsAlwaysCallable attend }
+{
+    serve_by::<J, NodeState<J>, R, G, T, F>(rt, peers, nodes, attend)
+}
+
+// Serves with these nodes while `attend` runs. Returns what that returned, and whether each node's
+// threads could be started.
+fn serve_by<J, S, R, G, T, F>(
+    rt: &R,
+    peers: &Cluster,
+    nodes: &[ServedNode<'_, J, S, G>],
+    attend: F,
+) -> (T, bool)
+where
+    J: NodeNaming + Send + Sync,
+    S: Stated<J> + Send,
+    R: Threads + Wait + Clock + Sync + Net<Stream = TcpStream>,
+    G: Gate + Sync,
+    T: Drop,
+    F: FnOnce(&Cluster) -> T,
+    requires { F.IsAlwaysCallable attend }
+{
+    thread::scope(
+        thread::scope_env(),
+        rt,
+        move |scope|
+            requires callable { F.IsAlwaysCallable attend }
+        {
+            let mut all_started = true;
+            for node in nodes {
+                if scope.spawn(move || node.work(rt, nodes)).is_err() {
+                    all_started = false;
+                }
+            }
+            let answer = attend(peers);
+            for node in nodes {
+                node.shared.seat.place.close(rt);
+            }
+            (answer, all_started)
+        },
+    )
 }

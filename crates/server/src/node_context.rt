@@ -1,10 +1,30 @@
 // A place with its node and the other nodes.
 
+ghost use Rattle.std.specs.Prelude.{◌≡◌, IfSome};
+
 use post::{Cluster, Peer};
 use std::time::{Clock, Instant};
 use streams::Listener;
 
-/// A place with its node among the others.
+/// The places of all nodes.
+#[derive(Clone, Copy)]
+pub(crate) struct Seats<'a> {
+    pub(crate) peers: &'a Cluster,
+    pub(crate) places: &'a [Listener],
+    pub(crate) start: Instant,
+}
+
+impl<'a> Seats<'a> {
+    /// Returns the seat of the node of this number, if a place has it.
+    pub(crate) fn seat_of(self, number: u8) -> Option<NodeContext<'a>>
+        ensures { IfSome result (λ seat. seat.place.now.number ≡ number) }
+    {
+        let place = self.places.iter().find(|place| place.number == number)?;
+        NodeContext::new(self.peers, place, self.start)
+    }
+}
+
+/// A place with its node and the other nodes.
 #[derive(Clone, Copy)]
 pub(crate) struct NodeContext<'a> {
     pub(crate) peers: &'a Cluster,
@@ -14,12 +34,15 @@ pub(crate) struct NodeContext<'a> {
 }
 
 impl<'a> NodeContext<'a> {
-    /// Its times are counted from `start`. There is none where no node has the place's number.
+    /// Returns the seat of a place. Times are counted from `start`. There is none if no node has
+    /// the place's number.
     pub(crate) fn new(
         peers: &'a Cluster,
         place: &'a Listener,
         start: Instant,
-    ) -> Option<NodeContext<'a>> {
+    ) -> Option<NodeContext<'a>>
+        ensures { IfSome result (λ seat. seat.place.now.number ≡ place.now.number) }
+    {
         let node = peers.node(place.number)?;
         Some(NodeContext {
             peers,

@@ -1,11 +1,14 @@
-// The node's own thread: it takes what other nodes have for it, tells the time, has the log cut,
-// and ends connections whose first packet does not come.
+// The node's own thread: it takes what other nodes have for the node, gives the node the time, has
+// the log cut, and ends connections whose first packet does not come. It does no other node's turn,
+// so each node always has a thread of its own.
 
 ghost use Rattle.std.specs.Prelude.{◌≡◌};
 ghost use Rattle.post.specs.Letters.{IsLeft};
 ghost use Rattle.server.specs.Closing.{is_overdue};
 ghost use Rattle.server.specs.Serving.{SendsOwn};
 
+use crate::own_lane::OwnLane;
+use crate::served_node::ServedNode;
 use crate::shared::Shared;
 use post::mailbox::Lane;
 use post::node::{Gate, Item, NodeNaming, Standing, Stated};
@@ -33,27 +36,60 @@ struct Told {
     ticks: u64,
 }
 
-impl<'a, J: NodeNaming, S: Stated<J>, G: Gate> Shared<'a, J, S, G> {
-    /// Does the work of the node's own thread by its lane, until the door is closed: the lane.
-    pub(crate) fn keep_going<R: Wait + Clock>(&self, rt: &R, lane: Lane<Item, J>) -> Lane<Item, J>
-        ensures { SendsOwn self.now.seat.node.now.number lane.sent result.sent }
-    {
-        let mut lane = lane;
+impl<'a, J: NodeNaming, S: Stated<J>, G: Gate> ServedNode<'a, J, S, G> {
+    /// Does the work of the node's own thread, until the door is closed.
+    pub(crate) fn keep_going<R: Wait + Clock>(&self, rt: &R) {
+        let shared = &self.shared;
         let mut told = Told { time: 0, ticks: 0 };
         for _ in rt.forever() {
-            if self.seat.place.door.is_closed(rt) {
-                return lane;
+            if shared.seat.place.door.is_closed(rt) {
+                return;
             }
-            self.take_letters(rt, &mut lane);
-            told = self.tick(rt, &mut lane, told);
-            self.cut_by_size(rt, &mut lane);
-            self.rest(rt);
+            let now_told = self.take_own(rt, told);
+            shared.seat.peers.wake_urgent(rt);
+            shared.write_busy(rt, 0, false);
+            if now_told.time > told.time {
+                shared.end_overdue(rt, now_told.time);
+            }
+            told = now_told;
+            shared.rest(rt);
         }
         unreachable!()
     }
 
-    // Tells the node the time, if it was told so long ago that it is due, and then has the log cut,
-    // if that is due. Returns when the node was told the time last.
+    // Does the node's turn by its own lane, once no other thread holds that. Returns when the node
+    // got the time last.
+    fn take_own<R: Wait + Clock>(&self, rt: &R, told: Told) -> Told {
+        let mut own = self.own.lock(rt);
+        // It is this node's, but no clause is about what is behind a lock.
+        if own.number() != self.shared.seat.node.number {
+            return told;
+        }
+        self.shared.take_by(rt, &mut own, told)
+    }
+}
+
+impl<'a, J: NodeNaming, S: Stated<J>, G: Gate> Shared<'a, J, S, G> {
+    // Takes what was queued for the node, gives it the time and has its log cut, if that is due, by
+    // the node's own lane. Returns when the node got the time last.
+    fn take_by<R: Wait + Clock>(&self, rt: &R, own: &mut OwnLane<J>, told: Told) -> Told
+        requires { own.old.number ≡ self.now.seat.node.now.number }
+    {
+        self.take_letters(rt, &mut own.lane);
+        let told = self.tick(rt, &mut own.lane, told);
+        self.cut_by_size(rt, &mut own.lane);
+        told
+    }
+
+    /// Takes what was queued for the node, by the node's own lane.
+    pub(crate) fn take_left<R: Wait + Clock>(&self, rt: &R, own: &mut OwnLane<J>)
+        requires { own.old.number ≡ self.now.seat.node.now.number }
+    {
+        self.take_letters(rt, &mut own.lane);
+    }
+
+    // Gives the node the time, if it is due, and then has the log cut, if that is due. Returns when
+    // the node got the time last.
     fn tick<R: Wait + Clock>(&self, rt: &R, lane: &mut Lane<Item, J>, told: Told) -> Told
         ensures { SendsOwn self.now.seat.node.now.number lane.old.sent lane.new.sent }
     {
@@ -61,8 +97,7 @@ impl<'a, J: NodeNaming, S: Stated<J>, G: Gate> Shared<'a, J, S, G> {
         if now.saturating_sub(told.time) < TICK {
             return told;
         }
-        self.send(rt, lane, Item::Tick(now), 0);
-        self.end_overdue(rt, now);
+        self.send(rt, lane, Item::Tick(now));
         let ticks = told.ticks.saturating_add(1);
         self.cut_in_time(rt, lane, ticks);
         Told { time: now, ticks }
@@ -99,7 +134,7 @@ impl<'a, J: NodeNaming, S: Stated<J>, G: Gate> Shared<'a, J, S, G> {
         for item in items {
             self.put_letter(rt, lane, item);
         }
-        self.turn(rt, lane, 0);
+        self.take_all(rt, lane);
     }
 
     // Sends what was queued for the node by its lane.

@@ -5,6 +5,7 @@ ghost use Rattle.std.specs.Arc.{arc_value};
 ghost use Rattle.server.specs.Serving.{SendsRow, SendsWhole, TellsOne, port_of};
 
 use crate::lane_reporter::LaneReporter;
+use crate::served_node::ServedNode;
 use crate::shared::Shared;
 use post::mailbox::Lane;
 use post::node::{Gate, Item, NodeNaming, Port, Stated};
@@ -24,20 +25,25 @@ const CONNECTIONS_OF_LANE: u64 = 1 << 56;
 /// The ports of a lane's connections are this far apart. A lane's number is below it.
 const PORTS_APART: u64 = 256;
 
-impl<'a, J: NodeNaming, S: Stated<J>, G: Gate> Shared<'a, J, S, G> {
-    /// Serves one client after the other by a lane, until the door is closed. Returns the lane,
-    /// which sent for each in turn all that is reported of its connection, at a port that no other
+impl<'a, J: NodeNaming, S: Stated<J>, G: Gate> ServedNode<'a, J, S, G> {
+    /// Serves one client after another by a lane, until the door is closed. Returns the lane, which
+    /// sent for each one after another the whole report of its connection, at a port that no other
     /// has, and nothing else.
-    pub(crate) fn serve_lane<R: Wait + Clock>(&self, rt: &R, lane: Lane<Item, J>) -> Lane<Item, J>
+    pub(crate) fn serve_lane<R: Wait + Clock>(
+        &self,
+        rt: &R,
+        all: &[ServedNode<'a, J, S, G>],
+        lane: Lane<Item, J>,
+    ) -> Lane<Item, J>
         ensures { SendsRow lane.lane lane.sent result.sent }
     {
         let number = lane.lane();
         let mut lane = lane;
         for count in 0..CONNECTIONS_OF_LANE {
-            let Some(stream) = self.seat.place.accept(rt) else {
+            let Some(stream) = self.shared.seat.place.accept(rt) else {
                 return lane;
             };
-            lane = self.serve_stream(rt, lane, stream, port_of(number, count));
+            lane = self.serve_stream(rt, all, lane, stream, port_of(number, count));
         }
         lane
     }
@@ -47,25 +53,69 @@ impl<'a, J: NodeNaming, S: Stated<J>, G: Gate> Shared<'a, J, S, G> {
     fn serve_stream<R: Wait + Clock>(
         &self,
         rt: &R,
+        all: &[ServedNode<'a, J, S, G>],
         lane: Lane<Item, J>,
         stream: TcpStream,
         port: Port,
     ) -> Lane<Item, J>
         ensures { TellsOne port lane.sent result.sent }
     {
-        let door = &self.seat.place.door;
+        let door = &self.shared.seat.place.door;
         let Some(place) = door.take_place(rt) else {
             return lane;
         };
-        let lane = match self.link(rt, port, place, stream) {
-            Some(link) => self.serve_link(rt, lane, link),
+        let lane = match self.shared.link(rt, port, place, stream) {
+            Some(link) => self.serve_link(rt, all, lane, link),
             None => lane,
         };
         door.leave(rt, place);
         lane
     }
 
-    // The connection of a stream. Its bytes leave at once, and a write does not wait for long.
+    // Reports a connection to the node by a lane, until it ends. Returns the lane, which sent that
+    // the connection was opened, each piece that came, and that it ended.
+    fn serve_link<R: Wait + Clock>(
+        &self,
+        rt: &R,
+        all: &[ServedNode<'a, J, S, G>],
+        lane: Lane<Item, J>,
+        link: Arc<Link, Global>,
+    ) -> Lane<Item, J>
+        ensures { SendsWhole (arc_value link).port lane.sent result.sent }
+    {
+        let port = link.port;
+        let lane = self.hear(rt, all, lane, &link);
+        link.shut();
+        self.shared.forget(rt, port);
+        lane
+    }
+
+    // Reports a connection to the node by a lane, until it ends.
+    fn hear<R: Wait + Clock>(
+        &self,
+        rt: &R,
+        all: &[ServedNode<'a, J, S, G>],
+        lane: Lane<Item, J>,
+        link: &Arc<Link, Global>,
+    ) -> Lane<Item, J>
+        ensures { SendsWhole (arc_value link.now).port lane.sent result.sent }
+    {
+        let mut ear = LaneReporter {
+            node: self,
+            all,
+            link,
+            lane,
+        };
+        let mut source = Counted::new(link.source());
+        // However it ended, this was reported to the node.
+        let _ending = listen(rt, self.shared.alloc, link.port, &mut source, &mut ear);
+        ear.lane
+    }
+}
+
+impl<'a, J: NodeNaming, S: Stated<J>, G: Gate> Shared<'a, J, S, G> {
+    // Returns the connection of a stream. Its bytes are sent at once, and a write does not wait for
+    // long.
     fn link<R: Clock>(
         &self,
         rt: &R,
@@ -82,43 +132,6 @@ impl<'a, J: NodeNaming, S: Stated<J>, G: Gate> Shared<'a, J, S, G> {
         let opened = self.seat.now(rt);
         let link = Link::new(self.alloc, port, place, opened, stream).ok()?;
         Arc::new(self.alloc, link).ok()
-    }
-
-    // Reports a connection to the node by a lane, until it ends. Returns the lane, which sent that
-    // the connection was opened, each piece that came, and that it ended.
-    fn serve_link<R: Wait + Clock>(
-        &self,
-        rt: &R,
-        lane: Lane<Item, J>,
-        link: Arc<Link, Global>,
-    ) -> Lane<Item, J>
-        ensures { SendsWhole (arc_value link).port lane.sent result.sent }
-    {
-        let port = link.port;
-        let lane = self.hear(rt, lane, &link);
-        link.shut();
-        self.forget(rt, port);
-        lane
-    }
-
-    // Tells the node of a connection by a lane, until it ends.
-    fn hear<R: Wait + Clock>(
-        &self,
-        rt: &R,
-        lane: Lane<Item, J>,
-        link: &Arc<Link, Global>,
-    ) -> Lane<Item, J>
-        ensures { SendsWhole (arc_value link.now).port lane.sent result.sent }
-    {
-        let mut ear = LaneReporter {
-            shared: self,
-            link,
-            lane,
-        };
-        let mut source = Counted::new(link.source());
-        // However it ended, the node was told so.
-        let _ending = listen(rt, self.alloc, link.port, &mut source, &mut ear);
-        ear.lane
     }
 
     // Takes what the node still holds for a connection that has ended, so that it holds no more.

@@ -26,7 +26,8 @@ pub(crate) struct Shared<'a, J: NodeNaming, S: Stated<J>, G: Gate> {
     pub(crate) late: Mutex<Vec<Blocked>>,
     /// The thread that continues with them sleeps on this.
     pub(crate) late_waker: Parker,
-    pub(crate) ghost opens: { EachOpensAs seat.place.now.number config.now J.first_of },
+    pub(crate) ghost opens: { EachOpensAs config.now J.first_of },
+    pub(crate) ghost named: { node.number ≡ seat.place.now.number },
 }
 
 impl<'a, J: NodeNaming, G: Gate> Shared<'a, J, NodeState<J>, G> {

@@ -1,4 +1,4 @@
-// A worker's turn, which whoever sent an item does itself.
+// A node's turn, which the thread that sent an item, or queued something for the node, does itself.
 
 ghost use Rattle.std.specs.Prelude.{◌≡◌, ◌++◌, ◌∷◌, [], true, false};
 ghost use Rattle.post.specs.mailbox.Ends.{all_met, unmet};
@@ -7,7 +7,6 @@ ghost use Rattle.post.specs.Letters.{EachOpens};
 ghost use Rattle.server.specs.Turns.{Turns};
 
 use crate::shared::Shared;
-use crate::working::OWN_LANE;
 use post::Given;
 use post::mailbox::Lane;
 use post::node::{Gate, Item, NodeNaming, NodeState, Permit, Stated};
@@ -20,23 +19,17 @@ use streams::{CONNECTIONS, IdleLanes, Link};
 const FEW: usize = 8;
 
 impl<'a, J: NodeNaming, S: Stated<J>, G: Gate> Shared<'a, J, S, G> {
-    /// Sends an item by a lane, and takes what waits in the inbox, that item with it. The
-    /// connection at this place is written to first. Once it returns the node has taken all that
-    /// the lane sent, and the lane knows it.
-    pub(crate) fn send<R: Wait + Clock>(
-        &self,
-        rt: &R,
-        lane: &mut Lane<Item, J>,
-        item: Item,
-        first: usize,
-    )
+    /// Sends an item by a lane, and takes what waits in the inbox, including that item. Once it
+    /// returns the node has taken all that the lane sent, and the lane knows it. What the node
+    /// queued for connections is not written yet.
+    pub(crate) fn send<R: Wait + Clock>(&self, rt: &R, lane: &mut Lane<Item, J>, item: Item)
         ensures { lane.new ≡ all_met (record lane.old { sent = lane.old.sent ++ item ∷ [] }) }
     {
         self.put(rt, lane, item);
-        self.turn(rt, lane, first);
+        self.take_all(rt, lane);
     }
 
-    /// Sends an item by a lane. Where the inbox is full a turn is done first.
+    /// Sends an item by a lane. If the inbox is full, takes what waits there first.
     pub(crate) fn put<R: Wait + Clock>(&self, rt: &R, lane: &mut Lane<Item, J>, item: Item)
         ensures { unmet lane.new ≡ unmet (record lane.old { sent = lane.old.sent ++ item ∷ [] }) }
     {
@@ -47,18 +40,14 @@ impl<'a, J: NodeNaming, S: Stated<J>, G: Gate> Shared<'a, J, S, G> {
                 Ok(()) => return,
                 Err(back) => unsent = back,
             }
-            self.turn(rt, lane, 0);
+            self.take_all(rt, lane);
         }
         unreachable!()
     }
 
-    /// Takes what waits in the inbox, with all that this lane sent, and then writes what was put
-    /// out, to the connection at this place first.
-    pub(crate) fn turn<R: Wait + Clock>(&self, rt: &R, lane: &mut Lane<Item, J>, first: usize)
-        ensures { lane.new ≡ all_met lane.old }
-    {
-        self.take_all(rt, lane);
-        let waits = lane.lane() != OWN_LANE;
+    /// Writes what the node queued for its connections, to the one at this index first. `waits`
+    /// says whether it waits for a full socket, for a short time.
+    pub(crate) fn write_busy<R: Wait>(&self, rt: &R, first: usize, waits: bool) {
         let busy = self.busy_links(rt, first);
         for link in &busy {
             self.flush(rt, link, waits);
@@ -79,8 +68,8 @@ impl<'a, J: NodeNaming, S: Stated<J>, G: Gate> Shared<'a, J, S, G> {
         busy
     }
 
-    // Takes items until the inbox is empty, with all that this lane sent.
-    fn take_all<R: Wait + Clock>(&self, rt: &R, lane: &mut Lane<Item, J>)
+    /// Takes items until the inbox is empty, with all that this lane sent.
+    pub(crate) fn take_all<R: Wait + Clock>(&self, rt: &R, lane: &mut Lane<Item, J>)
         ensures { lane.new ≡ all_met lane.old }
     {
         for _ in rt.forever() {

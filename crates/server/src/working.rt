@@ -1,9 +1,9 @@
 // The threads of a node, each with a lane for good.
 
 ghost use Rattle.std.specs.Prelude.{ℕ, ◌<◌, length, slice_index_or};
-ghost use Rattle.server.specs.Working.{ComesBack, SendsSo};
+ghost use Rattle.server.specs.Working.{ComesBack};
 
-use crate::shared::Shared;
+use crate::served_node::ServedNode;
 use post::mailbox::Lane;
 use post::node::{Gate, Item, NodeNaming, Stated};
 use std::sync::Wait;
@@ -12,9 +12,6 @@ use std::thread::Threads;
 use std::time::Clock;
 use streams::CONNECTIONS;
 
-/// The lane of the node's own thread.
-pub(crate) const OWN_LANE: u8 = 0;
-
 /// A lane for the node's own thread, for each connection, and for the thread that closes surplus
 /// clients.
 pub(crate) const LANES: u8 = CONNECTIONS + 2;
@@ -22,44 +19,81 @@ pub(crate) const LANES: u8 = CONNECTIONS + 2;
 /// How many threads a node has: one for each lane, and one that continues with full sockets.
 pub(crate) const THREADS: usize = LANES as usize + 1;
 
-/// A lane, unless its thread has it in hand. The thread that goes on with full sockets has none.
+/// The lane of a connection's thread, unless that is using it. The first desk is that of the node's
+/// own thread, whose lane is behind a lock; the last is that of the thread that continues with full
+/// sockets. They have none.
 pub(crate) type LaneSlot<J> = Option<Lane<Item, J>>;
 
-/// Works with each lane by a thread of its own, until the door is closed. If threads are missing,
-/// lanes wait until others come back; the node's own comes before all the others.
-pub(crate) fn run<J, S, G, R>(rt: &R, shared: &Shared<J, S, G>, desks: &mut [LaneSlot<J>])
+/// The desks of a node's threads, with capacity in which all its lanes are gathered at the end.
+#[derive(Drop)]
+pub(crate) struct Crew<J: NodeNaming> {
+    pub(crate) desks: Vec<LaneSlot<J>>,
+    pub(crate) back: Vec<Lane<Item, J>>,
+}
+
+impl<J: NodeNaming> Crew<J> {
+    /// Returns the lanes that came back to their desks, after the node's own.
+    pub(crate) fn into_lanes(self, own: Lane<Item, J>) -> Vec<Lane<Item, J>> {
+        let Crew { desks, mut back } = self;
+        // There is room for all.
+        let _ = back.push(own);
+        for desk in desks {
+            if let Some(lane) = desk {
+                let _ = back.push(lane);
+            }
+        }
+        back
+    }
+}
+
+/// Works at each desk by a thread of its own, until the door is closed. If threads are missing,
+/// lanes wait until others come back; the node's own thread comes before all the others.
+pub(crate) fn run<'a, J, S, G, R>(
+    rt: &R,
+    all: &[ServedNode<'a, J, S, G>],
+    node: &ServedNode<'a, J, S, G>,
+    desks: &mut [LaneSlot<J>],
+)
 where
     J: NodeNaming + Send + Sync,
     S: Stated<J> + Send,
     G: Gate + Sync,
     R: Threads + Wait + Clock + Sync,
-    ensures { (place : ℕ) (other : _) → place < length desks.old →
-        ComesBack shared.now.seat.node.now.number
+    ensures { (place : ℕ) (other : _) → place < length desks.old → ComesBack
         (slice_index_or desks.old place other) (slice_index_or desks.new place other) }
 {
-    thread::for_each_mut(rt, desks, THREADS, &|_, desk| shared.run_lane(rt, desk));
+    thread::for_each_mut(
+        rt,
+        desks,
+        THREADS,
+        &|place, desk| node.run_lane(rt, all, place, desk),
+    );
 }
 
-impl<'a, J: NodeNaming, S: Stated<J>, G: Gate> Shared<'a, J, S, G> {
-    // Works with the lane of a desk, and puts it back. If there is none, continues with full
-    // sockets.
-    fn run_lane<R: Wait + Clock>(&self, rt: &R, desk: &mut LaneSlot<J>)
-        ensures { ComesBack self.now.seat.node.now.number desk.old desk.new }
+impl<'a, J: NodeNaming, S: Stated<J>, G: Gate> ServedNode<'a, J, S, G> {
+    // Works with the lane of a desk, and puts it back. The first desk is that of the node's own
+    // thread. At another desk that has no lane, its thread continues with full sockets.
+    fn run_lane<R: Wait + Clock>(
+        &self,
+        rt: &R,
+        all: &[ServedNode<'a, J, S, G>],
+        place: usize,
+        desk: &mut LaneSlot<J>,
+    )
+        ensures { ComesBack desk.old desk.new }
     {
         match desk.take() {
-            Some(lane) => *desk = Some(self.work(rt, lane)),
-            None => self.write_late(rt),
+            Some(lane) => *desk = Some(self.serve_lane(rt, all, lane)),
+            None => self.work_without(rt, place),
         }
     }
 
-    // Works with a lane, until the door is closed.
-    fn work<R: Wait + Clock>(&self, rt: &R, lane: Lane<Item, J>) -> Lane<Item, J>
-        ensures { SendsSo self.now.seat.node.now.number lane.lane lane.sent result.sent }
-    {
-        if lane.lane() == OWN_LANE {
-            self.keep_going(rt, lane)
+    // Works at a desk that has no lane.
+    fn work_without<R: Wait + Clock>(&self, rt: &R, place: usize) {
+        if place == 0 {
+            self.keep_going(rt);
         } else {
-            self.serve_lane(rt, lane)
+            self.shared.write_late(rt);
         }
     }
 }

@@ -8,5 +8,6 @@ mod expulsions;
 mod gates;
 mod lagging;
 mod nodes;
+mod refusals;
 mod row;
 mod takeovers;

@@ -9,12 +9,11 @@ use Rattle.node.specs.Handing.{answer_of, bytes_of, listed_at}
 use Rattle.node.specs.State.{Replays, Seen}
 use Rattle.streams.specs.declared.port_tap.PortTap.{PortTap}
 
--- whatever its inbox's number, a node began as the one of this number in this configuration of
--- ballot 1
+-- the node of each inbox's number began as the one of that number in this configuration of ballot
+-- 1
 pub record Began (first_of : ℕ → CountedCore) : Type 0 where
-  pub number : ℕ
   pub config : Config
-  pub is : (inbox : ℕ) → first_of inbox ≡ record { core = opening_core number config; losses = 0 }
+  pub is : (inbox : ℕ) → first_of inbox ≡ record { core = opening_core inbox config; losses = 0 }
 
 -- These bytes, with this answer, are what a node hands over for a port that is what its first state
 -- became by one step for each item that was taken from its inbox.

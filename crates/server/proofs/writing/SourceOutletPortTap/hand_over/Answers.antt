@@ -3,7 +3,6 @@ use Rattle.server.proofs.writing.SourceOutletPortTap.hand_over.Goals as goal
 pub hand_over-requires : goal.hand_over-requires
 hand_over-requires g c = record {
   began = record {
-    number = c.args.self.now.shared.now.seat.place.now.number;
     config = c.args.self.now.shared.now.config.now;
     is = c.args.self.now.shared.now.opens;
   };

@@ -4,8 +4,8 @@ use Rattle.post.specs.node.declared.Item.{Item}
 use Rattle.post.specs.node.declared.Port.{Port}
 use Rattle.server.specs.Serving.{SendsWhole, TellsOne}
 use Rattle.server.specs.Serving.TellsOne.{closed_at_once, served}
-use Rattle.server.proofs.shared.Shared.serve_stream.Goals as goal
-use Rattle.server.proofs.shared.Shared.serve_stream.Goals.{in-Some-link, in-None}
+use Rattle.server.proofs.served_node.ServedNode.serve_stream.Goals as goal
+use Rattle.server.proofs.served_node.ServedNode.serve_stream.Goals.{in-Some-link, in-None}
 
 pub returns-in_default : goal.returns-in_default
 returns-in_default g c = closed_at_once

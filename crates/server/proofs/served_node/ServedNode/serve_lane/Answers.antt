@@ -2,7 +2,7 @@ use Rattle.std.proofs.Common.{ℕ, ◌∙◌, ap, subst}
 use Rattle.post.specs.node.declared.Port.{Port}
 use Rattle.server.specs.Serving.{TellsOne, port_of}
 use Rattle.server.specs.Serving.TellsEach.{begins, goes_on}
-use Rattle.server.proofs.shared.Shared.serve_lane.Goals as goal
+use Rattle.server.proofs.served_node.ServedNode.serve_lane.Goals as goal
 
 pub loop-count-init : goal.loop-count-init
 loop-count-init g c = begins

@@ -1,0 +1,11 @@
+use Rattle.std.proofs.Common.{◌<◌}
+use Rattle.post.specs.node.Lists.{Each}
+use Rattle.server.specs.Opening.{AreNamed, first_in, inbox_among}
+use Rattle.server.specs.declared.opening.Opened.{Opened}
+use Rattle.server.proofs.opening.open_all.Given as goal
+
+abbrev pub invariant-loop-number : goal.invariant-loop-number
+invariant-loop-number l = record {
+  named : AreNamed (inbox_among l.opened.items) (first_in l.config) l.opened.items;
+  below : Each (λ (one : Opened). one.number < l.number) l.opened.items;
+}

@@ -1,0 +1,58 @@
+// Nodes that are about to serve.
+
+ghost use Rattle.std.specs.Prelude.{◌≡◌, ◌≤◌, IfOk};
+ghost use Rattle.server.specs.Opening.{AreNamed, first_in, inbox_among};
+
+use crate::node_context::Seats;
+use post::mailbox::Inbox;
+use post::node::{Config, Item, NodeCore, OpeningError};
+use std::alloc::Global;
+
+/// One more than the highest number of a node.
+const NUMBERS_END: u8 = 16;
+
+/// A node that is about to serve, with its inbox, by which it receives everything.
+#[derive(Drop)]
+pub(crate) struct Opened {
+    pub(crate) number: u8,
+    pub(crate) inbox: Inbox<Item>,
+    pub(crate) core: NodeCore,
+}
+
+/// Opens the nodes of all places, each as the one of its place's number, in rising order.
+/// `BadMembers` comes if two places have one number, if a number is outside 1 to 15, and if no
+/// ballot may have the configuration. The other error is that memory ran out.
+pub(crate) fn open_all(
+    alloc: Global,
+    seats: Seats<'_>,
+    config: &Config,
+) -> Result<Vec<Opened>, OpeningError>
+    ensures { IfOk result (λ opened.
+        AreNamed (inbox_among opened.items) (first_in config.now) opened.items) }
+{
+    let mut opened = Vec::with_capacity(alloc, seats.places.len())?;
+    for number in 1..NUMBERS_END {
+        if seats.seat_of(number).is_some() {
+            opened.push(open(alloc, number, config)?)?;
+        }
+    }
+    if opened.len() != seats.places.len() {
+        return Err(OpeningError::BadMembers);
+    }
+    Ok(opened)
+}
+
+// Opens the node of a number.
+fn open(alloc: Global, number: u8, config: &Config) -> Result<Opened, OpeningError>
+    requires low { 1 ≤ number }
+    requires high { number ≤ 15 }
+    ensures number { IfOk result (λ opened. opened.number ≡ number) }
+    ensures core { IfOk result (λ opened. opened.core ≡ first_in config.now number) }
+{
+    let core = NodeCore::new(alloc, number, config)?;
+    Ok(Opened {
+        number,
+        inbox: Inbox::new(alloc)?,
+        core,
+    })
+}

@@ -1,0 +1,133 @@
+// A node that serves, with the lanes of its threads.
+
+ghost use Rattle.std.specs.Prelude.{◌≡◌, [], IfOk};
+ghost use Rattle.post.specs.node.Lists.{Each};
+ghost use Rattle.post.specs.Letters.{EachOpensAs};
+
+use crate::node_context::NodeContext;
+use crate::node_report::NodeReport;
+use crate::opening::Opened;
+use crate::own_lane::OwnLane;
+use crate::serve_error::ServeError;
+use crate::shared::Shared;
+use crate::working::{Crew, LANES, THREADS, run};
+use post::mailbox::Lane;
+use post::node::{Config, Gate, Item, Memory, Node, NodeNaming, NodeState, Stated};
+use std::alloc::Global;
+use std::mem;
+use std::sync::{Mutex, Wait};
+use std::thread::{Parker, Threads};
+use std::time::Clock;
+use streams::CONNECTIONS;
+
+/// A node that serves: what its threads share, and their lanes.
+#[derive(Drop)]
+pub(crate) struct ServedNode<'a, J: NodeNaming, S: Stated<J>, G: Gate> {
+    pub(crate) shared: Shared<'a, J, S, G>,
+    /// The lane of everything that does not come from a client. The thread that holds it does the
+    /// node's turn with what was queued for the node: its own thread, or one that queued something.
+    pub(crate) own: Mutex<OwnLane<J>>,
+    /// The lanes of its connections, while no thread works with them.
+    crew: Mutex<Crew<J>>,
+    /// A gate is asked before each taking.
+    pub(crate) is_gated: bool,
+}
+
+impl<'a, J: NodeNaming, G: Gate> ServedNode<'a, J, NodeState<J>, G> {
+    /// Starts a node that opened. The only error is that memory ran out.
+    pub(crate) fn start<R: Wait>(
+        rt: &R,
+        alloc: Global,
+        seat: NodeContext<'a>,
+        config: &'a Config,
+        opened: Opened,
+        gate: Option<&'a G>,
+    ) -> Result<ServedNode<'a, J, NodeState<J>, G>, Memory>
+        requires seat { seat.place.now.number ≡ opened.number }
+        requires named { opened.inbox ≡ J.inbox_of opened.number }
+        requires first { opened.core ≡ J.first_of opened.number }
+        requires opens { EachOpensAs config.now J.first_of }
+    {
+        let Opened {
+            number,
+            inbox,
+            core,
+        } = opened;
+        seat.node.publish(rt, core.status());
+        let (receiver, lanes) = inbox.named::<J>(number, LANES)?;
+        let (own, crew) = crew_of(alloc, number, lanes)?;
+        let node = Node::start(alloc, NodeState::new(receiver, core), gate)?;
+        let late = Mutex::new(Vec::with_capacity(alloc, usize::from(CONNECTIONS))?);
+        Ok(ServedNode {
+            shared: Shared {
+                alloc,
+                node,
+                seat,
+                config,
+                late,
+                late_waker: Parker::new(),
+            },
+            own: Mutex::new(own),
+            crew: Mutex::new(crew),
+            is_gated: gate.is_some(),
+        })
+    }
+
+    /// Ends the node, whose threads have returned, and reports what became of the items that were
+    /// sent to it.
+    pub(crate) fn close<R: Wait>(self, rt: &R) -> Result<NodeReport, ServeError> {
+        let ServedNode {
+            shared,
+            own,
+            crew,
+            ..
+        } = self;
+        let number = shared.seat.place.number;
+        let mut lanes = crew.into_inner().into_lanes(own.into_inner().into_lane());
+        let report = shared.close(rt, lanes.as_mut_slice())?;
+        Ok(NodeReport { number, report })
+    }
+}
+
+impl<'a, J, S, G> ServedNode<'a, J, S, G>
+where
+    J: NodeNaming + Send + Sync,
+    S: Stated<J> + Send,
+    G: Gate + Sync,
+{
+    /// Works with each lane by a thread of its own, until the door is closed.
+    pub(crate) fn work<R>(&self, rt: &R, all: &[ServedNode<'a, J, S, G>])
+    where
+        R: Threads + Wait + Clock + Sync,
+    {
+        let mut desks = mem::replace(&mut self.crew.lock(rt).desks, Vec::new(self.shared.alloc));
+        run(rt, all, self, desks.as_mut_slice());
+        self.crew.lock(rt).desks = desks;
+    }
+}
+
+// Returns the node's own lane, the first of these lanes, and the desks of its threads. The only
+// error is that memory ran out.
+fn crew_of<J: NodeNaming>(
+    alloc: Global,
+    number: u8,
+    lanes: Vec<Lane<Item, J>>,
+) -> Result<(OwnLane<J>, Crew<J>), Memory>
+    requires { Each (λ lane. lane.sent ≡ []) lanes.items }
+    ensures { IfOk result (λ made. made.0.number ≡ number) }
+{
+    let back = Vec::with_capacity(alloc, lanes.len())?;
+    let mut desks = Vec::with_capacity(alloc, THREADS)?;
+    let mut lanes = lanes.into_iter();
+    let Some(own) = lanes.next() else {
+        return Err(Memory);
+    };
+    // The desks of the node's own thread, and of the thread that continues with full sockets, have
+    // no lane.
+    desks.push(None)?;
+    for lane in lanes {
+        desks.push(Some(lane))?;
+    }
+    desks.push(None)?;
+    Ok((OwnLane::new(number, own), Crew { desks, back }))
+}
