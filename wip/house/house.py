@@ -10,38 +10,11 @@ import shutil
 import sys
 
 # A crate, the crate that takes it in.
-MERGES = [
-    ("handshake", "story"),
-    ("pipes", "cutter"),
-    ("piece", "cutter"),
-    ("subs_tree", "subs"),
-    ("session_form", "session_base"),
-    ("connection_model", "group_model"),
-    ("way_numbers", "ways_out"),
-    ("cut_ways", "ways_out"),
-    ("cut_answers", "ways_out"),
-    ("transcript", "play"),
-]
+MERGES = []
 # The purposes of what was merged, in crates.txt.
-PURPOSES = {
-    "story": "one client's trace: QoS 2 once and in order",
-    "cutter": "packets of a byte stream, byte buffers, byte pipes",
-    "subs": "subscription index as a list and as a tree",
-    "session_base": "a session as lists and as bytes",
-    "group_model": "a group of nodes, bytes of its connections",
-    "ways_out": "a way to the next ballot and its first answers",
-    "play": "plays a script, writes its transcript",
-}
+PURPOSES = {}
 # Crates by the names of the map.
-CRATES = {
-    "broker_model": "broker_spec",
-    "story": "exactly_once",
-    "model": "packet_world",
-    "node_model": "node_moves",
-    "group_model": "node_group",
-    "world_model": "byte_world",
-    "exact_model": "headline",
-}
+CRATES = {}
 ENDS = (".antt", ".rt", ".edit")
 
 
@@ -69,7 +42,7 @@ def lines_of():
 def files_in(*folders):
     for at in folders:
         for folder, _, names in os.walk(at):
-            if "/out" not in folder:
+            if f"{folder}/".count("/out/") == 0:
                 yield from (f"{folder}/{it}" for it in sorted(names) if it.endswith(ENDS))
 
 
@@ -109,7 +82,10 @@ def handed_up():
     for crate in listed:
         file = f"crates/{crate}/src/lib.rt"
         if os.path.isfile(file):
-            found[crate] = {it.split("::")[-1] for it in re.findall(r"^pub use ((?:\w+::)?\w+);$", read(file), re.M)} & set(listed)
+            text = read(file)
+            found[crate] = {it for path, it in re.findall(r"^pub use (?:(\w+)::)?(\w+);$", text, re.M) if it in listed and (not path or path in listed)}
+            for path, braced in re.findall(r"^pub use (\w+)::\{([^{}]*)\};", text, re.M):
+                found[crate] |= {it.strip() for it in braced.split(",")} & set(listed) if path in listed else set()
     return found
 
 
@@ -121,6 +97,7 @@ def long():
     specs = re.compile(rf"\bRattle\.(?:{names})\.specs\.({names})(?=[.\s;,}}]|$)", re.M)
     proofs = re.compile(rf"\bRattle\.(?:{names})\.proofs\.of_({names})(?=[.\s;,}}]|$)", re.M)
     path = re.compile(rf"(?<![\w:.])({names})::({names})(?=::|;)")
+    braces = re.compile(rf"^(pub use (?:{names})::)\{{([^{{}}]*)\}};", re.M)
     hands = re.compile(rf"^pub use Rattle\.({names})\.(?:specs as \1|proofs as of_\1)\n", re.M)
 
     def spec(text):
@@ -140,7 +117,8 @@ def long():
         if not file.endswith(".antt"):
             text = in_code(text, lambda said: path.sub(shorter, path.sub(shorter, said)))
         if file.endswith("/src/lib.rt"):
-            text = re.sub(rf"^pub use (?:\w+::)?({names});\n", "", text, flags=re.M)
+            text = re.sub(rf"^pub use (?:(?:{names})::)?(?:{names});\n", "", text, flags=re.M)
+            text = braces.sub(lambda it: it[1] + "{" + ", ".join(name for name in re.findall(r"[^,\s]+", it[2]) if name not in listed) + "};", text)
         return text
 
     print(change_all(change), "files with long names")
@@ -399,16 +377,10 @@ def mend(line, old, new):
 
 # Types, functions and modules by the field's terms: the crates in whose files they are renamed, and the words. A module goes with its file.
 WORDS = [
-    (("streams", "server", "node_tests", "server_tests", "jobs", "jobs_tests", "server_bench"), {
-        "Door": "ConnectionTable", "PenCase": "WriteSlot", "Pen": "WriteToken", "Late": "Blocked", "Place": "Listener",
-    }, {"door": "connection_table", "place": "listener", "late_writer": "blocked_writer"}),
-    (("server", "node_tests"), {"Ear": "LaneReporter", "Seat": "NodeContext", "Desk": "LaneSlot", "sit": "run_lane"},
-     {"ear": "lane_reporter", "seat": "node_context"}),
-    (("node", "server", "node_tests", "server_tests"), {"Leave": "Permit"}, {"leave": "permit"}),
-    (("post", "server", "server_tests", "jobs"), {"Tray": "Outbox", "Bell": "Waker", "Peers": "Cluster"}, {"tray": "outbox", "bell": "waker", "peers": "cluster"}),
-    (("world",), {"Place": "ConnectionSlot", "Housed": "SlotsAreValid"}, {"place": "connection_slot"}),
-    (("world_base",), {"Serving": "NodeInStep"}, {"serving": "node_in_step"}),
-    (("node_moves", "node_group", "byte_world", "headline", "world_nodes", "escaping_nodes", "world", "node_model", "group_model", "world_model", "exact_model"), {"Deed": "NodeCall"}, {}),
+    (("streams", "server", "server_tests", "server_clients", "server_bench", "connection_tests", "jobs"),
+     {"pen": "token", "Pens": "WriteTokens", "late": "blocked", "door": "table", "seat": "context", "place": "listener", "ear": "reporter", "desk": "slot"}, {}),
+    (("post", "server", "jobs"), {"tray": "outbox", "TrayKept": "OutboxKept", "bell": "waker", "peers": "cluster", "letter": "queued", "letters": "queued", "Letters": "Queued"}, {}),
+    (("node_moves", "node_group", "byte_world", "headline", "world_nodes", "escaping_nodes", "world"), {"deed": "node_call", "deeds": "node_calls"}, {}),
 ]
 
 

@@ -33,7 +33,7 @@ def read(f):
 def files(crate):
     for at in (f"crates/{crate}", f"docs/planted/{crate}"):
         for folder, _, names in os.walk(at):
-            if "/out" in folder or folder.endswith("/out"):
+            if "/out/" in f"{folder}/":
                 continue
             for it in names:
                 if it.endswith((".antt", ".rt", ".edit")):
