@@ -21,8 +21,8 @@ pub use escaping_nodes::world_nodes::Idle;
 pub use event::Event;
 pub use headline::ballot;
 pub use headline::world_base::{
-    Body, Command, Config, ConnectionId, Effect, Handed, Item, Members, Memory, Message, NodeCore,
-    OpeningError, Output, Piece, Port, Standing, Status,
+    Command, Config, ConnectionId, Effect, Item, Members, Memory, Message, NodeCore, OpeningError,
+    Port, Status,
 };
 pub use laws::{an_open_past_the_last_changes_nothing, uncounted_is_exact};
 pub use world::World;
