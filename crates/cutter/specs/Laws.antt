@@ -17,7 +17,8 @@ pub data Ran : List ℕ → List Packet → Stream → Type 0 where
       → Ran fed given s → Ran (fed ++ piece) given (record s { held = s.held ++ piece })
   gives : {fed : List ℕ} {given : List Packet} {s t : Stream} (packet : Packet)
       → Ran fed given s → Takes s (Ok (Some packet)) t → Ran fed (given ++ packet ∷ []) t
-  answers : {fed : List ℕ} {given : List Packet} {s t : Stream} (result : Result (Option Packet) CutError)
+  answers : {fed : List ℕ} {given : List Packet} {s t : Stream}
+      (result : Result (Option Packet) CutError)
       → Ran fed given s → t.held ≡ s.held → Takes s result t → Ran fed given t
 
 -- what was given is a prefix of the packets of the bytes that were fed
@@ -38,7 +39,8 @@ EveryStreamIsCut = (bytes : List ℕ) → AreBytes bytes
 -- after an answer that no whole packet is there, what was given are all packets of the bytes that
 -- were fed, and what is held is the rest
 abbrev pub NoPacketIsLeft : Type 0
-NoPacketIsLeft = (fed : List ℕ) (given : List Packet) (s t : Stream) → Ran fed given s → Takes s (Ok None) t
+NoPacketIsLeft =
+    (fed : List ℕ) (given : List Packet) (s t : Stream) → Ran fed given s → Takes s (Ok None) t
     → CutsInto fed given s.held
 
 -- so two cutters that were fed the same bytes, cut anywhere, gave the same and hold the same

@@ -9,7 +9,9 @@ use Rattle.cutter.specs.declared.error.CutError.TheVariants as errors
 -- the bytes are the spellings of the packets, joined
 abbrev pub Joins : List Packet → List ℕ → Type 0
 Joins [] bytes = bytes ≡ []
-Joins (p ∷ ps) bytes = (front : List ℕ) × (rest : List ℕ) × Spells p front × IsPacket p × (bytes ≡ front ++ rest) × Joins ps rest
+Joins (p ∷ ps) bytes =
+    (front : List ℕ) × (rest : List ℕ) × Spells p front × IsPacket p × (bytes ≡ front ++ rest)
+    × Joins ps rest
 
 -- The packets written on one side are those handled on the other, followed by those in the bytes
 -- that the cutter holds and that are still in transit; no fault was found.
@@ -25,25 +27,35 @@ PipeOpens = IsPiped [] [] (record { held = []; failed = false }) []
 
 -- a packet is written: its spelling is added at the far end
 abbrev pub PipeGrows : Type 0
-PipeGrows = (written handled : List Packet) (s : Stream) (under_way bytes : List ℕ) (p : Packet) → IsPiped written handled s under_way
+PipeGrows =
+    (written handled : List Packet) (s : Stream) (under_way bytes : List ℕ) (p : Packet)
+    → IsPiped written handled s under_way
     → Spells p bytes → IsPacket p → IsPiped (written ++ p ∷ []) handled s (under_way ++ bytes)
 
 -- bytes are carried, cut anywhere
 abbrev pub PipeCarries : Type 0
-PipeCarries = (written handled : List Packet) (s : Stream) (piece under_way : List ℕ) → IsPiped written handled s (piece ++ under_way)
+PipeCarries =
+    (written handled : List Packet) (s : Stream) (piece under_way : List ℕ)
+    → IsPiped written handled s (piece ++ under_way)
     → IsPiped written handled (record s { held = s.held ++ piece }) under_way
 
 -- the next packet that the cutter gives is the next one written
 abbrev pub PipeGives : Type 0
-PipeGives = (written handled : List Packet) (s t : Stream) (under_way : List ℕ) (p : Packet) → IsPiped written handled s under_way
+PipeGives =
+    (written handled : List Packet) (s t : Stream) (under_way : List ℕ) (p : Packet)
+    → IsPiped written handled s under_way
     → Takes s (Ok (Some p)) t → IsPiped written (handled ++ p ∷ []) t under_way
 
 -- it is at its place in what was written
 abbrev pub PipeGivesNext : Type 0
-PipeGivesNext = (written handled : List Packet) (s t : Stream) (under_way : List ℕ) (p : Packet) → IsPiped written handled s under_way
+PipeGivesNext =
+    (written handled : List Packet) (s t : Stream) (under_way : List ℕ) (p : Packet)
+    → IsPiped written handled s under_way
     → Takes s (Ok (Some p)) t → slice_get written (length handled) ≡ Some p
 
 -- and it never answers a fault
 abbrev pub PipeHasNoFault : Type 0
-PipeHasNoFault = (written handled : List Packet) (s t : Stream) (under_way : List ℕ) (error : CutError) → IsPiped written handled s under_way
+PipeHasNoFault =
+    (written handled : List Packet) (s t : Stream) (under_way : List ℕ) (error : CutError)
+    → IsPiped written handled s under_way
     → Takes s (Err error) t → error ≡ errors.Memory

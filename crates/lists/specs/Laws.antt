@@ -14,4 +14,5 @@ BeginningsJoin X = (xs ys zs : List X) → IsPrefixOf xs ys → IsPrefixOf ys zs
 
 -- an identifier that is not among distinct ones may be appended to them
 abbrev pub IdentifiersStayApart : Type 0
-IdentifiersStayApart = (ids : List ℕ) (id : ℕ) → IsDistinct ids → has_id id ids ≡ false → IsDistinct (ids ++ id ∷ [])
+IdentifiersStayApart =
+    (ids : List ℕ) (id : ℕ) → IsDistinct ids → has_id id ids ≡ false → IsDistinct (ids ++ id ∷ [])

@@ -36,7 +36,8 @@ pub fn decode(alloc: Global, bytes: &[u8]) -> Result<Step, DecodeFault>
     ensures only { ReadsWhatIsSpelled bytes.now result }
 
     // Memory runs out only if it is needed.
-    ensures memory { IsErrOf result (DecodeFault.Malformed MalformedKind.Memory) → MayWantMemory bytes.now }
+    ensures memory { IsErrOf result (DecodeFault.Malformed MalformedKind.Memory)
+        → MayWantMemory bytes.now }
 {
     front_step(alloc, bytes)
 }
@@ -46,7 +47,8 @@ pub fn decode(alloc: Global, bytes: &[u8]) -> Result<Step, DecodeFault>
 fn front_step(alloc: Global, bytes: &[u8]) -> Result<Step, DecodeFault>
     ensures exact { Decodes bytes.now result }
     ensures within { IfOk result (IsWithin bytes.now) }
-    ensures memory { IsErrOf result (DecodeFault.Malformed MalformedKind.Memory) → MayWantMemory bytes.now }
+    ensures memory { IsErrOf result (DecodeFault.Malformed MalformedKind.Memory)
+        → MayWantMemory bytes.now }
 {
     match bytes {
         [] => Ok(Step::More),

@@ -35,7 +35,8 @@ pub(crate) fn append_matching(
 ) -> Result<(), AllocError>
     ensures ok { OnOk result
         (entries.new.items ≡ entries.old.items ++ matching_entries topics.now.entries filter.now) }
-    ensures err { OnErr result (entries.old.items ≡ take (length entries.old.items) entries.new.items) }
+    ensures err { OnErr result
+        (entries.old.items ≡ take (length entries.old.items) entries.new.items) }
     ensures none { matching_entries topics.now.entries filter.now ≡ [] → IsOk result }
 {
     match filter.as_topic() {
@@ -73,7 +74,8 @@ fn append_in_range(
 ) -> Result<(), AllocError>
     ensures ok { OnOk result
         (entries.new.items ≡ entries.old.items ++ matching_entries topics.now.entries filter.now) }
-    ensures err { OnErr result (entries.old.items ≡ take (length entries.old.items) entries.new.items) }
+    ensures err { OnErr result
+        (entries.old.items ≡ take (length entries.old.items) entries.new.items) }
     ensures none { matching_entries topics.now.entries filter.now ≡ [] → IsOk result }
 {
     let bounds = bounds_of(*entries.allocator(), filter.as_str());

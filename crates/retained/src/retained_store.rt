@@ -80,7 +80,8 @@ impl RetainedStore {
         // Each refusal leaves the store as it was.
         ensures full { (result ≡ Err RetainedError.RetainedFull)
             ↔ IsTrue (is_refused self.old topic payload) }
-        ensures memory { result ≡ Err RetainedError.Memory → IsNone (publication_on topic self.old) }
+        ensures memory { result ≡ Err RetainedError.Memory
+            → IsNone (publication_on topic self.old) }
         ensures removal { payload ≡ [] → IsOk result }
         ensures err { OnErr result (self.new ≡ self.old) }
     {

@@ -17,26 +17,31 @@ NodeChildren = List ℕ → Option ℕ
 -- the client's row on that side is this one
 abbrev pub SetsRow : NodeRows → NodeRows → Bool → List ℕ → Option QoS → Type 0
 SetsRow old new rest client kept =
-    (r : Bool) (c : List ℕ) → new r c ≡ (if same_side rest r && bytes_eq client c then kept else old r c)
+    (r : Bool) (c : List ℕ)
+    → new r c ≡ (if same_side rest r && bytes_eq client c then kept else old r c)
 
 -- the rows on that side are these
 abbrev pub SetsSide : NodeRows → NodeRows → Bool → (List ℕ → Option QoS) → Type 0
-SetsSide old new rest kept = (r : Bool) (c : List ℕ) → new r c ≡ (if same_side rest r then kept c else old r c)
+SetsSide old new rest kept =
+    (r : Bool) (c : List ℕ) → new r c ≡ (if same_side rest r then kept c else old r c)
 
 -- the child after the level is this one
 abbrev pub SetsChild : NodeChildren → NodeChildren → List ℕ → Option ℕ → Type 0
 SetsChild old new level below = (l : List ℕ) → new l ≡ (if bytes_eq level l then below else old l)
 
 -- a row of one node is changed
-pub record Writes (old new : Shape) (at : ℕ) (rest : Bool) (client : List ℕ) (kept : Option QoS) : Type 0 where
+pub record Writes (old new : Shape) (at : ℕ) (rest : Bool) (client : List ℕ)
+    (kept : Option QoS) : Type 0 where
   pub child : new.child ≡ old.child
   pub used : new.used ≡ old.used
   pub held :
       (k : ℕ) (r : Bool) (c : List ℕ)
-      → new.held k r c ≡ (if (k == at) && (same_side rest r && bytes_eq client c) then kept else old.held k r c)
+      → new.held k r c
+      ≡ (if (k == at) && (same_side rest r && bytes_eq client c) then kept else old.held k r c)
 
 -- the rows on one side of a node are replaced
-pub record Fills (old new : Shape) (at : ℕ) (rest : Bool) (kept : List ℕ → Option QoS) : Type 0 where
+pub record Fills (old new : Shape) (at : ℕ) (rest : Bool)
+    (kept : List ℕ → Option QoS) : Type 0 where
   pub child : new.child ≡ old.child
   pub used : new.used ≡ old.used
   pub held :
@@ -45,7 +50,8 @@ pub record Fills (old new : Shape) (at : ℕ) (rest : Bool) (kept : List ℕ →
 
 -- a child of one node is changed
 pub record Links (old new : Shape) (at : ℕ) (level : List ℕ) (below : Option ℕ) : Type 0 where
-  pub child : (k : ℕ) (l : List ℕ) → new.child k l ≡ (if (k == at) && bytes_eq level l then below else old.child k l)
+  pub child : (k : ℕ) (l : List ℕ)
+      → new.child k l ≡ (if (k == at) && bytes_eq level l then below else old.child k l)
   pub held : new.held ≡ old.held
   pub used : new.used ≡ old.used
 

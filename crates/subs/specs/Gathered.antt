@@ -26,18 +26,21 @@ groups_of entries = map (λ entry. (entry.0, told entry.1)) entries
 
 -- the QoS at each client and filter
 abbrev pub gathered : Groups → Content
-gathered groups client filter = option_and_then (λ rows. row_in rows client) (lookup (bytes_eq filter) groups)
+gathered groups client filter =
+    option_and_then (λ rows. row_in rows client) (lookup (bytes_eq filter) groups)
 
 -- these rows are put in, filter by filter
 abbrev pub all_put : Groups → Content → Content
 all_put [] content = content
 all_put (group ∷ groups) content =
-    all_put groups (λ client filter. if bytes_eq group.0 filter then row_in group.1 client else content client filter)
+    all_put groups (λ client filter. if bytes_eq group.0 filter then row_in group.1 client
+    else content client filter)
 
 -- these filters of a client are set, one by one
 abbrev pub filters_told : List ℕ → Filters → Content → Content
 filters_told client [] content = content
-filters_told client (held ∷ more) content = filters_told client more (with_row content client held.0 held.1)
+filters_told client (held ∷ more) content =
+    filters_told client more (with_row content client held.0 held.1)
 
 -- and those of all clients
 abbrev pub clients_told : Clients → Content → Content

@@ -21,14 +21,16 @@ held_in node false client = row_at node.here client
 abbrev pub child_in : Node → List ℕ → Option ℕ
 child_in node level =
     option_map (λ id. id.number)
-    (if bytes_eq level (codes "+") then node.plus else get_by (λ key. slice_cmp nat_cmp level key.items) node.named)
+    (if bytes_eq level (codes "+") then node.plus
+    else get_by (λ key. slice_cmp nat_cmp level key.items) node.named)
 
 -- the nodes of the vector
 abbrev pub shape_of : slab.Slab Node → Shape
 shape_of nodes =
     record {
       child = λ at level. option_and_then (λ node. child_in node level) (slab.get nodes at);
-      held = λ at rest client. option_and_then (λ node. held_in node rest client) (slab.get nodes at);
+      held =
+          λ at rest client. option_and_then (λ node. held_in node rest client) (slab.get nodes at);
       used = λ at. is_some (slab.get nodes at);
     }
 

@@ -19,7 +19,8 @@ greatest (Some p) (Some q) = if nat_lt (qos_number p) (qos_number q) then Some q
 abbrev pub Raises : BTreeMap (List ℕ) QoS → BTreeMap (List ℕ) QoS → (List ℕ → Option QoS) → Type 0
 Raises old new given =
     (client : List ℕ)
-    → get (slice_cmp nat_cmp) new client ≡ greatest (get (slice_cmp nat_cmp) old client) (given client)
+    → get (slice_cmp nat_cmp) new client
+    ≡ greatest (get (slice_cmp nat_cmp) old client) (given client)
 
 -- some client is given something
 abbrev pub GivesSome : (List ℕ → Option QoS) → Type 0
@@ -36,11 +37,13 @@ found_at shape at (level ∷ rest) client =
 
 -- the same after the node of a level, if there is one
 abbrev pub found_behind : Shape → Option ℕ → Levels → List ℕ → Option QoS
-found_behind shape node rest client = option_and_then (λ below. found_at shape below rest client) node
+found_behind shape node rest client =
+    option_and_then (λ below. found_at shape below rest client) node
 
 -- the same for the filters that continue with this level
 abbrev pub found_below : Shape → ℕ → List ℕ → Levels → List ℕ → Option QoS
-found_below shape at level rest client = option_and_then (λ below. found_at shape below rest client) (shape.child at level)
+found_below shape at level rest client =
+    option_and_then (λ below. found_at shape below rest client) (shape.child at level)
 
 -- a topic that begins with `$`, which is 36, is matched by no wildcard at the front (MQTT 4.7.2)
 abbrev pub found_named : Shape → ℕ → Levels → List ℕ → Option QoS
@@ -49,7 +52,8 @@ found_named shape at (level ∷ rest) client = found_below shape at level rest c
 
 abbrev pub found_from : Shape → ℕ → List ℕ → List ℕ → Option QoS
 found_from shape at topic client =
-    if starts_with 36 topic then found_named shape at (levels topic) client else found_at shape at (levels topic) client
+    if starts_with 36 topic then found_named shape at (levels topic) client
+    else found_at shape at (levels topic) client
 
 -- the same from the root, if there is one
 abbrev pub found_for : Shape → Option ℕ → List ℕ → List ℕ → Option QoS

@@ -16,11 +16,13 @@ led child root path = option_and_then (λ at. reach child at path) root
 -- where the rows of a filter are: along which levels, and whether at `#` beside the node
 abbrev pub place : Levels → Levels × Bool
 place [] = ([], false)
-place (level ∷ rest) = if is_all level rest then ([], true) else (level ∷ (place rest).0, (place rest).1)
+place (level ∷ rest) =
+    if is_all level rest then ([], true) else (level ∷ (place rest).0, (place rest).1)
 
 -- no two paths lead to one node, and each node that a path leads to is used
 pub record IsTree (child : Children) (marked : ℕ → Bool) (root : Option ℕ) : Type 0 where
-  pub one_way : (p q : Levels) (at : ℕ) → led child root p ≡ Some at → led child root q ≡ Some at → p ≡ q
+  pub one_way : (p q : Levels) (at : ℕ) → led child root p ≡ Some at
+      → led child root q ≡ Some at → p ≡ q
   pub used : (p : Levels) (at : ℕ) → led child root p ≡ Some at → marked at ≡ true
 
 -- some path leads to the node

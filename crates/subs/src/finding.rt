@@ -26,8 +26,10 @@ impl Nodes {
     /// Raises each client of a filter that matches the topic to its QoS there. No wildcard at the
     /// front matches a topic that begins with `$` (MQTT 4.7.2).
     pub(crate) fn find(&self, topic: &[u8], found: &mut Found) -> Result<(), AllocError>
-        ensures ok { OnOk result (Raises found.old found.new (found_for (shape self.now) (root_of self.now) topic.now)) }
-        ensures some { OnErr result (GivesSome (found_for (shape self.now) (root_of self.now) topic.now)) }
+        ensures ok { OnOk result
+            (Raises found.old found.new (found_for (shape self.now) (root_of self.now) topic.now)) }
+        ensures some { OnErr result
+            (GivesSome (found_for (shape self.now) (root_of self.now) topic.now)) }
     {
         let Some(root) = self.root else {
             return Ok(());
@@ -43,8 +45,10 @@ impl Nodes {
     #[cycle(find_at)]
     fn find_at(&self, at: NodeId, topic: Option<&[u8]>, found: &mut Found) -> Result<(), AllocError>
         ensures ok { OnOk result
-            (Raises found.old found.new (found_at (shape self.now) at.number (levels_of topic.entry))) }
-        ensures some { OnErr result (GivesSome (found_at (shape self.now) at.number (levels_of topic.entry))) }
+            (Raises found.old found.new
+            (found_at (shape self.now) at.number (levels_of topic.entry))) }
+        ensures some { OnErr result
+            (GivesSome (found_at (shape self.now) at.number (levels_of topic.entry))) }
     {
         let Some(node) = self.slab.get(at.number) else {
             return Ok(());
@@ -67,9 +71,12 @@ impl Nodes {
         found: &mut Found,
     ) -> Result<(), AllocError>
         ensures ok { OnOk result
-            (Raises found.old found.new (found_behind (shape self.now) (option_map (λ id. id.number) below) (levels_of behind.entry))) }
+            (Raises found.old found.new
+            (found_behind (shape self.now) (option_map (λ id. id.number) below)
+            (levels_of behind.entry))) }
         ensures some { OnErr result
-            (GivesSome (found_behind (shape self.now) (option_map (λ id. id.number) below) (levels_of behind.entry))) }
+            (GivesSome (found_behind (shape self.now) (option_map (λ id. id.number) below)
+            (levels_of behind.entry))) }
     {
         match below {
             Some(below) => self.find_at(below, behind, found),

@@ -27,7 +27,8 @@ pub(crate) fn gather(
     alloc: Global,
     clients: &BTreeMap<ClientId, BTreeMap<Filter, QoS>>,
 ) -> Result<Groups, AllocError>
-    ensures { IfOk result (λ groups. gathered (groups_of groups.entries) ≡ content_of (listed clients.now.entries)) }
+    ensures { IfOk result
+        (λ groups. gathered (groups_of groups.entries) ≡ content_of (listed clients.now.entries)) }
 {
     let mut groups = IndexMap::new(alloc);
     for (client, filters) in clients {
@@ -74,7 +75,8 @@ fn add_row(
 
 /// Returns the nodes of these filters.
 pub(crate) fn nodes_of(alloc: Global, groups: Groups) -> Result<Nodes, AllocError>
-    ensures content { IfOk result (λ nodes. content_in nodes ≡ gathered (groups_of groups.entries)) }
+    ensures content { IfOk result
+        (λ nodes. content_in nodes ≡ gathered (groups_of groups.entries)) }
     ensures sound { IfOk result IsSound }
 {
     let mut nodes = Nodes::new(alloc);

@@ -27,7 +27,8 @@ impl Nodes {
         ensures rows { rows_of self.new ≡ rows_of self.old }
         ensures sound { IsSound self.new }
         ensures root { self.new.root ≡ self.old.root }
-        ensures none { OnErr result ((path : Levels) (client : List ℕ) → LeadsTo self.old path at.number
+        ensures none { OnErr result
+            ((path : Levels) (client : List ℕ) → LeadsTo self.old path at.number
             → rows_of self.old (path ++ levels_of text.entry) client ≡ None) }
     {
         let Some(text) = text else {

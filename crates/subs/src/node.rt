@@ -56,7 +56,8 @@ impl Node {
         level: &[u8],
         child: NodeId,
     ) -> Result<(), AllocError>
-        ensures ok { OnOk result (SetsChild (child_in self.old) (child_in self.new) level.now (Some child.number)) }
+        ensures ok { OnOk result
+            (SetsChild (child_in self.old) (child_in self.new) level.now (Some child.number)) }
         ensures err { OnErr result (child_in self.new ≡ child_in self.old) }
         ensures rows { held_in self.new ≡ held_in self.old }
     {
@@ -88,7 +89,8 @@ impl Node {
         client: &ClientId,
         qos: QoS,
     ) -> Result<(), AllocError>
-        ensures ok { OnOk result (SetsRow (held_in self.old) (held_in self.new) rest client.now (Some qos)) }
+        ensures ok { OnOk result
+            (SetsRow (held_in self.old) (held_in self.new) rest client.now (Some qos)) }
         ensures err { OnErr result (held_in self.new ≡ held_in self.old) }
         ensures absent { OnErr result (held_in self.old rest client.now ≡ None) }
         ensures child { child_in self.new ≡ child_in self.old }

@@ -42,7 +42,9 @@ impl Nodes {
     /// the rows as they were, and removes the nodes that it made.
     pub(crate) fn set(&mut self, text: &[u8], client: &ClientId, qos: QoS) -> Result<(), AllocError>
         requires { IsSound self.old }
-        ensures ok { OnOk result (rows_of self.new ≡ with_asked (rows_of self.old) (levels text.now) client.now (Some qos)) }
+        ensures ok { OnOk result
+            (rows_of self.new
+            ≡ with_asked (rows_of self.old) (levels text.now) client.now (Some qos)) }
         ensures err { OnErr result (rows_of self.new ≡ rows_of self.old) }
         ensures absent { OnErr result (rows_of self.old (levels text.now) client.now ≡ None) }
         ensures sound { IsSound self.new }
@@ -59,7 +61,8 @@ impl Nodes {
     /// nodes that hold nothing may stay.
     pub(crate) fn put(&mut self, text: &[u8], rows: Rows) -> Result<(), AllocError>
         requires { IsSound self.old }
-        ensures ok { OnOk result (rows_of self.new ≡ with_rows (rows_of self.old) (levels text.now) (row_at rows)) }
+        ensures ok { OnOk result
+            (rows_of self.new ≡ with_rows (rows_of self.old) (levels text.now) (row_at rows)) }
         ensures sound { OnOk result (IsSound self.new) }
     {
         let root = self.make_root()?;
@@ -73,7 +76,8 @@ impl Nodes {
     pub(crate) fn clear(&mut self, text: &[u8], client: &ClientId) -> bool
         requires { IsSound self.old }
         ensures found { IsTrue result ↔ IsSome (rows_of self.old (levels text.now) client.now) }
-        ensures after { rows_of self.new ≡ with_asked (rows_of self.old) (levels text.now) client.now None }
+        ensures after { rows_of self.new
+            ≡ with_asked (rows_of self.old) (levels text.now) client.now None }
         ensures sound { IsSound self.new }
     {
         let Some(root) = self.root else {
@@ -113,7 +117,9 @@ impl Nodes {
     ) -> Result<(), AllocError>
         requires sound { IsSound self.old }
         requires root { root_of self.old ≡ Some root.number }
-        ensures ok { OnOk result (rows_of self.new ≡ with_asked (rows_of self.old) (levels text.now) client.now (Some qos)) }
+        ensures ok { OnOk result
+            (rows_of self.new
+            ≡ with_asked (rows_of self.old) (levels text.now) client.now (Some qos)) }
         ensures err { OnErr result (rows_of self.new ≡ rows_of self.old) }
         ensures absent { OnErr result (rows_of self.old (levels text.now) client.now ≡ None) }
         ensures sound { IsSound self.new }

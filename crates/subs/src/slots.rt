@@ -66,7 +66,8 @@ pub(crate) fn link(
     child: NodeId,
 ) -> Result<(), AllocError>
     requires { (shape_of nodes.old).used at.number ≡ true }
-    ensures ok { OnOk result (Links (shape_of nodes.old) (shape_of nodes.new) at.number level.now (Some child.number)) }
+    ensures ok { OnOk result
+        (Links (shape_of nodes.old) (shape_of nodes.new) at.number level.now (Some child.number)) }
     ensures err { OnErr result (shape_of nodes.new ≡ shape_of nodes.old) }
 {
     match nodes.get_mut(at.number) {
@@ -94,9 +95,12 @@ pub(crate) fn set_at(
     qos: QoS,
 ) -> Result<(), AllocError>
     requires { (shape_of nodes.old).used place.node.number ≡ true }
-    ensures ok { OnOk result (Writes (shape_of nodes.old) (shape_of nodes.new) place.node.number place.rest client.now (Some qos)) }
+    ensures ok { OnOk result
+        (Writes (shape_of nodes.old)
+        (shape_of nodes.new) place.node.number place.rest client.now (Some qos)) }
     ensures err { OnErr result (shape_of nodes.new ≡ shape_of nodes.old) }
-    ensures absent { OnErr result ((shape_of nodes.old).held place.node.number place.rest client.now ≡ None) }
+    ensures absent { OnErr result
+        ((shape_of nodes.old).held place.node.number place.rest client.now ≡ None) }
 {
     match nodes.get_mut(place.node.number) {
         Some(node) => node.set(alloc, place.rest, client, qos),
@@ -107,7 +111,8 @@ pub(crate) fn set_at(
 /// Puts these rows in place of those at a place.
 pub(crate) fn put_at(nodes: &mut Slab<Node>, place: Place, rows: Rows)
     requires { (shape_of nodes.old).used place.node.number ≡ true }
-    ensures { Fills (shape_of nodes.old) (shape_of nodes.new) place.node.number place.rest (row_at rows) }
+    ensures { Fills (shape_of nodes.old) (shape_of nodes.new) place.node.number place.rest
+        (row_at rows) }
 {
     if let Some(node) = nodes.get_mut(place.node.number) {
         node.put(place.rest, rows);
@@ -117,8 +122,10 @@ pub(crate) fn put_at(nodes: &mut Slab<Node>, place: Place, rows: Rows)
 /// Takes the client's row at a place out, and says whether there was one.
 pub(crate) fn clear_at(nodes: &mut Slab<Node>, place: Place, client: &ClientId) -> bool
     requires { (shape_of nodes.old).used place.node.number ≡ true }
-    ensures found { result ≡ is_some ((shape_of nodes.old).held place.node.number place.rest client.now) }
-    ensures after { Writes (shape_of nodes.old) (shape_of nodes.new) place.node.number place.rest client.now None }
+    ensures found { result
+        ≡ is_some ((shape_of nodes.old).held place.node.number place.rest client.now) }
+    ensures after { Writes (shape_of nodes.old)
+        (shape_of nodes.new) place.node.number place.rest client.now None }
 {
     match nodes.get_mut(place.node.number) {
         Some(node) => node.clear(place.rest, client),

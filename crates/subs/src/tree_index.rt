@@ -37,7 +37,8 @@ impl Model for TreeIndex {
 
     ghost view = { λ index. index.clients };
 
-    ghost invariant = { λ index. (content_of index.clients ≡ content_in index.nodes) × IsSound index.nodes };
+    ghost invariant = { λ index. (content_of index.clients ≡ content_in index.nodes)
+        × IsSound index.nodes };
 }
 
 impl SubIndex for TreeIndex {
@@ -107,7 +108,8 @@ impl TreeIndex {
 /// Removes the client's subscriptions of these filters.
 fn clear_all(nodes: &mut Nodes, filters: &BTreeMap<Filter, QoS>, client: &ClientId)
     requires { IsSound nodes.old }
-    ensures after { content_in nodes.new ≡ cleared client.now filters.now.entries (content_in nodes.old) }
+    ensures after { content_in nodes.new
+        ≡ cleared client.now filters.now.entries (content_in nodes.old) }
     ensures sound { IsSound nodes.new }
 {
     for (filter, _) in filters {

@@ -43,7 +43,8 @@ pub record IsGranted (content : Content) (topic : List ℕ) (rows : List Row) : 
 -- some client has a filter that matches the topic
 abbrev pub IsWanted : Content → List ℕ → Type 0
 IsWanted content topic =
-    (client : List ℕ) × (filter : List ℕ) × (qos : QoS) × (content client filter ≡ Some qos) × Matches filter topic
+    (client : List ℕ) × (filter : List ℕ) × (qos : QoS) × (content client filter ≡ Some qos)
+    × Matches filter topic
 
 -- those rows come after the ones that were there
 abbrev pub AppendsGranted : Content → List ℕ → List Row → List Row → Type 0

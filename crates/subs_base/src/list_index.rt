@@ -114,7 +114,8 @@ impl ListIndex {
         filters: BTreeMap<Filter, QoS>,
     ) -> Result<(), AllocError>
         ensures ok { OnOk result
-            (content_of self.new ≡ with_filters (content_of self.old) client.now (get (slice_cmp nat_cmp) filters)) }
+            (content_of self.new ≡ with_filters (content_of self.old) client.now
+            (get (slice_cmp nat_cmp) filters)) }
         ensures err { OnErr result (content_of self.new ≡ content_of self.old) }
     {
         if filters.is_empty() {
