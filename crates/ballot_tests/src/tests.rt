@@ -1,3 +1,4 @@
+mod ballots;
 mod changes;
 mod commands;
 mod counting;

@@ -1,5 +1,4 @@
 mod answers;
-mod ballots;
 mod changes;
 mod cutting;
 mod groups;

@@ -22,7 +22,9 @@ FitsItsQoS (Entry.Finished made p id start (Some release) finish) = is_acknowled
 FitsItsQoS _ = Unit {0}
 
 abbrev pub EntriesFitTheirQoS : Type 0
-EntriesFitTheirQoS = (limits : Limits) (past : Past) (c : Client) → AllByRecursion FitsItsQoS (entries_of limits past c)
+EntriesFitTheirQoS =
+    (limits : Limits) (past : Past) (c : Client)
+    → AllByRecursion FitsItsQoS (entries_of limits past c)
 
 -- b is sent x at QoS 1 with identifier 1 and y at QoS 2 with identifier 2. A PUBREC of 1 and a
 -- PUBACK of 2 are nothing: when b comes back it is sent both again
@@ -41,14 +43,20 @@ AnswersOfAnotherQoSAreNothing =
 -- a client's own or is the beginning of it, is nothing: b continues as it was.
 abbrev pub ExpelsOfNobodyAreNothing : Type 0
 ExpelsOfNobodyAreNothing =
-    Gives usual_limits (subscribed_at levels.ExactlyOnce ++ connect 4 (codes "bc") ∷ gets 2 (publish (deliveries.ExactlyOnce false 1) false (codes "x")) ∷ [])
-    (commands.Expel (codes "c") ∷ commands.Expel [] ∷ commands.Expel (0 ∷ []) ∷ commands.Expel (codes "ba")
-    ∷ gets 1 (packets.Pubrec 1) ∷ commands.Expel (codes "bc") ∷ gets 1 (packets.Pubcomp 1) ∷ gets 1 packets.Pingreq ∷ [])
-    ([] ∷ [] ∷ [] ∷ [] ∷ (sends 1 (packets.Pubrel 1) ∷ []) ∷ (Close (nth 4) ∷ []) ∷ [] ∷ (sends 1 packets.Pingresp ∷ []) ∷ [])
+    Gives usual_limits (subscribed_at levels.ExactlyOnce ++ connect 4 (codes "bc")
+    ∷ gets 2 (publish (deliveries.ExactlyOnce false 1) false (codes "x")) ∷ [])
+    (commands.Expel (codes "c") ∷ commands.Expel [] ∷ commands.Expel (0 ∷ [])
+    ∷ commands.Expel (codes "ba")
+    ∷ gets 1 (packets.Pubrec 1) ∷ commands.Expel (codes "bc") ∷ gets 1 (packets.Pubcomp 1)
+    ∷ gets 1 packets.Pingreq ∷ [])
+    ([] ∷ [] ∷ [] ∷ [] ∷ (sends 1 (packets.Pubrel 1) ∷ []) ∷ (Close (nth 4) ∷ []) ∷ []
+    ∷ (sends 1 packets.Pingresp ∷ []) ∷ [])
 
 -- the session of a client that is away is removed too: what waits for it is sent to no client, and
 -- when it comes back a new session begins
 abbrev pub ExpelledWhileAway : Type 0
 ExpelledWhileAway =
-    Gives usual_limits (subscribed_at levels.ExactlyOnce ++ commands.Lost (nth 1) ∷ gets 2 (publish (deliveries.ExactlyOnce false 1) false (codes "x")) ∷ [])
-    (commands.Expel b ∷ commands.Expel b ∷ connect 3 b ∷ []) ([] ∷ [] ∷ (sends 3 (connack false) ∷ []) ∷ [])
+    Gives usual_limits (subscribed_at levels.ExactlyOnce ++ commands.Lost (nth 1)
+    ∷ gets 2 (publish (deliveries.ExactlyOnce false 1) false (codes "x")) ∷ [])
+    (commands.Expel b ∷ commands.Expel b ∷ connect 3 b ∷ [])
+    ([] ∷ [] ∷ (sends 3 (connack false) ∷ []) ∷ [])

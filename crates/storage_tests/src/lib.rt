@@ -3,8 +3,6 @@
 #![tactic(auto)]
 
 #[cfg(test)]
-mod entries;
-#[cfg(test)]
 mod indexes;
 #[cfg(test)]
 mod laws;

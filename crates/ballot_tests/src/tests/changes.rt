@@ -3,8 +3,8 @@
 use super::pairs::*;
 use super::replicas::{shows, takes};
 use super::stories::{Change, go};
-use ballot::machine::TallyCommand;
-use ballot::{Body, Role};
+use master::ballot::machine::TallyCommand;
+use master::ballot::{Body, Role};
 use std::alloc::Global;
 
 /// Says whether node 2, given ballot 2, fetches and installs the log.

@@ -2,8 +2,8 @@
 
 use super::replicas::*;
 use super::stories::{Story, goes};
-use ballot::machine::{Tally, TallyCommand};
-use ballot::{Body, Effect, ProposeError, Replica, Role};
+use master::ballot::machine::{Tally, TallyCommand};
+use master::ballot::{Body, Effect, ProposeError, Replica, Role};
 
 // Says whether a replica takes these commands.
 fn take(

@@ -3,8 +3,8 @@
 use super::pairs::*;
 use super::replicas::*;
 use super::stories::{Change, Story, go, goes};
-use ballot::machine::{Tally, TallyCommand};
-use ballot::{Body, Effect, Log, Replica, Role};
+use master::ballot::machine::{Tally, TallyCommand};
+use master::ballot::{Body, Effect, Log, Replica, Role};
 use std::alloc::Global;
 
 // The total 5, frozen.

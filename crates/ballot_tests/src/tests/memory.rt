@@ -4,8 +4,8 @@
 // counted.
 
 use super::replicas::{appends, gives, logs, made, shows};
-use ballot::machine::{Machine, Tally, TallyCommand, ThawFault};
-use ballot::{Effect, ProposeError, Replica, Role};
+use master::ballot::machine::{Machine, Tally, TallyCommand, ThawFault};
+use master::ballot::{Effect, ProposeError, Replica, Role};
 use std::alloc::Global;
 use std::test::*;
 

@@ -1,7 +1,7 @@
 use super::replicas::{made, shows};
 use super::stories::{Story, goes};
-use ballot::machine::Tally;
-use ballot::{OpeningError, Replica, Role};
+use master::ballot::machine::Tally;
+use master::ballot::{OpeningError, Replica, Role};
 use std::alloc::Global;
 
 // Says whether node 1 does not open, for its members.

@@ -1,8 +1,8 @@
 // Two nodes, and what came out of them.
 
 use super::replicas::{hears, made};
-use ballot::machine::{Memory, Tally, TallyCommand};
-use ballot::{Body, Effect, Members, Message, OpeningError, Replica};
+use master::ballot::machine::{Memory, Tally, TallyCommand};
+use master::ballot::{Body, Effect, Members, Message, OpeningError, Replica};
 use std::alloc::Global;
 
 /// Nodes 1 and 2, and what their calls handed out.
@@ -71,7 +71,7 @@ fn is_heard(pair: &mut Pair, receiver: u8, message: Message<TallyCommand>) -> bo
     }
 }
 
-/// The last message goes to its receiver. What kind it is, is the result.
+/// Delivers the last message to its receiver, and returns its kind; `halted` if the receiver stops.
 pub fn hand_on(pair: &mut Pair) -> &'static str {
     let Some(Effect::To(receiver, message)) = pair.out.pop() else {
         return "nothing";

@@ -1,7 +1,7 @@
 // Replicas of counting machines, and small questions that are asked of them.
 
-use ballot::machine::{Memory, Tally, TallyCommand};
-use ballot::{Body, Config, Effect, Members, Message, OpeningError, Replica, Role};
+use master::ballot::machine::{Memory, Tally, TallyCommand};
+use master::ballot::{Body, Config, Effect, Members, Message, OpeningError, Replica, Role};
 use std::alloc::Global;
 
 /// Returns a configuration with these members and this primary.
@@ -45,7 +45,7 @@ pub fn hears(
     replica.on(Message { from, body }, out).is_ok()
 }
 
-/// Ballot, role, held and committed places of a replica that runs.
+/// Says whether a replica runs with this ballot and role, and these held and committed places.
 pub fn shows(replica: &Replica<Tally>, ballot: u64, role: Role, held: u64, committed: u64) -> bool {
     let status = replica.status();
     let place = status.held == held && status.committed == committed;

@@ -3,8 +3,8 @@
 use super::pairs::{Pair, open};
 use super::replicas::made;
 use super::{changes, commands, cutting, opening};
-use ballot::machine::{Tally, TallyCommand};
-use ballot::{Effect, Replica};
+use master::ballot::machine::{Tally, TallyCommand};
+use master::ballot::{Effect, Replica};
 use std::alloc::Global;
 
 /// What a replica is to go through.

@@ -112,12 +112,15 @@ fn are_routed(alloc: Global, broker: &mut BrokerMachine, sent: u8) -> bool {
     true
 }
 
+/// Says whether a broker with the wide window sends 17 publications at once.
 pub(crate) fn sends_seventeen(alloc: Global, broker: &mut BrokerMachine) -> bool {
     other_answer(alloc, broker, BEFORE).is_none()
         && are_routed(alloc, broker, 17)
         && other_answer(alloc, broker, OF_SEVENTEEN).is_none()
 }
 
+/// Says whether a broker with the narrow window sends 16, and the last once a PUBACK frees an
+/// identifier.
 pub(crate) fn frees_its_identifier(alloc: Global, broker: &mut BrokerMachine) -> bool {
     other_answer(alloc, broker, BEFORE).is_none()
         && are_routed(alloc, broker, 16)

@@ -47,6 +47,7 @@ fn is_answered<I: SubIndex>(alloc: Global, index: &mut I, call: Call<'_>) -> boo
     }
 }
 
+/// Sets a subscription; none if memory ran out.
 pub(crate) fn set<I: SubIndex>(
     alloc: Global,
     index: &mut I,
@@ -59,6 +60,7 @@ pub(crate) fn set<I: SubIndex>(
     index.set(&client, &filter, qos).ok()
 }
 
+/// Clears a subscription and says whether it was there; none if memory ran out.
 pub(crate) fn clear<I: SubIndex>(
     alloc: Global,
     index: &mut I,
@@ -70,6 +72,7 @@ pub(crate) fn clear<I: SubIndex>(
     Some(index.clear(&client, &filter))
 }
 
+/// Drops the subscriptions of a client; none if memory ran out.
 pub(crate) fn drop_client<I: SubIndex>(alloc: Global, index: &mut I, client: &str) -> Option<()> {
     let client = ClientId::new(alloc, client).ok()?;
     index.drop_client(&client);
@@ -86,6 +89,7 @@ fn is_granted<I: SubIndex>(alloc: Global, index: &I, topic: &str, wanted: &[Gran
     }
 }
 
+/// Says whether these rows are the wanted ones, in order.
 pub(crate) fn are_wanted(rows: &[(ClientId, QoS)], wanted: &[Grant<'_>]) -> bool {
     if rows.len() != wanted.len() {
         return false;

@@ -166,6 +166,7 @@ fn inbound(session: &mut Session, number: u16, arrival: Arrival) -> bool {
     }
 }
 
+/// Says whether an identifier is one of those that were received; 0 is none.
 pub(crate) fn is_received(session: &Session, number: u16) -> bool {
     id_of(number).is_some_and(|id| session.is_received(id))
 }
@@ -187,7 +188,7 @@ fn unsubscribe(alloc: Global, session: &mut Session, text: &str, count: usize) -
     !session.has_subscription(&filter) && session.subscription_count() == count
 }
 
-// At which QoS `t/1` is granted; none if there was no memory for the topic.
+/// Returns at which QoS `t/1` is granted; none if there was no memory for the topic.
 pub(crate) fn granted(alloc: Global, session: &Session) -> Option<Option<QoS>> {
     Some(session.granted(&topic(alloc)?))
 }

@@ -1,4 +1,4 @@
-use super::groups::config;
+use super::replicas::config;
 use master::{Activation, AssignError, Master};
 use std::alloc::Global;
 
