@@ -2,12 +2,14 @@
 pub mod Ballots
 pub mod Begun
 pub mod Chosen
+pub mod Extending
 pub mod GroupSteps
 pub mod Keeps
 pub mod Masters
 pub mod Moves
 pub mod OpeningHistory
 pub mod Own
+pub mod Saying
 pub mod Serves
 pub mod Sound
 pub mod ToldLengths

@@ -17,7 +17,7 @@ use Rattle.ballot_base.specs.Losses.{IsQuiet, halted, one_more}
 use Rattle.ballot_base.specs.Sending.{Outcome, message_to_followed}
 use Rattle.ballot_base.specs.Applying.{applied_to}
 use Rattle.ballot_base.specs.Serving.{commit, commit_at, least, most_places, added}
-use Rattle.ballot_base.specs.Changing.{on_activated}
+use Rattle.ballot_base.specs.Activating.{on_activated}
 use Rattle.ballot_base.proofs.ChangeRows.{on_activated-adds}
 use Rattle.ballot_base.proofs.StepRows.{added-commits, added-log, commit-stopped}
 use Rattle.ballot_base.specs.Sends.{Sends}

@@ -16,7 +16,8 @@ use Rattle.ballot_base.specs.Taking.{taken}
 use Rattle.ballot_base.specs.Unread.{reads_none}
 use Rattle.ballot.proofs.Heeding.{read_or_none}
 use Rattle.ballot_base.specs.Sending.{Outcome, message_to, message_to_each, master}
-use Rattle.ballot_base.specs.Changing.{waits_for, lacks, on_new_ballot, on_join, installs, on_state, on_install, activates, on_installed, on_superseded}
+use Rattle.ballot_base.specs.Changing.{waits_for, lacks, on_new_ballot, on_join, installs, on_state, on_install}
+use Rattle.ballot_base.specs.Activating.{activates, on_installed, on_superseded}
 use Rattle.ballot_base.proofs.ChangeRows.{on_new_ballot-joins, on_join-answers, on_state-takes, on_install-takes, on_install-answers, on_installed-counts, on_superseded-leaves}
 use Rattle.ballot_base.specs.Sends.{Sends}
 use Rattle.ballot.specs.Inside.{Heard, Says, Went}

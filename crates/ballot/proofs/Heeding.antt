@@ -20,7 +20,8 @@ use Rattle.ballot_base.specs.Taking.{taken, with_places, with_snapshot}
 use Rattle.ballot_base.specs.Unread.{is_unread, reads_none}
 use Rattle.ballot_base.proofs.LogsTaken.{reads_none-is, reads_none-low, reads_none-not, taken-none, taken-places, taken-reads}
 use Rattle.ballot_base.proofs.LongerLogs.{places_pushed}
-use Rattle.ballot_base.specs.Changing.{waits_for, lacks, on_state, on_install, on_installed, on_activated, on_superseded, installs, on_tick_fetching}
+use Rattle.ballot_base.specs.Changing.{waits_for, lacks, on_state, on_install, installs, on_tick_fetching}
+use Rattle.ballot_base.specs.Activating.{on_installed, on_activated, on_superseded}
 use Rattle.ballot_base.specs.Protocol.{received, ticked}
 use Rattle.ballot_base.proofs.StepRows.{added-log, commit_at-goes, commit_at-stays}
 use Rattle.ballot_base.proofs.ChangeRows.{on_new_ballot-joins, on_new_ballot-stays, on_join-stays, on_join-answers, on_state-stays, on_state-takes, on_install-takes, on_install-answers, on_install-stays, on_installed-stays, on_installed-counts, on_superseded-stays, on_superseded-leaves, on_activated-stays, on_activated-adds}

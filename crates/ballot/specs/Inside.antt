@@ -22,7 +22,8 @@ pub record Says {S C O : Type 0} (old : CountedReplica S C) (wanted : List (Effe
 
 -- the step was done, or one with losses that were counted, and only if there was something to lose:
 -- a message, a place, or a snapshot that has to be read and does not thaw
-pub record Heard {S C O : Type 0} (rules : Rules S C O) (old : CountedReplica S C) (outcome : Outcome S C O)
+pub record Heard {S C O : Type 0} (rules : Rules S C O) (old : CountedReplica S C)
+    (outcome : Outcome S C O)
     (unread : Bool) (new : CountedReplica S C) (before behind : List (Effect C O)) : Type 0 where
   pub given : List (Effect C O)
   pub appended : behind ≡ before ++ given
@@ -53,6 +54,7 @@ pub record Begins {S C O : Type 0} (rules : Rules S C O) (old new : CountedRepli
   pub state : new.state ≡ (commit rules old.state).state
   pub sends : (front : Log C) (last : C) → old.state.log ≡ pushed front last →
       Sends before behind
-      (message_to_followed O old.state.id (Append old.state.joined (places front) last) old.state.progress
+      (message_to_followed O old.state.id
+      (Append old.state.joined (places front) last) old.state.progress
       ++ (commit rules old.state).effects) whole
   pub counted : new.losses ≡ (if whole then old.losses else one_more old.losses)

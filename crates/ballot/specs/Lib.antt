@@ -3,6 +3,7 @@ pub mod Inside
 pub mod Refusals
 pub use Rattle.ballot_base.specs.Applying
 pub use Rattle.ballot_base.specs.Changing
+pub use Rattle.ballot_base.specs.Activating
 pub use Rattle.ballot_base.specs.Cutting
 pub use Rattle.ballot_base.specs.LawfulConfig
 pub use Rattle.ballot_base.specs.Logs

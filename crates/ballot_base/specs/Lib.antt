@@ -1,3 +1,4 @@
+pub mod Activating
 pub mod Applying
 pub mod Changing
 pub mod Cutting

@@ -38,7 +38,8 @@ Steps rules old outcome new given =
     ⊎ (Loses rules old.state outcome new.state given × (new.losses ≡ one_more old.losses))
 
 -- the step was done, perhaps with messages missing, which was counted
-pub record Done {S C O : Type 0} (old : CountedReplica S C) (outcome : Outcome S C O) (new : CountedReplica S C)
+pub record Done {S C O : Type 0} (old : CountedReplica S C) (outcome : Outcome S C O)
+    (new : CountedReplica S C)
     (before behind : List (Effect C O)) : Type 0 where
   pub given : List (Effect C O)
   pub appended : behind ≡ before ++ given
@@ -56,7 +57,8 @@ pub record IsQuiet {S C O : Type 0} (old : ReplicaState S C) (outcome : Outcome 
 
 -- a call's effects were appended to what was there, and they are those of the step
 pub record Stepped {S C O : Type 0} (rules : Rules S C O) (old : CountedReplica S C)
-    (outcome : Outcome S C O) (new : CountedReplica S C) (before behind : List (Effect C O)) : Type 0 where
+    (outcome : Outcome S C O) (new : CountedReplica S C)
+    (before behind : List (Effect C O)) : Type 0 where
   pub given : List (Effect C O)
   pub appended : behind ≡ before ++ given
   pub steps : Steps rules old outcome new given

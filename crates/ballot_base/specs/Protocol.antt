@@ -8,7 +8,8 @@ use Rattle.ballot_base.specs.declared.status.Role.{Role}
 use Rattle.ballot_base.specs.declared.status.Role.TheVariants.{Backup, Fetching, Installing, Active}
 use Rattle.ballot_base.specs.Sending.{Outcome, nothing_done}
 use Rattle.ballot_base.specs.Serving.{proposed, on_append, on_held, on_commit, on_tick_active}
-use Rattle.ballot_base.specs.Changing.{on_new_ballot, on_join, on_state, on_install, on_installed, on_activated, on_superseded, on_tick_fetching, on_tick_installing}
+use Rattle.ballot_base.specs.Changing.{on_new_ballot, on_join, on_state, on_install, on_tick_fetching, on_tick_installing}
+use Rattle.ballot_base.specs.Activating.{on_installed, on_activated, on_superseded}
 use Rattle.ballot_base.specs.Replica.{ReplicaState}
 
 -- the input of a replica in one step

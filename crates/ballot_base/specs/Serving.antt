@@ -31,7 +31,8 @@ commit_at {O = O} rules r held =
     if nat_lt r.committed held
     then record {
       state = applied_to rules r held;
-      effects = outputs_to rules r held ++ message_to_followed O r.id (Commit r.joined held) r.progress;
+      effects =
+          outputs_to rules r held ++ message_to_followed O r.id (Commit r.joined held) r.progress;
     }
     else nothing_done O r
 

@@ -131,7 +131,8 @@ impl<C: Drop> Log<C> {
     pub fn take_rest(&mut self, other: Log<C>)
         requires above { other.base ≤ self.old.base }
         requires within { self.old.base ≤ places other }
-        ensures { self.new ≡ record self.old { rest = drop (self.old.base - other.base) other.rest } }
+        ensures { self.new
+            ≡ record self.old { rest = drop (self.old.base - other.base) other.rest } }
     {
         let count = (self.base - other.base) as usize;
         self.rest = other.rest;

@@ -82,7 +82,8 @@ pub fn send_appends<M: Machine>(
     out: &mut Vec<Effect<M::Command, M::Output>>,
 ) -> bool
     ensures { Sends out.old.items out.new.items
-        (message_to_followed M.Output from (Body.Append ballot place command.now) progress.now) result }
+        (message_to_followed M.Output from (Body.Append ballot place command.now) progress.now)
+        result }
 {
     let mut whole = true;
     for reached in progress {

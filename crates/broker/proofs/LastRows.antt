@@ -10,7 +10,7 @@ use Rattle.std.specs.Map.{keys_of}
 use Rattle.std.proofs.lemmas.Cmp.{nat_list_cmp_total}
 use Rattle.session_base.specs.Counted.{keep, last_of}
 use Rattle.broker_tables.specs.broker_spec.Place.{by_bytes}
-use Rattle.broker_form.specs.Form.{is_behind}
+use Rattle.broker_form.specs.Follows.{is_behind}
 
 less : (o : Ordering) → is_lt o ≡ true → o ≡ Less
 less Less e = refl

@@ -11,7 +11,7 @@ use Rattle.broker_tables.proofs.of_broker_base.ConnectionsOfSessions.{same_turne
 use Rattle.broker_tables.specs.broker_rows.Owners.{owners_in, owned_by}
 use Rattle.broker_tables.proofs.of_broker_rows.OwnersRow.{on_is}
 use Rattle.session_base.specs.Counted.{last_of}
-use Rattle.broker_form.specs.Form.{is_behind, is_taken, row_follows}
+use Rattle.broker_form.specs.Follows.{is_behind, is_taken, row_follows}
 
 abbrev Row : Type 0
 Row = Client × ClientSession

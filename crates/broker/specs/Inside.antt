@@ -23,11 +23,13 @@ ArePayloads content = AllByRecursion (λ row. length row.1.payload < 4294967296)
 
 -- the map of connections holds those of the sessions
 abbrev pub AreOwned : Rows → Type 0
-AreOwned rows = (x : ConnectionName) → owners_at rows.owners.entries x ≡ owners_in rows.sessions.entries x
+AreOwned rows =
+    (x : ConnectionName) → owners_at rows.owners.entries x ≡ owners_in rows.sessions.entries x
 
 -- the broker with this window, these sessions and retained publications
 abbrev pub state_read : ℕ × Rows × RetainedTopics → State
-state_read (window, rows, retained) = record { window = window; sessions = rows.sessions.entries; retained = retained }
+state_read (window, rows, retained) =
+    record { window = window; sessions = rows.sessions.entries; retained = retained }
 
 -- the QoS of each filter of a session, the last of a filter counting
 abbrev pub last_held : List HeldFilter → List ℕ → Option QoS
@@ -36,4 +38,5 @@ last_held held = update_all bytes_eq (λ _. None) held
 -- the filters of all these sessions are put in, client by client
 abbrev pub all_held : Sessions → Content → Content
 all_held [] content = content
-all_held (row ∷ rows) content = all_held rows (with_filters content row.0 (last_held row.1.state.subscriptions))
+all_held (row ∷ rows) content =
+    all_held rows (with_filters content row.0 (last_held row.1.state.subscriptions))

@@ -8,7 +8,8 @@ use Rattle.broker_tables.specs.broker_spec.declared.command.Command.TheVariants.
 use Rattle.broker_tables.specs.broker_spec.declared.command.Output.{Output}
 use Rattle.broker_tables.specs.broker_base.State.{State, state_of, empty_state}
 use Rattle.broker_tables.specs.broker_base.Step.{step}
-use Rattle.broker_form.specs.Form.{frozen, frozen_before, thawed}
+use Rattle.broker_form.specs.Form.{thawed}
+use Rattle.broker_form.specs.Writing.{frozen, frozen_before}
 use Rattle.broker_form.specs.FormLaws.{IsUsualState}
 
 -- the state after a command, with the limits of this broker
@@ -34,7 +35,8 @@ broker_rules =
 
 -- the state is the one that this list of commands means, if the window was this one at first
 abbrev pub StandsFor : ℕ → State → List Command → Type 0
-StandsFor first state commands = state ≡ state_of (limits_from first) (past_of (limits_from first) commands)
+StandsFor first state commands =
+    state ≡ state_of (limits_from first) (past_of (limits_from first) commands)
 
 -- a new broker's state is that of no command, with the window of 64
 abbrev pub BeginsEmpty : Type 0
@@ -44,15 +46,18 @@ BeginsEmpty = StandsFor 64 (empty_state 64) []
 -- those that the list means
 abbrev pub GoesOnStanding : Type 0
 GoesOnStanding =
-    (first : ℕ) → (state : State) → (commands : List Command) → (command : Command) → StandsFor first state commands →
+    (first : ℕ) → (state : State) → (commands : List Command) → (command : Command) →
+    StandsFor first state commands →
     StandsFor first (after state command) (commands ++ command ∷ [])
-    × (answers state command ≡ answers_of (limits_from first) (past_of (limits_from first) commands) command)
+    × (answers state command
+    ≡ answers_of (limits_from first) (past_of (limits_from first) commands) command)
 
 -- what such a state was frozen to in form 1, before any Start, is read as a state that corresponds
 -- to the same list with the window of 16 at first
 abbrev pub GoesOnFromFormOne : Type 0
 GoesOnFromFormOne =
-    (state : State) → (commands : List Command) → IsUsualState state → state.window ≡ 16 → StandsFor 16 state commands →
+    (state : State) → (commands : List Command) → IsUsualState state → state.window ≡ 16 →
+    StandsFor 16 state commands →
     (read : State) × (thawed (frozen_before state) ≡ Some read) × StandsFor 16 read commands
 
 -- with 64 at first, every window is 64

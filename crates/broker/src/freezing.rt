@@ -5,7 +5,7 @@ ghost use Rattle.std.specs.List.{flat_map, AllByRecursion};
 ghost use Rattle.session_base.specs.FormLaws.{HasForm};
 ghost use Rattle.broker_tables.specs.broker_spec.Commands.{usual_limits};
 ghost use Rattle.broker_form.specs.InRange.{IsBrokerState};
-ghost use Rattle.broker_form.specs.Form.{connection_bytes, frozen, retained_bytes, row_bytes, wide_number};
+ghost use Rattle.broker_form.specs.Writing.{connection_bytes, frozen, retained_bytes, row_bytes, wide_number};
 ghost use Rattle.broker_tables.specs.Tables.{state_in};
 ghost use Rattle.broker.specs.Inside.{AreRows, ArePayloads};
 
@@ -21,7 +21,7 @@ use std::collections::BTreeMap;
 // The number of the form.
 const FORM: u8 = 2;
 
-// Appends the bytes of the tables. If there is no memory nothing is changed.
+/// Appends the bytes of the tables. If memory runs out nothing is appended.
 pub(crate) fn freeze_tables(tables: &Tables, bytes: &mut Vec<u8>) -> Result<(), AllocError>
     requires { IsBrokerState usual_limits (state_in tables.now) }
     ensures ok { OnOk result (bytes.new.items ≡ bytes.old.items ++ frozen (state_in tables.now)) }
@@ -124,7 +124,8 @@ fn write_topic(
     bytes: &mut Vec<u8>,
 ) -> Result<(), AllocError>
     requires { length kept.now.payload < 4294967296 }
-    ensures { OnOk result (bytes.new.items ≡ bytes.old.items ++ retained_bytes (topic.now, kept.now)) }
+    ensures { OnOk result
+        (bytes.new.items ≡ bytes.old.items ++ retained_bytes (topic.now, kept.now)) }
 {
     bytes.push(kept.qos.number())?;
     write_text(topic.as_str(), bytes)?;

@@ -25,8 +25,8 @@ pub(crate) const OUT_OF_MEMORY: Stop = Stop::Malformed(MalformedKind::Memory);
 
 // ---- the window
 
-// Reads the number of the form, and the window: form 1 has the narrow one, and form 2 names its
-// own.
+/// Reads the number of the form, and the window: form 1 has the narrow one, and form 2 names its
+/// own. Other bytes stop the reading.
 #[tactic(auto, unfolding(broker_form::specs::Form::head_at))]
 pub(crate) fn read_head(reader: &mut Reader) -> Result<Window, Stop>
     ensures { Reads (λ x. x) result reader.new (head_at reader.old) }
@@ -52,8 +52,8 @@ fn read_window(reader: &mut Reader) -> Result<Window, Stop>
 
 // ---- a client's session
 
-// Reads a client with its session. A clean session has a connection, and no more of a session is in
-// flight than the window allows.
+/// Reads a client with its session. A clean session has a connection, and no more of a session is
+/// in flight than the window allows; other bytes stop the reading.
 #[tactic(auto, unfolding(broker_form::specs::Form::row_at))]
 pub(crate) fn read_row(
     alloc: Global,
@@ -136,7 +136,7 @@ fn read_wide_number(reader: &mut Reader) -> Result<u64, Stop>
 
 // ---- a retained publication
 
-// Reads a topic with what is retained of it.
+/// Reads a topic with what is retained of it. Other bytes stop the reading.
 #[tactic(auto, unfolding(broker_form::specs::Form::retained_at))]
 pub(crate) fn read_topic(
     alloc: Global,
@@ -161,7 +161,8 @@ pub(crate) fn read_topic(
 fn retainable(publication: Publication) -> Result<(TopicName, RetainedPublication), Stop>
     requires { publication.retain ≡ true }
     ensures { Gives (λ x. x) result
-        (retainable (publication.topic, record { qos = publication.qos; payload = publication.payload })) }
+        (retainable
+        (publication.topic, record { qos = publication.qos; payload = publication.payload })) }
 {
     keep(!publication.payload.as_slice().is_empty() && body_length(&publication) <= LONGEST_BODY)?;
     let kept = RetainedPublication {

@@ -6,7 +6,8 @@ ghost use Rattle.packet.specs.packet_base.Reading.{number_at};
 ghost use Rattle.session_base.specs.Counted.{counted_at, items_behind, last_of, Adds};
 ghost use Rattle.broker_tables.specs.broker_spec.Connection.{ConnectionName};
 ghost use Rattle.broker_tables.specs.broker_rows.Owners.{owned_by};
-ghost use Rattle.broker_form.specs.Form.{is_behind, is_taken, row_at, row_follows};
+ghost use Rattle.broker_form.specs.Form.{row_at};
+ghost use Rattle.broker_form.specs.Follows.{is_behind, is_taken, row_follows};
 ghost use Rattle.broker_tables.specs.Tables.{owners_at};
 ghost use Rattle.broker.specs.Inside.{AreOwned};
 
@@ -19,8 +20,8 @@ use session_base::keep;
 use std::alloc::{AllocError, Global};
 use std::collections::BTreeMap;
 
-// Sessions by client, and the client of each of their connections, by which a connection that
-// another session has is found without a walk over the sessions.
+/// Sessions by client, and the client of each of their connections, by which a connection that
+/// another session has is found without a walk over the sessions.
 #[derive(Drop)]
 pub(crate) struct Rows {
     pub(crate) sessions: BTreeMap<ClientId, ClientRow>,
@@ -28,8 +29,8 @@ pub(crate) struct Rows {
 }
 
 impl Rows {
-    // Reads as many sessions as their count says: the clients rise, and no connection is used
-    // twice.
+    /// Reads as many sessions as their count says: the clients rise, and no connection is used
+    /// twice. Other bytes stop the reading.
     #[tactic(auto, unfolding(session_base::specs::Counted::counted_at))]
     pub(crate) fn read(alloc: Global, window: Window, reader: &mut Reader) -> Result<Rows, Stop>
         ensures exact { Reads (λ rows. rows.sessions.entries) result reader.new
@@ -54,7 +55,8 @@ impl Rows {
     // Adds one more session, which may come after the others.
     fn add(&mut self, client: ClientId, row: ClientRow) -> Result<(), Stop>
         requires { AreOwned self.old }
-        ensures adds { Adds row_follows self.old.sessions.entries (client, row) result self.new.sessions.entries }
+        ensures adds { Adds row_follows self.old.sessions.entries
+            (client, row) result self.new.sessions.entries }
         ensures owned { OnOk result (AreOwned self.new) }
     {
         keep(self.may_follow(&client, &row))?;
@@ -129,7 +131,8 @@ fn own(
 ) -> Result<(), AllocError>
     ensures { OnOk result
         ((q : ConnectionName) →
-        owners_at owners.new.entries q ≡ owned_by connection client.now (owners_at owners.old.entries) q) }
+        owners_at owners.new.entries q
+        ≡ owned_by connection client.now (owners_at owners.old.entries) q) }
 {
     if let Some(connection) = connection {
         owners.insert(connection, client.clone()?)?;

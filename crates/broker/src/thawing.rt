@@ -9,7 +9,8 @@ ghost use Rattle.packet.specs.packet_base.Reading.{number_at};
 ghost use Rattle.session_base.specs.Counted.{counted_at, items_behind, last_of, Adds};
 ghost use Rattle.broker_tables.specs.subs_base.Content.{no_subscriptions};
 ghost use Rattle.broker_tables.specs.subs_base.ListIndex.{content_of};
-ghost use Rattle.broker_form.specs.Form.{broker_at, is_behind, retained_at, topic_follows};
+ghost use Rattle.broker_form.specs.Form.{broker_at, retained_at};
+ghost use Rattle.broker_form.specs.Follows.{is_behind, topic_follows};
 ghost use Rattle.broker_tables.specs.Tables.{IsTied, state_in};
 ghost use Rattle.broker_tables.specs.retained.Retained.{IsRising};
 ghost use Rattle.broker.specs.Inside.{AreOwned, state_read, all_held, last_held};
@@ -32,8 +33,8 @@ use std::collections::BTreeMap;
 /// The most topics with a retained publication.
 const MAX_TOPICS: usize = 16_384;
 
-// Returns the tables of the broker that these bytes are frozen from. Bytes that are not of the form
-// stop the reading.
+/// Returns the tables of the broker that these bytes are frozen from. Bytes that are not of the form
+/// stop the reading.
 pub(crate) fn thawed_tables(alloc: Global, bytes: &[u8]) -> Result<Tables, Stop>
     ensures exact { Gives state_in result (broker_at bytes.now) }
     ensures tied { IfOk result IsTied }
@@ -126,7 +127,8 @@ fn index_of(
     alloc: Global,
     sessions: &BTreeMap<ClientId, ClientRow>,
 ) -> Result<TreeIndex, AllocError>
-    ensures { IfOk result (λ index. content_of index ≡ all_held sessions.now.entries no_subscriptions) }
+    ensures { IfOk result
+        (λ index. content_of index ≡ all_held sessions.now.entries no_subscriptions) }
 {
     let mut list = ListIndex::new(alloc);
     for (client, row) in sessions {
@@ -137,7 +139,8 @@ fn index_of(
 
 // Returns a session's subscriptions by the bytes of their filters.
 fn filters_of(alloc: Global, session: &Session) -> Result<BTreeMap<Filter, QoS>, AllocError>
-    ensures { IfOk result (λ filters. get (slice_cmp nat_cmp) filters ≡ last_held session.now.subscriptions) }
+    ensures { IfOk result
+        (λ filters. get (slice_cmp nat_cmp) filters ≡ last_held session.now.subscriptions) }
 {
     let held = held_of(alloc, session)?;
     let filters = BTreeMap::from_iter(alloc, held)?;

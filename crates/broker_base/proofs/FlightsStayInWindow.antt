@@ -6,7 +6,8 @@ use Rattle.broker_spec.specs.retained.Retained.{RetainedTopics}
 use Rattle.session_base.specs.lists.Lists.{IsDistinct}
 use Rattle.session_base.specs.declared.publication.Publication.{Publication}
 use Rattle.session_base.specs.Publication.{is_answered}
-use Rattle.session_base.specs.Queue.{Flight, Queue, ids_of, awaits_puback, awaits_pubcomp, on_puback, on_pubrec, on_pubcomp, enqueue, filled, copies_left}
+use Rattle.session_base.specs.Queue.{Flight, Queue, ids_of, awaits_puback, awaits_pubcomp, on_puback, on_pubrec, on_pubcomp, enqueue, filled}
+use Rattle.session_base.specs.Copies.{copies_left}
 use Rattle.session_base.proofs.FillsOfQueues.{fill_within}
 use Rattle.session_base.proofs.IdentifiersStayApart.{pubrec_length}
 use Rattle.broker_spec.specs.Connection.{ConnectionName}

@@ -19,7 +19,8 @@ use Rattle.session_base.specs.declared.publication.Publication.{Publication}
 use Rattle.session_base.specs.Publication.{is_answered}
 use Rattle.session_base.specs.lists.Lists.{IsDistinct}
 use Rattle.session_base.specs.OrderLaws.{IsReleasedFirst}
-use Rattle.session_base.specs.Queue.{Flight, Queue, ids_of, on_puback, on_pubrec, on_pubcomp, enqueue, fill, filled, copies_left}
+use Rattle.session_base.specs.Queue.{Flight, Queue, ids_of, on_puback, on_pubrec, on_pubcomp, enqueue, fill, filled}
+use Rattle.session_base.specs.Copies.{copies_left}
 use Rattle.session_base.proofs.IdentifiersOfFills.{fill_apart}
 use Rattle.session_base.proofs.IdentifiersStayApart.{answers_keep_apart}
 use Rattle.session_base.proofs.OrderInFlight.{released_first}

@@ -27,7 +27,8 @@ has_no_room_for limits p row =
 -- whether a publication would be retained on one topic more than the limit
 abbrev pub is_one_topic_over : Limits → RetainedTopics → Publication → Bool
 is_one_topic_over limits content p =
-    p.retain && not (is_empty p.payload) && is_none (publication_on p.topic content) && nat_le limits.retained (length content)
+    p.retain && not (is_empty p.payload) && is_none (publication_on p.topic content)
+    && nat_le limits.retained (length content)
 
 -- a publication is refused as a whole if one session has no room for it, or if it cannot be
 -- retained
@@ -46,7 +47,8 @@ owned_mark limits state owner (packets.Publish p) =
     if is_again owner.1 p.delivery then Mark.Repeat owner.0 else
     if refuses limits state (publication_of p) then Mark.Refused owner.0 else Mark.Taken owner.0
 owned_mark limits state owner (packets.Subscribe s) =
-    Mark.Granted owner.0 (grants limits state.retained owner.1.state.subscriptions (room limits.entries owner.1.state.queue) s.filters)
+    Mark.Granted owner.0 (grants limits state.retained owner.1.state.subscriptions
+    (room limits.entries owner.1.state.queue) s.filters)
 owned_mark limits state owner (packets.Connect connect) = Mark.Leaves owner.0
 owned_mark limits state owner (packets.Connack connack) = Mark.Leaves owner.0
 owned_mark limits state owner (packets.Suback suback) = Mark.Leaves owner.0
@@ -65,12 +67,15 @@ packet_mark_in limits state packet None = Mark.NoPart
 abbrev pub connect_mark_in : Limits → State → Client → Option (Client × ClientSession) → Mark
 connect_mark_in limits state c (Some owner) = Mark.Leaves owner.0
 connect_mark_in limits state c None =
-    if is_some (session_in c state.sessions) || nat_lt (length state.sessions) limits.sessions then Mark.Accepted else Mark.Full
+    if is_some (session_in c state.sessions) || nat_lt (length state.sessions) limits.sessions
+    then Mark.Accepted else Mark.Full
 
 -- the mark of a command in this state
 abbrev pub mark_in : Limits → State → Command → Mark
-mark_in limits state (commands.Packet x packet) = packet_mark_in limits state packet (owner_in x state.sessions)
-mark_in limits state (commands.Connect x c clean) = connect_mark_in limits state c (owner_in x state.sessions)
+mark_in limits state (commands.Packet x packet) =
+    packet_mark_in limits state packet (owner_in x state.sessions)
+mark_in limits state (commands.Connect x c clean) =
+    connect_mark_in limits state c (owner_in x state.sessions)
 mark_in limits state (commands.Lost x) = Mark.NoPart
 mark_in limits state (commands.Start ballot) = Mark.NoPart
 mark_in limits state (commands.Expel c) = Mark.NoPart

@@ -17,6 +17,7 @@ pub use Rattle.broker_spec.specs.EntryLaws
 pub use Rattle.broker_spec.specs.IdentifierLaws
 pub use Rattle.broker_spec.specs.Laws
 pub use Rattle.broker_spec.specs.LimitRows
+pub use Rattle.broker_spec.specs.RoomRows
 pub use Rattle.broker_spec.specs.Logged
 pub use Rattle.broker_spec.specs.Marks
 pub use Rattle.broker_spec.specs.MoreRows

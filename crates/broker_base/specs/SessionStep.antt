@@ -7,7 +7,8 @@ use Rattle.session_base.specs.declared.publication.Publication.{Publication}
 use Rattle.session_base.specs.Publication.{publication_of, lower_qos}
 use Rattle.session_base.specs.Subscriptions.{HeldFilter, granted_qos}
 use Rattle.session_base.specs.Session.{empty_session}
-use Rattle.session_base.specs.Queue.{Flight, Queue, on_puback, on_pubrec, on_pubcomp, fill, filled, copies_left, copies_waiting}
+use Rattle.session_base.specs.Queue.{Flight, Queue, on_puback, on_pubrec, on_pubcomp, fill, filled}
+use Rattle.session_base.specs.Copies.{copies_left, copies_waiting}
 use Rattle.broker_spec.specs.Connection.{ConnectionName}
 use Rattle.broker_spec.specs.Place.{Client, same_client, Mark, Place, only_if}
 use Rattle.broker_spec.specs.Past.{accepts, expels, ends_any}
@@ -19,9 +20,11 @@ use Rattle.broker_spec.specs.declared.command.Command.{Command}
 use Rattle.broker_spec.specs.declared.command.Command.TheVariants as commands
 
 -- the copies that a command makes for a session with these subscriptions
-abbrev pub copies_with : Command → Mark → RetainedTopics → Client → List HeldFilter → List Publication
+abbrev pub copies_with : Command → Mark → RetainedTopics → Client → List HeldFilter →
+    List Publication
 copies_with (commands.Packet x (packets.Publish p)) (Mark.Taken d) content c held =
-    copy_of (publication_of p) (option_map (lower_qos (publication_of p).qos) (granted_qos (publication_of p).topic held))
+    copy_of (publication_of p)
+    (option_map (lower_qos (publication_of p).qos) (granted_qos (publication_of p).topic held))
 copies_with (commands.Packet x (packets.Subscribe s)) (Mark.Granted d which) content c held =
     if same_client d c then copies_for_all content (granted_of s.filters which) else []
 copies_with _ _ content c held = []
@@ -34,11 +37,14 @@ filled_on None window flights waiting = record { in_flight = flights; waiting = 
 -- the queue after a client's answer: after PUBACK and PUBCOMP, what may start starts (MQTT 4.6)
 abbrev pub answered_queue : ℕ → Command → Mark → Client → Option ConnectionName → Queue → Queue
 answered_queue window (commands.Packet x (packets.Puback id)) (Mark.Handled d) c connection queue =
-    if same_client d c then filled_on connection window (on_puback id queue.in_flight) queue.waiting else queue
+    if same_client d c
+    then filled_on connection window (on_puback id queue.in_flight) queue.waiting else queue
 answered_queue window (commands.Packet x (packets.Pubrec id)) (Mark.Handled d) c connection queue =
-    if same_client d c then record { in_flight = on_pubrec id queue.in_flight; waiting = queue.waiting } else queue
+    if same_client d c
+    then record { in_flight = on_pubrec id queue.in_flight; waiting = queue.waiting } else queue
 answered_queue window (commands.Packet x (packets.Pubcomp id)) (Mark.Handled d) c connection queue =
-    if same_client d c then filled_on connection window (on_pubcomp id queue.in_flight) queue.waiting else queue
+    if same_client d c
+    then filled_on connection window (on_pubcomp id queue.in_flight) queue.waiting else queue
 answered_queue window _ _ c connection queue = queue
 
 -- the queue after copies are added: with a connection, what may start starts after each copy
@@ -48,7 +54,8 @@ copied_queue window None copies queue = copies_waiting copies queue
 
 -- the session after a command that is no accepted Connect of its client, with this connection or
 -- none
-abbrev pub kept_on : ℕ → Place → RetainedTopics → Client → Option ConnectionName → ClientSession → ClientSession
+abbrev pub kept_on : ℕ → Place → RetainedTopics → Client → Option ConnectionName → ClientSession →
+    ClientSession
 kept_on window place content c connection old =
     record {
       clean = old.clean;
@@ -88,19 +95,23 @@ kept_connected window opened (Some old) =
 
 -- the session after any other command: its connection may end, and a clean session with it; an
 -- Expel of the client ends both
-abbrev pub kept_later : ℕ → Place → RetainedTopics → Client → Option ClientSession → Option ClientSession
+abbrev pub kept_later : ℕ → Place → RetainedTopics → Client → Option ClientSession →
+    Option ClientSession
 kept_later window place content c None = None
 kept_later window place content c (Some old) =
     only_if (not (expels place.command c || (old.clean && ends_any place c old.connection)))
-    (Some (kept_on window place content c (only_if (not (ends_any place c old.connection)) old.connection) old))
+    (Some (kept_on window place content c
+    (only_if (not (ends_any place c old.connection)) old.connection) old))
 
 -- the session after a command, by the connection that the command opens for the client, if any
-abbrev pub kept_by : ℕ → Place → RetainedTopics → Client → Option (ConnectionName × Bool) → Option ClientSession → Option ClientSession
+abbrev pub kept_by : ℕ → Place → RetainedTopics → Client → Option (ConnectionName × Bool) →
+    Option ClientSession → Option ClientSession
 kept_by window place content c (Some opened) old = Some (kept_connected window opened old)
 kept_by window place content c None old = kept_later window place content c old
 
 -- the client's session after a place, with this window from then on, and these retained
 -- publications before it
-abbrev pub kept_after : ℕ → Place → RetainedTopics → Client → Option ClientSession → Option ClientSession
+abbrev pub kept_after : ℕ → Place → RetainedTopics → Client → Option ClientSession →
+    Option ClientSession
 kept_after window place content c old =
     kept_by window place content c (accepts place.command place.mark c) old

@@ -48,7 +48,8 @@ put_session c kept rows = insert_entry by_bytes rows c kept
 
 -- the session whose current connection is x, with its client
 abbrev pub owner_in : ConnectionName → Sessions → Option (Client × ClientSession)
-owner_in x (row ∷ rows) = if any_connection (same_connection x) row.1.connection then Some row else owner_in x rows
+owner_in x (row ∷ rows) =
+    if any_connection (same_connection x) row.1.connection then Some row else owner_in x rows
 owner_in x [] = None
 
 -- ---- the state after a past

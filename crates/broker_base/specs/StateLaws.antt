@@ -32,7 +32,8 @@ pub record IsSoundSession (kept : ClientSession) : Type 0 where
 -- if a client is connected, nothing waits in its queue or its window is full
 abbrev pub HasQuietQueue : ℕ → ClientSession → Type 0
 HasQuietQueue window kept =
-    (kept.connection ≡ None) ⊎ IsQuietQueue window kept.state.queue.in_flight kept.state.queue.waiting
+    (kept.connection ≡ None)
+    ⊎ IsQuietQueue window kept.state.queue.in_flight kept.state.queue.waiting
 
 -- no more of its entries are in flight than the window allows
 abbrev pub FitsWindow : ℕ → ClientSession → Type 0
@@ -55,7 +56,8 @@ AreByClient rows = IsStrictlySortedBy by_bytes (keys_of rows)
 
 -- x is not the connection of any of these
 abbrev pub IsNobodys : ConnectionName → Sessions → Type 0
-IsNobodys x (row ∷ rows) = (any_connection (same_connection x) row.1.connection ≡ false) × IsNobodys x rows
+IsNobodys x (row ∷ rows) =
+    (any_connection (same_connection x) row.1.connection ≡ false) × IsNobodys x rows
 IsNobodys x [] = Unit {0}
 
 -- a connection belongs to at most one session
@@ -88,9 +90,11 @@ StaysQuiet =
 -- a step leaves no more in flight than the window allows, if the window does not shrink
 abbrev pub StaysInWindow : Type 0
 StaysInWindow =
-    (limits : Limits) → (later : ℕ) → (state : State) → (command : Command) → state.window ≤ later → IsSound state →
+    (limits : Limits) → (later : ℕ) → (state : State) → (command : Command) → state.window ≤ later →
+    IsSound state →
     AllInWindow state.window state.sessions →
-    AllInWindow (step limits later state command).0.window (step limits later state command).0.sessions
+    AllInWindow (step limits later state command).0.window
+    (step limits later state command).0.sessions
 
 -- so the state of every list of commands satisfies both
 abbrev pub ListsAreSound : Type 0

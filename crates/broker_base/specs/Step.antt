@@ -33,14 +33,16 @@ touches place c kept =
     ends_any place c kept.connection || is_about place.command place.mark c kept.state.subscriptions
 
 -- a session after a place, if it still exists
-abbrev pub session_after : ℕ → Place → RetainedTopics → Client → ClientSession → Option ClientSession
+abbrev pub session_after : ℕ → Place → RetainedTopics → Client → ClientSession →
+    Option ClientSession
 session_after window place content c kept =
     if touches place c kept then kept_after window place content c (Some kept) else Some kept
 
 -- the sessions from before a place that still exist after it
 abbrev pub sessions_left : ℕ → Place → RetainedTopics → Sessions → Sessions
 sessions_left window place content (row ∷ rows) =
-    keyed row.0 (session_after window place content row.0 row.1) (sessions_left window place content rows)
+    keyed row.0 (session_after window place content row.0 row.1)
+    (sessions_left window place content rows)
 sessions_left window place content [] = []
 
 -- the same, together with that of the client of an accepted Connect
@@ -67,20 +69,24 @@ step_at window place state = (
 
 -- one more command; from a Start on the window is `later`
 abbrev pub step : Limits → ℕ → State → Command → State × List Output
-step limits later state command = step_at (window_after later command state.window) (place_in limits state command) state
+step limits later state command =
+    step_at (window_after later command state.window) (place_in limits state command) state
 
 -- the state after more commands, oldest first
 abbrev pub state_from : Limits → ℕ → State → List Command → State
-state_from limits later state (command ∷ commands) = state_from limits later (step limits later state command).0 commands
+state_from limits later state (command ∷ commands) =
+    state_from limits later (step limits later state command).0 commands
 state_from limits later state [] = state
 
 -- and the answers to them, place by place
 abbrev pub steps_from : Limits → ℕ → State → List Command → List (List Output)
 steps_from limits later state (command ∷ commands) =
-    (step limits later state command).1 ∷ steps_from limits later (step limits later state command).0 commands
+    (step limits later state command).1
+    ∷ steps_from limits later (step limits later state command).0 commands
 steps_from limits later state [] = []
 
 -- the window of these limits changes only at a Start, and is `later` from the first Start on
 abbrev pub IsWindow : Limits → ℕ → Type 0
 IsWindow limits later =
-    (place : Place) → (past : Past) → limits.window (place ∷ past) ≡ window_after later place.command (limits.window past)
+    (place : Place) → (past : Past)
+    → limits.window (place ∷ past) ≡ window_after later place.command (limits.window past)

@@ -27,7 +27,8 @@ sent_on None packets = []
 abbrev pub copies_answered : ℕ → Place → RetainedTopics → Client × ClientSession → List Output
 copies_answered window place content row =
     sent_on row.1.connection
-    (copies_sent window (copies_with place.command place.mark content row.0 row.1.state.subscriptions) row.1.state.queue)
+    (copies_sent window (copies_with place.command place.mark content row.0
+    row.1.state.subscriptions) row.1.state.queue)
 
 -- the same for a client's session, if it has one
 abbrev pub copies_to : ℕ → Place → RetainedTopics → Client → Option ClientSession → List Output
@@ -43,10 +44,13 @@ while_connected None packets = []
 -- PUBREL after PUBREC
 abbrev pub handled_sends : ℕ → Packet → ClientSession → List Packet
 handled_sends window (packets.Puback id) kept =
-    while_connected kept.connection (fill_sends window (on_puback id kept.state.queue.in_flight) kept.state.queue.waiting)
+    while_connected kept.connection
+    (fill_sends window (on_puback id kept.state.queue.in_flight) kept.state.queue.waiting)
 handled_sends window (packets.Pubcomp id) kept =
-    while_connected kept.connection (fill_sends window (on_pubcomp id kept.state.queue.in_flight) kept.state.queue.waiting)
-handled_sends window (packets.Pubrec id) kept = pubrec_sends id (on_pubrec id kept.state.queue.in_flight)
+    while_connected kept.connection
+    (fill_sends window (on_pubcomp id kept.state.queue.in_flight) kept.state.queue.waiting)
+handled_sends window (packets.Pubrec id) kept =
+    pubrec_sends id (on_pubrec id kept.state.queue.in_flight)
 handled_sends window _ kept = []
 
 -- the same for a client's session, if it has one
@@ -64,12 +68,15 @@ handled_in window x old packet = map (Send x) (handled_of window packet old)
 -- the answers to a packet, by its mark
 abbrev pub packet_answers_in : ℕ → Place → State → ConnectionName → Packet → Mark → List Output
 packet_answers_in window place state x (packets.Publish p) (Mark.Taken c) =
-    acknowledged x p.delivery ++ flat_map (copies_answered window place state.retained) state.sessions
-packet_answers_in window place state x (packets.Publish p) (Mark.Repeat c) = acknowledged x p.delivery
+    acknowledged x p.delivery
+    ++ flat_map (copies_answered window place state.retained) state.sessions
+packet_answers_in window place state x (packets.Publish p) (Mark.Repeat c) =
+    acknowledged x p.delivery
 packet_answers_in window place state x (packets.Subscribe s) (Mark.Granted c which) =
     Send x (packets.Suback (record { id = s.id; codes = codes_of s.filters which }))
     ∷ copies_to window place state.retained c (session_in c state.sessions)
-packet_answers_in window place state x packet (Mark.Handled c) = handled_in window x (session_in c state.sessions) packet
+packet_answers_in window place state x packet (Mark.Handled c) =
+    handled_in window x (session_in c state.sessions) packet
 packet_answers_in window place state x packet (Mark.Leaves c) = Close x ∷ []
 packet_answers_in window place state x packet (Mark.Refused c) = Close x ∷ []
 packet_answers_in window place state x packet _ = []
@@ -84,22 +91,28 @@ connection_of None = None
 abbrev pub resumed : ℕ → Bool → Option ClientSession → List Packet
 resumed window clean (Some kept) =
     if clean || kept.clean then []
-    else resend kept.state.queue.in_flight ++ fill_sends window kept.state.queue.in_flight kept.state.queue.waiting
+    else resend kept.state.queue.in_flight
+    ++ fill_sends window kept.state.queue.in_flight kept.state.queue.waiting
 resumed window clean None = []
 
 -- the answers to a Connect, by its mark
-abbrev pub connect_answers_in : ℕ → ConnectionName → Bool → Option ClientSession → Mark → List Output
+abbrev pub connect_answers_in : ℕ → ConnectionName → Bool → Option ClientSession → Mark →
+    List Output
 connect_answers_in window x clean old Mark.Accepted =
     closed (connection_of old)
-    ++ welcome x (not (begins_session clean (option_map (λ (kept : ClientSession). kept.clean) old))) ∷ map (Send x) (resumed window clean old)
+    ++ welcome x (not (begins_session clean
+    (option_map (λ (kept : ClientSession). kept.clean) old)))
+    ∷ map (Send x) (resumed window clean old)
 connect_answers_in window x clean old Mark.Full = turned_away x ∷ Close x ∷ []
 connect_answers_in window x clean old _ = Close x ∷ []
 
 -- the answers at a place, with this window from then on
 abbrev pub answers_by_state : ℕ → Place → State → Command → Mark → List Output
-answers_by_state window place state (commands.Packet x packet) mark = packet_answers_in window place state x packet mark
+answers_by_state window place state (commands.Packet x packet) mark =
+    packet_answers_in window place state x packet mark
 answers_by_state window place state (commands.Connect x c clean) mark =
     connect_answers_in window x clean (session_in c state.sessions) mark
 answers_by_state window place state (commands.Lost x) mark = []
 answers_by_state window place state (commands.Start ballot) mark = []
-answers_by_state window place state (commands.Expel c) mark = closed (connection_of (session_in c state.sessions))
+answers_by_state window place state (commands.Expel c) mark =
+    closed (connection_of (session_in c state.sessions))

@@ -18,9 +18,11 @@ use Rattle.broker_spec.specs.declared.command.Command.{Command}
 -- after one more place, whatever its mark, each client's session is the step of what it was before
 abbrev pub StepsEachSession : Type 0
 StepsEachSession =
-    (limits : Limits) → (later : ℕ) → IsWindow limits later → (place : Place) → (past : Past) → (c : Client) →
+    (limits : Limits) → (later : ℕ) → IsWindow limits later → (place : Place) → (past : Past) →
+    (c : Client) →
     client_session limits (place ∷ past) c
-    ≡ kept_after (window_at limits (place ∷ past)) place (retained_publications past) c (client_session limits past c)
+    ≡ kept_after (window_at limits (place ∷ past)) place (retained_publications past) c
+    (client_session limits past c)
 
 -- a session that a place does not touch stays as it is
 abbrev pub OthersStay : Type 0
@@ -62,14 +64,17 @@ StepStandsFor =
 abbrev pub ListStandsFor : Type 0
 ListStandsFor =
     (limits : Limits) → (later : ℕ) → IsWindow limits later → (commands : List Command) →
-    (state_from limits later (empty_state (limits.window [])) commands ≡ state_of limits (past_of limits commands))
-    × (steps_from limits later (empty_state (limits.window [])) commands ≡ answers_from limits [] commands)
+    (state_from limits later (empty_state (limits.window [])) commands
+    ≡ state_of limits (past_of limits commands))
+    × (steps_from limits later (empty_state (limits.window [])) commands
+    ≡ answers_from limits [] commands)
 
 -- the same for this broker
 abbrev pub UsualListStandsFor : Type 0
 UsualListStandsFor =
     (commands : List Command) →
-    (state_from usual_limits 64 (empty_state 64) commands ≡ state_of usual_limits (past_of usual_limits commands))
+    (state_from usual_limits 64 (empty_state 64) commands
+    ≡ state_of usual_limits (past_of usual_limits commands))
     × (steps_from usual_limits 64 (empty_state 64) commands ≡ answers_from usual_limits [] commands)
 
 -- and for one whose window was this one at first, and is 64 from the first Start on
@@ -78,4 +83,5 @@ GrowingListStandsFor =
     (first : ℕ) → (commands : List Command) →
     (state_from usual_limits 64 (empty_state first) commands
     ≡ state_of (limits_from first) (past_of (limits_from first) commands))
-    × (steps_from usual_limits 64 (empty_state first) commands ≡ answers_from (limits_from first) [] commands)
+    × (steps_from usual_limits 64 (empty_state first) commands
+    ≡ answers_from (limits_from first) [] commands)

@@ -26,10 +26,13 @@ StepsGive limits first later earlier next answers =
 -- a full queue refuses y; once there is room, each is answered, and the subscriber gets y and z
 abbrev pub StepsRefuseAndGoOn : Type 0
 StepsRefuseAndGoOn =
-    StepsGive (small 3 16) 16 16 (held_two ++ publishes_xyz 2 false ++ makes_room) (publishes_xyz 4 true)
+    StepsGive (small 3 16) 16 16 (held_two ++ publishes_xyz 2 false ++ makes_room)
+    (publishes_xyz 4 true)
     ((sends 4 (packets.Pubrec 1) ∷ [])
-    ∷ (sends 4 (packets.Pubrec 2) ∷ sends 3 (publish (deliveries.ExactlyOnce false 1) false (codes "y")) ∷ [])
-    ∷ (sends 4 (packets.Pubrec 3) ∷ sends 3 (publish (deliveries.ExactlyOnce false 2) false (codes "z")) ∷ []) ∷ [])
+    ∷ (sends 4 (packets.Pubrec 2)
+    ∷ sends 3 (publish (deliveries.ExactlyOnce false 1) false (codes "y")) ∷ [])
+    ∷ (sends 4 (packets.Pubrec 3)
+    ∷ sends 3 (publish (deliveries.ExactlyOnce false 2) false (codes "z")) ∷ []) ∷ [])
 
 -- the 17th publication is sent with the identifier that PUBACK frees, and comes last on the next
 -- connection
@@ -45,13 +48,15 @@ abbrev pub StepsWidenTheWindow : Type 0
 StepsWidenTheWindow =
     StepsGive usual_limits 16 64 seventy (connect 3 b ∷ commands.Start 2 ∷ connect 4 b ∷ [])
     ((sends 3 (connack true) ∷ delivered 3 false (numbers 16 1)) ∷ []
-    ∷ (sends 4 (connack true) ∷ delivered 4 true (numbers 16 1) ++ delivered 4 false (numbers 48 17)) ∷ [])
+    ∷ (sends 4 (connack true) ∷ delivered 4 true (numbers 16 1)
+    ++ delivered 4 false (numbers 48 17)) ∷ [])
 
 -- ---- a state in which a connected client's queue is not quiet: one publication waits, and nothing
 -- is in flight
 
 abbrev pub waits_o : Publication
-waits_o = record { retain = false; qos = levels.AtLeastOnce; topic = codes "t/1"; payload = codes "o" }
+waits_o =
+    record { retain = false; qos = levels.AtLeastOnce; topic = codes "t/1"; payload = codes "o" }
 
 -- b is served on connection 1, with this queue
 abbrev pub serves_b : Queue → State
@@ -76,10 +81,13 @@ o_waits = serves_b (record { in_flight = []; waiting = waits_o ∷ [] })
 -- gets
 abbrev pub OthersStartNothing : Type 0
 OthersStartNothing =
-    (step usual_limits 64 o_waits (gets 1 packets.Pingreq) ≡ (o_waits, sends 1 packets.Pingresp ∷ []))
+    (step usual_limits 64 o_waits (gets 1 packets.Pingreq)
+    ≡ (o_waits, sends 1 packets.Pingresp ∷ []))
     × (step usual_limits 64 o_waits (gets 1 (packets.Pubrec 7)) ≡ (o_waits, []))
-    × (step usual_limits 64 o_waits (gets 1 (packets.Pubrel 7)) ≡ (o_waits, sends 1 (packets.Pubcomp 7) ∷ []))
-    × (step usual_limits 64 o_waits (gets 1 (unsubscribe 3)) ≡ (o_waits, sends 1 (packets.Unsuback 3) ∷ []))
+    × (step usual_limits 64 o_waits (gets 1 (packets.Pubrel 7))
+    ≡ (o_waits, sends 1 (packets.Pubcomp 7) ∷ []))
+    × (step usual_limits 64 o_waits (gets 1 (unsubscribe 3))
+    ≡ (o_waits, sends 1 (packets.Unsuback 3) ∷ []))
 
 -- after PUBACK and PUBCOMP, whatever they answer, what waits starts and is sent (MQTT 4.6)
 abbrev pub o_started : State
@@ -87,5 +95,7 @@ o_started = serves_b (record { in_flight = (1, waits_for.Puback waits_o) ∷ [];
 
 abbrev pub AnswersStartWhatWaits : Type 0
 AnswersStartWhatWaits =
-    (step usual_limits 64 o_waits (gets 1 (packets.Puback 7)) ≡ (o_started, delivered 1 false (1 ∷ [])))
-    × (step usual_limits 64 o_waits (gets 1 (packets.Pubcomp 7)) ≡ (o_started, delivered 1 false (1 ∷ [])))
+    (step usual_limits 64 o_waits (gets 1 (packets.Puback 7))
+    ≡ (o_started, delivered 1 false (1 ∷ [])))
+    × (step usual_limits 64 o_waits (gets 1 (packets.Pubcomp 7))
+    ≡ (o_started, delivered 1 false (1 ∷ [])))

@@ -8,7 +8,8 @@ use Rattle.packet.specs.declared.qos.QoS.TheVariants as levels
 use Rattle.lists.specs.Lists.{IsDistinct}
 use Rattle.session_base.specs.declared.publication.Publication.{Publication}
 use Rattle.session_base.specs.Publication.{is_answered}
-use Rattle.session_base.specs.Queue.{Flight, Queue, ids_of, awaited, is_released, awaits_puback, awaits_pubrec, awaits_pubcomp, started_flight, on_puback, on_pubrec, on_pubcomp, released_with, enqueue, fill, filled, copies_left, copies_waiting}
+use Rattle.session_base.specs.Queue.{Flight, Queue, ids_of, awaited, is_released, awaits_puback, awaits_pubrec, awaits_pubcomp, started_flight, on_puback, on_pubrec, on_pubcomp, released_with, enqueue, fill, filled}
+use Rattle.session_base.specs.Copies.{copies_left, copies_waiting}
 use Rattle.session_base.proofs.IdentifiersStayApart.{pubrec_length}
 use Rattle.broker_spec.proofs.LeastFree.{least-in-reach}
 use Rattle.broker_spec.specs.Entries.{queued}

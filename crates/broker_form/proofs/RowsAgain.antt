@@ -20,7 +20,8 @@ use Rattle.broker_spec.specs.Place.{Client}
 use Rattle.broker_base.specs.ClientSession.{ClientSession}
 use Rattle.broker_base.specs.StateLaws.{IsSoundSession, FitsWindow}
 use Rattle.broker_form.specs.InRange.{IsNamed, IsRetained, IsSession, as_publication}
-use Rattle.broker_form.specs.Form.{wide_number, connection_bytes, row_bytes, retained_bytes, wide_number_at, name_at, connection_at, client_at, row_at, is_retainable, retained_at}
+use Rattle.broker_form.specs.Form.{wide_number_at, name_at, connection_at, client_at, row_at, is_retainable, retained_at}
+use Rattle.broker_form.specs.Writing.{wide_number, connection_bytes, row_bytes, retained_bytes}
 
 wide_again : (n : ℕ) (rest : List ℕ) → n < 2 ^ 64 → wide_number_at (wide_number n ++ rest) ≡ Ok (n, rest)
 unfolding wide_number_at

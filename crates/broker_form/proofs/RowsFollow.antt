@@ -19,7 +19,7 @@ use Rattle.broker_base.specs.ClientSession.{ClientSession}
 use Rattle.broker_base.specs.State.{Sessions, owner_in}
 use Rattle.broker_base.specs.StateLaws.{IsNobodys, AreApart, AreByClient}
 use Rattle.broker_base.proofs.ConnectionsOfSessions.{same_turned}
-use Rattle.broker_form.specs.Form.{is_behind, is_taken, row_follows}
+use Rattle.broker_form.specs.Follows.{is_behind, is_taken, row_follows}
 use Rattle.lists.proofs.Tables.{Table, Rises}
 
 both : (a b : Bool) → (a && b) ≡ true → (a ≡ true) × (b ≡ true)

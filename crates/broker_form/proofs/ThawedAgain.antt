@@ -5,7 +5,8 @@ use Rattle.std.proofs.lemmas.Bool.{eqb-true}
 use Rattle.std.proofs.lemmas.Nat.{be_bytes_8}
 use Rattle.packet_base.specs.declared.stop.Stop.{Stop}
 use Rattle.packet_base.specs.Spelling.{number, text, bit}
-use Rattle.packet_base.specs.Reading.{byte_at, front_at, number_at, text_at, topic_at, ended, is_text}
+use Rattle.packet_base.specs.Reading.{byte_at, front_at, number_at, text_at, ended, is_text}
+use Rattle.packet_base.specs.TopicFields.{topic_at}
 use Rattle.packet_base.specs.topics.Text.{is_topic}
 use Rattle.packet_base.proofs.Steps.{then_if, seq_if, check_if}
 use Rattle.packet_base.proofs.FieldsFound.{IsBytes, Splits, Splits-then, Splits-all, byte_found, front_found, text_found, topic_found, ended_found}
@@ -20,7 +21,9 @@ use Rattle.broker_spec.specs.Place.{Client}
 use Rattle.broker_spec.specs.Window.{is_window_size}
 use Rattle.broker_base.specs.ClientSession.{ClientSession}
 use Rattle.broker_base.specs.State.{State}
-use Rattle.broker_form.specs.Form.{wide_number, connection_bytes, row_bytes, retained_bytes, content_bytes, frozen, frozen_before, wide_number_at, name_at, connection_at, client_at, row_at, is_retainable, retainable, retained_at, row_follows, topic_follows, size_at, head_at, content_at, broker_at, found}
+use Rattle.broker_form.specs.Form.{wide_number_at, name_at, connection_at, client_at, row_at, is_retainable, retainable, retained_at, size_at, head_at, content_at, broker_at, found}
+use Rattle.broker_form.specs.Follows.{row_follows, topic_follows}
+use Rattle.broker_form.specs.Writing.{wide_number, connection_bytes, row_bytes, retained_bytes, content_bytes, frozen, frozen_before}
 use Rattle.broker_form.specs.FormLaws.{ThawedIsFrozen}
 
 -- ---- a client's session

@@ -5,7 +5,8 @@ use Rattle.std.specs.List.{AllByRecursion}
 use Rattle.std.proofs.lemmas.Bool.{leb-true, ltb-true}
 use Rattle.std.proofs.lemmas.List.{append-nil}
 use Rattle.packet_base.specs.Spelling.{number, text}
-use Rattle.packet_base.specs.Reading.{byte_at, front_at, number_at, text_at, topic_at, ended, is_text}
+use Rattle.packet_base.specs.Reading.{byte_at, front_at, number_at, text_at, ended, is_text}
+use Rattle.packet_base.specs.TopicFields.{topic_at}
 use Rattle.packet_base.proofs.Steps.{then_if, check_if, seq_if}
 use Rattle.packet_base.proofs.FieldsAgain.{number_again}
 use Rattle.packet_base.proofs.FieldsFound.{IsBytes, Splits, text_found, topic_found, ended_found}
@@ -29,7 +30,9 @@ use Rattle.broker_base.specs.ClientSession.{ClientSession}
 use Rattle.broker_base.specs.State.{Sessions, State}
 use Rattle.broker_base.specs.StateLaws.{IsSoundSession, FitsWindow, AllSound, AllInWindow}
 use Rattle.broker_form.specs.InRange.{IsNamed, IsRetained, IsSession, as_publication}
-use Rattle.broker_form.specs.Form.{row_bytes, retained_bytes, content_bytes, frozen, frozen_before, wide_number_at, name_at, connection_at, client_at, row_at, is_retainable, retainable, retained_at, row_follows, topic_follows, size_at, head_at, content_at, broker_at, found}
+use Rattle.broker_form.specs.Form.{wide_number_at, name_at, connection_at, client_at, row_at, is_retainable, retainable, retained_at, size_at, head_at, content_at, broker_at, found}
+use Rattle.broker_form.specs.Follows.{row_follows, topic_follows}
+use Rattle.broker_form.specs.Writing.{row_bytes, retained_bytes, content_bytes, frozen, frozen_before}
 use Rattle.broker_form.specs.FormLaws.{IsUsualState, FrozenIsThawed, FrozenBeforeIsThawed, ThawedIsInRange}
 use Rattle.broker_form.proofs.Windows.{no_more}
 use Rattle.broker_form.proofs.RowsAgain.{row_again, topic_row_again}

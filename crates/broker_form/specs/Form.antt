@@ -1,57 +1,21 @@
--- The bytes to which a broker is frozen, form 2, and the broker that is thawed from bytes of form 1
--- or 2. Numbers are big-endian, a text has its length in two bytes before it.
-use Rattle.std.specs.Prelude.{ℕ, true, false, not, ◌&&◌, ◌||◌, ◌==◌, Bool, nat_lt, nat_le, if◌then◌else◌, List, [], ◌∷◌, ◌++◌, length, Option, Some, None, is_some, Result, Ok, Err}
-use Rattle.std.specs.Int.{w64, to_be_bytes, from_be_bytes}
-use Rattle.std.specs.Ordering.{is_lt}
+-- The broker that is thawed from bytes of form 1 or 2 (`Writing.antt`), if any.
+use Rattle.std.specs.Prelude.{ℕ, not, ◌&&◌, ◌||◌, ◌==◌, Bool, nat_lt, nat_le, if◌then◌else◌, List, length, Option, Some, None, is_some, Result, Ok, Err}
+use Rattle.std.specs.Int.{w64, from_be_bytes}
 use Rattle.packet_base.specs.declared.stop.Stop.{Stop}
-use Rattle.packet_base.specs.Spelling.{number, text, bit}
-use Rattle.packet_base.specs.Reading.{◌>>=◌, ◌>>◌, byte_at, front_at, number_at, text_at, topic_at, ended}
+use Rattle.packet_base.specs.Reading.{◌>>=◌, ◌>>◌, byte_at, front_at, number_at, text_at, ended}
+use Rattle.packet_base.specs.TopicFields.{topic_at}
 use Rattle.packet.specs.ClientId.{is_client}
-use Rattle.packet.specs.QoS.{qos_number}
 use Rattle.packet.specs.Spelling.{longest_body}
 use Rattle.broker_spec.specs.retained.declared.retained_publication.RetainedPublication.{RetainedPublication}
-use Rattle.session_base.specs.Counted.{keep, last_of, counted, counted_at}
-use Rattle.session_base.specs.Form.{long_number, long_number_at, flag_at, qos_at, body_length, state_bytes, state_at}
+use Rattle.session_base.specs.Counted.{keep, counted_at}
+use Rattle.session_base.specs.Form.{long_number_at, flag_at, qos_at, body_length, state_at}
 use Rattle.broker_spec.specs.Connection.{ConnectionName, is_connection_name}
-use Rattle.broker_spec.specs.Place.{Client, by_bytes}
+use Rattle.broker_spec.specs.Place.{Client}
 use Rattle.broker_spec.specs.Window.{is_window_size}
 use Rattle.broker_base.specs.ClientSession.{ClientSession}
-use Rattle.broker_base.specs.State.{Sessions, State, owner_in}
+use Rattle.broker_base.specs.State.{State}
 use Rattle.broker_form.specs.InRange.{as_publication}
-
--- ---- writing
-
--- a number of eight bytes
-abbrev pub wide_number : ℕ → List ℕ
-wide_number n = to_be_bytes w64 n
-
--- whether there is a current connection, and which
-abbrev pub connection_bytes : Option ConnectionName → List ℕ
-connection_bytes None = 0 ∷ []
-connection_bytes (Some x) = 1 ∷ (wide_number x.ballot ++ wide_number x.count)
-
--- a client with its session
-abbrev pub row_bytes : Client × ClientSession → List ℕ
-row_bytes row = text row.0 ++ (bit row.1.clean ∷ (connection_bytes row.1.connection ++ state_bytes row.1.state))
-
--- a topic with what is retained of it
-abbrev pub retained_bytes : List ℕ × RetainedPublication → List ℕ
-retained_bytes row =
-    qos_number row.1.qos ∷ (text row.0 ++ (long_number (length row.1.payload) ++ row.1.payload))
-
--- the sessions by the bytes of their clients, the retained publications by topic
-abbrev pub content_bytes : State → List ℕ
-content_bytes state = counted number row_bytes state.sessions ++ counted number retained_bytes state.retained
-
--- form 2: its number, the window in one byte, and the content
-abbrev pub frozen : State → List ℕ
-frozen state = 2 ∷ state.window ∷ content_bytes state
-
--- form 1: its number and the content, of a broker whose window is 16
-abbrev pub frozen_before : State → List ℕ
-frozen_before state = 1 ∷ content_bytes state
-
--- ---- reading
+use Rattle.broker_form.specs.Follows.{row_follows, topic_follows}
 
 unfoldable pub wide_number_at : List ℕ → Result (ℕ × List ℕ) Stop
 wide_number_at bytes = do
@@ -66,7 +30,8 @@ name_at bytes = do
   Ok (Some (record { ballot = ballot.0; count = count.0 }), count.1)
 
 unfoldable pub connection_at : List ℕ → Result (Option ConnectionName × List ℕ) Stop
-connection_at bytes = flag_at bytes >>= (λ flag. if flag.0 then name_at flag.1 else Ok (None, flag.1))
+connection_at bytes =
+    flag_at bytes >>= (λ flag. if flag.0 then name_at flag.1 else Ok (None, flag.1))
 
 unfoldable pub client_at : List ℕ → Result (Client × List ℕ) Stop
 client_at bytes = do
@@ -86,7 +51,8 @@ row_at window bytes = do
 
 -- a retained publication has a payload, and its PUBLISH is within the limit
 abbrev pub is_retainable : List ℕ × RetainedPublication → Bool
-is_retainable row = nat_lt 0 (length row.1.payload) && nat_le (body_length (as_publication row)) longest_body
+is_retainable row =
+    nat_lt 0 (length row.1.payload) && nat_le (body_length (as_publication row)) longest_body
 
 abbrev pub retainable : List ℕ × RetainedPublication → Result (List ℕ × RetainedPublication) Stop
 retainable row = do
@@ -101,26 +67,6 @@ retained_at bytes = do
   payload ← front_at len.0 len.1
   row ← retainable (topic.0, record { qos = qos.0; payload = payload.0 })
   Ok (row, payload.1)
-
--- ---- the order of rows
-
--- the key comes after the last row's, if there is one
-abbrev pub is_behind : {X : Type 0} → Option (List ℕ × X) → List ℕ → Bool
-is_behind (Some last) key = is_lt (by_bytes last.0 key)
-is_behind None key = true
-
--- the connection is that of one of these
-abbrev pub is_taken : Sessions → Option ConnectionName → Bool
-is_taken rows (Some x) = is_some (owner_in x rows)
-is_taken rows None = false
-
--- clients rise, and no connection is used twice
-abbrev pub row_follows : Sessions → Client × ClientSession → Bool
-row_follows front row = is_behind (last_of front) row.0 && not (is_taken front row.1.connection)
-
--- topics rise
-abbrev pub topic_follows : List (List ℕ × RetainedPublication) → List ℕ × RetainedPublication → Bool
-topic_follows front row = is_behind (last_of front) row.0
 
 -- ---- the broker
 

@@ -7,13 +7,15 @@ use Rattle.broker_spec.specs.Window.{IsWindowSize}
 use Rattle.broker_base.specs.State.{State}
 use Rattle.broker_base.specs.StateLaws.{AllInWindow}
 use Rattle.broker_form.specs.InRange.{IsBrokerState}
-use Rattle.broker_form.specs.Form.{frozen, frozen_before, broker_at, thawed}
+use Rattle.broker_form.specs.Form.{broker_at, thawed}
+use Rattle.broker_form.specs.Writing.{frozen, frozen_before}
 
 -- a state of this broker: its window is 16 or 64, and no more of a session is in flight than it
 -- allows
 abbrev pub IsUsualState : State → Type 0
 IsUsualState state =
-    IsBrokerState usual_limits state × IsWindowSize state.window × AllInWindow state.window state.sessions
+    IsBrokerState usual_limits state × IsWindowSize state.window
+    × AllInWindow state.window state.sessions
 
 abbrev pub FrozenIsThawed : Type 0
 FrozenIsThawed = (state : State) → IsUsualState state → thawed (frozen state) ≡ Some state
@@ -21,7 +23,8 @@ FrozenIsThawed = (state : State) → IsUsualState state → thawed (frozen state
 -- the same for form 1, if the window is 16
 abbrev pub FrozenBeforeIsThawed : Type 0
 FrozenBeforeIsThawed =
-    (state : State) → IsUsualState state → state.window ≡ 16 → thawed (frozen_before state) ≡ Some state
+    (state : State) → IsUsualState state → state.window ≡ 16
+    → thawed (frozen_before state) ≡ Some state
 
 abbrev pub ThawedIsInRange : Type 0
 ThawedIsInRange = (bytes : List ℕ) → AreBytes bytes → IfOk (broker_at bytes) IsUsualState

@@ -7,7 +7,8 @@ use Rattle.broker_spec.specs.Connection.{ConnectionName}
 use Rattle.broker_spec.specs.declared.command.Command.TheVariants as commands
 use Rattle.broker_base.specs.State.{State, empty_state}
 use Rattle.broker_base.specs.Step.{step}
-use Rattle.broker_form.specs.Form.{frozen, frozen_before, thawed}
+use Rattle.broker_form.specs.Form.{thawed}
+use Rattle.broker_form.specs.Writing.{frozen, frozen_before}
 
 -- no session and no topic
 abbrev pub no_content : List ℕ
@@ -17,7 +18,8 @@ no_content = 0 ∷ 0 ∷ 0 ∷ 0 ∷ []
 abbrev pub session_of_a : ℕ → Option ConnectionName → State
 session_of_a window connection = record {
   window = window;
-  sessions = (0x61 ∷ [], record { clean = false; connection = connection; state = empty_session }) ∷ [];
+  sessions =
+      (0x61 ∷ [], record { clean = false; connection = connection; state = empty_session }) ∷ [];
   retained = [];
 }
 
@@ -40,13 +42,16 @@ abbrev pub FormOneIsRead : Type 0
 FormOneIsRead =
     (thawed (0x01 ∷ no_content) ≡ Some (empty_state 16))
     × (frozen (empty_state 16) ≡ 0x02 ∷ 0x10 ∷ no_content)
-    × (frozen (step usual_limits 64 (empty_state 16) (commands.Start 2)).0 ≡ 0x02 ∷ 0x40 ∷ no_content)
+    × (frozen (step usual_limits 64 (empty_state 16) (commands.Start 2)).0
+    ≡ 0x02 ∷ 0x40 ∷ no_content)
 
 -- the session of `a` in form 1, and in form 2 after a Start, which leaves it without a connection
 abbrev pub OneSessionGoesOn : Type 0
 OneSessionGoesOn =
-    (frozen_before (session_of_a 16 (Some (record { ballot = 1; count = 1 }))) ≡ 0x01 ∷ content_of_a)
-    × (frozen (step usual_limits 64 (session_of_a 16 (Some (record { ballot = 1; count = 1 }))) (commands.Start 2)).0
+    (frozen_before (session_of_a 16 (Some (record { ballot = 1; count = 1 })))
+    ≡ 0x01 ∷ content_of_a)
+    × (frozen (step usual_limits 64 (session_of_a 16 (Some (record { ballot = 1; count = 1 })))
+    (commands.Start 2)).0
     ≡ 0x02 ∷ 0x40 ∷ 0 ∷ 1 ∷ 0 ∷ 1 ∷ 0x61 ∷ 0 ∷ 0 ∷ 0 ∷ 0 ∷ 0 ∷ 0 ∷ 0 ∷ 0 ∷ 0 ∷ 0 ∷ 0 ∷ [])
 
 -- there is no other window, and no other form

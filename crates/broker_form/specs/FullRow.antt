@@ -5,13 +5,20 @@ use Rattle.std.specs.Prelude.{◌≡◌, ℕ, false, List, [], ◌∷◌, ◌++�
 use Rattle.packet.specs.declared.qos.QoS.TheVariants as levels
 use Rattle.session_base.specs.FormRows.{full_session, full_session_by_hand}
 use Rattle.broker_base.specs.State.{State}
-use Rattle.broker_form.specs.Form.{frozen, frozen_before}
+use Rattle.broker_form.specs.Writing.{frozen, frozen_before}
 
 -- client `a` on connection 258 of ballot 2
 abbrev pub full_state : ℕ → State
 full_state window = record {
   window = window;
-  sessions = (codes "a", record { clean = false; connection = Some (record { ballot = 2; count = 258 }); state = full_session }) ∷ [];
+  sessions = (
+    codes "a",
+    record {
+      clean = false;
+      connection = Some (record { ballot = 2; count = 258 });
+      state = full_session;
+    },
+  ) ∷ [];
   retained =
       (codes "t/1", record { qos = levels.AtMostOnce; payload = codes "x" })
       ∷ (codes "t/2", record { qos = levels.ExactlyOnce; payload = codes "yz" })
@@ -21,7 +28,8 @@ full_state window = record {
 -- one session: `a`, not clean, connection 258 of ballot 2
 abbrev pub client_by_hand : List ℕ
 client_by_hand =
-    0 ∷ 1 ∷ 0 ∷ 1 ∷ 0x61 ∷ 0 ∷ 1 ∷ 0 ∷ 0 ∷ 0 ∷ 0 ∷ 0 ∷ 0 ∷ 0 ∷ 2 ∷ 0 ∷ 0 ∷ 0 ∷ 0 ∷ 0 ∷ 0 ∷ 1 ∷ 2 ∷ []
+    0 ∷ 1 ∷ 0 ∷ 1 ∷ 0x61 ∷ 0 ∷ 1 ∷ 0 ∷ 0 ∷ 0 ∷ 0 ∷ 0 ∷ 0 ∷ 0 ∷ 2 ∷ 0 ∷ 0 ∷ 0 ∷ 0 ∷ 0
+    ∷ 0 ∷ 1 ∷ 2 ∷ []
 
 -- `x` is retained on `t/1` at QoS 0, and `yz` on `t/2` at QoS 2
 abbrev pub topics_by_hand : List ℕ

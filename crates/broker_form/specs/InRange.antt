@@ -18,7 +18,8 @@ use Rattle.broker_base.specs.StateLaws.{IsSound}
 
 -- what is retained: a publication with a payload, on its topic (MQTT 3.3.1.3)
 abbrev pub as_publication : List ℕ × RetainedPublication → Publication
-as_publication row = record { retain = true; qos = row.1.qos; topic = row.0; payload = row.1.payload }
+as_publication row =
+    record { retain = true; qos = row.1.qos; topic = row.0; payload = row.1.payload }
 
 abbrev pub IsRetained : List ℕ × RetainedPublication → Type 0
 IsRetained row = (1 ≤ length row.1.payload) × CanBeSent (as_publication row)

@@ -16,7 +16,8 @@ use Rattle.broker_form.specs.InRange.{IsBrokerState}
 -- a step keeps a state in its ranges, if a queue holds fewer entries than there are identifiers
 abbrev pub StaysInRange : Type 0
 StaysInRange =
-    (limits : Limits) → (later : ℕ) → (state : State) → (command : Command) → limits.entries < 2 ^ 16 → IsBrokerCommand command →
+    (limits : Limits) → (later : ℕ) → (state : State) → (command : Command) →
+    limits.entries < 2 ^ 16 → IsBrokerCommand command →
     IsBrokerState limits state → IsBrokerState limits (step limits later state command).0
 
 -- a packet that is sent has a spelling
@@ -27,7 +28,8 @@ CanBeSpelled (Close x) = Unit {0}
 -- every answer to a command has one
 abbrev pub AnswersAreSpelled : Type 0
 AnswersAreSpelled =
-    (limits : Limits) → (later : ℕ) → (state : State) → (command : Command) → limits.entries < 2 ^ 16 → IsBrokerCommand command →
+    (limits : Limits) → (later : ℕ) → (state : State) → (command : Command) →
+    limits.entries < 2 ^ 16 → IsBrokerCommand command →
     IsBrokerState limits state → AllByRecursion CanBeSpelled (step limits later state command).1
 
 -- the same holds for this broker's limits after every list of commands of a log
@@ -35,4 +37,5 @@ abbrev pub ListsAreInRange : Type 0
 ListsAreInRange =
     (window : ℕ) → (commands : List Command) → AllByRecursion IsBrokerCommand commands →
     IsBrokerState usual_limits (state_from usual_limits 64 (empty_state window) commands)
-    × AllByRecursion (AllByRecursion CanBeSpelled) (steps_from usual_limits 64 (empty_state window) commands)
+    × AllByRecursion (AllByRecursion CanBeSpelled)
+    (steps_from usual_limits 64 (empty_state window) commands)

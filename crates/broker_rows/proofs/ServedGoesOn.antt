@@ -9,7 +9,8 @@ use Rattle.broker_spec.specs.retained.Retained.{RetainedTopics}
 use Rattle.broker_spec.specs.session_base.Identifiers.{without_id}
 use Rattle.broker_spec.specs.session_base.Session.{with_filters, with_received, with_queue, with_flights}
 use Rattle.broker_spec.specs.session_base.Subscriptions.{HeldFilter, with_subscriptions, without_filters}
-use Rattle.broker_spec.specs.session_base.Queue.{Queue, on_puback, on_pubrec, on_pubcomp, fill, copies_left}
+use Rattle.broker_spec.specs.session_base.Queue.{Queue, on_puback, on_pubrec, on_pubcomp, fill}
+use Rattle.broker_spec.specs.session_base.Copies.{copies_left}
 use Rattle.broker_base.specs.Connection.{ConnectionName}
 use Rattle.broker_base.specs.Place.{Client, Mark, Place, only_if}
 use Rattle.broker_base.specs.Past.{ends_any, is_leaving}

@@ -23,7 +23,8 @@ OneRowIsWritten =
     is_taken (mark_in limits state command) ≡ false →
     (step limits later state command).0.sessions
     ≡ written owner.0
-    (session_after (window_after later command state.window) (place_in limits state command) state.retained owner.0 owner.1)
+    (session_after (window_after later command state.window)
+    (place_in limits state command) state.retained owner.0 owner.1)
     state.sessions
 
 -- a command on a connection that is no client's current one, other than an accepted Connect,

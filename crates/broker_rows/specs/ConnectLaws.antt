@@ -27,7 +27,8 @@ is_admitted limits state c =
 -- whether an accepted Connect with this flag begins a session of the client
 abbrev pub begins_in : State → Client → Bool → Bool
 begins_in state c clean =
-    begins_session clean (option_map (λ (kept : ClientSession). kept.clean) (session_in c state.sessions))
+    begins_session clean
+    (option_map (λ (kept : ClientSession). kept.clean) (session_in c state.sessions))
 
 -- A Connect that is clean, that finds no session, or that finds a clean one, begins an empty
 -- session; the connection that the client had is closed (MQTT 3.1.2.4, 3.1.4).
@@ -61,7 +62,8 @@ ResumingStep =
       closed kept.connection
           ++ welcome x true
           ∷ map (Send x)
-          (resend kept.state.queue.in_flight ++ fill_sends state.window kept.state.queue.in_flight kept.state.queue.waiting),
+          (resend kept.state.queue.in_flight
+          ++ fill_sends state.window kept.state.queue.in_flight kept.state.queue.waiting),
     )
 
 -- one that would begin a session too many is refused (MQTT 3.2.2.3)
@@ -91,4 +93,7 @@ abbrev pub StartStep : Type 0
 StartStep =
     (limits : Limits) → (later : ℕ) → (state : State) → (ballot : ℕ) → IsSound state →
     step limits later state (commands.Start ballot)
-    ≡ (record { window = later; sessions = all_left_off state.sessions; retained = state.retained }, [])
+    ≡ (
+      record { window = later; sessions = all_left_off state.sessions; retained = state.retained },
+      [],
+    )

@@ -7,7 +7,8 @@ use Rattle.broker_spec.specs.retained.Retained.{RetainedTopics}
 use Rattle.broker_spec.specs.session_base.declared.publication.Publication.{Publication}
 use Rattle.broker_spec.specs.session_base.Publication.{is_answered}
 use Rattle.broker_spec.specs.session_base.Session.{SessionState}
-use Rattle.broker_spec.specs.session_base.Queue.{Queue, room, copies_left}
+use Rattle.broker_spec.specs.session_base.Queue.{Queue, room}
+use Rattle.broker_spec.specs.session_base.Copies.{copies_left}
 use Rattle.broker_spec.specs.session_base.Sending.{copies_sent}
 use Rattle.broker_base.specs.Place.{Limits}
 use Rattle.broker_base.specs.Subscriptions.{granted_of}
@@ -20,7 +21,8 @@ use Rattle.broker_rows.specs.PacketLaws.{subscribed_to}
 abbrev pub CopiesJoin : Type 0
 CopiesJoin =
     (window : ℕ) → (copies more : List Publication) → (queue : Queue) →
-    (copies_left window (copies ++ more) queue ≡ copies_left window more (copies_left window copies queue))
+    (copies_left window (copies ++ more) queue
+    ≡ copies_left window more (copies_left window copies queue))
     × (copies_sent window (copies ++ more) queue
     ≡ copies_sent window copies queue ++ copies_sent window more (copies_left window copies queue))
 
@@ -58,24 +60,28 @@ subscribed_by limits window content held new =
 -- the packets that it is sent after one filter
 abbrev pub sent_by : Limits → ℕ → RetainedTopics → SessionState → Subscription → List Packet
 sent_by limits window content held new =
-    if is_granted_in limits content held new then copies_sent window (copies_for content new) held.queue
+    if is_granted_in limits content held new
+    then copies_sent window (copies_for content new) held.queue
     else []
 
 -- which filters are granted, each of the session that those before it left
-abbrev pub granted_in_turn : Limits → ℕ → RetainedTopics → SessionState → List Subscription → List Bool
+abbrev pub granted_in_turn : Limits → ℕ → RetainedTopics → SessionState → List Subscription →
+    List Bool
 granted_in_turn limits window content held (new ∷ more) =
     is_granted_in limits content held new
     ∷ granted_in_turn limits window content (subscribed_by limits window content held new) more
 granted_in_turn limits window content held [] = []
 
 -- the session after all of them
-abbrev pub subscribed_in_turn : Limits → ℕ → RetainedTopics → SessionState → List Subscription → SessionState
+abbrev pub subscribed_in_turn : Limits → ℕ → RetainedTopics → SessionState → List Subscription →
+    SessionState
 subscribed_in_turn limits window content held (new ∷ more) =
     subscribed_in_turn limits window content (subscribed_by limits window content held new) more
 subscribed_in_turn limits window content held [] = held
 
 -- the packets of all of them
-abbrev pub sent_in_turn : Limits → ℕ → RetainedTopics → SessionState → List Subscription → List Packet
+abbrev pub sent_in_turn : Limits → ℕ → RetainedTopics → SessionState → List Subscription →
+    List Packet
 sent_in_turn limits window content held (new ∷ more) =
     sent_by limits window content held new
     ++ sent_in_turn limits window content (subscribed_by limits window content held new) more

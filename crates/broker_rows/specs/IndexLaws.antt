@@ -77,4 +77,5 @@ PublishingKeepsContent =
 -- an index that is rebuilt gets each session's filters
 abbrev pub IndexMadeAnew : Type 0
 IndexMadeAnew =
-    (rows : Sessions) → AreByClient rows → AllSound rows → content_in rows ≡ all_told rows no_subscriptions
+    (rows : Sessions) → AreByClient rows → AllSound rows
+    → content_in rows ≡ all_told rows no_subscriptions

@@ -31,7 +31,8 @@ all_set client [] content = content
 
 -- these filters are unsubscribed, one by one (MQTT 3.10.4)
 abbrev pub all_cleared : List ℕ → List (List ℕ) → Content → Content
-all_cleared client (filter ∷ more) content = all_cleared client more (without_row content client filter)
+all_cleared client (filter ∷ more) content =
+    all_cleared client more (without_row content client filter)
 all_cleared client [] content = content
 
 -- ---- and of several

@@ -40,7 +40,8 @@ ConnectingSetsTheOwner =
     (state : State) → (x : ConnectionName) → (c : Client) → (new : ClientSession) → IsSound state →
     owner_in x state.sessions ≡ None → new.connection ≡ Some x → (y : ConnectionName) →
     owners_in (insert_entry by_bytes state.sessions c new) y
-    ≡ with_owner x c (without_owner (connection_of (session_in c state.sessions)) (owners_in state.sessions)) y
+    ≡ with_owner x c
+    (without_owner (connection_of (session_in c state.sessions)) (owners_in state.sessions)) y
 
 -- the same if a session continues
 abbrev pub ResumingSetsTheOwner : Type 0
@@ -55,7 +56,8 @@ ResumingSetsTheOwner =
 
 -- a Start leaves none
 abbrev pub StartRemovesTheOwners : Type 0
-StartRemovesTheOwners = (rows : Sessions) → (y : ConnectionName) → owners_in (all_left_off rows) y ≡ None
+StartRemovesTheOwners =
+    (rows : Sessions) → (y : ConnectionName) → owners_in (all_left_off rows) y ≡ None
 
 -- nothing changes if a publication is noted and delivered
 abbrev pub PublishingKeepsOwners : Type 0
@@ -69,4 +71,5 @@ PublishingKeepsOwners =
 -- a map that is rebuilt gets each session's connection
 abbrev pub OwnersMadeAnew : Type 0
 OwnersMadeAnew =
-    (rows : Sessions) → AreApart rows → (y : ConnectionName) → owners_in rows y ≡ all_owned rows no_owners y
+    (rows : Sessions) → AreApart rows → (y : ConnectionName)
+    → owners_in rows y ≡ all_owned rows no_owners y

@@ -10,7 +10,8 @@ use Rattle.broker_spec.specs.retained.Retained.{RetainedTopics}
 use Rattle.broker_spec.specs.session_base.Identifiers.{without_id}
 use Rattle.broker_spec.specs.session_base.Session.{SessionState, with_filters, with_received, with_queue, with_flights}
 use Rattle.broker_spec.specs.session_base.Subscriptions.{with_subscriptions, without_filters}
-use Rattle.broker_spec.specs.session_base.Queue.{room, on_puback, on_pubrec, on_pubcomp, filled, copies_left}
+use Rattle.broker_spec.specs.session_base.Queue.{room, on_puback, on_pubrec, on_pubcomp, filled}
+use Rattle.broker_spec.specs.session_base.Copies.{copies_left}
 use Rattle.broker_spec.specs.session_base.Sending.{copies_sent}
 use Rattle.broker_base.specs.Connection.{ConnectionName}
 use Rattle.broker_base.specs.Place.{Client, Mark, Limits}
@@ -68,7 +69,8 @@ subscribed_to window content granted held =
 
 -- the packets that answer a SUBSCRIBE if these of its filters are granted: SUBACK, then those
 -- copies (MQTT 3.8.4)
-abbrev pub subscribe_answers : ℕ → RetainedTopics → Subscribe → List Bool → SessionState → List Packet
+abbrev pub subscribe_answers : ℕ → RetainedTopics → Subscribe → List Bool → SessionState →
+    List Packet
 subscribe_answers window content s which held =
     packets.Suback (record { id = s.id; codes = codes_of s.filters which })
     ∷ copies_sent window (copies_for_all content (granted_of s.filters which)) held.queue
@@ -78,14 +80,15 @@ subscribe_answers window content s which held =
 abbrev pub SubscribeStep : Type 0
 SubscribeStep =
     (limits : Limits) → (later : ℕ) → (state : State) → (x : ConnectionName) → (c : Client) →
-    (kept : ClientSession) →
-    IsServed state x c kept → (s : Subscribe) → (which : List Bool) →
-    grants limits state.retained kept.state.subscriptions (room limits.entries kept.state.queue) s.filters
+    (kept : ClientSession) → IsServed state x c kept → (s : Subscribe) → (which : List Bool) →
+    grants limits state.retained kept.state.subscriptions
+    (room limits.entries kept.state.queue) s.filters
     ≡ which →
     step limits later state (commands.Packet x (packets.Subscribe s))
     ≡ (
       with_session c
-          (Some (holding (subscribed_to state.window state.retained (granted_of s.filters which) kept.state) kept))
+          (Some (holding (subscribed_to state.window state.retained
+          (granted_of s.filters which) kept.state) kept))
           state,
       map (Send x) (subscribe_answers state.window state.retained s which kept.state),
     )

@@ -31,7 +31,8 @@ abbrev pub RoomIsOfGrantedRows : Type 0
 RoomIsOfGrantedRows =
     (limits : Limits) → (p : Publication) → (rows : Sessions) → AreByClient rows →
     list_any (has_no_room_for limits p) rows
-    ≡ list_any (λ row. is_full_at limits p row.1 (session_in row.0 rows)) (granted_rows p.topic rows)
+    ≡ list_any (λ row. is_full_at limits p row.1 (session_in row.0 rows))
+    (granted_rows p.topic rows)
 
 -- what all sessions are sent of it is what the granted ones are, in order
 abbrev pub AnswersAreOfGrantedRows : Type 0
@@ -39,4 +40,5 @@ AnswersAreOfGrantedRows =
     (window : ℕ) → (x : ConnectionName) → (p : Publish) → (d : Client) →
     (content : RetainedTopics) → (rows : Sessions) → AreByClient rows →
     flat_map (copies_answered window (taken x p d) content) rows
-    ≡ flat_map (λ row. copy_answered window (publication_of p) row.1 (session_in row.0 rows)) (granted_rows p.topic rows)
+    ≡ flat_map (λ row. copy_answered window (publication_of p) row.1 (session_in row.0 rows))
+    (granted_rows p.topic rows)

@@ -78,7 +78,8 @@ RoomLastsToItsTurn =
     (rows : Sessions) → AreByClient rows →
     list_any (λ row. is_full_at limits p row.1 (session_in row.0 rows)) (granted_rows p.topic rows)
     ≡ false →
-    HaveRoomInTurn limits window p (granted_rows p.topic rows) (changed c (received_on delivery) rows)
+    HaveRoomInTurn limits window p (granted_rows p.topic rows)
+    (changed c (received_on delivery) rows)
 
 -- ---- one session changed
 

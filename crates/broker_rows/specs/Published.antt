@@ -24,7 +24,8 @@ use Rattle.broker_rows.specs.Served.{holding}
 
 -- a row for each session with a subscription that matches the topic, with the greatest QoS
 abbrev pub granted_rows : List ℕ → Sessions → List Row
-granted_rows topic (row ∷ rows) = row_of row.0 (granted_qos topic row.1.state.subscriptions) ++ granted_rows topic rows
+granted_rows topic (row ∷ rows) =
+    row_of row.0 (granted_qos topic row.1.state.subscriptions) ++ granted_rows topic rows
 granted_rows topic [] = []
 
 -- ---- sessions
@@ -35,14 +36,16 @@ changed d change rows = written d (option_map change (session_in d rows)) rows
 
 -- a publisher's session takes note of the identifier of a PUBLISH at QoS 2 (MQTT 4.3.3)
 abbrev pub received_on : Delivery → ClientSession → ClientSession
-received_on delivery kept = holding (with_received (receives delivery kept.state.received) kept.state) kept
+received_on delivery kept =
+    holding (with_received (receives delivery kept.state.received) kept.state) kept
 
 -- a session that is granted a publication at this QoS gets its copy, and what may start then starts
 abbrev pub delivered_on : ℕ → Publication → QoS → ClientSession → ClientSession
 delivered_on window p qos kept =
     holding
     (with_queue
-    (copied_queue window kept.connection (copy_of p (Some (lower_qos p.qos qos))) kept.state.queue) kept.state) kept
+    (copied_queue window kept.connection (copy_of p (Some (lower_qos p.qos qos))) kept.state.queue)
+    kept.state) kept
 
 -- each granted row's session, one after another
 abbrev pub all_delivered : ℕ → Publication → List Row → Sessions → Sessions
@@ -53,13 +56,15 @@ all_delivered window p granted sessions =
 
 -- whether it would have to queue the publication and is full
 abbrev pub is_full_at : Limits → Publication → QoS → Option ClientSession → Bool
-is_full_at limits p qos (Some kept) = is_answered (lower_qos p.qos qos) && (room limits.entries kept.state.queue == 0)
+is_full_at limits p qos (Some kept) =
+    is_answered (lower_qos p.qos qos) && (room limits.entries kept.state.queue == 0)
 is_full_at limits p qos None = false
 
 -- what its client is sent
 abbrev pub copy_answered : ℕ → Publication → QoS → Option ClientSession → List Output
 copy_answered window p qos (Some kept) =
-    sent_on kept.connection (copies_sent window (copy_of p (Some (lower_qos p.qos qos))) kept.state.queue)
+    sent_on kept.connection
+    (copies_sent window (copy_of p (Some (lower_qos p.qos qos))) kept.state.queue)
 copy_answered window p qos None = []
 
 -- what they all are sent, each from the sessions as those before it left them

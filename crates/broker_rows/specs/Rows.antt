@@ -24,7 +24,8 @@ abbrev pub c : Client
 c = codes "c"
 
 -- a client's row, with this in its session
-abbrev pub row : Client → Bool → Option ConnectionName → List HeldFilter → List ℕ → Queue → Client × ClientSession
+abbrev pub row : Client → Bool → Option ConnectionName → List HeldFilter → List ℕ → Queue →
+    Client × ClientSession
 row client clean connection held received queue = (
   client,
   record {
@@ -98,9 +99,11 @@ EachHoldsItsFilters =
     ≡ Some levels.ExactlyOnce)
     × (all_cleared b (codes "t/#" ∷ []) (content_in three) b (codes "t/#") ≡ None)
     × (all_dropped (clean_clients three) (content_in three) c (codes "t/1") ≡ None)
-    × (all_dropped (clean_clients three) (content_in three) b (codes "t/#") ≡ Some levels.AtLeastOnce)
+    × (all_dropped (clean_clients three) (content_in three) b (codes "t/#")
+    ≡ Some levels.AtLeastOnce)
 
 -- a Start leaves only b's session
 abbrev pub OneIsLeftByAStart : Type 0
 OneIsLeftByAStart =
-    (all_left_off three ≡ row b false None of_b [] empty_queue ∷ []) × (clean_clients three ≡ a ∷ c ∷ [])
+    (all_left_off three ≡ row b false None of_b [] empty_queue ∷ [])
+    × (clean_clients three ≡ a ∷ c ∷ [])

@@ -10,14 +10,19 @@ use Rattle.broker_base.specs.StateLaws.{IsSound}
 use Rattle.broker_rows.specs.Touched.{written}
 
 -- in a sound state the client is served on the connection, and this is kept of its session
-pub record IsServed (state : State) (x : ConnectionName) (c : Client) (kept : ClientSession) : Type 0 where
+pub record IsServed (state : State) (x : ConnectionName) (c : Client)
+    (kept : ClientSession) : Type 0 where
   pub sound : IsSound state
   pub owner : owner_in x state.sessions ≡ Some (c, kept)
 
 -- the state with this session of the client, or with none
 abbrev pub with_session : Client → Option ClientSession → State → State
 with_session c session state =
-    record { window = state.window; sessions = written c session state.sessions; retained = state.retained }
+    record {
+      window = state.window;
+      sessions = written c session state.sessions;
+      retained = state.retained;
+    }
 
 -- a session with this in it
 abbrev pub holding : SessionState → ClientSession → ClientSession
@@ -26,7 +31,8 @@ holding held kept = record { clean = kept.clean; connection = kept.connection; s
 -- a session whose connection is over: a clean one is over with it (MQTT 3.1.2.4)
 abbrev pub left_off : ClientSession → Option ClientSession
 left_off kept =
-    if kept.clean then None else Some (record { clean = kept.clean; connection = None; state = kept.state })
+    if kept.clean then None
+    else Some (record { clean = kept.clean; connection = None; state = kept.state })
 
 -- a served client's session is on the connection, and is the one that is found by the client
 abbrev pub IsOnItsConnection : Type 0

@@ -20,7 +20,8 @@ Untouched place [] = Unit {0}
 abbrev pub TouchesOnly : Place → Client → Sessions → Type 0
 TouchesOnly place d (row ∷ rows) =
     ((same_client d row.0 ≡ true) × Untouched place rows)
-    ⊎ ((same_client d row.0 ≡ false) × (touches place row.0 row.1 ≡ false) × TouchesOnly place d rows)
+    ⊎ ((same_client d row.0 ≡ false) × (touches place row.0 row.1 ≡ false)
+    × TouchesOnly place d rows)
 TouchesOnly place d [] = Unit {0}
 
 -- the client's row with this session, or without a row of it

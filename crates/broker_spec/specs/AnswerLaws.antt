@@ -35,7 +35,8 @@ is_unasked _ = false
 abbrev pub IsAddressed : Past → Command → Output → Type 0
 IsAddressed past command answer =
     (named_in command ≡ Some (goes_to answer))
-    ⊎ (((c : Client) × (current_connection past c ≡ Some (goes_to answer))) × (is_unasked answer ≡ true))
+    ⊎ (((c : Client) × (current_connection past c ≡ Some (goes_to answer)))
+    × (is_unasked answer ≡ true))
 
 -- each answer is addressed in this way: CONNACK, PUBACK, PUBREC, PUBREL, PUBCOMP, SUBACK and
 -- UNSUBACK go to the client that asked

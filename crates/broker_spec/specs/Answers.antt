@@ -57,8 +57,10 @@ handled limits place past x c packets.Pingreq = Send x packets.Pingresp ∷ []
 handled limits place past x c (packets.Pubrec id) =
     if has_id id (released_below (suc (length past)) (entries_of limits (place ∷ past) c))
     then Send x (packets.Pubrel id) ∷ [] else []
-handled limits place past x c (packets.Puback id) = all_started x (length past) (entries_of limits (place ∷ past) c)
-handled limits place past x c (packets.Pubcomp id) = all_started x (length past) (entries_of limits (place ∷ past) c)
+handled limits place past x c (packets.Puback id) =
+    all_started x (length past) (entries_of limits (place ∷ past) c)
+handled limits place past x c (packets.Pubcomp id) =
+    all_started x (length past) (entries_of limits (place ∷ past) c)
 handled limits place past x c _ = []
 
 -- the answers to a packet, by its mark
@@ -67,7 +69,8 @@ packet_answers limits place past x (packets.Publish p) (Mark.Taken c) =
     acknowledged x p.delivery ++ flat_map (deliveries_to limits place past) (clients past)
 packet_answers limits place past x (packets.Publish p) (Mark.Repeat c) = acknowledged x p.delivery
 packet_answers limits place past x (packets.Subscribe s) (Mark.Granted c which) =
-    Send x (packets.Suback (record { id = s.id; codes = codes_of s.filters which })) ∷ deliveries_to limits place past c
+    Send x (packets.Suback (record { id = s.id; codes = codes_of s.filters which }))
+    ∷ deliveries_to limits place past c
 packet_answers limits place past x packet (Mark.Handled c) = handled limits place past x c packet
 packet_answers limits place past x packet (Mark.Leaves c) = Close x ∷ []
 packet_answers limits place past x packet (Mark.Refused c) = Close x ∷ []
@@ -77,15 +80,18 @@ packet_answers limits place past x packet _ = []
 abbrev pub connect_answers : Limits → Place → Past → ConnectionName → Client → Mark → List Output
 connect_answers limits place past x c Mark.Accepted =
     closed (current_connection past c)
-    ++ welcome x (not (begins place past c)) ∷ resent x (length past) (entries_of limits (place ∷ past) c)
+    ++ welcome x (not (begins place past c))
+    ∷ resent x (length past) (entries_of limits (place ∷ past) c)
 connect_answers limits place past x c Mark.Full = turned_away x ∷ Close x ∷ []
 connect_answers limits place past x c _ = Close x ∷ []
 
 -- the answers to a command, by its mark: a Lost and a Start have none, and an expelled client's
 -- connection is closed
 abbrev pub answers_by : Limits → Place → Past → Command → Mark → List Output
-answers_by limits place past (commands.Packet x packet) mark = packet_answers limits place past x packet mark
-answers_by limits place past (commands.Connect x c clean) mark = connect_answers limits place past x c mark
+answers_by limits place past (commands.Packet x packet) mark =
+    packet_answers limits place past x packet mark
+answers_by limits place past (commands.Connect x c clean) mark =
+    connect_answers limits place past x c mark
 answers_by limits place past (commands.Lost x) mark = []
 answers_by limits place past (commands.Start ballot) mark = []
 answers_by limits place past (commands.Expel c) mark = closed (current_connection past c)
@@ -101,5 +107,6 @@ answers_of limits past command = answers_at limits (place_of limits past command
 -- the answers to more commands, oldest first, place by place
 unfoldable pub answers_from : Limits → Past → List Command → List (List Output)
 answers_from limits past (command ∷ commands) =
-    answers_of limits past command ∷ answers_from limits (place_of limits past command ∷ past) commands
+    answers_of limits past command
+    ∷ answers_from limits (place_of limits past command ∷ past) commands
 answers_from limits past [] = []

@@ -12,7 +12,8 @@ place_of limits past command = record { command = command; mark = mark_of limits
 -- the places of more commands, oldest first, on top of a past: the one recursion over a list of
 -- commands
 unfoldable pub past_from : Limits → Past → List Command → Past
-past_from limits past (command ∷ commands) = past_from limits (place_of limits past command ∷ past) commands
+past_from limits past (command ∷ commands) =
+    past_from limits (place_of limits past command ∷ past) commands
 past_from limits past [] = past
 
 -- the places of a list of commands
@@ -27,7 +28,13 @@ is_start _ = false
 -- the limits of this broker, with any window
 abbrev pub limits_with : (Past → ℕ) → Limits
 limits_with window =
-    record { sessions = 4096; subscriptions = 64; entries = 4096; retained = 16384; window = window }
+    record {
+      sessions = 4096;
+      subscriptions = 64;
+      entries = 4096;
+      retained = 16384;
+      window = window;
+    }
 
 -- the limits of this broker: at most 64 entries of a session are in flight
 abbrev pub usual_limits : Limits

@@ -9,7 +9,8 @@ pub record ConnectionName : Type 0 where
 -- ballots are 1 to 2^32, and the connections of a ballot are numbered 1 to 2^40
 abbrev pub is_connection_name : ConnectionName → Bool
 is_connection_name name =
-    (nat_lt 0 name.ballot && nat_le name.ballot (2 ^ 32)) && (nat_lt 0 name.count && nat_le name.count (2 ^ 40))
+    (nat_lt 0 name.ballot && nat_le name.ballot (2 ^ 32))
+    && (nat_lt 0 name.count && nat_le name.count (2 ^ 40))
 
 abbrev pub IsConnectionName : ConnectionName → Type 0
 IsConnectionName name = is_connection_name name ≡ true

@@ -31,12 +31,16 @@ connects_of x [] = 0
 -- packets only at places of that session: no packet at a place outside of it.
 abbrev pub EndsWithTheSession : Limits → Past → Type 0
 EndsWithTheSession limits past =
-    (place opened : Place) (below earlier : Past) (x : ConnectionName) (packet : Packet) (c : Client) (clean : Bool) (start : ℕ)
+    (place opened : Place) (below earlier : Past) (x : ConnectionName) (packet : Packet)
+    (c : Client) (clean : Bool) (start : ℕ)
     → connects_of x past ≤ 1 → StandsAt past place below → StandsAt past opened earlier
-    → In (Send x packet) (answers_at limits place below) → accepts opened.command opened.mark c ≡ Some (x, clean)
+    → In (Send x packet) (answers_at limits place below)
+    → accepts opened.command opened.mark c ≡ Some (x, clean)
     → session_start (opened ∷ earlier) c ≡ Some start
     → session_start (place ∷ below) c ≡ Some start
 
 -- the same holds for every list of commands
 abbrev pub NothingAfterTheEnd : Type 0
-NothingAfterTheEnd = (limits : Limits) (commands : List Command) → EndsWithTheSession limits (past_of limits commands)
+NothingAfterTheEnd =
+    (limits : Limits) (commands : List Command)
+    → EndsWithTheSession limits (past_of limits commands)

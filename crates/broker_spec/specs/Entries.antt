@@ -18,14 +18,20 @@ use Rattle.broker_spec.specs.declared.command.Command.TheVariants as commands
 
 -- one copy of a publication, at this QoS and with RETAIN 0 (MQTT 3.3.1.3)
 abbrev pub copy_of : Publication → Option QoS → List Publication
-copy_of p (Some qos) = record { retain = false; qos = qos; topic = p.topic; payload = p.payload } ∷ []
+copy_of p (Some qos) =
+    record { retain = false; qos = qos; topic = p.topic; payload = p.payload } ∷ []
 copy_of p None = []
 
 -- a copy of a retained publication, with RETAIN 1, at the lower of its QoS and the QoS that is
 -- asked for
 abbrev pub retained_copy : QoS → List ℕ × RetainedPublication → Publication
 retained_copy asked row =
-    record { retain = true; qos = lower_qos asked row.1.qos; topic = row.0; payload = row.1.payload }
+    record {
+      retain = true;
+      qos = lower_qos asked row.1.qos;
+      topic = row.0;
+      payload = row.1.payload;
+    }
 
 -- the copies of retained publications that a filter brings, by topic (MQTT 3.8.4)
 abbrev pub copies_for : RetainedTopics → Subscription → List Publication
@@ -41,7 +47,8 @@ abbrev pub copies_by : Command → Mark → Past → Client → List Publication
 copies_by (commands.Packet x (packets.Publish p)) (Mark.Taken d) past c =
     copy_of (publication_of p) (effective_qos past c (publication_of p))
 copies_by (commands.Packet x (packets.Subscribe s)) (Mark.Granted d which) past c =
-    if same_client d c then copies_for_all (retained_publications past) (granted_of s.filters which) else []
+    if same_client d c
+    then copies_for_all (retained_publications past) (granted_of s.filters which) else []
 copies_by _ _ past c = []
 
 -- the copies that a place makes for a client's session
@@ -61,7 +68,8 @@ pub data Entry : Type 0 where
   Waits : (made : ℕ) → (publication : Publication) → Entry
   Started : (made : ℕ) → (publication : Publication) → (id start : ℕ) → Entry
   Released : (made : ℕ) → (publication : Publication) → (id start release : ℕ) → Entry
-  Finished : (made : ℕ) → (publication : Publication) → (id start : ℕ) → (release : Option ℕ) → (finish : ℕ) → Entry
+  Finished : (made : ℕ) → (publication : Publication) → (id start : ℕ) → (release : Option ℕ)
+      → (finish : ℕ) → Entry
 
 -- whether it takes room: all entries do except the finished ones
 abbrev pub is_unfinished : Entry → Bool

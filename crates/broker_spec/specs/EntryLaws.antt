@@ -22,9 +22,11 @@ use Rattle.broker_spec.specs.declared.command.Command.TheVariants as commands
 -- (MQTT 4.6)
 abbrev pub NothingWaitsInVain : Type 0
 NothingWaitsInVain =
-    (limits : Limits) (past : Past) (c : Client) (before behind : List Entry) (made : ℕ) (p : Publication)
+    (limits : Limits) (past : Past) (c : Client) (before behind : List Entry) (made : ℕ)
+    (p : Publication)
     → entries_of limits past c ≡ before ++ Entry.Waits made p ∷ behind
-    → (current_connection past c ≡ None) ⊎ (window_at limits past ≤ length (filter is_unfinished before))
+    → (current_connection past c ≡ None)
+    ⊎ (window_at limits past ≤ length (filter is_unfinished before))
 
 -- ---- how the list grows
 
@@ -38,8 +40,10 @@ GoesOn n (Entry.Started made p id start) later =
     (later ≡ Entry.Started made p id start) ⊎ ((later ≡ Entry.Released made p id start n)
     ⊎ (later ≡ Entry.Finished made p id start None n))
 GoesOn n (Entry.Released made p id start release) later =
-    (later ≡ Entry.Released made p id start release) ⊎ (later ≡ Entry.Finished made p id start (Some release) n)
-GoesOn n (Entry.Finished made p id start release finish) later = later ≡ Entry.Finished made p id start release finish
+    (later ≡ Entry.Released made p id start release)
+    ⊎ (later ≡ Entry.Finished made p id start (Some release) n)
+GoesOn n (Entry.Finished made p id start release finish) later =
+    later ≡ Entry.Finished made p id start release finish
 
 -- an entry that place n made: it waits, or started there
 abbrev pub IsMadeAt : ℕ → Entry → Type 0
@@ -72,7 +76,8 @@ TakenPublishAddsOne =
     (limits : Limits) (past : Past) (x : ConnectionName) (p : Publish) (d c : Client)
     → is_some (session_of (taken x p d ∷ past) c) ≡ true
     → length (entries_of limits (taken x p d ∷ past) c)
-    ≡ length (entries_of limits past c) + (if is_queued_at (effective_qos past c (publication_of p)) then 1 else 0)
+    ≡ length (entries_of limits past c)
+    + (if is_queued_at (effective_qos past c (publication_of p)) then 1 else 0)
 
 -- at the place where it is taken, a publication enters exactly the sessions with an effective QoS
 -- of 1 or 2, once (MQTT 3.3.5)

@@ -17,23 +17,28 @@ use Rattle.broker_spec.specs.declared.command.Output.TheVariants.{Close}
 -- b subscribes, and a publishes x at QoS 2, which starts for b
 abbrev pub x_is_under_way : List Command
 x_is_under_way =
-    subscribed_at levels.ExactlyOnce ++ gets 2 (publish (deliveries.ExactlyOnce false 1) false (codes "x")) ∷ []
+    subscribed_at levels.ExactlyOnce
+    ++ gets 2 (publish (deliveries.ExactlyOnce false 1) false (codes "x")) ∷ []
 
 -- b's connection is closed, once; what a publishes then reaches no client; b comes back and a new
 -- session begins, and its answers match no entry
 abbrev pub ExpelledOnce : Type 0
 ExpelledOnce =
     Gives usual_limits x_is_under_way
-    (commands.Expel b ∷ commands.Expel b ∷ gets 2 (publish (deliveries.ExactlyOnce false 2) false (codes "y"))
-    ∷ gets 1 (packets.Pubrec 1) ∷ connect 3 b ∷ gets 3 (packets.Pubrec 1) ∷ gets 3 packets.Pingreq ∷ [])
-    ((Close (nth 1) ∷ []) ∷ [] ∷ (sends 2 (packets.Pubrec 2) ∷ []) ∷ [] ∷ (sends 3 (connack false) ∷ []) ∷ []
+    (commands.Expel b ∷ commands.Expel b
+    ∷ gets 2 (publish (deliveries.ExactlyOnce false 2) false (codes "y"))
+    ∷ gets 1 (packets.Pubrec 1) ∷ connect 3 b ∷ gets 3 (packets.Pubrec 1)
+    ∷ gets 3 packets.Pingreq ∷ [])
+    ((Close (nth 1) ∷ []) ∷ [] ∷ (sends 2 (packets.Pubrec 2) ∷ []) ∷ []
+    ∷ (sends 3 (connack false) ∷ []) ∷ []
     ∷ (sends 3 packets.Pingresp ∷ []) ∷ [])
 
 -- nothing of the session is left: no connection, no session, no entry
 abbrev pub NothingIsLeft : Type 0
 NothingIsLeft =
     let past = past_of usual_limits (x_is_under_way ++ commands.Expel b ∷ []) in
-    (current_connection past b ≡ None) × (session_of past b ≡ None) × (entries_of usual_limits past b ≡ [])
+    (current_connection past b ≡ None) × (session_of past b ≡ None)
+    × (entries_of usual_limits past b ≡ [])
     × (session_of past a ≡ Some false) × (current_connection past a ≡ Some (nth 2))
 
 -- the identifiers that were received are removed too, so the same publication is taken once more
@@ -43,14 +48,16 @@ IdentifiersAreGone =
     (received_of (past_of usual_limits x_is_under_way) a ≡ 1 ∷ []) × (received_of past a ≡ [])
     × Gives usual_limits (x_is_under_way ++ commands.Expel a ∷ connect 4 a ∷ [])
     (gets 4 (publish (deliveries.ExactlyOnce true 1) false (codes "x")) ∷ [])
-    ((sends 4 (packets.Pubrec 1) ∷ sends 1 (publish (deliveries.ExactlyOnce false 2) false (codes "x")) ∷ []) ∷ [])
+    ((sends 4 (packets.Pubrec 1)
+    ∷ sends 1 (publish (deliveries.ExactlyOnce false 2) false (codes "x")) ∷ []) ∷ [])
 
 -- a session ends with or without a connection, clean or not; a session of another client does not
 abbrev pub ExpelEnds : Type 0
 ExpelEnds =
     Ends [] (commands.Expel a) false × Ends (connect 1 a ∷ []) (commands.Expel a) true
     × Ends (connect 1 a ∷ commands.Lost (nth 1) ∷ []) (commands.Expel a) true
-    × Ends (connect_clean 1 a ∷ []) (commands.Expel a) true × Ends (connect 1 a ∷ connect 2 b ∷ []) (commands.Expel b) false
+    × Ends (connect_clean 1 a ∷ []) (commands.Expel a) true
+    × Ends (connect 1 a ∷ connect 2 b ∷ []) (commands.Expel b) false
     × Began (connect 1 a ∷ commands.Expel a ∷ []) None
     × Began (connect 1 a ∷ commands.Expel a ∷ connect 2 a ∷ []) (Some 2)
     × Began (connect 1 a ∷ connect 2 b ∷ commands.Expel b ∷ []) (Some 0)

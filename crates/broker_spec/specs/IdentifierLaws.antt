@@ -10,11 +10,13 @@ use Rattle.retained.specs.lists.Lists.{IsDistinct}
 
 -- no two entries of a session that are in flight have the same identifier (MQTT 2.3.1)
 abbrev pub IdentifiersAreDistinct : Type 0
-IdentifiersAreDistinct = (limits : Limits) (past : Past) (c : Client) → IsDistinct (busy_ids (entries_of limits past c))
+IdentifiersAreDistinct =
+    (limits : Limits) (past : Past) (c : Client) → IsDistinct (busy_ids (entries_of limits past c))
 
 -- the window never shrinks
 abbrev pub NeverShrinks : Limits → Type 0
-NeverShrinks limits = (place : Place) (past : Past) → window_at limits past ≤ window_at limits (place ∷ past)
+NeverShrinks limits =
+    (place : Place) (past : Past) → window_at limits past ≤ window_at limits (place ∷ past)
 
 -- a number from 1 to the window
 abbrev pub IsInWindow : ℕ → ℕ → Type 0
@@ -29,7 +31,8 @@ IdentifiersAreInTheWindow =
 -- in this broker they are 1 to 64
 abbrev pub IdentifiersAreTo64 : Type 0
 IdentifiersAreTo64 =
-    (past : Past) (c : Client) → AllByRecursion (IsInWindow 64) (busy_ids (entries_of usual_limits past c))
+    (past : Past) (c : Client)
+    → AllByRecursion (IsInWindow 64) (busy_ids (entries_of usual_limits past c))
 
 -- an entry that waits
 abbrev pub IsWaiting : Entry → Type 0
@@ -44,4 +47,5 @@ WaitsLast [] = Unit {0}
 
 -- entries start in order (MQTT 4.6)
 abbrev pub StartedComeFirst : Type 0
-StartedComeFirst = (limits : Limits) (past : Past) (c : Client) → WaitsLast (entries_of limits past c)
+StartedComeFirst =
+    (limits : Limits) (past : Past) (c : Client) → WaitsLast (entries_of limits past c)

@@ -37,7 +37,8 @@ pub record WasOpened (past : Past) (c : Client) (x : ConnectionName) : Type 0 wh
 -- (MQTT 3.1.4)
 abbrev pub CurrentIsLastAccepted : Type 0
 CurrentIsLastAccepted =
-    (past : Past) (c : Client) (x : ConnectionName) → (current_connection past c ≡ Some x) ↔ WasOpened past c x
+    (past : Past) (c : Client) (x : ConnectionName) → (current_connection past c ≡ Some x)
+    ↔ WasOpened past c x
 
 -- ---- received identifiers
 
@@ -93,7 +94,8 @@ last_qos f [] = None
 -- what a command does to a filter of the client: granted at a QoS, removed, or nothing
 abbrev pub word_on : Command → Mark → Client → List ℕ → Option (Option QoS)
 word_on (commands.Packet x (packets.Subscribe s)) (Mark.Granted d which) c f =
-    if same_client d c then option_map (λ qos. Some qos) (last_qos f (granted_of s.filters which)) else None
+    if same_client d c
+    then option_map (λ qos. Some qos) (last_qos f (granted_of s.filters which)) else None
 word_on (commands.Packet x (packets.Unsubscribe u)) (Mark.Handled d) c f =
     if same_client d c && list_any (bytes_eq f) u.filters then Some None else None
 word_on _ _ c f = None
@@ -108,4 +110,5 @@ last_granting (place ∷ past) c f =
 -- a session's filters have the QoS of their last granting (MQTT 3.8.4, 3.10.4)
 abbrev pub FilterHasLastGranting : Type 0
 FilterHasLastGranting =
-    (past : Past) (c : Client) (f : List ℕ) → qos_asked f (subscriptions_of past c) ≡ last_granting past c f
+    (past : Past) (c : Client) (f : List ℕ)
+    → qos_asked f (subscriptions_of past c) ≡ last_granting past c f

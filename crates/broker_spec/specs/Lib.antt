@@ -20,6 +20,7 @@ pub mod QuietLaws
 pub mod Readings
 pub mod Received
 pub mod Retained
+pub mod RoomRows
 pub mod RowWords
 pub mod Rows
 pub mod Sends

@@ -1,6 +1,6 @@
 -- Worked examples: the limits of a broker, and what is answered when one is reached (MQTT 3.1.4,
 -- 3.2.2.3, 3.9.3, 4.8).
-use Rattle.std.specs.Prelude.{◌≡◌, ℕ, true, false, List, [], ◌∷◌, ◌++◌, codes}
+use Rattle.std.specs.Prelude.{◌≡◌, ℕ, true, false, List, [], ◌∷◌, codes}
 use Rattle.retained.specs.packet.RefusalCode.TheVariants as refusals
 use Rattle.retained.specs.packet.declared.connack.Connack.TheVariants as connacks
 use Rattle.retained.specs.packet.declared.qos.QoS.TheVariants as levels
@@ -40,22 +40,26 @@ NamesAre =
 -- four clients have a session; that of the fourth is clean
 abbrev pub four_sessions : List Command
 four_sessions =
-    connect 1 a ∷ connect 2 b ∷ connect 3 (codes "c") ∷ commands.Connect (nth 4) (codes "d") true ∷ []
+    connect 1 a ∷ connect 2 b ∷ connect 3 (codes "c")
+    ∷ commands.Connect (nth 4) (codes "d") true ∷ []
 
 -- a fifth gets CONNACK 3 and is closed; a client that has a session is accepted; and a fifth is,
 -- once the clean session is over
 abbrev pub FifthSessionIsRefused : Type 0
 FifthSessionIsRefused =
     Gives (small 3 16) four_sessions
-    (connect 5 (codes "e") ∷ gets 5 packets.Pingreq ∷ connect 6 a ∷ commands.Lost (nth 4) ∷ connect 7 (codes "e") ∷ [])
-    ((sends 5 (packets.Connack (connacks.Refused refusals.ServerUnavailable)) ∷ Close (nth 5) ∷ []) ∷ []
+    (connect 5 (codes "e") ∷ gets 5 packets.Pingreq ∷ connect 6 a ∷ commands.Lost (nth 4)
+    ∷ connect 7 (codes "e") ∷ [])
+    ((sends 5 (packets.Connack (connacks.Refused refusals.ServerUnavailable)) ∷ Close (nth 5) ∷ [])
+    ∷ []
     ∷ (Close (nth 1) ∷ sends 6 (connack true) ∷ []) ∷ [] ∷ (sends 7 (connack false) ∷ []) ∷ [])
 
 -- b has asked for f/1 to f/4 at QoS 1
 abbrev pub four_filters : List Command
 four_filters =
     connect 1 b
-    ∷ gets 1 (asks 1 (asked_at levels.AtLeastOnce (codes "f/1" ∷ codes "f/2" ∷ codes "f/3" ∷ codes "f/4" ∷ []))) ∷ connect 2 a ∷ []
+    ∷ gets 1 (asks 1 (asked_at levels.AtLeastOnce
+    (codes "f/1" ∷ codes "f/2" ∷ codes "f/3" ∷ codes "f/4" ∷ []))) ∷ connect 2 a ∷ []
 
 -- a fifth filter is answered 0x80 and is not set; an identical one is replaced, and is granted with
 -- the rest
@@ -66,13 +70,19 @@ FifthFilterIsRefused =
     ∷ gets 2 (publish_on (codes "f/5") (deliveries.AtLeastOnce false 1) false (codes "x"))
     ∷ gets 2 (publish_on (codes "f/2") (deliveries.AtLeastOnce false 2) false (codes "x")) ∷ [])
     ((sends 1
-    (packets.Suback (record { id = 2; codes = answers.Failure ∷ answers.Granted levels.AtMostOnce ∷ [] })) ∷ [])
+    (packets.Suback (record {
+      id = 2;
+      codes = answers.Failure ∷ answers.Granted levels.AtMostOnce ∷ [];
+    })) ∷ [])
     ∷ (sends 2 (packets.Puback 1) ∷ [])
-    ∷ (sends 2 (packets.Puback 2) ∷ sends 1 (publish_on (codes "f/2") deliveries.AtMostOnce false (codes "x")) ∷ []) ∷ [])
+    ∷ (sends 2 (packets.Puback 2)
+    ∷ sends 1 (publish_on (codes "f/2") deliveries.AtMostOnce false (codes "x")) ∷ []) ∷ [])
 
 -- four topics are retained, at QoS 1
 abbrev pub four_topics : List Command
-four_topics = connect 2 a ∷ published_on levels.AtLeastOnce (codes "t/1" ∷ codes "t/2" ∷ codes "t/3" ∷ codes "t/4" ∷ [])
+four_topics =
+    connect 2 a ∷ published_on levels.AtLeastOnce
+    (codes "t/1" ∷ codes "t/2" ∷ codes "t/3" ∷ codes "t/4" ∷ [])
 
 -- a fifth is refused and its connection closed; an existing one is replaced, and an empty payload
 -- makes room
@@ -85,33 +95,16 @@ FifthTopicIsRefused =
     ∷ gets 2 (publish_on (codes "t/6") (deliveries.AtLeastOnce false 8) false (codes "y"))
     ∷ gets 2 (publish_on (codes "t/6") (deliveries.AtLeastOnce false 9) true (codes "y"))
     ∷ gets 2 packets.Pingreq ∷ [])
-    ((sends 2 (packets.Puback 5) ∷ []) ∷ (sends 2 (packets.Puback 6) ∷ []) ∷ (sends 2 (packets.Puback 7) ∷ [])
+    ((sends 2 (packets.Puback 5) ∷ []) ∷ (sends 2 (packets.Puback 6) ∷ [])
+    ∷ (sends 2 (packets.Puback 7) ∷ [])
     ∷ (sends 2 (packets.Puback 8) ∷ []) ∷ (Close (nth 2) ∷ []) ∷ [] ∷ [])
-
--- ---- room of three entries
-
--- t/1 needs one entry and t/# two, so t/2 finds no room left; at QoS 0 it needs none
-abbrev pub RoomIsLessWhatEarlierFiltersNeed : Type 0
-RoomIsLessWhatEarlierFiltersNeed =
-    Gives (small 3 16) (connect 2 a ∷ published_on levels.AtLeastOnce (codes "t/1" ∷ codes "t/2" ∷ []) ++ connect 1 b ∷ [])
-    (gets 1 (asks 1 (asked_at levels.AtLeastOnce (codes "t/1" ∷ codes "t/#" ∷ codes "t/2" ∷ []) ++ asked_at levels.AtMostOnce (codes "t/2" ∷ []))) ∷ [])
-    ((sends 1
-    (packets.Suback
-    (record {
-      id = 1;
-      codes =
-          answers.Granted levels.AtLeastOnce ∷ answers.Granted levels.AtLeastOnce
-          ∷ answers.Failure ∷ answers.Granted levels.AtMostOnce ∷ [];
-    }))
-    ∷ sends 1 (publish_on (codes "t/1") (deliveries.AtLeastOnce false 1) true (codes "x"))
-    ∷ sends 1 (publish_on (codes "t/1") (deliveries.AtLeastOnce false 2) true (codes "x"))
-    ∷ sends 1 (publish_on (codes "t/2") (deliveries.AtLeastOnce false 3) true (codes "x"))
-    ∷ sends 1 (publish_on (codes "t/2") deliveries.AtMostOnce true (codes "x")) ∷ []) ∷ [])
 
 -- ---- connections
 
 -- a Connect on a connection that serves a client closes and ends it; no session begins (MQTT 3.1.0)
 abbrev pub ConnectOnACurrentConnection : Type 0
 ConnectOnACurrentConnection =
-    Gives usual_limits (connect 1 a ∷ []) (connect 1 b ∷ gets 1 packets.Pingreq ∷ connect 2 b ∷ connect 3 a ∷ [])
-    ((Close (nth 1) ∷ []) ∷ [] ∷ (sends 2 (connack false) ∷ []) ∷ (sends 3 (connack true) ∷ []) ∷ [])
+    Gives usual_limits (connect 1 a ∷ [])
+    (connect 1 b ∷ gets 1 packets.Pingreq ∷ connect 2 b ∷ connect 3 a ∷ [])
+    ((Close (nth 1) ∷ []) ∷ [] ∷ (sends 2 (connack false) ∷ [])
+    ∷ (sends 3 (connack true) ∷ []) ∷ [])

@@ -34,7 +34,8 @@ lacks_room limits past p c = is_queued_at (effective_qos past c p) && (room_of l
 -- a publication is refused as a whole if one session has no room for it, or if it cannot be
 -- retained
 abbrev pub is_refused : Limits → Past → Publication → Bool
-is_refused limits past p = list_any (lacks_room limits past p) (clients past) || is_retained_over limits past p
+is_refused limits past p =
+    list_any (lacks_room limits past p) (clients past) || is_retained_over limits past p
 
 -- ---- filters of a SUBSCRIBE
 
@@ -53,7 +54,8 @@ abbrev pub grants : Limits → RetainedTopics → List HeldFilter → ℕ → Li
 grants limits content held room (new ∷ more) =
     if is_one_too_many limits held new || nat_lt room (entries_for content new)
     then false ∷ grants limits content held room more
-    else true ∷ grants limits content (with_subscription (as_held new) held) (room - entries_for content new) more
+    else true ∷ grants limits content (with_subscription (as_held new) held)
+    (room - entries_for content new) more
 grants limits content held room [] = []
 
 -- ---- marks
@@ -65,7 +67,8 @@ packet_mark limits past c (packets.Publish p) =
     if is_repeat past c p.delivery then Mark.Repeat c else
     if is_refused limits past (publication_of p) then Mark.Refused c else Mark.Taken c
 packet_mark limits past c (packets.Subscribe s) =
-    Mark.Granted c (grants limits (retained_publications past) (subscriptions_of past c) (room_of limits past c) s.filters)
+    Mark.Granted c (grants limits (retained_publications past) (subscriptions_of past c)
+    (room_of limits past c) s.filters)
 packet_mark limits past c (packets.Connect connect) = Mark.Leaves c
 packet_mark limits past c (packets.Connack connack) = Mark.Leaves c
 packet_mark limits past c (packets.Suback suback) = Mark.Leaves c
@@ -84,7 +87,8 @@ packet_mark_of limits past packet None = Mark.NoPart
 abbrev pub connect_mark : Limits → Past → Client → Option Client → Mark
 connect_mark limits past c (Some owner) = Mark.Leaves owner
 connect_mark limits past c None =
-    if is_some (session_of past c) || nat_lt (length (clients past)) limits.sessions then Mark.Accepted else Mark.Full
+    if is_some (session_of past c) || nat_lt (length (clients past)) limits.sessions
+    then Mark.Accepted else Mark.Full
 
 -- the mark of a command after these places
 abbrev pub mark_of : Limits → Past → Command → Mark

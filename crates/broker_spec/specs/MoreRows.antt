@@ -40,15 +40,18 @@ abbrev pub FullQueueGoesOn : Type 0
 FullQueueGoesOn =
     Gives (small 3 16) (held_two ++ publishes_xyz 2 false ++ makes_room) (publishes_xyz 4 true)
     ((sends 4 (packets.Pubrec 1) ∷ [])
-    ∷ (sends 4 (packets.Pubrec 2) ∷ sends 3 (publish (deliveries.ExactlyOnce false 1) false (codes "y")) ∷ [])
-    ∷ (sends 4 (packets.Pubrec 3) ∷ sends 3 (publish (deliveries.ExactlyOnce false 2) false (codes "z")) ∷ []) ∷ [])
+    ∷ (sends 4 (packets.Pubrec 2)
+    ∷ sends 3 (publish (deliveries.ExactlyOnce false 1) false (codes "y")) ∷ [])
+    ∷ (sends 4 (packets.Pubrec 3)
+    ∷ sends 3 (publish (deliveries.ExactlyOnce false 2) false (codes "z")) ∷ []) ∷ [])
 
 -- the entries of b carry these payloads, each once and in the order of publishing
 abbrev pub FullQueueKeepsTheOrder : Type 0
 FullQueueKeepsTheOrder =
     map (λ entry. (publication_in entry).payload)
     (entries_of (small 3 16)
-    (past_of (small 3 16) (held_two ++ publishes_xyz 2 false ++ makes_room ++ publishes_xyz 4 true)) b)
+    (past_of (small 3 16) (held_two ++ publishes_xyz 2 false ++ makes_room ++ publishes_xyz 4 true))
+    b)
     ≡ codes "o" ∷ codes "o" ∷ codes "x" ∷ codes "y" ∷ codes "z" ∷ []
 
 -- ---- pings, unsubscribing, violations
@@ -65,7 +68,8 @@ PingAndUnsubscribe =
 -- a packet closes b's connection, and what comes after it has no effect
 abbrev pub Closes : Packet → Type 0
 Closes packet =
-    Gives usual_limits (subscribed_at levels.ExactlyOnce) (gets 1 packet ∷ gets 1 packets.Pingreq ∷ [])
+    Gives usual_limits (subscribed_at levels.ExactlyOnce)
+    (gets 1 packet ∷ gets 1 packets.Pingreq ∷ [])
     ((Close (nth 1) ∷ []) ∷ [] ∷ [])
 
 -- a second CONNECT, DISCONNECT, and what only a server sends (MQTT 3.1.0, 3.14.4, 4.8)
@@ -94,7 +98,8 @@ PubackFreesItsIdentifier =
 abbrev pub WideWindowSendsAll : Type 0
 WideWindowSendsAll =
     Gives usual_limits (routed 17) (gets 1 (packets.Puback 5) ∷ connect 3 b ∷ [])
-    ([] ∷ (Close (nth 1) ∷ sends 3 (connack true) ∷ delivered 3 true (numbers 4 1 ++ numbers 12 6)) ∷ [])
+    ([] ∷ (Close (nth 1) ∷ sends 3 (connack true) ∷ delivered 3 true (numbers 4 1 ++ numbers 12 6))
+    ∷ [])
 
 -- b is offline, and has 70 entries
 abbrev pub seventy : List Command
@@ -111,4 +116,5 @@ abbrev pub WindowGrowsAtStart : Type 0
 WindowGrowsAtStart =
     Gives (limits_from 16) seventy (connect 3 b ∷ commands.Start 2 ∷ connect 4 b ∷ [])
     ((sends 3 (connack true) ∷ delivered 3 false (numbers 16 1)) ∷ []
-    ∷ (sends 4 (connack true) ∷ delivered 4 true (numbers 16 1) ++ delivered 4 false (numbers 48 17)) ∷ [])
+    ∷ (sends 4 (connack true) ∷ delivered 4 true (numbers 16 1)
+    ++ delivered 4 false (numbers 48 17)) ∷ [])

@@ -9,7 +9,8 @@ use Rattle.broker_spec.specs.declared.command.Command.TheVariants as commands
 
 -- inserts a client into a list, each client once, ordered by bytes
 abbrev pub insert_client : Client → List Client → List Client
-insert_client c (d ∷ others) = match_ordering (by_bytes c d) (c ∷ d ∷ others) (d ∷ others) (d ∷ insert_client c others)
+insert_client c (d ∷ others) =
+    match_ordering (by_bytes c d) (c ∷ d ∷ others) (d ∷ others) (d ∷ insert_client c others)
 insert_client c [] = c ∷ []
 
 -- adds the client, if the command is its accepted Connect
@@ -33,7 +34,9 @@ first_client test [] = None
 
 -- the client whose current connection x is
 abbrev pub owner_of : Past → ConnectionName → Option Client
-owner_of past x = first_client (λ c. any_connection (same_connection x) (current_connection past c)) (clients past)
+owner_of past x =
+    first_client (λ c. any_connection (same_connection x) (current_connection past c))
+    (clients past)
 
 -- x is some client's current connection, so its packets count
 abbrev pub IsLive : Past → ConnectionName → Type 0

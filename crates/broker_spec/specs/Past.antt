@@ -40,10 +40,12 @@ any_connection test None = false
 
 -- whether a place ends this connection of the client, if there is one: an Expel of the client does
 abbrev pub ends_any : Place → Client → Option ConnectionName → Bool
-ends_any place c connection = expels place.command c || any_connection (ends place.command place.mark) connection
+ends_any place c connection =
+    expels place.command c || any_connection (ends place.command place.mark) connection
 
 -- the new connection, or else the old one unless it has ended
-abbrev pub newest_connection : Option (ConnectionName × Bool) → Bool → Option ConnectionName → Option ConnectionName
+abbrev pub newest_connection : Option (ConnectionName × Bool) → Bool → Option ConnectionName →
+    Option ConnectionName
 newest_connection (Some opened) over old = Some opened.0
 newest_connection None over old = only_if (not over) old
 
@@ -60,7 +62,8 @@ current_connection (place ∷ past) c =
 -- of its client leaves none, and a clean one ends with its connection.
 abbrev pub newest_session : Option (ConnectionName × Bool) → Bool → Bool → Option Bool → Option Bool
 newest_session (Some opened) expelled over old = Some opened.1
-newest_session None expelled over (Some clean) = only_if (not (expelled || (clean && over))) (Some clean)
+newest_session None expelled over (Some clean) =
+    only_if (not (expelled || (clean && over))) (Some clean)
 newest_session None expelled over None = None
 
 -- the session of a client: its CleanSession flag, or none (MQTT 3.1.2.4)
@@ -88,7 +91,8 @@ begins place past c = is_beginning (accepts place.command place.mark c) (session
 -- the place ends the client's session: another begins, or none is left
 abbrev pub ends_session : Place → Past → Client → Bool
 ends_session place past c =
-    is_some (session_of past c) && (begins place past c || not (is_some (session_of (place ∷ past) c)))
+    is_some (session_of past c)
+    && (begins place past c || not (is_some (session_of (place ∷ past) c)))
 
 -- The value that a session keeps, from the value below: nothing if there is no session, and the
 -- initial value if one begins.

@@ -27,7 +27,8 @@ pub data Mark : Type 0 where
   Refused : (client : Client) → Mark  -- a PUBLISH for which there is no room, which ends it too
   Repeat : (client : Client) → Mark  -- a repeat of a PUBLISH at QoS 2 that was taken
   Taken : (client : Client) → Mark  -- a PUBLISH whose publication goes to the subscribers
-  Granted : (client : Client) → (which : List Bool) → Mark  -- a SUBSCRIBE, and which filters are granted
+  -- a SUBSCRIBE, and which filters are granted
+  Granted : (client : Client) → (which : List Bool) → Mark
   Handled : (client : Client) → Mark  -- any other packet
 
 -- a command and what it did

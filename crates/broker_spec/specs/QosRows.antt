@@ -17,7 +17,8 @@ use Rattle.broker_spec.specs.declared.command.Output.TheVariants.{Close}
 -- b has subscribed at this QoS; a sends x with this delivery, and these are the answers
 abbrev pub Delivers : QoS → Delivery → List Output → Type 0
 Delivers granted sent answers =
-    Gives usual_limits (subscribed_at granted) (gets 2 (publish sent false (codes "x")) ∷ []) (answers ∷ [])
+    Gives usual_limits (subscribed_at granted) (gets 2 (publish sent false (codes "x")) ∷ [])
+    (answers ∷ [])
 
 -- to b
 abbrev pub to_b : Delivery → Output
@@ -28,14 +29,20 @@ to_b delivery = sends 1 (publish delivery false (codes "x"))
 abbrev pub LowerQosIsDelivered : Type 0
 LowerQosIsDelivered =
     Delivers levels.AtMostOnce deliveries.AtMostOnce (to_b deliveries.AtMostOnce ∷ [])
-    × Delivers levels.AtMostOnce (deliveries.AtLeastOnce false 7) (sends 2 (packets.Puback 7) ∷ to_b deliveries.AtMostOnce ∷ [])
-    × Delivers levels.AtMostOnce (deliveries.ExactlyOnce false 8) (sends 2 (packets.Pubrec 8) ∷ to_b deliveries.AtMostOnce ∷ [])
+    × Delivers levels.AtMostOnce (deliveries.AtLeastOnce false 7)
+    (sends 2 (packets.Puback 7) ∷ to_b deliveries.AtMostOnce ∷ [])
+    × Delivers levels.AtMostOnce (deliveries.ExactlyOnce false 8)
+    (sends 2 (packets.Pubrec 8) ∷ to_b deliveries.AtMostOnce ∷ [])
     × Delivers levels.AtLeastOnce deliveries.AtMostOnce (to_b deliveries.AtMostOnce ∷ [])
-    × Delivers levels.AtLeastOnce (deliveries.AtLeastOnce false 7) (sends 2 (packets.Puback 7) ∷ to_b (deliveries.AtLeastOnce false 1) ∷ [])
-    × Delivers levels.AtLeastOnce (deliveries.ExactlyOnce false 8) (sends 2 (packets.Pubrec 8) ∷ to_b (deliveries.AtLeastOnce false 1) ∷ [])
+    × Delivers levels.AtLeastOnce (deliveries.AtLeastOnce false 7)
+    (sends 2 (packets.Puback 7) ∷ to_b (deliveries.AtLeastOnce false 1) ∷ [])
+    × Delivers levels.AtLeastOnce (deliveries.ExactlyOnce false 8)
+    (sends 2 (packets.Pubrec 8) ∷ to_b (deliveries.AtLeastOnce false 1) ∷ [])
     × Delivers levels.ExactlyOnce deliveries.AtMostOnce (to_b deliveries.AtMostOnce ∷ [])
-    × Delivers levels.ExactlyOnce (deliveries.AtLeastOnce false 7) (sends 2 (packets.Puback 7) ∷ to_b (deliveries.AtLeastOnce false 1) ∷ [])
-    × Delivers levels.ExactlyOnce (deliveries.ExactlyOnce false 8) (sends 2 (packets.Pubrec 8) ∷ to_b (deliveries.ExactlyOnce false 1) ∷ [])
+    × Delivers levels.ExactlyOnce (deliveries.AtLeastOnce false 7)
+    (sends 2 (packets.Puback 7) ∷ to_b (deliveries.AtLeastOnce false 1) ∷ [])
+    × Delivers levels.ExactlyOnce (deliveries.ExactlyOnce false 8)
+    (sends 2 (packets.Pubrec 8) ∷ to_b (deliveries.ExactlyOnce false 1) ∷ [])
 
 -- ---- what is retained (MQTT 3.3.1.3)
 
@@ -69,11 +76,14 @@ RetainedAtTheLowerQos =
 abbrev pub LastIsRetained : Type 0
 LastIsRetained =
     Retains (sent_by_a deliveries.AtMostOnce false (codes "x") ∷ []) levels.AtMostOnce []
-    × Retains (sent_by_a deliveries.AtMostOnce true (codes "x") ∷ sent_by_a deliveries.AtMostOnce false (codes "y") ∷ [])
+    × Retains (sent_by_a deliveries.AtMostOnce true (codes "x")
+    ∷ sent_by_a deliveries.AtMostOnce false (codes "y") ∷ [])
     levels.AtMostOnce (retained_to_b deliveries.AtMostOnce (codes "x"))
-    × Retains (sent_by_a deliveries.AtMostOnce true (codes "x") ∷ sent_by_a deliveries.AtMostOnce true (codes "y") ∷ [])
+    × Retains (sent_by_a deliveries.AtMostOnce true (codes "x")
+    ∷ sent_by_a deliveries.AtMostOnce true (codes "y") ∷ [])
     levels.AtMostOnce (retained_to_b deliveries.AtMostOnce (codes "y"))
-    × Retains (sent_by_a deliveries.AtMostOnce true (codes "x") ∷ sent_by_a deliveries.AtMostOnce true [] ∷ [])
+    × Retains (sent_by_a deliveries.AtMostOnce true (codes "x")
+    ∷ sent_by_a deliveries.AtMostOnce true [] ∷ [])
     levels.AtMostOnce []
 
 -- ---- resending (MQTT 3.3.1.1, 4.4)
@@ -83,11 +93,15 @@ LastIsRetained =
 abbrev pub ExactlyOnceIsSentAgain : Type 0
 ExactlyOnceIsSentAgain =
     Gives usual_limits (subscribed_at levels.ExactlyOnce)
-    (gets 2 (publish (deliveries.ExactlyOnce false 9) false (codes "x")) ∷ connect 3 b ∷ gets 3 (packets.Pubrec 1)
+    (gets 2 (publish (deliveries.ExactlyOnce false 9) false (codes "x")) ∷ connect 3 b
+    ∷ gets 3 (packets.Pubrec 1)
     ∷ connect 4 b ∷ gets 4 (packets.Pubrec 1) ∷ gets 4 (packets.Pubcomp 1) ∷ connect 5 b ∷ [])
-    ((sends 2 (packets.Pubrec 9) ∷ sends 1 (publish (deliveries.ExactlyOnce false 1) false (codes "x")) ∷ [])
-    ∷ (Close (nth 1) ∷ sends 3 (connack true) ∷ sends 3 (publish (deliveries.ExactlyOnce true 1) false (codes "x")) ∷ [])
-    ∷ (sends 3 (packets.Pubrel 1) ∷ []) ∷ (Close (nth 3) ∷ sends 4 (connack true) ∷ sends 4 (packets.Pubrel 1) ∷ [])
+    ((sends 2 (packets.Pubrec 9)
+    ∷ sends 1 (publish (deliveries.ExactlyOnce false 1) false (codes "x")) ∷ [])
+    ∷ (Close (nth 1) ∷ sends 3 (connack true)
+    ∷ sends 3 (publish (deliveries.ExactlyOnce true 1) false (codes "x")) ∷ [])
+    ∷ (sends 3 (packets.Pubrel 1) ∷ [])
+    ∷ (Close (nth 3) ∷ sends 4 (connack true) ∷ sends 4 (packets.Pubrel 1) ∷ [])
     ∷ (sends 4 (packets.Pubrel 1) ∷ []) ∷ [] ∷ (Close (nth 4) ∷ sends 5 (connack true) ∷ []) ∷ [])
 
 -- ---- the order of the answers
@@ -96,7 +110,9 @@ ExactlyOnceIsSentAgain =
 -- clients' bytes
 abbrev pub CopiesComeByClient : Type 0
 CopiesComeByClient =
-    Gives usual_limits (subscribed_at levels.AtMostOnce ++ gets 2 (subscribe 4 levels.AtLeastOnce) ∷ [])
+    Gives usual_limits
+    (subscribed_at levels.AtMostOnce ++ gets 2 (subscribe 4 levels.AtLeastOnce) ∷ [])
     (gets 2 (publish (deliveries.AtLeastOnce false 7) false (codes "x")) ∷ [])
-    ((sends 2 (packets.Puback 7) ∷ sends 2 (publish (deliveries.AtLeastOnce false 1) false (codes "x"))
+    ((sends 2 (packets.Puback 7)
+    ∷ sends 2 (publish (deliveries.AtLeastOnce false 1) false (codes "x"))
     ∷ to_b deliveries.AtMostOnce ∷ []) ∷ [])

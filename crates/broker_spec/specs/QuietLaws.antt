@@ -37,7 +37,8 @@ PacketOfNobodyIsNothing =
     (limits : Limits) (past : Past) (x : ConnectionName) (packet : Packet)
     → IsSteady limits → owner_of past x ≡ None
     → ((c : Client) → LeavesAsIs limits (packet_place limits past x packet) past c)
-    × (retained_publications (packet_place limits past x packet ∷ past) ≡ retained_publications past)
+    × (retained_publications (packet_place limits past x packet ∷ past)
+    ≡ retained_publications past)
     × (answers_of limits past (commands.Packet x packet) ≡ [])
 
 -- the window of this broker is such a window, and so is one that grows at a new ballot

@@ -26,7 +26,8 @@ publication_in (Entry.Finished made p id start release finish) = p
 -- a copy of a retained publication has RETAIN 1 (MQTT 3.3.1.3)
 abbrev pub origin_of : Entry → Origin
 origin_of entry =
-    if (publication_in entry).retain then Origin.FromRetained (made_of entry) else Origin.FromPublish (made_of entry)
+    if (publication_in entry).retain then Origin.FromRetained (made_of entry)
+    else Origin.FromPublish (made_of entry)
 
 -- the place at which it started, if it did
 abbrev pub start_place : Entry → Option ℕ

@@ -14,17 +14,20 @@ retains p content = if p.retain then after_put content p.topic p.qos p.payload e
 
 -- a taken publication is retained
 abbrev pub retained_by : Command → Mark → RetainedTopics → RetainedTopics
-retained_by (commands.Packet x (packets.Publish p)) (Mark.Taken c) content = retains (publication_of p) content
+retained_by (commands.Packet x (packets.Publish p)) (Mark.Taken c) content =
+    retains (publication_of p) content
 retained_by _ _ content = content
 
 -- for each topic, ordered by bytes, the last taken publication with RETAIN 1, none if its payload
 -- is empty
 unfoldable pub retained_publications : Past → RetainedTopics
 retained_publications [] = []
-retained_publications (place ∷ past) = retained_by place.command place.mark (retained_publications past)
+retained_publications (place ∷ past) =
+    retained_by place.command place.mark (retained_publications past)
 
 -- whether a publication would be retained on one topic more than the limit
 abbrev pub is_retained_over : Limits → Past → Publication → Bool
 is_retained_over limits past p =
-    p.retain && not (is_empty p.payload) && is_none (publication_on p.topic (retained_publications past))
+    p.retain && not (is_empty p.payload)
+    && is_none (publication_on p.topic (retained_publications past))
     && nat_le limits.retained (length (retained_publications past))

@@ -52,11 +52,14 @@ connack present = packets.Connack (connacks.Accepted present)
 -- a PUBLISH on the topic t/1, with RETAIN and payload
 abbrev pub publish : Delivery → Bool → List ℕ → Packet
 publish delivery retain payload =
-    packets.Publish (record { topic = codes "t/1"; delivery = delivery; retain = retain; payload = payload })
+    packets.Publish
+    (record { topic = codes "t/1"; delivery = delivery; retain = retain; payload = payload })
 
 -- a SUBSCRIBE to the filter t/#, and its SUBACK
 abbrev pub subscribe : ℕ → QoS → Packet
-subscribe id qos = packets.Subscribe (record { id = id; filters = record { filter = codes "t/#"; qos = qos } ∷ [] })
+subscribe id qos =
+    packets.Subscribe
+    (record { id = id; filters = record { filter = codes "t/#"; qos = qos } ∷ [] })
 
 abbrev pub suback : ℕ → QoS → Packet
 suback id qos = packets.Suback (record { id = id; codes = answers.Granted qos ∷ [] })
@@ -76,7 +79,9 @@ subscribed_at qos = connect 1 b ∷ gets 1 (subscribe 1 qos) ∷ connect 2 a ∷
 
 -- a sends this many publications at QoS 1 on connection 2, with the payload o
 abbrev pub publications : ℕ → List Command
-publications many = map (λ id. gets 2 (publish (deliveries.AtLeastOnce false id) false (codes "o"))) (numbers many 1)
+publications many =
+    map (λ id. gets 2 (publish (deliveries.AtLeastOnce false id) false (codes "o")))
+    (numbers many 1)
 
 -- what b is sent for them on the nth connection, with these identifiers
 abbrev pub delivered : ℕ → Bool → List ℕ → List Output
@@ -85,12 +90,19 @@ delivered n dup = map (λ id. sends n (publish (deliveries.AtLeastOnce dup id) f
 -- limits of a row: this many unfinished entries of a session, this many in flight at once
 abbrev pub small : ℕ → ℕ → Limits
 small entries window =
-    record { sessions = 4; subscriptions = 4; entries = entries; retained = 4; window = λ past. window }
+    record {
+      sessions = 4;
+      subscriptions = 4;
+      entries = entries;
+      retained = 4;
+      window = λ past. window;
+    }
 
 -- a PUBLISH on this topic, with RETAIN and payload
 abbrev pub publish_on : List ℕ → Delivery → Bool → List ℕ → Packet
 publish_on topic delivery retain payload =
-    packets.Publish (record { topic = topic; delivery = delivery; retain = retain; payload = payload })
+    packets.Publish
+    (record { topic = topic; delivery = delivery; retain = retain; payload = payload })
 
 -- filters, all requested at this QoS
 abbrev pub asked_at : QoS → List (List ℕ) → List Subscription
@@ -102,4 +114,5 @@ asks id filters = packets.Subscribe (record { id = id; filters = filters })
 
 -- a sends x on each of these topics at this QoS on connection 2, with RETAIN 1 and the identifier 1
 abbrev pub published_on : QoS → List (List ℕ) → List Command
-published_on qos = map (λ topic. gets 2 (publish_on topic (delivery_at qos false 1) true (codes "x")))
+published_on qos =
+    map (λ topic. gets 2 (publish_on topic (delivery_at qos false 1) true (codes "x")))

@@ -18,12 +18,14 @@ ConnectIsAnswered = Gives usual_limits [] (connect 1 a ∷ []) ((sends 1 (connac
 -- 3.1.4)
 abbrev pub SecondConnectionTakesOver : Type 0
 SecondConnectionTakesOver =
-    Gives usual_limits (connect 1 a ∷ []) (connect 2 a ∷ []) ((Close (nth 1) ∷ sends 2 (connack true) ∷ []) ∷ [])
+    Gives usual_limits (connect 1 a ∷ []) (connect 2 a ∷ [])
+    ((Close (nth 1) ∷ sends 2 (connack true) ∷ []) ∷ [])
 
 -- and packets of the first connection have no effect any more
 abbrev pub OlderConnectionIsSilent : Type 0
 OlderConnectionIsSilent =
-    Gives usual_limits (connect 1 a ∷ connect 2 a ∷ []) (gets 1 packets.Pingreq ∷ gets 2 packets.Pingreq ∷ [])
+    Gives usual_limits (connect 1 a ∷ connect 2 a ∷ [])
+    (gets 1 packets.Pingreq ∷ gets 2 packets.Pingreq ∷ [])
     ([] ∷ (sends 2 packets.Pingresp ∷ []) ∷ [])
 
 -- SUBACK has the QoS that was asked for (MQTT 3.9.3)
@@ -35,19 +37,22 @@ SubscribeIsGranted =
 -- b has subscribed to t/# at QoS 2, and a has sent the publication x with identifier 1
 abbrev pub published_x : List Command
 published_x =
-    subscribed_at levels.ExactlyOnce ++ gets 2 (publish (deliveries.ExactlyOnce false 1) false (codes "x")) ∷ []
+    subscribed_at levels.ExactlyOnce
+    ++ gets 2 (publish (deliveries.ExactlyOnce false 1) false (codes "x")) ∷ []
 
 -- a publication at QoS 2: PUBREC to its publisher, PUBLISH to the subscriber (MQTT 4.3.3)
 abbrev pub PublishReachesTheSubscriber : Type 0
 PublishReachesTheSubscriber =
     Gives usual_limits (subscribed_at levels.ExactlyOnce)
     (gets 2 (publish (deliveries.ExactlyOnce false 1) false (codes "x")) ∷ [])
-    ((sends 2 (packets.Pubrec 1) ∷ sends 1 (publish (deliveries.ExactlyOnce false 1) false (codes "x")) ∷ []) ∷ [])
+    ((sends 2 (packets.Pubrec 1)
+    ∷ sends 1 (publish (deliveries.ExactlyOnce false 1) false (codes "x")) ∷ []) ∷ [])
 
 -- the same again before PUBREL: PUBREC again, and nothing to the subscriber (MQTT 4.3.3)
 abbrev pub RepeatBeforePubrel : Type 0
 RepeatBeforePubrel =
-    Gives usual_limits published_x (gets 2 (publish (deliveries.ExactlyOnce true 1) false (codes "x")) ∷ [])
+    Gives usual_limits published_x
+    (gets 2 (publish (deliveries.ExactlyOnce true 1) false (codes "x")) ∷ [])
     ((sends 2 (packets.Pubrec 1) ∷ []) ∷ [])
 
 -- the same with DUP 1 after PUBREL: a publication like any other (MQTT 3.3.1.1, 4.3.3)
@@ -55,7 +60,8 @@ abbrev pub DupAfterPubrel : Type 0
 DupAfterPubrel =
     Gives usual_limits (published_x ++ gets 2 (packets.Pubrel 1) ∷ [])
     (gets 2 (publish (deliveries.ExactlyOnce true 1) false (codes "y")) ∷ [])
-    ((sends 2 (packets.Pubrec 1) ∷ sends 1 (publish (deliveries.ExactlyOnce false 2) false (codes "y")) ∷ []) ∷ [])
+    ((sends 2 (packets.Pubrec 1)
+    ∷ sends 1 (publish (deliveries.ExactlyOnce false 2) false (codes "y")) ∷ []) ∷ [])
 
 -- PUBREL is answered by PUBCOMP each time (MQTT 4.3.3)
 abbrev pub PubrelTwice : Type 0
@@ -70,7 +76,8 @@ RetainedAtSubscribe =
     Gives usual_limits (subscribed_at levels.ExactlyOnce)
     (gets 2 (publish (deliveries.ExactlyOnce false 1) true (codes "x")) ∷ gets 1 (packets.Pubrec 1)
     ∷ gets 1 (packets.Pubcomp 1) ∷ gets 1 (subscribe 2 levels.ExactlyOnce) ∷ [])
-    ((sends 2 (packets.Pubrec 1) ∷ sends 1 (publish (deliveries.ExactlyOnce false 1) false (codes "x")) ∷ [])
+    ((sends 2 (packets.Pubrec 1)
+    ∷ sends 1 (publish (deliveries.ExactlyOnce false 1) false (codes "x")) ∷ [])
     ∷ (sends 1 (packets.Pubrel 1) ∷ []) ∷ []
     ∷ (sends 1 (suback 2 levels.ExactlyOnce)
     ∷ sends 1 (publish (deliveries.ExactlyOnce false 1) true (codes "x")) ∷ []) ∷ [])
@@ -89,6 +96,9 @@ TwoFiltersOnePublication =
     }))
     ∷ gets 2 (publish (deliveries.ExactlyOnce false 1) false (codes "x")) ∷ [])
     ((sends 1
-    (packets.Suback
-    (record { id = 1; codes = answers.Granted levels.AtMostOnce ∷ answers.Granted levels.ExactlyOnce ∷ [] })) ∷ [])
-    ∷ (sends 2 (packets.Pubrec 1) ∷ sends 1 (publish (deliveries.ExactlyOnce false 1) false (codes "x")) ∷ []) ∷ [])
+    (packets.Suback (record {
+      id = 1;
+      codes = answers.Granted levels.AtMostOnce ∷ answers.Granted levels.ExactlyOnce ∷ [];
+    })) ∷ [])
+    ∷ (sends 2 (packets.Pubrec 1)
+    ∷ sends 1 (publish (deliveries.ExactlyOnce false 1) false (codes "x")) ∷ []) ∷ [])

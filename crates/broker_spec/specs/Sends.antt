@@ -18,7 +18,8 @@ publish x dup id p = Send x (packets.Publish (publish_of dup id p))
 
 -- an entry that starts at place n is sent for the first time, with DUP 0 (MQTT 3.3.1.1)
 abbrev pub sent_first : ConnectionName → ℕ → Entry → List Output
-sent_first x n (Entry.Started made p id start) = if start == n then publish x false id p ∷ [] else []
+sent_first x n (Entry.Started made p id start) =
+    if start == n then publish x false id p ∷ [] else []
 sent_first x n _ = []
 
 -- all entries that start at place n, in order

@@ -31,10 +31,12 @@ Began commands start = session_start (past_of usual_limits commands) a ≡ start
 -- clean Connect begins one at its own place, which ends with its connection, also at a Start.
 abbrev pub SessionsBegin : Type 0
 SessionsBegin =
-    Began [] None × Began (connect 1 a ∷ []) (Some 0) × Began (connect 1 b ∷ connect 2 a ∷ []) (Some 1)
+    Began [] None × Began (connect 1 a ∷ []) (Some 0)
+    × Began (connect 1 b ∷ connect 2 a ∷ []) (Some 1)
     × Began (connect 1 a ∷ commands.Lost (nth 1) ∷ connect 2 a ∷ []) (Some 0)
     × Began (connect 1 a ∷ connect 2 a ∷ commands.Start 2 ∷ []) (Some 0)
-    × Began (connect 1 a ∷ connect_clean 2 a ∷ []) (Some 1) × Began (connect_clean 1 a ∷ connect 2 a ∷ []) (Some 1)
+    × Began (connect 1 a ∷ connect_clean 2 a ∷ []) (Some 1)
+    × Began (connect_clean 1 a ∷ connect 2 a ∷ []) (Some 1)
     × Began (connect_clean 1 a ∷ connect_clean 2 a ∷ []) (Some 1)
     × Began (connect_clean 1 a ∷ commands.Lost (nth 1) ∷ []) None
     × Began (connect_clean 1 a ∷ commands.Start 2 ∷ []) None
@@ -44,19 +46,24 @@ SessionsBegin =
 -- after the earlier commands, whether the next one ends the session of a
 abbrev pub Ends : List Command → Command → Bool → Type 0
 Ends earlier next ended =
-    ends_session (place_of usual_limits (past_of usual_limits earlier) next) (past_of usual_limits earlier) a ≡ ended
+    ends_session (place_of usual_limits (past_of usual_limits earlier) next)
+    (past_of usual_limits earlier) a ≡ ended
 
 abbrev pub SessionsEnd : Type 0
 SessionsEnd =
     Ends [] (connect 1 a) false × Ends (connect 1 a ∷ []) (connect 2 a) false
-    × Ends (connect 1 a ∷ []) (connect_clean 2 a) true × Ends (connect_clean 1 a ∷ []) (connect 2 a) true
-    × Ends (connect 1 a ∷ []) (commands.Start 2) false × Ends (connect_clean 1 a ∷ []) (commands.Start 2) true
-    × Ends (connect_clean 1 a ∷ []) (commands.Lost (nth 1)) true × Ends (connect_clean 1 a ∷ []) (commands.Lost (nth 2)) false
+    × Ends (connect 1 a ∷ []) (connect_clean 2 a) true
+    × Ends (connect_clean 1 a ∷ []) (connect 2 a) true
+    × Ends (connect 1 a ∷ []) (commands.Start 2) false
+    × Ends (connect_clean 1 a ∷ []) (commands.Start 2) true
+    × Ends (connect_clean 1 a ∷ []) (commands.Lost (nth 1)) true
+    × Ends (connect_clean 1 a ∷ []) (commands.Lost (nth 2)) false
 
 -- the session of places 0 and 1 is over at place 2, where the next one begins
 abbrev pub PlacesStandInSessions : Type 0
 PlacesStandInSessions =
-    let past = past_of usual_limits (connect 1 a ∷ gets 1 packets.Pingreq ∷ connect_clean 2 a ∷ []) in
+    let past = past_of usual_limits (connect 1 a ∷ gets 1 packets.Pingreq ∷ connect_clean 2 a ∷ [])
+    in
     StandsIn past 0 a 0 × StandsIn past 1 a 0 × StandsIn past 2 a 2
 
 -- ---- entries
@@ -68,7 +75,8 @@ abbrev pub three_entries : List Command
 three_entries =
     subscribed_at levels.ExactlyOnce
     ++ gets 2 (publish (deliveries.AtLeastOnce false 1) false (codes "x"))
-    ∷ gets 2 (publish (deliveries.ExactlyOnce false 2) true (codes "y")) ∷ gets 1 (subscribe 2 levels.ExactlyOnce)
+    ∷ gets 2 (publish (deliveries.ExactlyOnce false 2) true (codes "y"))
+    ∷ gets 1 (subscribe 2 levels.ExactlyOnce)
     ∷ gets 1 (packets.Puback 1) ∷ gets 1 (packets.Pubrec 2) ∷ gets 1 (packets.Pubcomp 2) ∷ []
 
 abbrev pub entries_of_b : List Entry
@@ -76,7 +84,8 @@ entries_of_b = entries_of usual_limits (past_of usual_limits three_entries) b
 
 abbrev pub EntriesHaveTheirPlaces : Type 0
 EntriesHaveTheirPlaces =
-    (map origin_of entries_of_b ≡ Origin.FromPublish 3 ∷ Origin.FromPublish 4 ∷ Origin.FromRetained 5 ∷ [])
+    (map origin_of entries_of_b
+    ≡ Origin.FromPublish 3 ∷ Origin.FromPublish 4 ∷ Origin.FromRetained 5 ∷ [])
     × (map start_place entries_of_b ≡ Some 3 ∷ Some 4 ∷ Some 5 ∷ [])
     × (map release_place entries_of_b ≡ None ∷ Some 7 ∷ None ∷ [])
     × (map finish_place entries_of_b ≡ Some 6 ∷ Some 8 ∷ None ∷ [])
@@ -86,17 +95,21 @@ EntriesHaveTheirPlaces =
 
 -- the mark of the next command after the earlier ones
 abbrev pub IsNewAfter : List Command → Command → Bool → Type 0
-IsNewAfter earlier next new = is_new next (mark_of usual_limits (past_of usual_limits earlier) next) ≡ new
+IsNewAfter earlier next new =
+    is_new next (mark_of usual_limits (past_of usual_limits earlier) next) ≡ new
 
 -- a QoS 2 PUBLISH brings a new publication unless it is a repeat or on no current connection; one
 -- at QoS 1 is taken each time, and is not counted as new
 abbrev pub NewOnce : Type 0
 NewOnce =
-    IsNewAfter (connect 2 a ∷ []) (gets 2 (publish (deliveries.ExactlyOnce true 1) false (codes "x"))) true
-    × IsNewAfter (connect 2 a ∷ gets 2 (publish (deliveries.ExactlyOnce false 1) false (codes "x")) ∷ [])
+    IsNewAfter (connect 2 a ∷ [])
+    (gets 2 (publish (deliveries.ExactlyOnce true 1) false (codes "x"))) true
+    × IsNewAfter
+    (connect 2 a ∷ gets 2 (publish (deliveries.ExactlyOnce false 1) false (codes "x")) ∷ [])
     (gets 2 (publish (deliveries.ExactlyOnce true 1) false (codes "x"))) false
     × IsNewAfter [] (gets 2 (publish (deliveries.ExactlyOnce false 1) false (codes "x"))) false
-    × IsNewAfter (connect 2 a ∷ []) (gets 2 (publish (deliveries.AtLeastOnce false 1) false (codes "x"))) false
+    × IsNewAfter (connect 2 a ∷ [])
+    (gets 2 (publish (deliveries.AtLeastOnce false 1) false (codes "x"))) false
 
 -- a connection is live until another takes its place
 abbrev pub LastConnectionIsLive : Type 0

@@ -18,13 +18,15 @@ as_held s = (s.filter, s.qos)
 
 -- the elements of the list that are granted
 abbrev pub granted_of : {A : Type 0} → List A → List Bool → List A
-granted_of (a ∷ more) (granted ∷ others) = if granted then a ∷ granted_of more others else granted_of more others
+granted_of (a ∷ more) (granted ∷ others) =
+    if granted then a ∷ granted_of more others else granted_of more others
 granted_of _ _ = []
 
 -- the subscriptions after a SUBSCRIBE or UNSUBSCRIBE of the client
 abbrev pub subscribed : Command → Mark → Client → List HeldFilter → List HeldFilter
 subscribed (commands.Packet x (packets.Subscribe s)) (Mark.Granted d which) c held =
-    if same_client d c then with_subscriptions (map as_held (granted_of s.filters which)) held else held
+    if same_client d c
+    then with_subscriptions (map as_held (granted_of s.filters which)) held else held
 subscribed (commands.Packet x (packets.Unsubscribe u)) (Mark.Handled d) c held =
     if same_client d c then without_filters u.filters held else held
 subscribed _ _ c held = held
@@ -40,4 +42,5 @@ subscriptions_of (place ∷ past) c =
 -- the QoS at which a client's session gets a publication, none if no filter of it matches (MQTT
 -- 3.3.5)
 abbrev pub effective_qos : Past → Client → Publication → Option QoS
-effective_qos past c p = option_map (lower_qos p.qos) (granted_qos p.topic (subscriptions_of past c))
+effective_qos past c p =
+    option_map (lower_qos p.qos) (granted_qos p.topic (subscriptions_of past c))

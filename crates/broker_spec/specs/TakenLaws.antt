@@ -25,20 +25,24 @@ takes_publication _ _ = false
 -- a publication as a session gets it at this QoS, if it is queued: its topic and payload, and
 -- RETAIN 0 (MQTT 3.3.1.3)
 abbrev pub queued_at : Publication → Option QoS → List Publication
-queued_at p (Some levels.AtLeastOnce) = record { retain = false; qos = levels.AtLeastOnce; topic = p.topic; payload = p.payload } ∷ []
-queued_at p (Some levels.ExactlyOnce) = record { retain = false; qos = levels.ExactlyOnce; topic = p.topic; payload = p.payload } ∷ []
+queued_at p (Some levels.AtLeastOnce) =
+    record { retain = false; qos = levels.AtLeastOnce; topic = p.topic; payload = p.payload } ∷ []
+queued_at p (Some levels.ExactlyOnce) =
+    record { retain = false; qos = levels.ExactlyOnce; topic = p.topic; payload = p.payload } ∷ []
 queued_at p _ = []
 
 -- at the place where it is taken a publication enters as it was published, at the effective QoS
 abbrev pub EntersAsPublished : Type 0
 EntersAsPublished =
     (limits : Limits) (past : Past) (x : ConnectionName) (p : Publish) (d c : Client)
-    → map publication_in (filter (is_from_publish (length past)) (entries_of limits (taken x p d ∷ past) c))
+    → map publication_in
+    (filter (is_from_publish (length past)) (entries_of limits (taken x p d ∷ past) c))
     ≡ queued_at (publication_of p) (effective_qos past c (publication_of p))
 
 -- no session has an entry from a place that takes no publication, such as a repeat or a refused one
 abbrev pub EntersWhereTaken : Type 0
 EntersWhereTaken =
-    (limits : Limits) (past : Past) (place : Place) (below : Past) (c : Client) → StandsAt past place below
+    (limits : Limits) (past : Past) (place : Place) (below : Past) (c : Client)
+    → StandsAt past place below
     → takes_publication place.command place.mark ≡ false
     → length (filter (is_from_publish (length below)) (entries_of limits past c)) ≡ 0

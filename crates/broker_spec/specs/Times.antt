@@ -15,19 +15,22 @@ use Rattle.broker_spec.specs.declared.command.Command.TheVariants as commands
 -- PUBACK finishes a QoS 1 entry with this identifier (MQTT 4.3.2)
 abbrev pub at_puback : ℕ → ℕ → Entry → Entry
 at_puback n i (Entry.Started made p id start) =
-    if (i == id) && is_acknowledged p.qos then Entry.Finished made p id start None n else Entry.Started made p id start
+    if (i == id) && is_acknowledged p.qos then Entry.Finished made p id start None n
+    else Entry.Started made p id start
 at_puback n i entry = entry
 
 -- PUBREC releases a QoS 2 entry (MQTT 4.3.3)
 abbrev pub at_pubrec : ℕ → ℕ → Entry → Entry
 at_pubrec n i (Entry.Started made p id start) =
-    if (i == id) && not (is_acknowledged p.qos) then Entry.Released made p id start n else Entry.Started made p id start
+    if (i == id) && not (is_acknowledged p.qos) then Entry.Released made p id start n
+    else Entry.Started made p id start
 at_pubrec n i entry = entry
 
 -- PUBCOMP finishes a released one (MQTT 4.3.3)
 abbrev pub at_pubcomp : ℕ → ℕ → Entry → Entry
 at_pubcomp n i (Entry.Released made p id start release) =
-    if i == id then Entry.Finished made p id start (Some release) n else Entry.Released made p id start release
+    if i == id then Entry.Finished made p id start (Some release) n
+    else Entry.Released made p id start release
 at_pubcomp n i entry = entry
 
 -- an answer of the client at place n
@@ -48,7 +51,8 @@ answered_by _ _ n c entries = entries
 abbrev pub start_all : ℕ → ℕ → List ℕ → List Entry → List Entry
 start_all window n busy (Entry.Waits made p ∷ entries) =
     if nat_lt (length busy) window
-    then Entry.Started made p (least_free busy) n ∷ start_all window n (least_free busy ∷ busy) entries
+    then Entry.Started made p (least_free busy) n
+    ∷ start_all window n (least_free busy ∷ busy) entries
     else Entry.Waits made p ∷ entries
 start_all window n busy (Entry.Started made p id start ∷ entries) =
     Entry.Started made p id start ∷ start_all window n (id ∷ busy) entries

@@ -35,7 +35,8 @@ impl ConnectionId {
     /// range: 1 to 2^32 for the ballot, 1 to 2^40 for the number.
     pub fn new(ballot: u64, count: u64) -> Option<ConnectionId>
         ensures named { IfSome result (λ name. name ≡ record { ballot = ballot; count = count }) }
-        ensures valid { IsSome result ↔ IsConnectionName (record { ballot = ballot; count = count }) }
+        ensures valid { IsSome result
+            ↔ IsConnectionName (record { ballot = ballot; count = count }) }
     {
         if ballot == 0 || ballot > MAX_BALLOT || count == 0 || count > MAX_COUNT {
             return None;

@@ -2,7 +2,8 @@
 
 ghost use Rattle.broker_spec.specs.Rows.{ConnectIsAnswered, SecondConnectionTakesOver, OlderConnectionIsSilent, SubscribeIsGranted, PublishReachesTheSubscriber, RepeatBeforePubrel, DupAfterPubrel, PubrelTwice, RetainedAtSubscribe, TwoFiltersOnePublication};
 ghost use Rattle.broker_spec.specs.MoreRows.{FullQueueRefuses, FullQueueGoesOn, FullQueueKeepsTheOrder, PingAndUnsubscribe, ViolationsClose, PubackFreesItsIdentifier, WideWindowSendsAll, WindowOf64, WindowGrowsAtStart};
-ghost use Rattle.broker_spec.specs.LimitRows.{LimitsAre, NamesAre, FifthSessionIsRefused, FifthFilterIsRefused, FifthTopicIsRefused, RoomIsLessWhatEarlierFiltersNeed, ConnectOnACurrentConnection};
+ghost use Rattle.broker_spec.specs.LimitRows.{LimitsAre, NamesAre, FifthSessionIsRefused, FifthFilterIsRefused, FifthTopicIsRefused, ConnectOnACurrentConnection};
+ghost use Rattle.broker_spec.specs.RoomRows.{RoomIsLessWhatEarlierFiltersNeed};
 ghost use Rattle.broker_spec.specs.QosRows.{LowerQosIsDelivered, RetainedAtTheLowerQos, LastIsRetained, ExactlyOnceIsSentAgain, CopiesComeByClient};
 ghost use Rattle.broker_spec.specs.SessionRows.{SessionsBegin, SessionsEnd, PlacesStandInSessions, EntriesHaveTheirPlaces, NewOnce, LastConnectionIsLive};
 ghost use Rattle.broker_spec.specs.ExpelRows.{ExpelledOnce, NothingIsLeft, IdentifiersAreGone, ExpelEnds};

@@ -4,7 +4,8 @@ use Rattle.std.proofs.Common.{◌≡◌, ◌≤◌, ◌+◌, ◌-◌, ◌==◌, 
 use Rattle.session.specs.packet.declared.packet.Packet.{Packet}
 use Rattle.session.specs.session_base.declared.publication.Publication.{Publication}
 use Rattle.session.specs.session_base.Publication.{is_answered}
-use Rattle.session.specs.session_base.Queue.{Queue, copies_left, room}
+use Rattle.session.specs.session_base.Queue.{Queue, room}
+use Rattle.session.specs.session_base.Copies.{copies_left}
 use Rattle.session.specs.session_base.Sending.{copies_sent}
 use Rattle.broker_rows.specs.broker_spec.Entries.{queued}
 use Rattle.broker_rows.proofs.publications.CopiesInParts.{copies_join, copies_take_room}

@@ -22,7 +22,8 @@ goes_on_in state c clean = goes_on clean (session_in c state.sessions)
 -- what a client whose session continues is sent of it (MQTT 4.4)
 abbrev pub sent_to_resumed : ℕ → Option ClientSession → List Packet
 sent_to_resumed window (Some kept) =
-    resend kept.state.queue.in_flight ++ fill_sends window kept.state.queue.in_flight kept.state.queue.waiting
+    resend kept.state.queue.in_flight
+    ++ fill_sends window kept.state.queue.in_flight kept.state.queue.waiting
 sent_to_resumed window None = []
 
 -- the connection becomes the client's, and the client's old one has no client any more
@@ -30,4 +31,5 @@ abbrev pub TakesOver : Tables → ConnectionName → Client → Tables → Type 
 TakesOver tables x c after =
     (q : ConnectionName) →
     owners_at after.owners.entries q
-    ≡ with_owner x c (without_owner (connection_of (session_in c tables.sessions.entries)) (owners_at tables.owners.entries)) q
+    ≡ with_owner x c (without_owner (connection_of (session_in c tables.sessions.entries))
+    (owners_at tables.owners.entries)) q

@@ -32,15 +32,19 @@ is_violation _ = false
 
 -- what its sender is sent for a step of a handshake
 abbrev pub handshake_sends : ℕ → Packet → SessionState → List Packet
-handshake_sends window (packets.Puback id) held = fill_sends window (on_puback id held.queue.in_flight) held.queue.waiting
-handshake_sends window (packets.Pubrec id) held = pubrec_sends id (on_pubrec id held.queue.in_flight)
+handshake_sends window (packets.Puback id) held =
+    fill_sends window (on_puback id held.queue.in_flight) held.queue.waiting
+handshake_sends window (packets.Pubrec id) held =
+    pubrec_sends id (on_pubrec id held.queue.in_flight)
 handshake_sends window (packets.Pubrel id) held = packets.Pubcomp id ∷ []
-handshake_sends window (packets.Pubcomp id) held = fill_sends window (on_pubcomp id held.queue.in_flight) held.queue.waiting
+handshake_sends window (packets.Pubcomp id) held =
+    fill_sends window (on_pubcomp id held.queue.in_flight) held.queue.waiting
 handshake_sends window _ held = []
 
 -- the copy of a publication for a client that is granted it at this QoS (MQTT 3.3.1.3, 3.3.5)
 abbrev pub lowered : Publication → QoS → Publication
-lowered p qos = record { retain = false; qos = lower_qos p.qos qos; topic = p.topic; payload = p.payload }
+lowered p qos =
+    record { retain = false; qos = lower_qos p.qos qos; topic = p.topic; payload = p.payload }
 
 -- all except the sessions is as it was
 pub record HasOthersOf (tables after : Tables) : Type 0 where

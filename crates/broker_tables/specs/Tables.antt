@@ -27,7 +27,12 @@ owners_at entries x = lookup (is_at (by_connection x)) entries
 
 -- what a broker with these tables keeps of all its clients
 abbrev pub state_in : Tables → State
-state_in tables = record { window = tables.window; sessions = tables.sessions.entries; retained = tables.retained }
+state_in tables =
+    record {
+      window = tables.window;
+      sessions = tables.sessions.entries;
+      retained = tables.retained;
+    }
 
 -- the map of connections holds those of the sessions, and the index the subscriptions of the
 -- sessions

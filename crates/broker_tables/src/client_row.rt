@@ -25,7 +25,8 @@ impl Model for ClientRow {
 
     ghost Value = { ClientSession };
 
-    ghost view = { λ row. record { clean = row.clean; connection = row.connection; state = row.state } };
+    ghost view = { λ row.
+        record { clean = row.clean; connection = row.connection; state = row.state } };
 }
 
 impl ClientRow {

@@ -27,7 +27,7 @@ use machine::Halted;
 use session::packet::{ClientId, Connack, Packet, RefusalCode};
 use std::collections::BTreeMap;
 
-// What a Connect does on a connection that is no client's current one.
+/// What a Connect does on a connection that is no client's current one.
 #[derive(Clone, Copy, Debug, PartialEq, Eq)]
 pub(crate) enum Admission {
     // A session begins.
@@ -50,10 +50,12 @@ impl Tables {
     ) -> Result<(), Halted>
         requires { IsInStep self.old }
         ensures state { OnOk result
-            (state_in self.new ≡ (stepped self.old (commands.Connect connection client.now clean)).0) }
+            (state_in self.new
+            ≡ (stepped self.old (commands.Connect connection client.now clean)).0) }
         ensures outputs { OnOk result
             (out.new.items
-            ≡ out.old.items ++ (stepped self.old (commands.Connect connection client.now clean)).1) }
+            ≡ out.old.items
+            ++ (stepped self.old (commands.Connect connection client.now clean)).1) }
         ensures tied { OnOk result (IsTied self.new) }
     {
         if self.owners.contains_key(&connection) {
@@ -74,7 +76,8 @@ impl Tables {
     fn admission(&self, client: &ClientId, clean: bool) -> Admission
         ensures goes_on { result ≡ GoesOn → goes_on_in (state_in self.now) client.now clean ≡ true }
         ensures begins { result ≡ Begins → begins_in (state_in self.now) client.now clean ≡ true }
-        ensures admitted { result ≡ Begins → is_admitted usual_limits (state_in self.now) client.now ≡ true }
+        ensures admitted { result ≡ Begins
+            → is_admitted usual_limits (state_in self.now) client.now ≡ true }
         ensures full { result ≡ TurnedAway
             → is_admitted usual_limits (state_in self.now) client.now ≡ false }
     {
@@ -109,10 +112,12 @@ impl Tables {
         requires admitted { is_admitted usual_limits (state_in self.old) client.now ≡ true }
         requires begins { begins_in (state_in self.old) client.now clean ≡ true }
         ensures state { OnOk result
-            (state_in self.new ≡ (stepped self.old (commands.Connect connection client.now clean)).0) }
+            (state_in self.new
+            ≡ (stepped self.old (commands.Connect connection client.now clean)).0) }
         ensures outputs { OnOk result
             (out.new.items
-            ≡ out.old.items ++ (stepped self.old (commands.Connect connection client.now clean)).1) }
+            ≡ out.old.items
+            ++ (stepped self.old (commands.Connect connection client.now clean)).1) }
         ensures tied { OnOk result (IsTied self.new) }
     {
         self.welcome(connection, client, false, out)?;
@@ -167,10 +172,12 @@ impl Tables {
         requires nobodys { owners_in self.old.sessions.entries connection ≡ None }
         requires goes_on { goes_on_in (state_in self.old) client.now clean ≡ true }
         ensures state { OnOk result
-            (state_in self.new ≡ (stepped self.old (commands.Connect connection client.now clean)).0) }
+            (state_in self.new
+            ≡ (stepped self.old (commands.Connect connection client.now clean)).0) }
         ensures outputs { OnOk result
             (out.new.items
-            ≡ out.old.items ++ (stepped self.old (commands.Connect connection client.now clean)).1) }
+            ≡ out.old.items
+            ++ (stepped self.old (commands.Connect connection client.now clean)).1) }
         ensures tied { OnOk result (IsTied self.new) }
     {
         self.welcome(connection, client, true, out)?;
@@ -191,7 +198,8 @@ impl Tables {
         requires { IsSome (session_in client.now self.old.sessions.entries) }
         ensures sessions { OnOk result
             (self.new.sessions.entries
-            ≡ changed client.now (kept_resumed self.old.window (connection, false)) self.old.sessions.entries) }
+            ≡ changed client.now
+            (kept_resumed self.old.window (connection, false)) self.old.sessions.entries) }
         ensures sends { OnOk result
             (out.new.items
             ≡ out.old.items

@@ -4,7 +4,8 @@ ghost use Rattle.std.specs.Prelude.{◌≡◌, ◌≤◌, ◌++◌, [], ◌∷�
 ghost use Rattle.session.specs.packet.declared.packet.Packet.TheVariants as packets;
 ghost use Rattle.session.specs.session_base.Publication.{publish_of, lower_qos, publication_of, is_answered};
 ghost use Rattle.session.specs.packet.declared.qos.QoS.TheVariants as levels;
-ghost use Rattle.session.specs.session_base.Queue.{copies_left, room};
+ghost use Rattle.session.specs.session_base.Queue.{room};
+ghost use Rattle.session.specs.session_base.Copies.{copies_left};
 ghost use Rattle.session.specs.session_base.Sending.{copies_sent};
 ghost use Rattle.session.specs.session_base.Session.{with_queue};
 ghost use Rattle.broker_rows.specs.broker_base.SessionStep.{copied_queue};

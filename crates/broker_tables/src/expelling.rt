@@ -18,8 +18,10 @@ impl Tables {
     /// if there is none for it, all stays as it was.
     pub(crate) fn expel(&mut self, client: &ClientId, out: &mut Vec<Output>) -> Result<(), Halted>
         requires { IsInStep self.old }
-        ensures state { OnOk result (state_in self.new ≡ (stepped self.old (commands.Expel client.now)).0) }
-        ensures outputs { OnOk result (out.new.items ≡ out.old.items ++ (stepped self.old (commands.Expel client.now)).1) }
+        ensures state { OnOk result
+            (state_in self.new ≡ (stepped self.old (commands.Expel client.now)).0) }
+        ensures outputs { OnOk result
+            (out.new.items ≡ out.old.items ++ (stepped self.old (commands.Expel client.now)).1) }
         ensures tied { OnOk result (IsTied self.new) }
         ensures stays { OnErr result (self.new ≡ self.old) }
         ensures unsent { OnErr result (out.new.items ≡ out.old.items) }

@@ -38,8 +38,10 @@ impl Tables {
         out: &mut Vec<Output>,
     ) -> Result<(), Halted>
         requires { IsInStep self.old }
-        ensures state { OnOk result (state_in self.new ≡ (stepped self.old (commands.Lost connection)).0) }
-        ensures outputs { OnOk result (out.new.items ≡ out.old.items ++ outputs.Close connection ∷ []) }
+        ensures state { OnOk result
+            (state_in self.new ≡ (stepped self.old (commands.Lost connection)).0) }
+        ensures outputs { OnOk result
+            (out.new.items ≡ out.old.items ++ outputs.Close connection ∷ []) }
         ensures tied { OnOk result (IsTied self.new) }
     {
         out.push(Output::Close(connection))?;

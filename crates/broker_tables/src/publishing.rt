@@ -69,7 +69,8 @@ impl Tables {
     // Returns the clients with a subscription that matches, each with the greatest QoS.
     fn granted(&self, topic: &TopicName) -> Result<Vec<(ClientId, QoS)>, AllocError>
         requires { IsInStep self.now }
-        ensures { IfOk result (λ rows. rows.items ≡ granted_rows topic.now self.now.sessions.entries) }
+        ensures { IfOk result
+            (λ rows. rows.items ≡ granted_rows topic.now self.now.sessions.entries) }
     {
         let mut rows = Vec::new(self.alloc);
         self.index.granted(topic, &mut rows)?;
@@ -164,7 +165,8 @@ fn is_any_full(
 ) -> bool
     ensures { result
         ≡ list_any
-        (λ row. is_full_at usual_limits publication.now row.1 (session_in row.0 sessions.now.entries))
+        (λ row.
+        is_full_at usual_limits publication.now row.1 (session_in row.0 sessions.now.entries))
         granted.now }
 {
     granted
@@ -187,13 +189,15 @@ fn deliver_all(
     granted: &[(ClientId, QoS)],
     out: &mut Vec<Output>,
 ) -> Result<(), Halted>
-    requires room { HaveRoomInTurn usual_limits window publication.now granted.now sessions.old.entries }
+    requires room { HaveRoomInTurn usual_limits window publication.now granted.now
+        sessions.old.entries }
     ensures state { OnOk result
         (sessions.new.entries
         ≡ all_delivered window publication.now granted.now sessions.old.entries) }
     ensures outputs { OnOk result
         (out.new.items
-        ≡ out.old.items ++ answered_in_turn window publication.now granted.now sessions.old.entries) }
+        ≡ out.old.items
+        ++ answered_in_turn window publication.now granted.now sessions.old.entries) }
 {
     for row in granted {
         deliver_to(sessions, window, publication, row, out)?;
@@ -213,7 +217,8 @@ fn deliver_to(
         (session_in granted.now.0 sessions.old.entries) ≡ false }
     ensures state { OnOk result
         (sessions.new.entries
-        ≡ changed granted.now.0 (delivered_on window publication.now granted.now.1) sessions.old.entries) }
+        ≡ changed granted.now.0
+        (delivered_on window publication.now granted.now.1) sessions.old.entries) }
     ensures outputs { OnOk result
         (out.new.items
         ≡ out.old.items

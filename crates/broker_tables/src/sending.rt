@@ -13,7 +13,8 @@ pub(crate) fn send_all(
     sent: Vec<Packet>,
     out: &mut Vec<Output>,
 ) -> Result<(), Halted>
-    ensures { OnOk result (out.new.items ≡ out.old.items ++ map (outputs.Send connection) sent.items) }
+    ensures { OnOk result
+        (out.new.items ≡ out.old.items ++ map (outputs.Send connection) sent.items) }
 {
     for packet in sent {
         out.push(Output::Send(connection, packet))?;

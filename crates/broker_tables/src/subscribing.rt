@@ -43,7 +43,8 @@ impl Tables {
         ensures outputs { OnOk result
             (out.new.items
             ≡ out.old.items
-            ++ (stepped self.old (commands.Packet connection (packets.Subscribe subscribe.now))).1) }
+            ++ (stepped self.old
+            (commands.Packet connection (packets.Subscribe subscribe.now))).1) }
         ensures tied { OnOk result (IsTied self.new) }
     {
         let filters = subscribe.filters.as_slice();
@@ -77,9 +78,11 @@ fn grant_all(
     sent: &mut Vec<Packet>,
 ) -> Result<Vec<bool>, Halted>
     ensures which { IfOk result
-        (λ which. which.items ≡ granted_in_turn usual_limits window retained.now session.old filters.now) }
+        (λ which. which.items
+        ≡ granted_in_turn usual_limits window retained.now session.old filters.now) }
     ensures state { OnOk result
-        (session.new ≡ subscribed_in_turn usual_limits window retained.now session.old filters.now) }
+        (session.new
+        ≡ subscribed_in_turn usual_limits window retained.now session.old filters.now) }
     ensures sends { OnOk result
         (sent.new.items
         ≡ sent.old.items ++ sent_in_turn usual_limits window retained.now session.old filters.now) }
@@ -101,9 +104,11 @@ fn grant(
     sent: &mut Vec<Packet>,
 ) -> Result<bool, Halted>
     ensures granted { IfOk result
-        (λ granted. granted ≡ is_granted_in usual_limits retained.now session.old subscription.now) }
+        (λ granted. granted
+        ≡ is_granted_in usual_limits retained.now session.old subscription.now) }
     ensures state { OnOk result
-        (session.new ≡ subscribed_by usual_limits window retained.now session.old subscription.now) }
+        (session.new
+        ≡ subscribed_by usual_limits window retained.now session.old subscription.now) }
     ensures sends { OnOk result
         (sent.new.items
         ≡ sent.old.items ++ sent_by usual_limits window retained.now session.old subscription.now) }
@@ -135,7 +140,8 @@ fn set_all(
 ) -> Result<(), Halted>
     ensures { OnOk result
         (content_of index.new
-        ≡ all_set client.now (map as_held (granted_of filters.now which.now)) (content_of index.old)) }
+        ≡ all_set client.now (map as_held (granted_of filters.now which.now))
+        (content_of index.old)) }
 {
     for (subscription, granted) in filters.iter().zip(which) {
         if *granted {

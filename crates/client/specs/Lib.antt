@@ -10,11 +10,13 @@ pub use Rattle.client_base.specs.Numbers
 pub use Rattle.client_base.specs.State
 pub use Rattle.client_base.specs.Answered
 pub use Rattle.client_base.specs.Calls
+pub use Rattle.client_base.specs.Publishing
 pub use Rattle.client_base.specs.Steps
 pub use Rattle.client_base.specs.Laws
 pub use Rattle.client_base.specs.Keeper
 pub use Rattle.client_base.specs.Written
 pub use Rattle.client_base.specs.Handled
+pub use Rattle.client_base.specs.Handshakes
 pub use Rattle.client_base.specs.Called
 pub use Rattle.client_base.specs.History
 pub use Rattle.client_base.specs as client_base

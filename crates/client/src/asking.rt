@@ -40,7 +40,8 @@ impl ClientCore {
         Ok(())
     }
 
-    // Returns the identifier of the next request, or why there is none.
+    /// Returns the identifier of the next request. [`ClientError::NotActive`] comes unless the
+    /// client is online, [`ClientError::WindowFull`] if no identifier is free.
     pub(crate) fn request_id(&self) -> Result<PacketId, ClientError>
         ensures { RequestId self.now.state result }
     {

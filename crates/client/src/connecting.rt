@@ -42,8 +42,9 @@ impl ClientCore {
         Ok(())
     }
 
-    // Handles CONNACK 0: sends again what is kept, or drops it if the server has no session any
-    // more.
+    /// Handles CONNACK 0: sends again what is kept. If the server has no session any more, drops it
+    /// with [`ClientError::SessionLost`]. [`ClientError::Memory`] comes if memory runs out, and
+    /// then nothing changes.
     pub(crate) fn on_accepted(&mut self, present: bool) -> Result<(), ClientError>
         ensures { Tries (confirmed present self.old.state) self.old result self.new }
     {

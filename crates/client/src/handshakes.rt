@@ -16,8 +16,9 @@ use client_base::{Accepted, ClientError};
 use cutter::packet::{Delivery, PacketId, Publish};
 
 impl ClientCore {
-    // Handles PUBLISH: it is accepted each time at QoS 0 and 1, and at QoS 2 once while its
-    // identifier is kept.
+    /// Handles PUBLISH: it is accepted each time at QoS 0 and 1, and at QoS 2 once while its
+    /// identifier is kept. [`ClientError::Memory`] comes if memory runs out, and then nothing
+    /// changes.
     pub(crate) fn on_publish(&mut self, publish: Publish) -> Result<(), ClientError>
         ensures { Tries (on_publish publish publish.delivery self.old.state)
             self.old result self.new }
@@ -79,7 +80,8 @@ impl ClientCore {
         Ok(())
     }
 
-    // Handles PUBREL: the identifier is no longer kept.
+    /// Handles PUBREL: the identifier is no longer kept, and PUBCOMP is written.
+    /// [`ClientError::Memory`] comes if memory runs out, and then nothing changes.
     pub(crate) fn on_pubrel(&mut self, id: PacketId) -> Result<(), ClientError>
         ensures { Tries (on_pubrel id self.old.state) self.old result self.new }
     {
@@ -88,15 +90,15 @@ impl ClientCore {
         Ok(())
     }
 
-    // Handles PUBACK, which ends a publication at QoS 1.
+    /// Handles PUBACK, which ends a publication at QoS 1.
     pub(crate) fn on_puback(&mut self, id: PacketId)
         ensures { self.new ≡ changed (on_puback id self.old.state) self.old }
     {
         end_acknowledged(&mut self.sent, id);
     }
 
-    // Handles PUBREC, which releases a publication at QoS 2; for a released one PUBREL is sent
-    // again.
+    /// Handles PUBREC, which releases a publication at QoS 2; for a released one PUBREL is sent
+    /// again. [`ClientError::Memory`] comes if memory runs out, and then nothing changes.
     pub(crate) fn on_pubrec(&mut self, id: PacketId) -> Result<(), ClientError>
         ensures { Tries (on_pubrec id self.old.state) self.old result self.new }
     {
@@ -111,21 +113,21 @@ impl ClientCore {
         Ok(())
     }
 
-    // Handles PUBCOMP, which ends a released publication.
+    /// Handles PUBCOMP, which ends a released publication.
     pub(crate) fn on_pubcomp(&mut self, id: PacketId)
         ensures { self.new ≡ changed (on_pubcomp id self.old.state) self.old }
     {
         forget(&mut self.released, id);
     }
 
-    // Handles SUBACK, which answers a SUBSCRIBE.
+    /// Handles SUBACK, which answers a SUBSCRIBE.
     pub(crate) fn on_suback(&mut self, id: PacketId)
         ensures { self.new ≡ changed (answered (is_subscribe id) self.old.state) self.old }
     {
         end_subscribes(&mut self.requests, id);
     }
 
-    // Handles UNSUBACK, which answers an UNSUBSCRIBE.
+    /// Handles UNSUBACK, which answers an UNSUBSCRIBE.
     pub(crate) fn on_unsuback(&mut self, id: PacketId)
         ensures { self.new ≡ changed (answered (is_unsubscribe id) self.old.state) self.old }
     {

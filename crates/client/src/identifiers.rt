@@ -6,7 +6,7 @@ ghost use Rattle.client_base.specs.lists.Lists.{has_id};
 ghost use Rattle.client_base.specs.State.{id_of_request, used_ids};
 ghost use Rattle.client_base.specs.Answered.{awaits_puback, awaits_pubrec, is_subscribe, is_unsubscribe};
 ghost use Rattle.client_base.specs.session_base.Identifiers.{without_id};
-ghost use Rattle.client_base.specs.Calls.{next_id, has_free_id};
+ghost use Rattle.client_base.specs.Publishing.{next_id, has_free_id};
 
 use crate::client_core::ClientCore;
 use client_base::session_base::fill_takes_what_waits;
@@ -14,7 +14,8 @@ use client_base::{KeptPublication, Request};
 use cutter::packet::{PacketId, QoS};
 
 impl ClientCore {
-    // Returns the least identifier that no publication and no request has.
+    /// Returns the least identifier that no publication and no request has; none if all 65,535 are
+    /// used.
     pub(crate) fn free_id(&self) -> Option<PacketId>
         ensures least { IfSome result (λ id. id ≡ next_id self.now.state) }
         ensures found { IsSome result ↔ IsTrue (has_free_id self.now.state) }
@@ -42,7 +43,7 @@ impl ClientCore {
     }
 }
 
-// Says whether the identifier is among these.
+/// Says whether the identifier is among these.
 pub(crate) fn has_id(ids: &[PacketId], id: PacketId) -> bool
     ensures { result ≡ has_id id ids.now }
 {
@@ -73,7 +74,7 @@ fn id_of(request: Request) -> PacketId
     }
 }
 
-// Forgets an identifier.
+/// Forgets an identifier.
 pub(crate) fn forget(ids: &mut Vec<PacketId>, id: PacketId)
     ensures { ids.new.items ≡ without_id id ids.old.items }
 {
@@ -87,7 +88,7 @@ fn awaits_puback(id: PacketId, kept: &KeptPublication) -> bool
     id == kept.id && kept.publication.qos == QoS::AtLeastOnce
 }
 
-// Says whether PUBREC with this identifier releases the publication.
+/// Says whether PUBREC with this identifier releases the publication.
 pub(crate) fn awaits_pubrec(id: PacketId, kept: &KeptPublication) -> bool
     ensures { result ≡ awaits_pubrec id kept.now }
 {
@@ -114,35 +115,35 @@ fn is_unsubscribe(id: PacketId, request: Request) -> bool
     }
 }
 
-// Says whether PUBREC with this identifier releases one of these.
+/// Says whether PUBREC with this identifier releases one of these.
 pub(crate) fn has_unreleased(kept: &[KeptPublication], id: PacketId) -> bool
     ensures { result ≡ list_any (awaits_pubrec id) kept.now }
 {
     kept.iter().any(|one| awaits_pubrec(id, one))
 }
 
-// Takes out what PUBACK ends.
+/// Takes out what PUBACK ends.
 pub(crate) fn end_acknowledged(kept: &mut Vec<KeptPublication>, id: PacketId)
     ensures { kept.new.items ≡ filter (λ one. not (awaits_puback id one)) kept.old.items }
 {
     kept.retain(|one| !awaits_puback(id, one));
 }
 
-// Takes out what PUBREC releases.
+/// Takes out what PUBREC releases.
 pub(crate) fn take_released(kept: &mut Vec<KeptPublication>, id: PacketId)
     ensures { kept.new.items ≡ filter (λ one. not (awaits_pubrec id one)) kept.old.items }
 {
     kept.retain(|one| !awaits_pubrec(id, one));
 }
 
-// Takes out what SUBACK answers.
+/// Takes out what SUBACK answers.
 pub(crate) fn end_subscribes(requests: &mut Vec<Request>, id: PacketId)
     ensures { requests.new.items ≡ filter (λ one. not (is_subscribe id one)) requests.old.items }
 {
     requests.retain(|one| !is_subscribe(id, *one));
 }
 
-// Takes out what UNSUBACK answers.
+/// Takes out what UNSUBACK answers.
 pub(crate) fn end_unsubscribes(requests: &mut Vec<Request>, id: PacketId)
     ensures { requests.new.items ≡ filter (λ one. not (is_unsubscribe id one)) requests.old.items }
 {

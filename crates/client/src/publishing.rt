@@ -6,7 +6,7 @@ ghost use Rattle.cutter.specs.packet.declared.packet.Packet.TheVariants as packe
 ghost use Rattle.cutter.specs.packet.declared.qos.QoS.TheVariants as levels;
 ghost use Rattle.client_base.specs.session_base.Publication.{is_answered};
 ghost use Rattle.client_base.specs.State.{publish_kept};
-ghost use Rattle.client_base.specs.Calls.{is_over_limit};
+ghost use Rattle.client_base.specs.Publishing.{is_over_limit};
 ghost use Rattle.client_base.specs.Steps.{Call, keeper_step};
 ghost use Rattle.client.specs.Core.{Does, publication_with};
 ghost use Rattle.client.specs.Inside.Ids.{PublicationId};
@@ -102,7 +102,8 @@ impl ClientCore {
         Ok(())
     }
 
-    // Returns the identifier of the next publication, or why there is none.
+    /// Returns the identifier of the next publication. [`ClientError::WindowFull`] comes if 64
+    /// publications are kept, or no identifier is free.
     pub(crate) fn publication_id(&self) -> Result<PacketId, ClientError>
         ensures { PublicationId self.now.state result }
     {

@@ -4,7 +4,7 @@ ghost use Rattle.std.specs.Prelude.{ℕ, ◌≡◌, ◌+◌, false, if◌then◌
 ghost use Rattle.std.specs.Option.{is_some};
 ghost use Rattle.cutter.specs.packet.declared.packet.Packet.TheVariants as packets;
 ghost use Rattle.client_base.specs.session_base.Publication.{is_answered, publish_of};
-ghost use Rattle.client_base.specs.Calls.{is_over_limit, publish_refusal};
+ghost use Rattle.client_base.specs.Publishing.{is_over_limit, publish_refusal};
 ghost use Rattle.client_base.specs.Steps.{request_refusal};
 
 use crate::client_core::ClientCore;
@@ -47,7 +47,8 @@ fn is_long(publication: &Publication) -> bool
 // identifier at QoS 1 and 2, and the payload.
 fn body_len(publication: &Publication) -> usize
     ensures { result ≡ min (2 + length publication.now.topic
-        + (if is_answered publication.now.qos then 2 else 0) + length publication.now.payload) usize.MAX }
+        + (if is_answered publication.now.qos then 2 else 0) + length publication.now.payload)
+        usize.MAX }
 {
     let id = if publication.qos == QoS::AtMostOnce {
         0

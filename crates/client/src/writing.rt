@@ -11,7 +11,8 @@ use client_base::{ClientError, KeptPublication};
 use cutter::packet::{ClientId, Connect, Delivery, Packet, PacketId, Publish, QoS, encode};
 use std::alloc::AllocError;
 
-// Appends a packet to what is written. The callers ensure that it is not over the size limit.
+/// Appends a packet to what is written. The callers ensure that it is not over the size limit.
+/// [`ClientError::Memory`] comes if memory runs out, and then nothing is written.
 pub(crate) fn write(packet: &Packet, out: &mut Vec<u8>) -> Result<(), ClientError>
     requires { IsListed packet.now }
     ensures ok { OnOk result (AppendsSpelling out.old.items out.new.items packet.now) }
@@ -24,7 +25,8 @@ pub(crate) fn write(packet: &Packet, out: &mut Vec<u8>) -> Result<(), ClientErro
     }
 }
 
-// Writes the CONNECT of a client, whose sessions are never clean.
+/// Writes the CONNECT of a client, whose sessions are never clean. [`ClientError::Memory`] comes if
+/// memory runs out.
 pub(crate) fn write_connect(
     client: &ClientId,
     keep_alive: u16,
@@ -54,7 +56,7 @@ fn delivery(qos: QoS, dup: bool, id: PacketId) -> Delivery
     }
 }
 
-// Returns the PUBLISH of a kept publication.
+/// Returns the PUBLISH of a kept publication, with this DUP. The only error is that memory ran out.
 pub(crate) fn publish_again(kept: &KeptPublication, dup: bool) -> Result<Packet, AllocError>
     ensures { IfOk result (λ packet. packet ≡ publish_kept dup kept.now) }
 {
@@ -67,7 +69,7 @@ pub(crate) fn publish_again(kept: &KeptPublication, dup: bool) -> Result<Packet,
     }))
 }
 
-// Writes PUBACK.
+/// Writes PUBACK. [`ClientError::Memory`] comes if memory runs out, and then nothing is written.
 pub(crate) fn write_puback(id: PacketId, out: &mut Vec<u8>) -> Result<(), ClientError>
     ensures ok { OnOk result (AppendsSpelling out.old.items out.new.items (packets.Puback id)) }
     ensures memory { OnErr result (IsErrOf result ClientError.Memory) }
@@ -76,7 +78,7 @@ pub(crate) fn write_puback(id: PacketId, out: &mut Vec<u8>) -> Result<(), Client
     write(&Packet::Puback(id), out)
 }
 
-// Writes PUBREC.
+/// Writes PUBREC. [`ClientError::Memory`] comes if memory runs out, and then nothing is written.
 pub(crate) fn write_pubrec(id: PacketId, out: &mut Vec<u8>) -> Result<(), ClientError>
     ensures ok { OnOk result (AppendsSpelling out.old.items out.new.items (packets.Pubrec id)) }
     ensures memory { OnErr result (IsErrOf result ClientError.Memory) }
@@ -85,7 +87,7 @@ pub(crate) fn write_pubrec(id: PacketId, out: &mut Vec<u8>) -> Result<(), Client
     write(&Packet::Pubrec(id), out)
 }
 
-// Writes PUBREL.
+/// Writes PUBREL. [`ClientError::Memory`] comes if memory runs out, and then nothing is written.
 pub(crate) fn write_pubrel(id: PacketId, out: &mut Vec<u8>) -> Result<(), ClientError>
     ensures ok { OnOk result (AppendsSpelling out.old.items out.new.items (packets.Pubrel id)) }
     ensures memory { OnErr result (IsErrOf result ClientError.Memory) }
@@ -94,7 +96,7 @@ pub(crate) fn write_pubrel(id: PacketId, out: &mut Vec<u8>) -> Result<(), Client
     write(&Packet::Pubrel(id), out)
 }
 
-// Writes PUBCOMP.
+/// Writes PUBCOMP. [`ClientError::Memory`] comes if memory runs out, and then nothing is written.
 pub(crate) fn write_pubcomp(id: PacketId, out: &mut Vec<u8>) -> Result<(), ClientError>
     ensures ok { OnOk result (AppendsSpelling out.old.items out.new.items (packets.Pubcomp id)) }
     ensures memory { OnErr result (IsErrOf result ClientError.Memory) }
@@ -103,7 +105,8 @@ pub(crate) fn write_pubcomp(id: PacketId, out: &mut Vec<u8>) -> Result<(), Clien
     write(&Packet::Pubcomp(id), out)
 }
 
-// Writes PUBREL for each of these, in order.
+/// Writes PUBREL for each of these, in order. [`ClientError::Memory`] comes if memory runs out;
+/// some may have been written then.
 pub(crate) fn write_pubrels(ids: &[PacketId], out: &mut Vec<u8>) -> Result<(), ClientError>
     ensures ok { OnOk result (AppendsAll out.old.items out.new.items (map packets.Pubrel ids.now)) }
     ensures memory { OnErr result (IsErrOf result ClientError.Memory) }
@@ -114,7 +117,8 @@ pub(crate) fn write_pubrels(ids: &[PacketId], out: &mut Vec<u8>) -> Result<(), C
     Ok(())
 }
 
-// Writes the PUBLISH of a kept publication.
+/// Writes the PUBLISH of a kept publication, with this DUP. [`ClientError::Memory`] comes if memory
+/// runs out, and then nothing is written.
 pub(crate) fn write_publish(
     kept: &KeptPublication,
     dup: bool,
@@ -129,7 +133,8 @@ pub(crate) fn write_publish(
     write(&packet, out)
 }
 
-// Writes PUBLISH for each of these, in order, with this DUP.
+/// Writes PUBLISH for each of these, in order, with this DUP. [`ClientError::Memory`] comes if
+/// memory runs out; some may have been written then.
 pub(crate) fn write_publishes(
     kept: &[KeptPublication],
     dup: bool,

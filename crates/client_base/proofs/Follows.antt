@@ -14,7 +14,8 @@ use Rattle.client_base.specs.declared.request.Request.TheVariants as requests
 use Rattle.client_base.specs.declared.stage.Stage.{Stage}
 use Rattle.client_base.specs.declared.stage.Stage.TheVariants as stages
 use Rattle.client_base.specs.State.{ClientState, is_online, lost}
-use Rattle.client_base.specs.Calls.{opened, next_id, published, publish_refusal}
+use Rattle.client_base.specs.Calls.{opened}
+use Rattle.client_base.specs.Publishing.{next_id, published, publish_refusal}
 use Rattle.client_base.specs.Steps.{Call, unless_refused, request_refusal, asked, disconnected}
 use Rattle.client_base.specs.Called.{asks, keeper_goes}
 use Rattle.client_base.specs.Called as called

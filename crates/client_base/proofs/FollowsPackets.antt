@@ -16,7 +16,7 @@ use Rattle.client_base.specs.Answered.{Turn, awaits_puback, on_publish, on_pubac
 use Rattle.session_base.specs.Identifiers.{without_id}
 use Rattle.client_base.specs.Keeper.{Own, Connection, Keeper, Side}
 use Rattle.client_base.specs.Written.{plain, writing}
-use Rattle.client_base.specs.Handled.{at_puback, takes_in}
+use Rattle.client_base.specs.Handshakes.{at_puback, takes_in}
 use Rattle.client_base.specs.History.{StandsFor, WritesMore, IsSentFirst}
 use Rattle.client_base.proofs.Readings.{puback_sent, puback_unsent, puback_released}
 use Rattle.client_base.proofs.Released.{has_without}

@@ -12,7 +12,7 @@ use Rattle.client_base.specs.Answered.{awaits_pubrec, on_pubrec, on_pubcomp}
 use Rattle.session_base.specs.Identifiers.{without_id}
 use Rattle.client_base.specs.Keeper.{Own, Keeper, Side}
 use Rattle.client_base.specs.Written.{plain, writing}
-use Rattle.client_base.specs.Handled.{at_pubrec, at_pubcomp, is_sent_with, releasing}
+use Rattle.client_base.specs.Handshakes.{at_pubrec, at_pubcomp, is_sent_with, releasing}
 use Rattle.client_base.specs.History.{StandsFor, released_of, IsSentFirst}
 use Rattle.client_base.proofs.Readings.{pubrec_sent, pubrec_unsent, pubrec_waits, pubcomp_sent, pubcomp_unsent, pubcomp_released}
 use Rattle.client_base.proofs.Released.{has_without, pubrec_released}

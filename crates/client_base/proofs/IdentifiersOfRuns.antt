@@ -10,7 +10,8 @@ use Rattle.client_base.specs.declared.kept_publication.KeptPublication.{KeptPubl
 use Rattle.client_base.specs.declared.stage.Stage.{Stage}
 use Rattle.client_base.specs.declared.stage.Stage.TheVariants as stages
 use Rattle.client_base.specs.State.{ClientState, new_client, ids_of_kept, used_ids, publication_ids, request_ids}
-use Rattle.client_base.specs.Calls.{received, on_first, published, publish_refusal, loses_session, discarded, numbered}
+use Rattle.client_base.specs.Calls.{received, on_first, loses_session, discarded, numbered}
+use Rattle.client_base.specs.Publishing.{published, publish_refusal}
 use Rattle.client_base.specs.Steps.{Call, keeper_step, request_refusal, subscribed, unsubscribed, state_after}
 use Rattle.client_base.specs.IdentifierLaws.{IdentifiersAreDistinct, RequestsAreApart}
 use Rattle.client_base.proofs.IdentifiersApart.{often, from_once, used_tally}

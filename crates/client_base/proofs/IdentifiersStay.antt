@@ -19,7 +19,8 @@ use Rattle.client_base.specs.declared.stage.Stage.{Stage}
 use Rattle.client_base.specs.declared.stage.Stage.TheVariants as stages
 use Rattle.client_base.specs.State.{ClientState, is_online, ids_of_kept, id_of_request, used_ids}
 use Rattle.client_base.specs.Answered.{Turn, on_publish, awaits_puback, awaits_pubrec, is_subscribe, is_unsubscribe}
-use Rattle.client_base.specs.Calls.{on_later, next_id, published}
+use Rattle.client_base.specs.Calls.{on_later}
+use Rattle.client_base.specs.Publishing.{next_id, published}
 use Rattle.client_base.specs.Steps.{unless_refused, disconnected}
 use Rattle.client_base.proofs.IdentifiersApart.{often, fewer_kept, fewer_requests, fewer_ids, released_leaves, tally, used_tally}
 

@@ -9,7 +9,8 @@ use Rattle.session_base.specs.lists.Lists.{has_id}
 use Rattle.session_base.specs.declared.publication.Publication.{Publication}
 use Rattle.session_base.specs.Publication.{is_answered, publication_of}
 use Rattle.client_base.specs.Keeper.{Own, Keeper, Side, next_number}
-use Rattle.client_base.specs.Handled.{at_puback, at_pubrec, at_pubcomp, is_sent_with, releasing, takes_in, discarded, handled, handled_online, handled_first}
+use Rattle.client_base.specs.Handled.{discarded, handled, handled_online, handled_first}
+use Rattle.client_base.specs.Handshakes.{at_puback, at_pubrec, at_pubcomp, is_sent_with, releasing, takes_in}
 use Rattle.client_base.specs.Steps.{Call}
 use Rattle.client_base.specs.Called.{adds_own, keeper_goes}
 use Rattle.client_base.specs.OrderLaws.{AreNumbered, number_in, NumbersStay}

@@ -5,7 +5,7 @@ use Rattle.session_base.specs.Publication.{is_acknowledged}
 use Rattle.client_base.specs.declared.kept_publication.KeptPublication.{KeptPublication}
 use Rattle.client_base.specs.Keeper.{Own, Written}
 use Rattle.client_base.specs.Written.{sent_all, sent_again, sent_first, publishes}
-use Rattle.client_base.specs.Handled.{at_puback, at_pubrec, at_pubcomp}
+use Rattle.client_base.specs.Handshakes.{at_puback, at_pubrec, at_pubcomp}
 use Rattle.client_base.specs.History.{IsSentFirst, sent_of}
 use Rattle.client_base.specs.OrderLaws.{AreNumbered, number_in, numbers_of, RisesFrom, GoesOutInOrder}
 

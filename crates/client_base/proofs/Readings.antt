@@ -7,7 +7,7 @@ use Rattle.client_base.specs.declared.kept_publication.KeptPublication.{KeptPubl
 use Rattle.client_base.specs.Answered.{awaits_puback, awaits_pubrec}
 use Rattle.session_base.specs.Identifiers.{without_id}
 use Rattle.client_base.specs.Keeper.{Own}
-use Rattle.client_base.specs.Handled.{at_puback, at_pubrec, at_pubcomp, is_sent_with}
+use Rattle.client_base.specs.Handshakes.{at_puback, at_pubrec, at_pubcomp, is_sent_with}
 use Rattle.client_base.specs.History.{sent_of, unsent_of, released_of}
 
 -- ---- PUBACK

@@ -18,7 +18,8 @@ use Rattle.client_base.specs.declared.stage.Stage.TheVariants as stages
 use Rattle.client_base.specs.State.{ClientState, is_online}
 use Rattle.client_base.specs.Answered.{Turn, on_publish, accepting, awaits_pubrec}
 use Rattle.session_base.specs.Identifiers.{without_id}
-use Rattle.client_base.specs.Calls.{received, on_first, on_later, published, publish_refusal}
+use Rattle.client_base.specs.Calls.{received, on_first, on_later}
+use Rattle.client_base.specs.Publishing.{published, publish_refusal}
 use Rattle.client_base.specs.Steps.{Call, unless_refused, request_refusal, subscribed, unsubscribed, disconnected}
 use Rattle.client_base.specs.Laws.{AcceptsUnlessKept, StaysKept}
 

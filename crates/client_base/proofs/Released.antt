@@ -4,7 +4,7 @@ use Rattle.session_base.specs.lists.Lists.{has_id}
 use Rattle.session_base.specs.Publication.{is_acknowledged}
 use Rattle.session_base.specs.Identifiers.{without_id}
 use Rattle.client_base.specs.Keeper.{Own}
-use Rattle.client_base.specs.Handled.{at_pubrec, is_sent_with}
+use Rattle.client_base.specs.Handshakes.{at_pubrec, is_sent_with}
 use Rattle.client_base.specs.History.{released_of}
 
 -- without one identifier, the others are there as before

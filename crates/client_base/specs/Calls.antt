@@ -1,18 +1,13 @@
--- What each call, and each packet from the server, does to a client (MQTT 3, 4.3, 4.4).
-use Rattle.std.specs.Prelude.{ℕ, ◌+◌, ◌-◌, ◌^◌, Bool, false, not, ◌&&◌, ◌==◌, min, nat_lt, if◌then◌else◌, [], ◌∷◌, ◌++◌, length, Option, Some, None}
+-- What opening a connection, and each packet from the server, does to a client (MQTT 3, 4.3, 4.4).
+use Rattle.std.specs.Prelude.{◌+◌, ◌-◌, ◌^◌, Bool, false, not, ◌&&◌, ◌==◌, min, nat_lt, if◌then◌else◌, [], ◌∷◌, ◌++◌, Some, None}
 use Rattle.session_base.specs.packet.declared.connack.Connack.TheVariants as connacks
 use Rattle.session_base.specs.packet.declared.packet.Packet.{Packet}
 use Rattle.session_base.specs.packet.declared.packet.Packet.TheVariants as packets
-use Rattle.session_base.specs.packet.Spelling.{body, longest_body}
-use Rattle.session_base.specs.declared.publication.Publication.{Publication}
-use Rattle.session_base.specs.Publication.{publish_of, is_answered}
-use Rattle.session_base.specs.Identifiers.{least_free}
 use Rattle.client_base.specs.declared.error.ClientError.{ClientError}
 use Rattle.client_base.specs.declared.error.ClientError.TheVariants as errors
-use Rattle.client_base.specs.declared.kept_publication.KeptPublication.{KeptPublication}
 use Rattle.client_base.specs.declared.stage.Stage.{Stage}
 use Rattle.client_base.specs.declared.stage.Stage.TheVariants as stages
-use Rattle.client_base.specs.State.{ClientState, is_online, kept_count, used_ids, resent, lost}
+use Rattle.client_base.specs.State.{ClientState, resent, lost}
 use Rattle.client_base.specs.Answered.{Turn, going_on, ending, on_publish, on_pubrel, on_puback, on_pubrec, on_pubcomp, is_subscribe, is_unsubscribe, answered}
 
 -- nothing changes, for this cause
@@ -87,42 +82,3 @@ abbrev pub received : Packet → Stage → ClientState → Turn
 received packet stages.Closed state = refused errors.NotActive state
 received packet stages.Opened state = on_first packet state
 received packet stages.Online state = on_later packet state
-
--- ---- publishing and asking
-
--- the identifier that the next publication or request gets
-abbrev pub next_id : ClientState → ℕ
-next_id state = least_free (used_ids state)
-
--- whether there is one
-abbrev pub has_free_id : ClientState → Bool
-has_free_id state = nat_lt (next_id state) 65536
-
--- how many publications a client keeps
-abbrev pub window : ℕ
-window = 64
-
-abbrev pub publish_packet : Publication → ClientState → Packet
-publish_packet p state = packets.Publish (publish_of false (next_id state) p)
-
-abbrev pub is_over_limit : Packet → Bool
-is_over_limit packet = nat_lt longest_body (length (body packet))
-
--- why a publication is refused: at QoS 1 and 2 if the window is full, at QoS 0 while the client is
--- offline, or as too large
-abbrev pub publish_refusal : Publication → ClientState → Option ClientError
-publish_refusal p state =
-    if is_answered p.qos && not (nat_lt (kept_count state) window && has_free_id state)
-    then Some errors.WindowFull else
-    if not (is_answered p.qos) && not (is_online state.stage) then Some errors.NotActive else
-    if is_over_limit (publish_packet p state) then Some errors.TooLarge else None
-
--- a publication at QoS 1 or 2 is kept; each is sent at once if the client is online (MQTT 4.3)
-abbrev pub published : Publication → ClientState → Turn
-published p state =
-    let kept : KeptPublication = record { id = next_id state; publication = p } in
-    if is_online state.stage
-    then going_on
-    (if is_answered p.qos then record state { sent = state.sent ++ kept ∷ [] } else state)
-    (publish_packet p state ∷ [])
-    else going_on (record state { unsent = state.unsent ++ kept ∷ [] }) []

@@ -1,4 +1,6 @@
+pub mod Handshakes
 pub mod Numbers
+pub mod Publishing
 pub mod State
 pub mod Answered
 pub mod Calls

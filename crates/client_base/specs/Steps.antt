@@ -12,7 +12,8 @@ use Rattle.client_base.specs.declared.stage.Stage.{Stage}
 use Rattle.client_base.specs.declared.stage.Stage.TheVariants as stages
 use Rattle.client_base.specs.State.{ClientState, is_online, lost}
 use Rattle.client_base.specs.Answered.{Turn, going_on}
-use Rattle.client_base.specs.Calls.{refused, opened, received, next_id, has_free_id, publish_refusal, published}
+use Rattle.client_base.specs.Calls.{refused, opened, received}
+use Rattle.client_base.specs.Publishing.{next_id, has_free_id, publish_refusal, published}
 
 -- ---- requests (MQTT 3.8, 3.10)
 

@@ -5,7 +5,8 @@ use Rattle.std.specs.List.{list_any}
 use Rattle.std.proofs.lemmas.Bool.{and_parts, both_ways, cases_lt, ltb-true, or_cases}
 use Rattle.escaping.specs.ballot.Body.{Body}
 use Rattle.escaping.specs.ballot.Body.TheVariants.{NewBallot, Join, State, Install, Installed, Activate, Activated, Superseded, Append, Held, Commit}
-use Rattle.escaping.specs.ballot.Changing.{answers_installed, lacks, waits_for, on_activated, on_install, on_installed, on_join, on_new_ballot, on_state, on_superseded}
+use Rattle.escaping.specs.ballot.Changing.{answers_installed, lacks, waits_for, on_install, on_join, on_new_ballot, on_state}
+use Rattle.escaping.specs.ballot.Activating.{on_activated, on_installed, on_superseded}
 use Rattle.escaping.specs.ballot.Logs.{Log, places, pushed}
 use Rattle.escaping.specs.ballot.Machine.{Rules}
 use Rattle.escaping.specs.ballot.Protocol.{received}

@@ -26,7 +26,8 @@ use Rattle.broker_base.specs.Past.{current_connection}
 use Rattle.exactly_once.specs.Sends.{put_to}
 use Rattle.client_base.specs.Keeper.{Own, Written, Keeper}
 use Rattle.exactly_once.specs.Sides.{Connection, Side}
-use Rattle.client_base.specs.Handled.{at_pubrec, is_sent_with, handled}
+use Rattle.client_base.specs.Handled.{handled}
+use Rattle.client_base.specs.Handshakes.{at_pubrec, is_sent_with}
 use Rattle.client_base.specs.Written.{plain, writes}
 use Rattle.exactly_once.specs.Story.{Story, is_packet_of, with_side, count_of}
 use Rattle.exactly_once.specs.Carried.{is_two, carries, connection_named, number_at, number_of, more_by, new_numbers}

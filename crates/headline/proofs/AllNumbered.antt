@@ -10,7 +10,8 @@ use Rattle.byte_world.specs.session_base.Publication.{publication_of}
 use Rattle.byte_world.specs.session_base.declared.publication.Publication.{Publication}
 use Rattle.byte_world.specs.broker_base.Place.{Limits}
 use Rattle.byte_world.specs.client_base.Called.{written_for}
-use Rattle.byte_world.specs.client_base.Handled.{at_pubrec, confirmed, discarded, handled, handled_first, handled_online, is_sent_with, releasing, takes_in}
+use Rattle.byte_world.specs.client_base.Handled.{confirmed, discarded, handled, handled_first, handled_online}
+use Rattle.byte_world.specs.client_base.Handshakes.{at_pubrec, is_sent_with, releasing, takes_in}
 use Rattle.byte_world.specs.client_base.Keeper.{Keeper, Own, Written, ids_in_use, next_number}
 use Rattle.byte_world.specs.client_base.Written.{plain, publishes, resent, sent_again, sent_first, writes_first, writing}
 use Rattle.byte_world.specs.lists.Lists.{Each, has_id}

@@ -8,7 +8,8 @@ use Rattle.byte_world.specs.packet.declared.packet.Packet.TheVariants as packets
 use Rattle.byte_world.specs.session_base.declared.publication.Publication.{Publication}
 use Rattle.byte_world.specs.session_base.Publication.{publication_of}
 use Rattle.byte_world.specs.lists.Lists.{has_id}
-use Rattle.byte_world.specs.client_base.Handled.{at_pubrec, confirmed, discarded, handled, handled_first, handled_online, is_sent_with, releasing, takes_in}
+use Rattle.byte_world.specs.client_base.Handled.{confirmed, discarded, handled, handled_first, handled_online}
+use Rattle.byte_world.specs.client_base.Handshakes.{at_pubrec, is_sent_with, releasing, takes_in}
 use Rattle.byte_world.specs.client_base.Keeper.{Keeper}
 use Rattle.byte_world.specs.client_base.Written.{plain, resent, sent_all, writing}
 use Rattle.byte_world.specs.exactly_once.Sides.{Connection, Side}

@@ -16,7 +16,8 @@ use Rattle.byte_world.specs.packet.Spelling.{spelling}
 use Rattle.byte_world.specs.packet.Subscribe.{subscribe_of, subscription_at}
 use Rattle.byte_world.specs.packet.Verdict.{verdict}
 use Rattle.byte_world.specs.packet_base.Lists.{items_of}
-use Rattle.byte_world.specs.packet_base.Reading.{filter_at, id_at, length_at, number_at, text_at, topic_at}
+use Rattle.byte_world.specs.packet_base.Reading.{id_at, length_at, number_at, text_at}
+use Rattle.byte_world.specs.packet_base.TopicFields.{filter_at, topic_at}
 use Rattle.byte_world.specs.session_base.Publication.{publish_of}
 use Rattle.byte_world.specs.ballot.Serving.{added, commit, commit_at, proposed}
 use Rattle.byte_world.specs.machine.Machine.{replay}

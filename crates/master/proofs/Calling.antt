@@ -15,7 +15,7 @@ use Rattle.ballot.specs.Serving.{most_places, proposed}
 use Rattle.ballot.proofs.StepRows.{added-log, proposed-adds, proposed-full, proposed-not_active}
 use Rattle.ballot.proofs.ThinnedEffects.{Thinned-same}
 use Rattle.ballot.proofs.TicksTaken.{ticked-state}
-use Rattle.master.specs.Inside.{IsRead, TookIn}
+use Rattle.master.specs.Inside.Losing.{IsRead, TookIn}
 
 -- an exact step is one in which nothing was lost
 loses_of : {S C O : Type 0} (rules : Rules S C O) {old : CountedReplica S C} {o : Outcome S C O} {new : CountedReplica S C} {given : List (Effect C O)} →

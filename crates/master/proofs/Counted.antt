@@ -20,7 +20,8 @@ use Rattle.snapshots.specs.agreement.Inside.Ballots.{Given, History, IsChain, Li
 use Rattle.snapshots.specs.agreement.Inside.Ballots.Told.{told_as_primary}
 use Rattle.snapshots.specs.agreement.Inside.Chosen.{ChosenList, IsAgreedIn}
 use Rattle.snapshots.specs.agreement.Inside.Serves.{Serves}
-use Rattle.snapshots.specs.agreement.Inside.Sound.{IsSound, Says}
+use Rattle.snapshots.specs.agreement.Inside.Sound.{IsSound}
+use Rattle.snapshots.specs.agreement.Inside.Saying.{Says}
 use Rattle.snapshots.specs.agreement.Inside.ToldLengths.{chosen_length, least_of, most_told, told_by, told_in, told_length}
 use Rattle.snapshots.proofs.of_agreement.Agreed.AgreedExists.{least_each, least_most, least_top, newest_agreed}
 use Rattle.snapshots.proofs.of_agreement.Agreed.MostTold.{one_given, told_whole}

@@ -25,12 +25,14 @@ use Rattle.snapshots.specs.Masters.{MasterOutcome, activated, assigned}
 use Rattle.snapshots.specs.agreement.MasterState.{MasterState, refusal}
 use Rattle.ballot.specs.Body.{Body}
 use Rattle.ballot.specs.Body.TheVariants.{NewBallot, Join, State, Install, Installed, Activate, Activated, Superseded, Append, Held, Commit}
-use Rattle.master.specs.Exact.Turn.{by_node, by_cut, by_master, unheeded}
+use Rattle.master.specs.Turns.Turn.{by_node, by_cut, by_master, unheeded}
 use Rattle.master.specs.Group.{GroupState}
-use Rattle.master.specs.Exact.{NodeTurn, Turn, running, can_take, taking, stopping, cut_turn, cutting, takes, hears, comes, gives, turn, behind, group_step}
+use Rattle.master.specs.Exact.{takes, hears, comes, gives, turn, behind, group_step}
+use Rattle.master.specs.Turns.{NodeTurn, Turn, running, can_take, taking, stopping, cut_turn, cutting}
 use Rattle.master.specs.Steps.{Freezes, Happens, StepsBy, LosesNothing}
 use Rattle.master.specs.Steps.Happens.{nothing_happens, node_goes, master_goes}
-use Rattle.master.specs.Inside.{MasterTook, RunsAt, TookCut, TookTurn, asks_for}
+use Rattle.master.specs.Inside.{RunsAt, asks_for}
+use Rattle.master.specs.Inside.Losing.{MasterTook, TookCut, TookTurn}
 
 -- the turn of a node that runs
 pub takes_turn : {S C O : Type 0} (rules : Rules S C O) (w : World S C O) (node at : ℕ) (input : Input C) (x : RunsAt w.nodes node at) →

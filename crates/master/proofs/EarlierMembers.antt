@@ -23,7 +23,7 @@ use Rattle.ballot.specs.Taking.{taken}
 use Rattle.ballot.proofs.ChangeRows.{on_install-answers, on_install-stays, on_install-takes, on_install-unread, on_new_ballot-joins, on_new_ballot-stays, on_state-stays, on_state-takes, on_state-unread}
 use Rattle.ballot.proofs.MessageRows.{on_append-elsewhere, on_append-gap, on_append-takes}
 use Rattle.snapshots.specs.agreement.Inside.Ballots.{Given, History}
-use Rattle.snapshots.specs.agreement.Inside.Sound.{IsOf, Says}
+use Rattle.snapshots.specs.agreement.Inside.Saying.{IsOf, Says}
 use Rattle.snapshots.specs.agreement.Past.{Moment as WholeMoment, Past as WholePast}
 use Rattle.snapshots.specs.agreement.World.{World as WholeWorld}
 use Rattle.snapshots.specs.whole.Messages.Body.{NewBallot as whole_new_ballot}

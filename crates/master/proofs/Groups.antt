@@ -36,9 +36,11 @@ use Rattle.master.specs.Group.{GroupState}
 use Rattle.snapshots.specs.Masters.{MasterOutcome}
 use Rattle.master.specs.declared.activation.Activation.{Activation}
 use Rattle.master.specs.declared.activation.Activation.TheVariants.{Activated as Granted, Superseded as Refused}
-use Rattle.master.specs.Inside.{HasCounted, IsGroup, MasterTook, ToldIn, TookCut, TookTurn, least_but_one, next_least, moment_of, world_of}
-use Rattle.master.specs.Exact.{behind, cut_turn}
-use Rattle.master.specs.Exact.Turn.{by_cut}
+use Rattle.master.specs.Inside.{HasCounted, IsGroup, ToldIn, least_but_one, next_least, moment_of, world_of}
+use Rattle.master.specs.Inside.Losing.{MasterTook, TookCut, TookTurn}
+use Rattle.master.specs.Exact.{behind}
+use Rattle.master.specs.Turns.{cut_turn}
+use Rattle.master.specs.Turns.Turn.{by_cut}
 use Rattle.master.specs.Steps.{Freezes}
 use Rattle.ballot.specs.Cutting.{can_cut}
 use Rattle.master.proofs.Happening.{MayGo, IsDeed, cut_may, master_may, deed_lost, node_may}

@@ -28,8 +28,9 @@ use Rattle.std.proofs.lemmas.Bool.{and_parts, ltb-true}
 use Rattle.master.specs.declared.event.Event.{Event}
 use Rattle.master.specs.declared.event.Event.TheVariants.{Propose, Assign, Deliver, Tick, Cut, Crash}
 use Rattle.master.specs.Group.{GroupState}
-use Rattle.master.specs.Exact.{NodeTurn, Turn, running, unless_stopped, can_take, taking, stopping, cut_turn, cutting, takes, hears, comes, comes_to, gives, turn, behind, group_step}
-use Rattle.master.specs.Exact.Turn.{by_node, by_cut, by_master, unheeded}
+use Rattle.master.specs.Exact.{takes, hears, comes, comes_to, gives, turn, behind, group_step}
+use Rattle.master.specs.Turns.{NodeTurn, Turn, running, unless_stopped, can_take, taking, stopping, cut_turn, cutting}
+use Rattle.master.specs.Turns.Turn.{by_node, by_cut, by_master, unheeded}
 use Rattle.master.specs.Steps.{Freezes, Happens, StepsBy}
 use Rattle.master.specs.Steps.Happens.{nothing_happens, node_goes, master_goes}
 use Rattle.ballot.specs.Losses.{one_more}

@@ -9,7 +9,8 @@ use Rattle.ballot.specs.Effect.{Effect}
 use Rattle.ballot.specs.Losses.{one_more}
 use Rattle.ballot.specs.Protocol.{Input}
 use Rattle.ballot.specs.Replica.{CountedReplica, ReplicaState}
-use Rattle.master.specs.Inside.{CountsAtMost, TookIn}
+use Rattle.master.specs.Inside.{CountsAtMost}
+use Rattle.master.specs.Inside.Losing.{TookIn}
 
 -- a count that no loss raised
 pub quiet_count : (whole kept : Bool) (losses counted old : ℕ) → counted ≡ cond (whole && kept) losses (one_more losses) → kept ≡ true → old ≤ losses →

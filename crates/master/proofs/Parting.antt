@@ -9,7 +9,7 @@ use Rattle.ballot.specs.Effect.TheVariants.{To, Out}
 use Rattle.ballot.specs.Losses.{Thinned}
 use Rattle.ballot.specs.Losses.Thinned.{none, keeps, loses}
 use Rattle.snapshots.specs.World.{messages, outputs}
-use Rattle.master.specs.Inside.{Parted, is_message}
+use Rattle.master.specs.Inside.Losing.{Parted, is_message}
 use Rattle.snapshots.proofs.Effects.{messages-append, outputs-append}
 
 -- effects that are parted up to a place

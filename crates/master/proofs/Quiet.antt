@@ -22,10 +22,12 @@ use Rattle.snapshots.specs.World.{World, moved}
 use Rattle.master.specs.declared.event.Event.{Event}
 use Rattle.master.specs.declared.event.Event.TheVariants.{Assign, Cut, Deliver, Tick, Crash}
 use Rattle.master.specs.Group.{GroupState}
-use Rattle.master.specs.Exact.{NodeTurn, Turn, behind, can_take, gives, turn}
-use Rattle.master.specs.Exact.Turn.{by_node, by_cut, by_master, unheeded}
+use Rattle.master.specs.Exact.{behind, gives, turn}
+use Rattle.master.specs.Turns.{NodeTurn, Turn, can_take}
+use Rattle.master.specs.Turns.Turn.{by_node, by_cut, by_master, unheeded}
 use Rattle.master.specs.Copying.{has_numbers_alone}
-use Rattle.master.specs.Inside.{RunsAt, TookTurn}
+use Rattle.master.specs.Inside.{RunsAt}
+use Rattle.master.specs.Inside.Losing.{TookTurn}
 use Rattle.master.specs.Steps.{StepsBy, TakesNoMemory, done_exactly}
 use Rattle.master.specs.Steps.TakesNoMemory.{comes_to_nobody, goes_unheeded, is_quiet, stops_a_node}
 use Rattle.master.proofs.Calling.{proposal_busy}

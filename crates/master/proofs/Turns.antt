@@ -18,12 +18,13 @@ use Rattle.ballot.specs.Status.{Status}
 use Rattle.snapshots.specs.World.{World, messages, outputs, moved, recorded}
 use Rattle.ballot.specs.Cutting.{cut}
 use Rattle.snapshots.specs.Past.{opening_nodes, opening_world}
-use Rattle.master.specs.Exact.{NodeTurn, cut_turn, running, unless_stopped}
+use Rattle.master.specs.Turns.{NodeTurn, cut_turn, running, unless_stopped}
 use Rattle.master.specs.Group.{GroupState}
 use Rattle.master.proofs.Archived.{recorded_by}
 use Rattle.master.proofs.Calling.{thinned_nothing}
 use Rattle.master.proofs.LossesCounted.{quiet_count}
-use Rattle.master.specs.Inside.{IsRead, RunsAt, TookCut, TookIn, Parted, TookTurn, moment_of, world_of}
+use Rattle.master.specs.Inside.{RunsAt, moment_of, world_of}
+use Rattle.master.specs.Inside.Losing.{IsRead, TookCut, TookIn, Parted, TookTurn}
 
 -- messages that are missing of messages that are missing
 thinned_then : {C O : Type 0} {xs ys zs : List (Effect C O)} → Thinned xs ys → Thinned ys zs → Thinned xs zs

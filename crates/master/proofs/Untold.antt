@@ -9,7 +9,7 @@ use Rattle.ballot.specs.Config.{Config}
 use Rattle.snapshots.specs.whole.Messages.{Body, Message}
 use Rattle.snapshots.specs.whole.Messages.Body.{NewBallot, Join, State, Install, Installed, Activate, Activated, Superseded, Append, Held, Commit}
 use Rattle.snapshots.specs.agreement.Inside.Ballots.{Given, History}
-use Rattle.snapshots.specs.agreement.Inside.Sound.{Says}
+use Rattle.snapshots.specs.agreement.Inside.Saying.{Says}
 use Rattle.snapshots.specs.agreement.Inside.ToldLengths.{most_told, told_by, told_in}
 use Rattle.snapshots.specs.agreement.Past.{Moment, Past}
 use Rattle.snapshots.specs.agreement.World.{World}

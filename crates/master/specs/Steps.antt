@@ -10,8 +10,9 @@ use Rattle.snapshots.specs.World.{moved}
 use Rattle.master.specs.declared.event.Event.{Event}
 use Rattle.master.specs.declared.event.Event.TheVariants.{Crash}
 use Rattle.master.specs.Group.{GroupState}
-use Rattle.master.specs.Exact.{NodeTurn, Turn, turn, group_step}
-use Rattle.master.specs.Exact.Turn.{by_node, by_cut, by_master, unheeded}
+use Rattle.master.specs.Exact.{turn, group_step}
+use Rattle.master.specs.Turns.{NodeTurn, Turn}
+use Rattle.master.specs.Turns.Turn.{by_node, by_cut, by_master, unheeded}
 
 -- what an event may do if memory runs out: nothing (then no log is cut), the step of its node with
 -- losses, or that of the master, whose message is lost

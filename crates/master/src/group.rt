@@ -1,37 +1,34 @@
 // A group of replicas and their master.
 
-ghost use Rattle.std.specs.Prelude.{ℕ, ◌-◌, ◌≡◌, ◌<◌, ◌≤◌, ◌↔◌, true, false, None, Some, [], length, slice_get, map, List, ◌∷◌, ◌++◌, IfOk, IfSome, OnOk, OnErr, IsErr, IsErrOf};
-ghost use Rattle.ballot.specs.Body.TheVariants.{Activate};
-ghost use Rattle.ballot.specs.Cutting.{can_cut};
+ghost use Rattle.std.specs.Prelude.{ℕ, ◌-◌, ◌≡◌, ◌<◌, ◌↔◌, true, false, None, Some, [], length, slice_get, map, List, ◌∷◌, ◌++◌, IfOk, IfSome, OnErr, IsErr, IsErrOf};
 ghost use Rattle.ballot.specs.Protocol.{replica_step};
 ghost use Rattle.ballot.specs.Protocol.Input.{Receives};
 ghost use Rattle.ballot.specs.Sending.{nothing_done};
 ghost use Rattle.ballot.specs.Losses.{IsQuiet, one_more};
 ghost use Rattle.ballot.specs.Replica.{ReplicaState};
 ghost use Rattle.ballot.specs.lists.Lists.{In};
-ghost use Rattle.snapshots.specs.Masters.{activated, assigned};
-ghost use Rattle.snapshots.specs.agreement.MasterState.{refusal};
 ghost use Rattle.snapshots.specs.Past.{IsAgreed, Moment, Past, opening_moment};
 ghost use Rattle.snapshots.specs.World.{MayTake};
 ghost use Rattle.snapshots.specs.agreement.World.{can_open};
 ghost use Rattle.master.specs.Agreement.{AgreesAfter};
 ghost use Rattle.master.specs.Copying.{has_numbers_alone};
-ghost use Rattle.master.specs.Exact.{cut_turn, turn, group_step, group_run, running};
-ghost use Rattle.master.specs.Inside.{HoldsAt, IsShort, MasterTook, RunsAt, TookCut, TookTurn, held_by, input_of};
+ghost use Rattle.master.specs.Exact.{turn, group_step, group_run};
+ghost use Rattle.master.specs.Turns.{running};
+ghost use Rattle.master.specs.Inside.{HoldsAt, IsShort, RunsAt, held_by};
+ghost use Rattle.master.specs.Inside.Losing.{TookTurn, input_of};
 ghost use Rattle.master.specs.Steps.{Run, StepsBy, TakesNoMemory, LosesNothing, done_exactly};
 
-use crate::copying::{config_of, copy_of};
 use crate::event::{Event, Idle};
 use crate::master::Master;
 use crate::opening::can_open;
-use crate::recording::record;
-use crate::telling::{answer_of, asks_for, tell};
-use crate::told::{Told, turn_over};
+use crate::told::Told;
 use crate::turning::{Taken, counted, part, take_in};
-use ballot::machine::{Machine, Memory};
-use ballot::{Body, Config, Effect, MOST_PLACES, Members, Message, OpeningError, Replica};
+use ballot::machine::Machine;
+use ballot::{Config, Effect, Message, OpeningError, Replica};
 use std::alloc::Global;
 use std::marker::Model;
+
+mod stepping;
 
 /// A master and replicas of a machine that communicate only by their messages. All messages ever
 /// sent may arrive at any time, again and in any order, or never.
@@ -218,193 +215,6 @@ impl<M: Machine> Group<M> {
         ensures { result ≡ self.now.losses }
     {
         self.losses
-    }
-
-    fn propose(&mut self, node: u8, command: &M::Command) -> Result<(), Idle>
-        ensures step { StepsBy M.rules self.old (Event.Propose node command.now) self.new }
-        ensures idle { IsErr result ↔
-            (turn M.rules self.old.moment (Event.Propose node command.now) ≡ None) }
-        ensures same { OnErr result (self.new ≡ self.old) }
-        ensures quiet { TakesNoMemory M.rules self.old.moment (Event.Propose node command.now) →
-            self.new ≡ done_exactly M.rules self.old (Event.Propose node command.now) }
-    {
-        let Some(at) = self.running(node) else {
-            return Err(Idle);
-        };
-        let status = self.nodes[at].status();
-        if !status.role.is_active() || status.held >= MOST_PLACES {
-            return Err(Idle);
-        }
-        match M::copy(self.alloc, command) {
-            Ok(command) => self.take_turn(at, Taken::Proposed(command)),
-            Err(_) => self.lose(),
-        }
-        Ok(())
-    }
-
-    fn assign(&mut self, config: &Config) -> Result<(), Idle>
-        ensures step { StepsBy M.rules self.old (Event.Assign config.now) self.new }
-        ensures idle { IsErr result ↔
-            (turn M.rules self.old.moment (Event.Assign config.now) ≡ None) }
-        ensures same { OnErr result (self.new ≡ self.old) }
-        ensures quiet { TakesNoMemory M.rules self.old.moment (Event.Assign config.now) →
-            self.new ≡ done_exactly M.rules self.old (Event.Assign config.now) }
-    {
-        if !self.master.can_assign(config) {
-            return Err(Idle);
-        }
-        match self.give(config) {
-            Ok(()) => {}
-            Err(_) => self.lose(),
-        }
-        Ok(())
-    }
-
-    // Lets the master give a ballot and tell its primary.
-    fn give(&mut self, config: &Config) -> Result<(), Memory>
-        requires { refusal self.old.moment.master config.now ≡ None }
-        ensures ok { OnOk result (MasterTook self.old
-            (assigned M.Command self.old.moment.master config.now) self.new) }
-        ensures err { OnErr result (self.new ≡ self.old) }
-    {
-        let given = config_of(self.alloc, config)?;
-        let members = Members::from_slice(self.alloc, config.members.as_slice())?;
-        let (previous, previous_members) = self.master.active();
-        let previous_members = Members::from_slice(self.alloc, previous_members)?;
-        let ballot = self.master.give(given);
-        self.next.begin(ballot);
-        let body = Body::NewBallot(ballot, members, previous, previous_members);
-        let told = tell(&mut self.sent, config.primary, body);
-        self.losses = counted(self.losses, told, true);
-        Ok(())
-    }
-
-    fn deliver(&mut self, number: u64) -> Result<(), Idle>
-        ensures step { StepsBy M.rules self.old (Event.Deliver number) self.new }
-        ensures idle { IsErr result ↔ (turn M.rules self.old.moment (Event.Deliver number) ≡ None) }
-        ensures same { OnErr result (self.new ≡ self.old) }
-        ensures quiet { TakesNoMemory M.rules self.old.moment (Event.Deliver number) →
-            self.new ≡ done_exactly M.rules self.old (Event.Deliver number) }
-    {
-        let Some((receiver, message)) = self.sent.get(number as usize) else {
-            return Err(Idle);
-        };
-        if *receiver == 0 {
-            let from = message.from;
-            match asks_for(message) {
-                Some(ballot) => self.answer(from, ballot),
-                None => {}
-            }
-            return Ok(());
-        }
-        let Some(at) = self.running(*receiver) else {
-            return Err(Idle);
-        };
-        if !self.heeds(at, message) {
-            return Ok(());
-        }
-        match copy_of::<M>(self.alloc, message) {
-            Ok(message) => self.take_turn(at, Taken::Received(message)),
-            Err(_) => self.lose(),
-        }
-        Ok(())
-    }
-
-    // Lets the master answer a node that asks it to activate a ballot.
-    fn answer(&mut self, from: u8, ballot: u64)
-        requires { In (0, record { from = from; body = Activate ballot })
-            self.old.moment.world.sent }
-        ensures { MasterTook self.old (activated M.Command self.old.moment.master ballot from
-            self.old.moment.master.waiting) self.new }
-    {
-        let (before, _) = self.master.active();
-        let activation = self.master.activate(ballot);
-        let (behind, _) = self.master.active();
-        turn_over(&mut self.told, &mut self.next, before, behind);
-        let told = tell(&mut self.sent, from, answer_of(activation, ballot));
-        self.losses = counted(self.losses, told, true);
-    }
-
-    fn tick(&mut self, node: u8) -> Result<(), Idle>
-        ensures step { StepsBy M.rules self.old (Event.Tick node) self.new }
-        ensures idle { IsErr result ↔ (turn M.rules self.old.moment (Event.Tick node) ≡ None) }
-        ensures same { OnErr result (self.new ≡ self.old) }
-        ensures quiet { TakesNoMemory M.rules self.old.moment (Event.Tick node) →
-            self.new ≡ done_exactly M.rules self.old (Event.Tick node) }
-    {
-        let Some(at) = self.running(node) else {
-            return Err(Idle);
-        };
-        if !self.nodes[at].speaks() {
-            return Ok(());
-        }
-        self.take_turn(at, Taken::Ticked);
-        Ok(())
-    }
-
-    fn cut(&mut self, node: u8) -> Result<(), Idle>
-        ensures step { StepsBy M.rules self.old (Event.Cut node) self.new }
-        ensures idle { IsErr result ↔ (turn M.rules self.old.moment (Event.Cut node) ≡ None) }
-        ensures same { OnErr result (self.new ≡ self.old) }
-        ensures quiet { TakesNoMemory M.rules self.old.moment (Event.Cut node) →
-            self.new ≡ done_exactly M.rules self.old (Event.Cut node) }
-    {
-        let Some(at) = self.running(node) else {
-            return Err(Idle);
-        };
-        if !self.nodes[at].can_cut() {
-            return Err(Idle);
-        }
-        self.cut_at(at);
-        Ok(())
-    }
-
-    // Cuts the log of a node that has something to cut. The places that it drops are recorded
-    // first.
-    fn cut_at(&mut self, at: usize)
-        requires { (replica : ReplicaState M M.Command) ×
-            (slice_get self.old.moment.world.nodes at ≡ Some replica) ×
-            (can_cut replica ≡ true) }
-        ensures { (replica : ReplicaState M M.Command) →
-            slice_get self.old.moment.world.nodes at ≡ Some replica →
-            TookCut M.rules self.old (cut_turn M.rules at replica) self.new }
-    {
-        let before = self.archive.len();
-        let replica = &self.nodes[at];
-        let (base, _) = replica.snapshot();
-        let committed = replica.status().committed;
-        let Ok(()) = record::<M>(
-            self.alloc,
-            &mut self.archive,
-            base,
-            committed,
-            replica.rest(),
-        ) else {
-            self.archive.truncate(before);
-            self.losses = counted(self.losses, false, true);
-            return;
-        };
-        let replica = &mut self.nodes[at];
-        if replica.cut() {
-            return;
-        }
-        self.archive.truncate(before);
-        self.losses = counted(self.losses, false, true);
-    }
-
-    fn crash(&mut self, node: u8) -> Result<(), Idle>
-        ensures step { StepsBy M.rules self.old (Event.Crash node) self.new }
-        ensures idle { IsErr result ↔ (turn M.rules self.old.moment (Event.Crash node) ≡ None) }
-        ensures same { OnErr result (self.new ≡ self.old) }
-        ensures quiet { TakesNoMemory M.rules self.old.moment (Event.Crash node) →
-            self.new ≡ done_exactly M.rules self.old (Event.Crash node) }
-    {
-        let Some(at) = self.running(node) else {
-            return Err(Idle);
-        };
-        let replica = &mut self.nodes[at];
-        replica.stop();
-        Ok(())
     }
 
     // Returns the index of a node that exists and has not stopped.

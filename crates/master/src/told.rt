@@ -106,8 +106,8 @@ fn second_least(told: &[u64], places: &[u8]) -> u64
     pair.1
 }
 
-/// If another ballot has become active, replaces the counters of the ballot before by those of the
-/// new one.
+/// Replaces the counters of the ballot before by those of the new one, if another ballot has become
+/// active.
 pub fn turn_over(told: &mut Told, next: &mut Told, before: u64, behind: u64)
     ensures stays { before ≡ behind → (told.new ≡ told.old) × (next.new ≡ next.old) }
     ensures turns { (before ≡ behind → ⊥) → (told.new ≡ next.old) × (next.new ≡ told.old) }

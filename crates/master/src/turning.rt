@@ -4,7 +4,7 @@ ghost use Rattle.std.specs.Prelude.{◌≡◌, ◌≤◌, false, [], ◌∷◌, 
 ghost use Rattle.ballot.specs.Losses.{one_more};
 ghost use Rattle.std.specs.Bool.{OnTrue, OnFalse};
 ghost use Rattle.snapshots.specs.World.{messages};
-ghost use Rattle.master.specs.Inside.{Parted, TookIn, input_of, is_message};
+ghost use Rattle.master.specs.Inside.Losing.{Parted, TookIn, input_of, is_message};
 
 use ballot::machine::Machine;
 use ballot::{Effect, Message, Replica};

@@ -5,7 +5,8 @@ use Rattle.std.proofs.lemmas.Bool.{ltb-true, eqb-true, and_parts, or_cases}
 use Rattle.world_base.specs.ballot.Machine.{Rules}
 use Rattle.world_base.specs.ballot.Logs.{Log, places, pushed}
 use Rattle.world_base.specs.ballot.Taking.{read_into, taken, with_places}
-use Rattle.world_base.specs.ballot.Changing.{answers_installed, hands_on, lacks, waits_for, on_new_ballot, on_join, on_state, on_install, on_installed, on_activated, on_superseded}
+use Rattle.world_base.specs.ballot.Changing.{answers_installed, hands_on, lacks, waits_for, on_new_ballot, on_join, on_state, on_install}
+use Rattle.world_base.specs.ballot.Activating.{on_installed, on_activated, on_superseded}
 use Rattle.world_base.specs.ballot.Body.{Body}
 use Rattle.world_base.specs.ballot.Body.TheVariants.{NewBallot, Join, State, Install, Installed, Activate, Activated, Superseded, Append, Held, Commit}
 use Rattle.world_base.specs.ballot.Role.{Role}

@@ -9,7 +9,8 @@ use Rattle.world_base.specs.ballot.Body.{Body}
 use Rattle.world_base.specs.ballot.Body.TheVariants.{NewBallot, Join, State, Install, Installed, Activate, Activated, Superseded, Append, Held, Commit}
 use Rattle.world_base.specs.ballot.Logs.{Log, places}
 use Rattle.world_base.specs.ballot.Taking.{taken}
-use Rattle.world_base.specs.ballot.Changing.{answers_installed, hands_on, lacks, waits_for, on_new_ballot, on_join, on_install, on_superseded, on_state, on_installed, on_activated}
+use Rattle.world_base.specs.ballot.Changing.{answers_installed, hands_on, lacks, waits_for, on_new_ballot, on_join, on_install, on_state}
+use Rattle.world_base.specs.ballot.Activating.{on_superseded, on_installed, on_activated}
 use Rattle.world_base.specs.ballot.Machine.{Rules}
 use Rattle.world_base.specs.ballot.Protocol.{Input, received, ticked, replica_step}
 use Rattle.world_base.specs.ballot.Protocol.Input.{Receives, Proposes, Ticks}

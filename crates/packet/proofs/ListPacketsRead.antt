@@ -6,7 +6,8 @@ use Rattle.std.specs.List.{flat_map, All}
 use Rattle.std.proofs.lemmas.Bool.{eqb-true}
 use Rattle.packet_base.specs.topics.Text.{is_filter}
 use Rattle.packet_base.specs.Spelling.{number, text}
-use Rattle.packet_base.specs.Reading.{byte_at, id_at, filter_at}
+use Rattle.packet_base.specs.Reading.{byte_at, id_at}
+use Rattle.packet_base.specs.TopicFields.{filter_at}
 use Rattle.packet_base.specs.Lists.{list_of}
 use Rattle.packet_base.proofs.Steps.{then_if, cond_if}
 use Rattle.packet_base.proofs.FieldsFound.{IsBytes, Splits, Splits-then, byte_found, id_found, filter_found}

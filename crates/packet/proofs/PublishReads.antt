@@ -5,7 +5,8 @@ use Rattle.packet_base.specs.topics.Text.{is_topic}
 use Rattle.packet_base.specs.declared.header.DeliveryFlags.{DeliveryFlags}
 use Rattle.packet_base.specs.declared.header.DeliveryFlags.TheVariants as flags
 use Rattle.packet_base.specs.Spelling.{number, text}
-use Rattle.packet_base.specs.Reading.{id_at, topic_at}
+use Rattle.packet_base.specs.Reading.{id_at}
+use Rattle.packet_base.specs.TopicFields.{topic_at}
 use Rattle.packet_base.proofs.Steps.{then_if}
 use Rattle.packet_base.proofs.FieldsFound.{IsBytes, Splits, Splits-then, id_found, topic_found}
 use Rattle.packet_base.proofs.FieldsAgain.{id_again, topic_again}

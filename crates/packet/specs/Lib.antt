@@ -1,3 +1,4 @@
+pub mod ConnectFaultRows
 pub mod QoS
 pub mod ClientId
 pub mod Connect

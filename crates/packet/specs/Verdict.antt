@@ -6,7 +6,8 @@ use Rattle.packet_base.specs.declared.stop.Stop.TheVariants as stops
 use Rattle.packet_base.specs.declared.header.Header.{Header}
 use Rattle.packet_base.specs.declared.header.Header.TheVariants as headers
 use Rattle.packet_base.specs.Header.{header_of}
-use Rattle.packet_base.specs.Reading.{◌>>=◌, ◌>>◌, check, ended, length_at, topic_at}
+use Rattle.packet_base.specs.Reading.{◌>>=◌, ◌>>◌, check, ended, length_at}
+use Rattle.packet_base.specs.TopicFields.{topic_at}
 use Rattle.packet_base.specs.Lists.{begins_list}
 use Rattle.packet_base.specs.Outcome.{StopsBy}
 use Rattle.packet.specs.declared.packet.Packet.{Packet}

@@ -52,7 +52,8 @@ impl ClientId {
         Ok(ClientId::of_checked(alloc, text)?)
     }
 
-    // Returns the Client Identifier of a text without a fault.
+    /// Returns the Client Identifier of a text without a fault. The only error is that memory ran
+    /// out.
     pub(crate) fn of_checked(alloc: Global, text: &str) -> Result<ClientId, AllocError>
         requires { is_client text.now ≡ true }
         ensures { IfOk result (λ client. client ≡ text.now) }

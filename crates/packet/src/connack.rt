@@ -17,7 +17,7 @@ pub enum Connack {
 }
 
 impl Connack {
-    // Reads a body.
+    /// Reads the body of a CONNACK (MQTT 3.2). The first fault that is met stops it.
     #[tactic(auto, unfolding(crate::specs::Connack::connack_of))]
     pub(crate) fn read(body: &mut Reader) -> Result<Connack, Stop>
         ensures exact { Gives (λ x. x) result (connack_of body.old) }
@@ -30,14 +30,14 @@ impl Connack {
         Ok(connack)
     }
 
-    // Returns how many bytes the body has.
+    /// Returns how many bytes the body has.
     pub(crate) fn body_len(self) -> usize
         ensures { result ≡ min (length (connack self)) usize.MAX }
     {
         2
     }
 
-    // Writes the body.
+    /// Writes the body.
     pub(crate) fn put(self, out: &mut Vec<u8>)
         requires { vec_len out.old + length (connack self) ≤ vec_capacity out.old }
         ensures { out.new.items ≡ out.old.items ++ connack self }

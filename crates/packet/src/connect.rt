@@ -31,7 +31,7 @@ pub struct Connect {
 }
 
 impl Connect {
-    // Reads a body.
+    /// Reads the body of a CONNECT (MQTT 3.1). The first fault that is met stops it.
     #[tactic(auto, unfolding(crate::specs::Connect::connect_of), using(crate::proofs::Clients::client_checked))]
     pub(crate) fn read(alloc: Global, body: &mut Reader) -> Result<Connect, Stop>
         ensures exact { Gives (λ x. x) result (connect_of body.old) }
@@ -65,14 +65,14 @@ impl Connect {
         })
     }
 
-    // Returns how many bytes the body has.
+    /// Returns how many bytes the body has.
     pub(crate) fn body_len(&self) -> usize
         ensures { result ≡ min (length (connect self.now)) usize.MAX }
     {
         12 + self.client.as_str().len()
     }
 
-    // Writes the body.
+    /// Writes the body.
     pub(crate) fn put(&self, out: &mut Vec<u8>)
         requires { vec_len out.old + length (connect self.now) ≤ vec_capacity out.old }
         ensures { out.new.items ≡ out.old.items ++ connect self.now }
@@ -84,7 +84,7 @@ impl Connect {
         put_text(out, self.client.as_str());
     }
 
-    // Ensures that the fields are in their ranges.
+    /// Ensures that the fields are in their ranges.
     pub(crate) fn known(&self)
         ensures { FitsConnect self.now }
     {

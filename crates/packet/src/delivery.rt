@@ -49,7 +49,7 @@ impl Delivery {
         }
     }
 
-    // Returns the flags of the first byte.
+    /// Returns the flags of the first byte.
     pub(crate) fn flags(self) -> DeliveryFlags
         ensures { result ≡ delivery_flags self }
     {
@@ -60,7 +60,7 @@ impl Delivery {
         }
     }
 
-    // Reads the identifier that these flags ask for.
+    /// Reads the identifier that these flags ask for. The first fault that is met stops it.
     #[tactic(auto, unfolding(crate::specs::Delivery::delivery_at))]
     pub(crate) fn read(flags: DeliveryFlags, body: &mut Reader) -> Result<Delivery, Stop>
         ensures exact { Reads (λ x. x) result body.new (delivery_at flags body.old) }
@@ -73,7 +73,7 @@ impl Delivery {
         }
     }
 
-    // Returns how many bytes the identifier takes.
+    /// Returns how many bytes the identifier takes.
     pub(crate) fn id_len(self) -> usize
         ensures { result ≡ length (delivery_id self) }
     {
@@ -83,7 +83,7 @@ impl Delivery {
         }
     }
 
-    // Writes the identifier.
+    /// Writes the identifier.
     pub(crate) fn put_id(self, out: &mut Vec<u8>)
         requires { vec_len out.old + length (delivery_id self) ≤ vec_capacity out.old }
         ensures items { out.new.items ≡ out.old.items ++ delivery_id self }
@@ -97,7 +97,7 @@ impl Delivery {
         }
     }
 
-    // Ensures that the identifier is in its range.
+    /// Ensures that the identifier is in its range.
     pub(crate) fn known(self)
         ensures { FitsDelivery self }
     {

@@ -114,7 +114,7 @@ impl Packet {
         }
     }
 
-    // Returns what the first byte says.
+    /// Returns what the first byte says.
     pub(crate) fn header(&self) -> Header
         ensures { result ≡ header self.now }
     {
@@ -136,7 +136,7 @@ impl Packet {
         }
     }
 
-    // Reads the body of a packet whose first byte says this.
+    /// Reads the body of a packet whose first byte says this. The first fault that is met stops it.
     pub(crate) fn read(alloc: Global, header: Header, body: &mut Reader) -> Result<Packet, Stop>
         ensures exact { Gives (λ x. x) result (body_of header body.old) }
         ensures memory { WantsMemory result → asks_in_body header body.old ≡ true }
@@ -161,7 +161,7 @@ impl Packet {
         })
     }
 
-    // Returns how many bytes the body has, as far as a `usize` counts.
+    /// Returns how many bytes the body has, as far as a `usize` counts.
     pub(crate) fn body_len(&self) -> usize
         ensures { result ≡ min (length (body self.now)) usize.MAX }
     {
@@ -181,7 +181,7 @@ impl Packet {
         }
     }
 
-    // Writes the body.
+    /// Writes the body.
     pub(crate) fn put_body(&self, out: &mut Vec<u8>)
         requires { vec_len out.old + length (body self.now) ≤ vec_capacity out.old }
         ensures { out.new.items ≡ out.old.items ++ body self.now }

@@ -12,7 +12,7 @@ ghost use Rattle.std.specs.Prelude.{
   IsOk,
 };
 ghost use Rattle.packet_base.specs.Outcome.{Gives, WantsMemory};
-ghost use Rattle.packet_base.specs.Reading.{topic_at};
+ghost use Rattle.packet_base.specs.TopicFields.{topic_at};
 ghost use Rattle.packet.specs.Publish.{publish, publish_of, FitsPublish};
 
 use crate::delivery::Delivery;
@@ -36,7 +36,8 @@ pub struct Publish {
 }
 
 impl Publish {
-    // Reads a body, after a first byte with these flags.
+    /// Reads the body of a PUBLISH, after a first byte with these flags (MQTT 3.3). The first fault
+    /// that is met stops it.
     #[tactic(auto, unfolding(crate::specs::Publish::publish_of))]
     pub(crate) fn read(
         alloc: Global,
@@ -58,7 +59,7 @@ impl Publish {
         })
     }
 
-    // Returns how many bytes the body has.
+    /// Returns how many bytes the body has.
     pub(crate) fn body_len(&self) -> usize
         ensures { result ≡ min (length (publish self.now)) usize.MAX }
     {
@@ -66,7 +67,7 @@ impl Publish {
         names.saturating_add(self.payload.as_slice().len())
     }
 
-    // Writes the body.
+    /// Writes the body.
     pub(crate) fn put(&self, out: &mut Vec<u8>)
         requires { vec_len out.old + length (publish self.now) ≤ vec_capacity out.old }
         ensures { out.new.items ≡ out.old.items ++ publish self.now }
@@ -76,7 +77,7 @@ impl Publish {
         put_bytes(out, self.payload.as_slice());
     }
 
-    // Ensures that the fields are in their ranges.
+    /// Ensures that the fields are in their ranges.
     pub(crate) fn known(&self)
         ensures { FitsPublish self.now }
     {

@@ -19,7 +19,7 @@ pub enum QoS {
 }
 
 impl QoS {
-    // Returns the level of this number; above 2 there is none (MQTT 3.3.1.2, 3.8.3).
+    /// Returns the level of this number; above 2 there is none (MQTT 3.3.1.2, 3.8.3).
     pub(crate) fn of(number: u8) -> Result<QoS, Stop>
         ensures { result ≡ qos_of number }
     {

@@ -93,7 +93,7 @@ pub struct Suback {
 }
 
 impl Suback {
-    // Reads a body.
+    /// Reads the body of a SUBACK (MQTT 3.9). The first fault that is met stops it.
     #[tactic(auto, unfolding(crate::specs::Suback::suback_of))]
     pub(crate) fn read(alloc: Global, body: &mut Reader) -> Result<Suback, Stop>
         ensures exact { Gives (λ x. x) result (suback_of body.old) }
@@ -104,14 +104,14 @@ impl Suback {
         Ok(Suback { id, codes })
     }
 
-    // Returns how many bytes the body has.
+    /// Returns how many bytes the body has.
     pub(crate) fn body_len(&self) -> usize
         ensures { result ≡ min (length (suback self.now)) usize.MAX }
     {
         self.codes.len_behind(2)
     }
 
-    // Writes the body.
+    /// Writes the body.
     pub(crate) fn put(&self, out: &mut Vec<u8>)
         requires { vec_len out.old + length (suback self.now) ≤ vec_capacity out.old }
         ensures { out.new.items ≡ out.old.items ++ suback self.now }
@@ -120,7 +120,7 @@ impl Suback {
         self.codes.put(out);
     }
 
-    // Ensures that the fields are in their ranges.
+    /// Ensures that the fields are in their ranges.
     pub(crate) fn known(&self)
         ensures { FitsSuback self.now }
     {

@@ -88,7 +88,7 @@ pub struct Subscribe {
 }
 
 impl Subscribe {
-    // Reads a body.
+    /// Reads the body of a SUBSCRIBE (MQTT 3.8). The first fault that is met stops it.
     #[tactic(auto, unfolding(crate::specs::Subscribe::subscribe_of))]
     pub(crate) fn read(alloc: Global, body: &mut Reader) -> Result<Subscribe, Stop>
         ensures exact { Gives (λ x. x) result (subscribe_of body.old) }
@@ -99,14 +99,14 @@ impl Subscribe {
         Ok(Subscribe { id, filters })
     }
 
-    // Returns how many bytes the body has.
+    /// Returns how many bytes the body has.
     pub(crate) fn body_len(&self) -> usize
         ensures { result ≡ min (length (subscribe self.now)) usize.MAX }
     {
         self.filters.len_behind(2)
     }
 
-    // Writes the body.
+    /// Writes the body.
     pub(crate) fn put(&self, out: &mut Vec<u8>)
         requires { vec_len out.old + length (subscribe self.now) ≤ vec_capacity out.old }
         ensures { out.new.items ≡ out.old.items ++ subscribe self.now }
@@ -115,7 +115,7 @@ impl Subscribe {
         self.filters.put(out);
     }
 
-    // Ensures that the fields are in their ranges.
+    /// Ensures that the fields are in their ranges.
     pub(crate) fn known(&self)
         ensures { FitsSubscribe self.now }
     {

@@ -30,7 +30,7 @@ pub struct Unsubscribe {
 }
 
 impl Unsubscribe {
-    // Reads a body.
+    /// Reads the body of an UNSUBSCRIBE (MQTT 3.10). The first fault that is met stops it.
     #[tactic(auto, unfolding(crate::specs::Unsubscribe::unsubscribe_of))]
     pub(crate) fn read(alloc: Global, body: &mut Reader) -> Result<Unsubscribe, Stop>
         ensures exact { Gives (λ x. x) result (unsubscribe_of body.old) }
@@ -41,14 +41,14 @@ impl Unsubscribe {
         Ok(Unsubscribe { id, filters })
     }
 
-    // Returns how many bytes the body has.
+    /// Returns how many bytes the body has.
     pub(crate) fn body_len(&self) -> usize
         ensures { result ≡ min (length (unsubscribe self.now)) usize.MAX }
     {
         self.filters.len_behind(2)
     }
 
-    // Writes the body.
+    /// Writes the body.
     pub(crate) fn put(&self, out: &mut Vec<u8>)
         requires { vec_len out.old + length (unsubscribe self.now) ≤ vec_capacity out.old }
         ensures { out.new.items ≡ out.old.items ++ unsubscribe self.now }
@@ -57,7 +57,7 @@ impl Unsubscribe {
         self.filters.put(out);
     }
 
-    // Ensures that the fields are in their ranges.
+    /// Ensures that the fields are in their ranges.
     pub(crate) fn known(&self)
         ensures { FitsUnsubscribe self.now }
     {

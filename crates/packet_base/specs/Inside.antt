@@ -1,7 +1,8 @@
 -- Definitions for private clauses.
 use Rattle.std.specs.Prelude.{ℕ, ◌+◌, ◌^◌, List, Result}
 use Rattle.packet_base.specs.declared.stop.Stop.{Stop}
-use Rattle.packet_base.specs.Reading.{◌>>=◌, text_of, topic_of, filter_of}
+use Rattle.packet_base.specs.Reading.{◌>>=◌, text_of}
+use Rattle.packet_base.specs.TopicFields.{topic_of, filter_of}
 
 -- a bound that this many more bytes of a Remaining Length cannot reach
 abbrev pub length_limit : ℕ → ℕ

@@ -5,4 +5,5 @@ pub mod Reading
 pub mod Outcome
 pub mod Lists
 pub mod Inside
+pub mod TopicFields
 pub use Rattle.topics.specs as topics

@@ -1,9 +1,8 @@
 -- Reading from left to right, with the first fault that is met.
-use Rattle.std.specs.Prelude.{ℕ, ◌+◌, ◌-◌, ◌*◌, nat_lt, ◌==◌, Bool, true, false, not, ◌&&◌, if◌then◌else◌, List, [], ◌∷◌, length, take, drop, Result, Ok, Err, Option, Some, None}
+use Rattle.std.specs.Prelude.{ℕ, ◌+◌, ◌-◌, ◌*◌, nat_lt, ◌==◌, Bool, true, false, not, ◌&&◌, if◌then◌else◌, List, [], ◌∷◌, length, take, drop, Result, Ok, Err}
 use Rattle.std.specs.Int.{w16, from_be_bytes}
 use Rattle.std.specs.List.{list_any}
 use Rattle.std.specs.Str.{is_utf8}
-use Rattle.topics.specs.Text.{topic_fault, filter_fault}
 use Rattle.topics.specs.declared.malformed.MalformedKind.{MalformedKind}
 use Rattle.topics.specs.declared.malformed.MalformedKind.TheVariants as kinds
 use Rattle.packet_base.specs.declared.stop.Stop.{Stop}
@@ -89,34 +88,3 @@ length_at follow (b ∷ rest) =
     length_at (follow - 1) rest >>= (λ high.
     check (nat_lt 0 high.0) (stops.Malformed kinds.Length)
     >> Ok (b - 128 + 128 * high.0, high.1))
-
--- a text that its own checks passed, or the first of them that failed
-abbrev pub faultless : Option MalformedKind → Result (Unit {0}) Stop
-faultless None = Ok tt
-faultless (Some kind) = malformed kind
-
--- a text as a Topic Name (MQTT 4.7)
-abbrev pub topic_of : List ℕ → Result (List ℕ) Stop
-topic_of text = do
-  faultless (topic_fault text)
-  Ok text
-
--- a Topic Name with its length before it
-unfoldable pub topic_at : List ℕ → Result (List ℕ × List ℕ) Stop
-topic_at bytes = do
-  text ← text_at bytes
-  topic ← topic_of text.0
-  Ok (topic, text.1)
-
--- a text as a Topic Filter (MQTT 4.7.1)
-abbrev pub filter_of : List ℕ → Result (List ℕ) Stop
-filter_of text = do
-  faultless (filter_fault text)
-  Ok text
-
--- a Topic Filter with its length before it
-unfoldable pub filter_at : List ℕ → Result (List ℕ × List ℕ) Stop
-filter_at bytes = do
-  text ← text_at bytes
-  filter ← filter_of text.0
-  Ok (filter, text.1)

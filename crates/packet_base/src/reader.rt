@@ -2,18 +2,8 @@
 
 ghost use Rattle.std.specs.Prelude.{◌≡◌, ◌<◌, true, IfOk, IsOk, IsTrue, ◌==◌, nat_eq, length, drop};
 ghost use Rattle.std.specs.List.{starts_with};
-ghost use Rattle.packet_base.specs.Reading.{
-  topic_at,
-  filter_at,
-  byte_at,
-  front_at,
-  number_at,
-  id_at,
-  text_at,
-  text_of,
-  ended,
-  is_text,
-};
+ghost use Rattle.packet_base.specs.Reading.{byte_at, front_at, number_at, id_at, text_at, text_of, ended, is_text};
+ghost use Rattle.packet_base.specs.TopicFields.{topic_at, filter_at};
 ghost use Rattle.packet_base.specs.Outcome.{Gives, Reads, TakesNoMemory, WantsMemory};
 ghost use Rattle.packet_base.specs.Inside.{name_of, pattern_of};
 
@@ -138,7 +128,7 @@ impl<'a> Reader<'a> {
 
     /// Reads a Topic Name with its length before it. A text with a fault is `Text`, `Topic` or
     /// `TooDeep` (MQTT 4.7).
-    #[tactic(auto, unfolding(crate::specs::Reading::topic_at, crate::specs::Reading::text_at), using(crate::proofs::Texts::topic_ends))]
+    #[tactic(auto, unfolding(crate::specs::TopicFields::topic_at, crate::specs::Reading::text_at), using(crate::proofs::Texts::topic_ends))]
     pub fn topic(&mut self, alloc: Global) -> Result<TopicName, Stop>
         ensures exact { Reads (λ x. x) result self.new (topic_at self.old) }
 
@@ -152,7 +142,7 @@ impl<'a> Reader<'a> {
 
     /// Reads a Topic Filter with its length before it. A text with a fault is `Text`, `Filter` or
     /// `TooDeep` (MQTT 4.7.1).
-    #[tactic(auto, unfolding(crate::specs::Reading::filter_at, crate::specs::Reading::text_at), using(crate::proofs::Texts::filter_ends))]
+    #[tactic(auto, unfolding(crate::specs::TopicFields::filter_at, crate::specs::Reading::text_at), using(crate::proofs::Texts::filter_ends))]
     pub fn filter(&mut self, alloc: Global) -> Result<Filter, Stop>
         ensures exact { Reads (λ x. x) result self.new (filter_at self.old) }
 

@@ -15,7 +15,8 @@ use Rattle.exactly_once.specs.broker_base.Command.TheVariants as commands
 use Rattle.exactly_once.specs.broker_base.Output.{Output}
 use Rattle.exactly_once.specs.broker_base.State.{State, empty_state}
 use Rattle.exactly_once.specs.broker_base.Step.{step}
-use Rattle.broker_form.specs.Form.{frozen, thawed}
+use Rattle.broker_form.specs.Form.{thawed}
+use Rattle.broker_form.specs.Writing.{frozen}
 use Rattle.exactly_once.specs.Sends.{sends_to}
 use Rattle.exactly_once.specs.Sides.{Connection}
 use Rattle.packet_world.specs.World.{End, ClientEnds, World, with_client}

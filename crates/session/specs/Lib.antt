@@ -2,6 +2,7 @@ pub mod Errors
 pub mod Inside
 pub use Rattle.session_base.specs.Session
 pub use Rattle.session_base.specs.Queue
+pub use Rattle.session_base.specs.Copies
 pub use Rattle.session_base.specs.Sending
 pub use Rattle.session_base.specs.Subscriptions
 pub use Rattle.session_base.specs.Identifiers

@@ -36,7 +36,8 @@ impl Subscriptions {
     /// Appends their count, and each of them.
     pub(crate) fn write(&self, bytes: &mut Vec<u8>) -> Result<(), AllocError>
         requires { length self.now ≤ 64 }
-        ensures { OnOk result (bytes.new.items ≡ bytes.old.items ++ counted one_byte held_bytes self.now) }
+        ensures { OnOk result
+            (bytes.new.items ≡ bytes.old.items ++ counted one_byte held_bytes self.now) }
     {
         bytes.push(self.held.len() as u8)?;
         self.write_each(bytes)
@@ -56,7 +57,8 @@ impl Received {
     /// Appends their count, and each of them.
     pub(crate) fn write(&self, bytes: &mut Vec<u8>) -> Result<(), AllocError>
         requires { length self.now ≤ 65535 }
-        ensures { OnOk result (bytes.new.items ≡ bytes.old.items ++ counted number number self.now) }
+        ensures { OnOk result
+            (bytes.new.items ≡ bytes.old.items ++ counted number number self.now) }
     {
         write_number(self.ids.len() as u16, bytes)?;
         self.write_each(bytes)

@@ -40,7 +40,12 @@ impl Model for Session {
 
     ghost Value = { SessionState };
 
-    ghost view = { λ session. record { subscriptions = session.subscriptions; received = session.received; queue = session.queue } };
+    ghost view = { λ session.
+        record {
+          subscriptions = session.subscriptions;
+          received = session.received;
+          queue = session.queue;
+        } };
 
     ghost invariant = { λ session. IsReleasedFirst session.queue.in_flight };
 }
@@ -61,7 +66,8 @@ impl Session {
     /// carry it (MQTT 3.3.1.1).
     pub fn inbound(&mut self, id: PacketId) -> Result<Arrival, AllocError>
         ensures again { (result ≡ Ok Again) ↔ (has_id id self.old.received ≡ true) }
-        ensures first { result ≡ Ok First → self.new ≡ with_received (with_id id self.old.received) self.old }
+        ensures first { result ≡ Ok First
+            → self.new ≡ with_received (with_id id self.old.received) self.old }
 
         // A repeat changes nothing; if memory runs out, nothing changes either.
         ensures same { result ≢ Ok First → self.new ≡ self.old }
@@ -96,7 +102,8 @@ impl Session {
 
     /// Queues a publication after the others. `fill` sends it.
     pub fn enqueue(&mut self, publication: Publication) -> Result<(), EnqueueError>
-        ensures ok { OnOk result (self.new ≡ with_queue (enqueue publication self.old.queue) self.old) }
+        ensures ok { OnOk result
+            (self.new ≡ with_queue (enqueue publication self.old.queue) self.old) }
 
         // `QueueFull` comes exactly if there is no room.
         ensures full { (result ≡ Err QueueFull) ↔ (room 4096 self.old.queue ≡ 0) }
@@ -113,19 +120,21 @@ impl Session {
     /// error is that memory ran out.
     pub fn admit(&mut self, publication: Publication) -> Result<(), AllocError>
         requires room { 1 ≤ room 4096 self.old.queue }
-        ensures ok { OnOk result (self.new ≡ with_queue (enqueue publication self.old.queue) self.old) }
+        ensures ok { OnOk result
+            (self.new ≡ with_queue (enqueue publication self.old.queue) self.old) }
         ensures err { OnErr result (self.new ≡ self.old) }
     {
         self.queue.enqueue(publication)?;
         Ok(())
     }
 
-    /// While fewer entries are in flight than the window, starts the first that waits with the
-    /// least free identifier, and appends its PUBLISH (MQTT 4.6). If memory runs out nothing
-    /// changes.
+    /// Starts what waits while fewer entries are in flight than the window: the first that waits
+    /// takes the least free identifier, and its PUBLISH is appended (MQTT 4.6). If memory runs out
+    /// nothing changes.
     pub fn fill(&mut self, window: usize, out: &mut Vec<Packet>) -> Result<(), AllocError>
         requires { window < 65536 }
-        ensures state { OnOk result (self.new ≡ with_queue (filled window self.old.queue) self.old) }
+        ensures state { OnOk result
+            (self.new ≡ with_queue (filled window self.old.queue) self.old) }
         ensures sends { OnOk result
             (out.new.items
             ≡ out.old.items ++ fill_sends window self.old.queue.in_flight self.old.queue.waiting) }
@@ -133,14 +142,16 @@ impl Session {
         ensures unsent { OnErr result (out.new.items ≡ out.old.items) }
 
         // `Err` only if something is sent.
-        ensures quiet { fill_sends window self.old.queue.in_flight self.old.queue.waiting ≡ [] → IsOk result }
+        ensures quiet { fill_sends window self.old.queue.in_flight self.old.queue.waiting ≡ []
+            → IsOk result }
     {
         self.queue.fill(window, out)
     }
 
     /// Handles PUBACK: finishes the QoS 1 entry with this identifier (MQTT 4.3.2).
     pub fn on_puback(&mut self, id: PacketId)
-        ensures { self.new ≡ with_queue (with_flights (on_puback id self.old.queue.in_flight) self.old.queue) self.old }
+        ensures { self.new ≡ with_queue
+            (with_flights (on_puback id self.old.queue.in_flight) self.old.queue) self.old }
     {
         resend_keeps_the_order();
         self.queue.on_puback(id);
@@ -150,9 +161,11 @@ impl Session {
     /// one now or earlier (MQTT 4.3.3). If memory runs out nothing changes.
     pub fn on_pubrec(&mut self, id: PacketId, out: &mut Vec<Packet>) -> Result<(), AllocError>
         ensures state { OnOk result
-            (self.new ≡ with_queue (with_flights (on_pubrec id self.old.queue.in_flight) self.old.queue) self.old) }
+            (self.new ≡ with_queue
+            (with_flights (on_pubrec id self.old.queue.in_flight) self.old.queue) self.old) }
         ensures sends { OnOk result
-            (out.new.items ≡ out.old.items ++ pubrec_sends id (on_pubrec id self.old.queue.in_flight)) }
+            (out.new.items
+            ≡ out.old.items ++ pubrec_sends id (on_pubrec id self.old.queue.in_flight)) }
         ensures err { OnErr result (self.new ≡ self.old) }
         ensures unsent { OnErr result (out.new.items ≡ out.old.items) }
 
@@ -165,7 +178,8 @@ impl Session {
 
     /// Handles PUBCOMP: finishes the released entry with this identifier (MQTT 4.3.3).
     pub fn on_pubcomp(&mut self, id: PacketId)
-        ensures { self.new ≡ with_queue (with_flights (on_pubcomp id self.old.queue.in_flight) self.old.queue) self.old }
+        ensures { self.new ≡ with_queue
+            (with_flights (on_pubcomp id self.old.queue.in_flight) self.old.queue) self.old }
     {
         resend_keeps_the_order();
         self.queue.on_pubcomp(id);
@@ -174,7 +188,8 @@ impl Session {
     /// Appends what a client that comes back is sent for what is in flight: PUBREL for each
     /// released entry, then PUBLISH with DUP 1 (MQTT 4.4). If memory runs out nothing is appended.
     pub fn resend(&self, out: &mut Vec<Packet>) -> Result<(), AllocError>
-        ensures ok { OnOk result (out.new.items ≡ out.old.items ++ resend self.now.queue.in_flight) }
+        ensures ok { OnOk result
+            (out.new.items ≡ out.old.items ++ resend self.now.queue.in_flight) }
         ensures err { OnErr result (out.new.items ≡ out.old.items) }
         ensures quiet { self.now.queue.in_flight ≡ [] → IsOk result }
     {
@@ -185,7 +200,8 @@ impl Session {
     /// appended (MQTT 3.8.4).
     pub fn subscribe(&mut self, filter: Filter, qos: QoS) -> Result<(), AllocError>
         ensures ok { OnOk result
-            (self.new ≡ with_filters (with_subscription (filter, qos) self.old.subscriptions) self.old) }
+            (self.new
+            ≡ with_filters (with_subscription (filter, qos) self.old.subscriptions) self.old) }
         ensures err { OnErr result (self.new ≡ self.old) }
 
         // `Err` only for a new filter.
@@ -196,7 +212,8 @@ impl Session {
 
     /// Removes a subscription, compared character by character (MQTT 3.10.4).
     pub fn unsubscribe(&mut self, filter: &Filter)
-        ensures { self.new ≡ with_filters (without_filter filter.now self.old.subscriptions) self.old }
+        ensures { self.new
+            ≡ with_filters (without_filter filter.now self.old.subscriptions) self.old }
     {
         self.subscriptions.remove(filter);
     }

@@ -32,7 +32,8 @@ impl Model for SessionQueue {
 
     ghost Value = { Queue };
 
-    ghost view = { λ queue. record { in_flight = queue.in_flight.entries; waiting = queue.waiting.items } };
+    ghost view = { λ queue.
+        record { in_flight = queue.in_flight.entries; waiting = queue.waiting.items } };
 }
 
 impl SessionQueue {
@@ -70,7 +71,8 @@ impl SessionQueue {
         requires { window < 65536 }
         ensures state { OnOk result (self.new ≡ filled window self.old) }
         ensures sends { OnOk result
-            (out.new.items ≡ out.old.items ++ fill_sends window self.old.in_flight self.old.waiting) }
+            (out.new.items
+            ≡ out.old.items ++ fill_sends window self.old.in_flight self.old.waiting) }
         ensures first { IsReleasedFirst self.old.in_flight → IsReleasedFirst self.new.in_flight }
         ensures err { OnErr result (self.new ≡ self.old) }
         ensures unsent { OnErr result (out.new.items ≡ out.old.items) }
@@ -99,7 +101,8 @@ impl SessionQueue {
             (λ many. record { in_flight = self.new.in_flight; waiting = drop many self.old.waiting }
             ≡ filled window self.old) }
         ensures sends { OnOk result
-            (out.new.items ≡ out.old.items ++ fill_sends window self.old.in_flight self.old.waiting) }
+            (out.new.items
+            ≡ out.old.items ++ fill_sends window self.old.in_flight self.old.waiting) }
         ensures few { IfOk result (λ many. many ≤ length self.old.waiting) }
         ensures first { IsReleasedFirst self.old.in_flight → IsReleasedFirst self.new.in_flight }
         ensures waiting { self.new.waiting ≡ self.old.waiting }
@@ -124,7 +127,8 @@ impl SessionQueue {
             (self.new.in_flight
             ≡ (started_with self.old.in_flight (drop place self.old.waiting)).in_flight) }
         ensures sends { OnOk result
-            (out.new.items ≡ out.old.items ++ sends_with self.old.in_flight (drop place self.old.waiting)) }
+            (out.new.items
+            ≡ out.old.items ++ sends_with self.old.in_flight (drop place self.old.waiting)) }
         ensures first { IsReleasedFirst self.old.in_flight → IsReleasedFirst self.new.in_flight }
         ensures waiting { self.new.waiting ≡ self.old.waiting }
         ensures err { OnErr result (self.new.in_flight ≡ self.old.in_flight) }
@@ -167,7 +171,8 @@ impl SessionQueue {
         out: &mut Vec<Packet>,
     ) -> Result<(), AllocError>
         requires { IsReleasedFirst self.old.in_flight }
-        ensures ok { OnOk result (self.new ≡ with_flights (on_pubrec id self.old.in_flight) self.old) }
+        ensures ok { OnOk result
+            (self.new ≡ with_flights (on_pubrec id self.old.in_flight) self.old) }
         ensures sends { OnOk result
             (out.new.items ≡ out.old.items ++ pubrec_sends id (on_pubrec id self.old.in_flight)) }
         ensures err { OnErr result (self.new ≡ self.old) }
@@ -285,7 +290,7 @@ fn free_id(in_flight: &IndexMap<PacketId, Awaits>) -> PacketId
     PacketId::new(number)
 }
 
-// Puts an entry after those in flight.
+/// Appends an entry to those in flight. The only error is that memory ran out.
 pub(crate) fn put_last(
     in_flight: &mut IndexMap<PacketId, Awaits>,
     id: PacketId,

@@ -33,7 +33,8 @@ impl Subscriptions {
     /// Reads as many filters as their count says, none of them twice.
     #[tactic(auto, unfolding(session_base::specs::Counted::counted_at))]
     pub(crate) fn read(alloc: Global, reader: &mut Reader) -> Result<Subscriptions, Stop>
-        ensures { Reads (λ x. x) result reader.new (counted_at byte_at is_new_filter held_at 64 reader.old) }
+        ensures { Reads (λ x. x) result reader.new
+            (counted_at byte_at is_new_filter held_at 64 reader.old) }
     {
         let count = reader.byte()?;
         keep(count <= MAX_SUBSCRIPTIONS)?;
@@ -53,7 +54,8 @@ impl Subscriptions {
 }
 
 fn read_filters(alloc: Global, count: u8, reader: &mut Reader) -> Result<Subscriptions, Stop>
-    ensures { Reads (λ x. x) result reader.new (items_behind is_new_filter held_at count [] reader.old) }
+    ensures { Reads (λ x. x) result reader.new
+        (items_behind is_new_filter held_at count [] reader.old) }
 {
     let mut read = Subscriptions::new(alloc);
     for _ in 0..count {
@@ -67,7 +69,8 @@ impl Received {
     /// Reads as many identifiers as their count says, in rising order.
     #[tactic(auto, unfolding(session_base::specs::Counted::counted_at))]
     pub(crate) fn read(alloc: Global, reader: &mut Reader) -> Result<Received, Stop>
-        ensures { Reads (λ x. x) result reader.new (counted_at number_at is_above id_at 65535 reader.old) }
+        ensures { Reads (λ x. x) result reader.new
+            (counted_at number_at is_above id_at 65535 reader.old) }
     {
         let count = reader.number()?;
         read_ids(alloc, count, reader)
@@ -138,7 +141,8 @@ fn read_in_flight(
     window: usize,
     reader: &mut Reader,
 ) -> Result<IndexMap<PacketId, Awaits>, Stop>
-    ensures exact { Reads (λ x. x.entries) result reader.new (counted_at number_at may_follow flight_at window reader.old) }
+    ensures exact { Reads (λ x. x.entries) result reader.new
+        (counted_at number_at may_follow flight_at window reader.old) }
     ensures first { IfOk result (λ x. IsReleasedFirst x.entries) }
     ensures few { IfOk result (λ x. length x.entries ≤ window) }
 {
@@ -151,7 +155,8 @@ fn read_counted_flights(
     window: usize,
     reader: &mut Reader,
 ) -> Result<IndexMap<PacketId, Awaits>, Stop>
-    ensures { Reads (λ x. x.entries) result reader.new (counted_at number_at may_follow flight_at window reader.old) }
+    ensures { Reads (λ x. x.entries) result reader.new
+        (counted_at number_at may_follow flight_at window reader.old) }
 {
     let count = reader.number()?;
     keep(usize::from(count) <= window)?;
@@ -163,7 +168,8 @@ fn read_flights(
     count: u16,
     reader: &mut Reader,
 ) -> Result<IndexMap<PacketId, Awaits>, Stop>
-    ensures { Reads (λ x. x.entries) result reader.new (items_behind may_follow flight_at count [] reader.old) }
+    ensures { Reads (λ x. x.entries) result reader.new
+        (items_behind may_follow flight_at count [] reader.old) }
 {
     let mut read = IndexMap::new(alloc);
     for _ in 0..count {
@@ -220,7 +226,8 @@ fn read_all_waiting(
     most: usize,
     reader: &mut Reader,
 ) -> Result<VecDeque<Publication>, Stop>
-    ensures { Reads (λ x. x.items) result reader.new (counted_at number_at anything waiting_at most reader.old) }
+    ensures { Reads (λ x. x.items) result reader.new
+        (counted_at number_at anything waiting_at most reader.old) }
 {
     let count = reader.number()?;
     keep(usize::from(count) <= most)?;
@@ -232,7 +239,8 @@ fn read_publications(
     count: u16,
     reader: &mut Reader,
 ) -> Result<VecDeque<Publication>, Stop>
-    ensures { Reads (λ x. x.items) result reader.new (items_behind anything waiting_at count [] reader.old) }
+    ensures { Reads (λ x. x.items) result reader.new
+        (items_behind anything waiting_at count [] reader.old) }
 {
     let mut read = VecDeque::new(alloc);
     for _ in 0..count {

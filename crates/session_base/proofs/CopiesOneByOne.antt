@@ -3,7 +3,8 @@ use Rattle.std.proofs.Common.{◌≡◌, ℕ, ◌≤◌, Bool, true, false, inl,
 use Rattle.std.proofs.lemmas.List.{append_assoc, append-nil}
 use Rattle.session_base.specs.declared.publication.Publication.{Publication}
 use Rattle.session_base.specs.Publication.{is_answered}
-use Rattle.session_base.specs.Queue.{Flight, started_flight, fill, copies_left}
+use Rattle.session_base.specs.Queue.{Flight, started_flight, fill}
+use Rattle.session_base.specs.Copies.{copies_left}
 use Rattle.session_base.specs.Laws.{IsQuietQueue, CopiesAreOneFill}
 use Rattle.session_base.proofs.FillsOfQueues as fills
 

@@ -6,7 +6,8 @@ use Rattle.std.proofs.lemmas.List.{length-append}
 use Rattle.packet_base.specs.topics.Text.{is_topic, is_filter}
 use Rattle.packet_base.specs.declared.stop.Stop.{Stop}
 use Rattle.packet_base.specs.Spelling.{IsId, number, text}
-use Rattle.packet_base.specs.Reading.{byte_at, front_at, number_at, id_at, topic_at, filter_at}
+use Rattle.packet_base.specs.Reading.{byte_at, front_at, number_at, id_at}
+use Rattle.packet_base.specs.TopicFields.{topic_at, filter_at}
 use Rattle.packet_base.proofs.Steps.{then_if, check_if}
 use Rattle.packet_base.proofs.FieldsFound.{IsBytes, Splits, byte_found, front_found, number_found, id_found, topic_found, filter_found}
 use Rattle.packet.specs.Spelling.{longest_body}

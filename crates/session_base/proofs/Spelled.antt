@@ -6,7 +6,8 @@ use Rattle.std.proofs.lemmas.Nat.{be_bytes_4}
 use Rattle.packet_base.specs.topics.Text.{is_topic, is_filter}
 use Rattle.packet_base.specs.Lists.{ItemAt}
 use Rattle.packet_base.specs.Spelling.{number, text, bit}
-use Rattle.packet_base.specs.Reading.{byte_at, front_at, number_at, id_at, topic_at, filter_at}
+use Rattle.packet_base.specs.Reading.{byte_at, front_at, number_at, id_at}
+use Rattle.packet_base.specs.TopicFields.{topic_at, filter_at}
 use Rattle.packet_base.proofs.Steps.{then_if, check_if}
 use Rattle.packet_base.proofs.FieldsFound.{IsBytes, Splits, Splits-then, byte_found, front_found, number_found, id_found, topic_found, filter_found}
 use Rattle.packet.specs.QoS.{qos_number, qos_of}

@@ -17,13 +17,16 @@ abbrev pub last_of : {A : Type 0} → List A → Option A
 last_of = last_or None
 
 -- this many items more, each of which may come after those before it
-unfoldable pub items_behind : {A : Type 0} → (List A → A → Bool) → ItemAt A → ℕ → List A → List ℕ → Result (List A × List ℕ) Stop
+unfoldable pub items_behind : {A : Type 0} → (List A → A → Bool) → ItemAt A → ℕ → List A → List ℕ →
+    Result (List A × List ℕ) Stop
 items_behind follows item zero front bytes = Ok (front, bytes)
 items_behind follows item (suc more) front bytes =
-    item bytes >>= (λ one. keep (follows front one.0) >> items_behind follows item more (front ++ one.0 ∷ []) one.1)
+    item bytes >>= (λ one. keep (follows front one.0)
+    >> items_behind follows item more (front ++ one.0 ∷ []) one.1)
 
 -- the count, no more than `most`, and the items
-unfoldable pub counted_at : {A : Type 0} → ItemAt ℕ → (List A → A → Bool) → ItemAt A → ℕ → List ℕ → Result (List A × List ℕ) Stop
+unfoldable pub counted_at : {A : Type 0} → ItemAt ℕ → (List A → A → Bool) → ItemAt A → ℕ → List ℕ →
+    Result (List A × List ℕ) Stop
 counted_at count follows item most bytes = do
   many ← count bytes
   keep (nat_le many.0 most)
@@ -35,7 +38,9 @@ counted count bytes items = count (length items) ++ flat_map bytes items
 
 -- what adding an item to those that were read does: it comes last if it may, and all else stops the
 -- reading; memory may run out
-abbrev pub Adds : {A : Type 0} → (List A → A → Bool) → List A → A → Result (Unit {0}) Stop → List A → Type 0
+abbrev pub Adds : {A : Type 0} → (List A → A → Bool) → List A → A → Result (Unit {0}) Stop →
+    List A → Type 0
 Adds follows front one (Ok done) after = (follows front one ≡ true) × (after ≡ front ++ one ∷ [])
 Adds follows front one (Err (stops.Malformed kinds.Memory)) after = Unit {0}
-Adds follows front one (Err stop) after = (follows front one ≡ false) × (stop ≡ stops.Malformed kinds.Shape)
+Adds follows front one (Err stop) after =
+    (follows front one ≡ false) × (stop ≡ stops.Malformed kinds.Shape)

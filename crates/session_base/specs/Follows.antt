@@ -26,7 +26,8 @@ was_released None = true
 -- an entry with an identifier of its own; a released one comes only after released ones
 abbrev pub may_follow : List Flight → Flight → Bool
 may_follow front flight =
-    not (has_id flight.0 (ids_of front)) && (not (is_released flight) || was_released (last_of front))
+    not (has_id flight.0 (ids_of front))
+    && (not (is_released flight) || was_released (last_of front))
 
 -- anything
 abbrev pub anything : List Publication → Publication → Bool

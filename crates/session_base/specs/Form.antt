@@ -3,7 +3,8 @@
 use Rattle.std.specs.Prelude.{ℕ, ◌+◌, ◌-◌, Bool, not, ◌==◌, nat_lt, nat_le, if◌then◌else◌, List, length, Result, Ok}
 use Rattle.std.specs.Int.{w32, from_be_bytes}
 use Rattle.packet_base.specs.declared.stop.Stop.{Stop}
-use Rattle.packet_base.specs.Reading.{◌>>=◌, ◌>>◌, byte_at, front_at, number_at, id_at, topic_at, filter_at}
+use Rattle.packet_base.specs.Reading.{◌>>=◌, ◌>>◌, byte_at, front_at, number_at, id_at}
+use Rattle.packet_base.specs.TopicFields.{topic_at, filter_at}
 use Rattle.packet.specs.QoS.{qos_of}
 use Rattle.packet.specs.declared.qos.QoS.{QoS}
 use Rattle.packet.specs.Spelling.{longest_body}

@@ -31,7 +31,8 @@ FitsIn window s = length s.queue.in_flight ≤ window
 -- whatever bytes follow, and whatever the window is, if no more is in flight
 abbrev pub FrozenIsRead : Type 0
 FrozenIsRead =
-    (window : ℕ) → window ≤ 4096 → (s : SessionState) (rest : List ℕ) → HasForm s → FitsIn window s →
+    (window : ℕ) → window ≤ 4096 → (s : SessionState) (rest : List ℕ) → HasForm s →
+    FitsIn window s →
     state_at window (state_bytes s ++ rest) ≡ Ok (s, rest)
 
 -- each number is a byte
@@ -47,4 +48,5 @@ ReadHasForm =
 -- what was read is written as it stood, in front of the bytes that are left
 abbrev pub ReadIsFrozen : Type 0
 ReadIsFrozen =
-    (window : ℕ) → (bytes : List ℕ) → AreBytes bytes → IfOk (state_at window bytes) (λ x. bytes ≡ state_bytes x.0 ++ x.1)
+    (window : ℕ) → (bytes : List ℕ) → AreBytes bytes
+    → IfOk (state_at window bytes) (λ x. bytes ≡ state_bytes x.0 ++ x.1)

@@ -10,21 +10,27 @@ use Rattle.session_base.specs.Form.{state_bytes}
 
 -- the entries in flight that have a publication
 abbrev pub at_least_once : Publication
-at_least_once = record { retain = false; qos = levels.AtLeastOnce; topic = codes "t/1"; payload = codes "x" }
+at_least_once =
+    record { retain = false; qos = levels.AtLeastOnce; topic = codes "t/1"; payload = codes "x" }
 
 abbrev pub exactly_once : Publication
-exactly_once = record { retain = false; qos = levels.ExactlyOnce; topic = codes "t/1"; payload = codes "y" }
+exactly_once =
+    record { retain = false; qos = levels.ExactlyOnce; topic = codes "t/1"; payload = codes "y" }
 
 -- what waits: a retained copy at QoS 1, and a publication without a payload
 abbrev pub retained_copy : Publication
-retained_copy = record { retain = true; qos = levels.AtLeastOnce; topic = codes "t/2"; payload = codes "z" }
+retained_copy =
+    record { retain = true; qos = levels.AtLeastOnce; topic = codes "t/2"; payload = codes "z" }
 
 abbrev pub without_payload : Publication
-without_payload = record { retain = false; qos = levels.ExactlyOnce; topic = codes "t/1"; payload = [] }
+without_payload =
+    record { retain = false; qos = levels.ExactlyOnce; topic = codes "t/1"; payload = [] }
 
 abbrev pub full_queue : Queue
 full_queue = record {
-  in_flight = (3, waits_for.Pubcomp) ∷ (1, waits_for.Puback at_least_once) ∷ (2, waits_for.Pubrec exactly_once) ∷ [];
+  in_flight =
+      (3, waits_for.Pubcomp) ∷ (1, waits_for.Puback at_least_once)
+      ∷ (2, waits_for.Pubrec exactly_once) ∷ [];
   waiting = retained_copy ∷ without_payload ∷ [];
 }
 

@@ -8,7 +8,8 @@ use Rattle.session_base.specs.declared.awaits.Awaits.TheVariants as waits_for
 use Rattle.session_base.specs.Publication.{publish_of, is_answered}
 use Rattle.lists.specs.Lists.{has_id, IsDistinct}
 use Rattle.session_base.specs.Identifiers.{least_free}
-use Rattle.session_base.specs.Queue.{Flight, ids_of, fill, copies_left}
+use Rattle.session_base.specs.Queue.{Flight, ids_of, fill}
+use Rattle.session_base.specs.Copies.{copies_left}
 use Rattle.session_base.specs.Sending.{fill_sends}
 
 -- the publications in flight: a released entry has none left
@@ -31,7 +32,8 @@ first_sent id waits_for.Pubcomp = packets.Pubrel id
 abbrev pub IsLeastFree : Type 0
 IsLeastFree =
     (busy : List ℕ) →
-    (1 ≤ least_free busy) × (least_free busy ≤ suc (length busy)) × (has_id (least_free busy) busy ≡ false)
+    (1 ≤ least_free busy) × (least_free busy ≤ suc (length busy))
+    × (has_id (least_free busy) busy ≡ false)
     × ((id : ℕ) → 1 ≤ id → id < least_free busy → has_id id busy ≡ true)
 
 -- a fill keeps identifiers apart
@@ -46,7 +48,8 @@ FillKeepsApart =
 abbrev pub FillIsDone : Type 0
 FillIsDone =
     (window : ℕ) → (flights : List Flight) → (waiting : List Publication) →
-    ((fill window flights waiting).waiting ≡ []) ⊎ (window ≤ length (fill window flights waiting).in_flight)
+    ((fill window flights waiting).waiting ≡ [])
+    ⊎ (window ≤ length (fill window flights waiting).in_flight)
 
 -- it does not go past the window
 abbrev pub FillStaysWithin : Type 0
@@ -59,7 +62,8 @@ abbrev pub FillKeepsOrder : Type 0
 FillKeepsOrder =
     (window : ℕ) → (flights : List Flight) → (waiting : List Publication) →
     (take (length flights) (fill window flights waiting).in_flight ≡ flights)
-    × (publications_of (fill window flights waiting).in_flight ++ (fill window flights waiting).waiting
+    × (publications_of (fill window flights waiting).in_flight
+    ++ (fill window flights waiting).waiting
     ≡ publications_of flights ++ waiting)
 
 -- it sends what came into flight, with DUP 0, and nothing else
@@ -67,7 +71,8 @@ abbrev pub FillSendsWhatStarts : Type 0
 FillSendsWhatStarts =
     (window : ℕ) → (flights : List Flight) → (waiting : List Publication) →
     fill_sends window flights waiting
-    ≡ map (λ flight. first_sent flight.0 flight.1) (drop (length flights) (fill window flights waiting).in_flight)
+    ≡ map (λ flight. first_sent flight.0 flight.1)
+    (drop (length flights) (fill window flights waiting).in_flight)
 
 -- two fills, with more that waits before the second, are one, and send the same
 abbrev pub FillsJoin : Type 0
@@ -75,7 +80,8 @@ FillsJoin =
     (window : ℕ) → (flights : List Flight) → (waiting more : List Publication) →
     let first = fill window flights waiting in
     (fill window first.in_flight (first.waiting ++ more) ≡ fill window flights (waiting ++ more))
-    × (fill_sends window flights waiting ++ fill_sends window first.in_flight (first.waiting ++ more)
+    × (fill_sends window flights waiting
+    ++ fill_sends window first.in_flight (first.waiting ++ more)
     ≡ fill_sends window flights (waiting ++ more))
 
 -- a queue in which nothing waits, or whose window is full
@@ -85,6 +91,7 @@ IsQuietQueue window flights waiting = (waiting ≡ []) ⊎ (window ≤ length fl
 -- copies that come one by one leave of such a queue what one fill after all of them leaves
 abbrev pub CopiesAreOneFill : Type 0
 CopiesAreOneFill =
-    (window : ℕ) → (flights : List Flight) → (waiting copies : List Publication) → IsQuietQueue window flights waiting →
+    (window : ℕ) → (flights : List Flight) → (waiting copies : List Publication) →
+    IsQuietQueue window flights waiting →
     copies_left window copies (record { in_flight = flights; waiting = waiting })
     ≡ fill window flights (waiting ++ filter (λ p. is_answered p.qos) copies)

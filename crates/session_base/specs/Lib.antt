@@ -1,3 +1,4 @@
+pub mod Copies
 pub mod Publication
 pub mod Identifiers
 pub mod Subscriptions

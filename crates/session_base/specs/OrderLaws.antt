@@ -40,7 +40,8 @@ SecondPubrecChangesNothing =
 abbrev pub ReleasedComesLast : Type 0
 ReleasedComesLast =
     (id : ℕ) → (flights : List Flight) → list_any (awaits_pubrec id) flights ≡ true →
-    filter is_released (on_pubrec id flights) ≡ filter is_released flights ++ (id, waits_for.Pubcomp) ∷ []
+    filter is_released (on_pubrec id flights)
+    ≡ filter is_released flights ++ (id, waits_for.Pubcomp) ∷ []
 
 -- the client's answers keep identifiers apart, and PUBREC keeps how many are in flight
 abbrev pub AnswersKeepApart : Type 0
@@ -55,9 +56,11 @@ AnswersKeepApart =
 abbrev pub KeepsReleasedFirst : Type 0
 KeepsReleasedFirst =
     (flights : List Flight) → IsReleasedFirst flights →
-    ((id : ℕ) → IsReleasedFirst (on_puback id flights)) × ((id : ℕ) → IsReleasedFirst (on_pubrec id flights))
+    ((id : ℕ) → IsReleasedFirst (on_puback id flights))
+    × ((id : ℕ) → IsReleasedFirst (on_pubrec id flights))
     × ((id : ℕ) → IsReleasedFirst (on_pubcomp id flights))
-    × ((window : ℕ) → (waiting : List Publication) → IsReleasedFirst (fill window flights waiting).in_flight)
+    × ((window : ℕ) → (waiting : List Publication)
+    → IsReleasedFirst (fill window flights waiting).in_flight)
 
 -- a resending goes along the queue in order, with PUBREL for a released entry and PUBLISH with DUP
 -- 1 for any other
@@ -65,8 +68,10 @@ abbrev pub ResendsInOrder : Type 0
 ResendsInOrder =
     ((flights others : List Flight) → resend (flights ++ others) ≡ resend flights ++ resend others)
     × ((id : ℕ) → resend ((id, waits_for.Pubcomp) ∷ []) ≡ packets.Pubrel id ∷ [])
-    × ((id : ℕ) → (p : Publication) → resend ((id, waits_for.Puback p) ∷ []) ≡ packets.Publish (publish_of true id p) ∷ [])
-    × ((id : ℕ) → (p : Publication) → resend ((id, waits_for.Pubrec p) ∷ []) ≡ packets.Publish (publish_of true id p) ∷ [])
+    × ((id : ℕ) → (p : Publication)
+    → resend ((id, waits_for.Puback p) ∷ []) ≡ packets.Publish (publish_of true id p) ∷ [])
+    × ((id : ℕ) → (p : Publication)
+    → resend ((id, waits_for.Pubrec p) ∷ []) ≡ packets.Publish (publish_of true id p) ∷ [])
 
 -- An entry of QoS 1 that was sent is finished by its PUBACK, and a PUBREC is nothing to it. One of
 -- QoS 2 is released by its PUBREC and finished by the PUBCOMP after it, and a PUBACK is nothing to
@@ -75,7 +80,8 @@ abbrev pub AnswersFitTheQoS : Type 0
 AnswersFitTheQoS =
     (id : ℕ) → (p : Publication) →
     (p.qos ≡ levels.AtLeastOnce →
-    (on_puback id ((id, awaited p) ∷ []) ≡ []) × (on_pubrec id ((id, awaited p) ∷ []) ≡ (id, awaited p) ∷ []))
+    (on_puback id ((id, awaited p) ∷ []) ≡ [])
+    × (on_pubrec id ((id, awaited p) ∷ []) ≡ (id, awaited p) ∷ []))
     × (p.qos ≡ levels.ExactlyOnce →
     (on_puback id ((id, awaited p) ∷ []) ≡ (id, awaited p) ∷ [])
     × (on_pubrec id ((id, awaited p) ∷ []) ≡ (id, waits_for.Pubcomp) ∷ [])

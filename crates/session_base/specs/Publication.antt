@@ -12,7 +12,12 @@ use Rattle.session_base.specs.declared.publication.Publication.{Publication}
 -- what this PUBLISH carries
 abbrev pub publication_of : Publish → Publication
 publication_of p =
-    record { retain = p.retain; qos = delivery_qos p.delivery; topic = p.topic; payload = p.payload }
+    record {
+      retain = p.retain;
+      qos = delivery_qos p.delivery;
+      topic = p.topic;
+      payload = p.payload;
+    }
 
 -- how it is delivered at this QoS, with DUP and identifier if the QoS has them
 abbrev pub delivery_at : QoS → Bool → ℕ → Delivery
@@ -23,7 +28,12 @@ delivery_at levels.ExactlyOnce dup id = deliveries.ExactlyOnce dup id
 -- the PUBLISH that carries it
 abbrev pub publish_of : Bool → ℕ → Publication → Publish
 publish_of dup id p =
-    record { topic = p.topic; delivery = delivery_at p.qos dup id; retain = p.retain; payload = p.payload }
+    record {
+      topic = p.topic;
+      delivery = delivery_at p.qos dup id;
+      retain = p.retain;
+      payload = p.payload;
+    }
 
 -- whether it goes into a queue: QoS 1 and 2 are answered
 abbrev pub is_answered : QoS → Bool

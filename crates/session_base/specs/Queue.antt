@@ -5,7 +5,7 @@ use Rattle.std.specs.List.{list_any}
 use Rattle.session_base.specs.declared.publication.Publication.{Publication}
 use Rattle.session_base.specs.declared.awaits.Awaits.{Awaits}
 use Rattle.session_base.specs.declared.awaits.Awaits.TheVariants as waits_for
-use Rattle.session_base.specs.Publication.{is_acknowledged, is_answered}
+use Rattle.session_base.specs.Publication.{is_acknowledged}
 use Rattle.session_base.specs.Identifiers.{least_free}
 
 -- an entry in flight: its Packet Identifier, and what it waits for
@@ -62,7 +62,8 @@ on_puback id = filter (λ flight. not (awaits_puback id flight))
 abbrev pub released_with : ℕ → List Flight → List Flight
 released_with id in_flight =
     filter is_released in_flight
-    ++ (id, waits_for.Pubcomp) ∷ filter (λ flight. not (is_released flight) && not (awaits_pubrec id flight)) in_flight
+    ++ (id, waits_for.Pubcomp)
+    ∷ filter (λ flight. not (is_released flight) && not (awaits_pubrec id flight)) in_flight
 
 -- PUBREC releases the QoS 2 entry with this identifier, if one waits for it (MQTT 4.3.3)
 abbrev pub on_pubrec : ℕ → List Flight → List Flight
@@ -103,18 +104,3 @@ fill window in_flight [] = record { in_flight = in_flight; waiting = [] }
 -- a queue filled
 abbrev pub filled : ℕ → Queue → Queue
 filled window queue = fill window queue.in_flight queue.waiting
-
--- ---- copies that come one by one
-
--- Of a connected client's queue: each copy of QoS 1 or 2 comes last, and what may start after it
--- starts.
-abbrev pub copies_left : ℕ → List Publication → Queue → Queue
-copies_left window (p ∷ copies) queue =
-    if is_answered p.qos then copies_left window copies (filled window (enqueue p queue))
-    else copies_left window copies queue
-copies_left window [] queue = queue
-
--- of the queue of a client without a connection: those of QoS 1 and 2 wait
-abbrev pub copies_waiting : List Publication → Queue → Queue
-copies_waiting copies queue =
-    record { in_flight = queue.in_flight; waiting = queue.waiting ++ filter (λ p. is_answered p.qos) copies }

@@ -40,6 +40,7 @@ pubrec_sends id after =
 abbrev pub copies_sent : ℕ → List Publication → Queue → List Packet
 copies_sent window (p ∷ copies) queue =
     if is_answered p.qos
-    then fill_sends window queue.in_flight (enqueue p queue).waiting ++ copies_sent window copies (filled window (enqueue p queue))
+    then fill_sends window queue.in_flight (enqueue p queue).waiting
+    ++ copies_sent window copies (filled window (enqueue p queue))
     else packets.Publish (publish_of false 0 p) ∷ copies_sent window copies queue
 copies_sent window [] queue = []

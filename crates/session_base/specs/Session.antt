@@ -16,15 +16,18 @@ empty_session = record { subscriptions = []; received = []; queue = empty_queue 
 
 -- a session with these subscriptions, and all else as it was
 abbrev pub with_filters : List HeldFilter → SessionState → SessionState
-with_filters filters old = record { subscriptions = filters; received = old.received; queue = old.queue }
+with_filters filters old =
+    record { subscriptions = filters; received = old.received; queue = old.queue }
 
 -- with these received identifiers
 abbrev pub with_received : List ℕ → SessionState → SessionState
-with_received ids old = record { subscriptions = old.subscriptions; received = ids; queue = old.queue }
+with_received ids old =
+    record { subscriptions = old.subscriptions; received = ids; queue = old.queue }
 
 -- with this queue
 abbrev pub with_queue : Queue → SessionState → SessionState
-with_queue queue old = record { subscriptions = old.subscriptions; received = old.received; queue = queue }
+with_queue queue old =
+    record { subscriptions = old.subscriptions; received = old.received; queue = queue }
 
 -- a queue with these entries in flight
 abbrev pub with_flights : List Flight → Queue → Queue

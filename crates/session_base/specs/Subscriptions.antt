@@ -37,5 +37,6 @@ without_filters [] held = held
 -- the greatest QoS of the filters that match the topic (MQTT 3.3.5)
 abbrev pub granted_qos : List ℕ → List HeldFilter → Option QoS
 granted_qos topic (held ∷ others) =
-    if is_match held.0 topic then Some (greater_qos held.1 (granted_qos topic others)) else granted_qos topic others
+    if is_match held.0 topic then Some (greater_qos held.1 (granted_qos topic others))
+    else granted_qos topic others
 granted_qos topic [] = None

@@ -22,7 +22,9 @@ one_byte n = n ∷ []
 
 -- RETAIN, QoS, topic, payload with its length
 abbrev pub publication_bytes : Publication → List ℕ
-publication_bytes p = bit p.retain ∷ qos_number p.qos ∷ (text p.topic ++ (long_number (length p.payload) ++ p.payload))
+publication_bytes p =
+    bit p.retain ∷ qos_number p.qos
+    ∷ (text p.topic ++ (long_number (length p.payload) ++ p.payload))
 
 -- a filter with its QoS
 abbrev pub held_bytes : HeldFilter → List ℕ
@@ -43,7 +45,8 @@ abbrev pub state_bytes : SessionState → List ℕ
 state_bytes s =
     counted one_byte held_bytes s.subscriptions
     ++ (counted number number s.received
-    ++ (counted number flight_bytes s.queue.in_flight ++ counted number publication_bytes s.queue.waiting))
+    ++ (counted number flight_bytes s.queue.in_flight
+    ++ counted number publication_bytes s.queue.waiting))
 
 -- ---- what can be written
 

@@ -20,7 +20,8 @@ use Rattle.agreement.specs.ballot_base.Sending.{Outcome, message_to_each, messag
 use Rattle.snapshots.specs.World.{messages}
 use Rattle.agreement.specs.ballot_base.declared.message.Body.TheVariants.{Join, State, Install, Installed, Append, Held, Commit}
 use Rattle.agreement.specs.ballot_base.declared.message.Effect.TheVariants.{To, Out}
-use Rattle.agreement.specs.ballot_base.Changing.{activates, answers_installed, hands_on, installs, on_activated, on_installed, on_join, on_new_ballot, on_superseded}
+use Rattle.agreement.specs.ballot_base.Changing.{answers_installed, hands_on, installs, on_join, on_new_ballot}
+use Rattle.agreement.specs.ballot_base.Activating.{activates, on_activated, on_installed, on_superseded}
 use Rattle.agreement.specs.ballot_base.Applying.{applied_to, outputs_from, outputs_to}
 
 -- what a log that is sent is

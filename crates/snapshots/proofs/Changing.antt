@@ -10,14 +10,16 @@ use Rattle.agreement.specs.ballot_base.declared.status.Role.TheVariants.{Backup,
 use Rattle.agreement.specs.whole.Sending.{message_to_each as whole_each}
 use Rattle.agreement.specs.ballot_base.Serving.{most_places, added}
 use Rattle.agreement.specs.whole.Serving.{added as whole_added}
-use Rattle.agreement.specs.whole.Changing.{on_new_ballot as whole_on_new_ballot, on_join as whole_on_join, installs as whole_installs, activates as whole_activates, on_installed as whole_on_installed, on_activated as whole_on_activated, on_superseded as whole_on_superseded, on_tick_fetching as whole_on_tick_fetching, on_tick_installing as whole_on_tick_installing}
+use Rattle.agreement.specs.whole.Changing.{on_new_ballot as whole_on_new_ballot, on_join as whole_on_join, installs as whole_installs, on_tick_fetching as whole_on_tick_fetching, on_tick_installing as whole_on_tick_installing}
+use Rattle.agreement.specs.whole.Activating.{activates as whole_activates, on_installed as whole_on_installed, on_activated as whole_on_activated, on_superseded as whole_on_superseded}
 use Rattle.agreement.specs.ballot_base.Logs.{places}
 use Rattle.snapshots.specs.Whole.{whole_log, whole, whole_body, whole_effects}
 use Rattle.snapshots.specs.Matches.{IsBased, Matches}
 use Rattle.agreement.specs.ballot_base.declared.message.Body.{Body}
 use Rattle.agreement.specs.ballot_base.Sending.{message_to_each}
 use Rattle.agreement.specs.ballot_base.declared.message.Body.TheVariants.{Join, Install}
-use Rattle.agreement.specs.ballot_base.Changing.{activates, installs, on_activated, on_installed, on_join, on_new_ballot, on_superseded, on_tick_fetching, on_tick_installing}
+use Rattle.agreement.specs.ballot_base.Changing.{installs, on_join, on_new_ballot, on_tick_fetching, on_tick_installing}
+use Rattle.agreement.specs.ballot_base.Activating.{activates, on_activated, on_installed, on_superseded}
 use Rattle.agreement.specs.ballot_base.Applying.{applied_to}
 use Rattle.snapshots.proofs.Fronts.{whole_long, whole_part}
 use Rattle.snapshots.proofs.Serving.{added_matches, if_matches, matches_all, matches_nothing}

@@ -72,10 +72,12 @@ log_in (Install ballot log) = Some log
 log_in _ = None
 
 -- the log in a message that was sent is cut right, too
-pub record IsSentRight {S C O : Type 0} (rules : Rules S C O) (archive : List C) (log : Log C) : Type 0 where
+pub record IsSentRight {S C O : Type 0} (rules : Rules S C O) (archive : List C)
+    (log : Log C) : Type 0 where
   pub recorded : log.base ≤ length archive
   pub bytes : 0 < log.base → log.snapshot ≡ rules.frozen (replay rules (take log.base archive))
-  pub snapshot : 0 < log.base → rules.thawed log.snapshot ≡ Some (replay rules (take log.base archive))
+  pub snapshot : 0 < log.base
+      → rules.thawed log.snapshot ≡ Some (replay rules (take log.base archive))
 
 abbrev pub SentLogsAreRight : {S C O : Type 0} → Rules S C O → Type 0
 SentLogsAreRight {S} {C} {O} rules =

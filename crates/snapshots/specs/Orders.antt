@@ -28,7 +28,8 @@ KeepsTheOrder {S} {C} {O} rules =
     IsPartOf (taken_of came) (proposals_of came)
     × ((names : C → Bool) (ballot : ℕ) → IsOfBallot rules.start_of names ballot (taken_of came) →
     (n : ℕ) (r : ReplicaState S C) → slice_get a.world.nodes n ≡ Some r →
-    IsPrefixOf (filter names (whole_log a.world.archive r.log)) (filter names (commands_of (taken_of came))))
+    IsPrefixOf (filter names (whole_log a.world.archive r.log))
+    (filter names (commands_of (taken_of came))))
 
 -- what a node takes in a step is at once at the end of its log; everything that is taken is taken
 -- by some node; and a proposal that is not taken changes no log. The step is one of a past, since

@@ -29,7 +29,11 @@ whole_letter archive letter = (letter.0, whole_message archive letter.1)
 
 abbrev pub whole_world : {S C O : Type 0} → World S C O → WholeWorld S C O
 whole_world w =
-    record { nodes = map (whole w.archive) w.nodes; sent = map (whole_letter w.archive) w.sent; left = w.left }
+    record {
+      nodes = map (whole w.archive) w.nodes;
+      sent = map (whole_letter w.archive) w.sent;
+      left = w.left;
+    }
 
 -- the messages among effects, and the outputs
 abbrev pub messages : {C O : Type 0} → List (Effect C O) → List (ℕ × Message C)
@@ -43,9 +47,14 @@ outputs (To receiver message ∷ effects) = outputs effects
 outputs (Out place output ∷ effects) = (place, output) ∷ outputs effects
 
 -- the node at a place changed and returned effects
-abbrev pub moved : {S C O : Type 0} → World S C O → ℕ → ReplicaState S C → List (Effect C O) → World S C O
+abbrev pub moved : {S C O : Type 0} → World S C O → ℕ → ReplicaState S C → List (Effect C O) →
+    World S C O
 moved w n new given =
-    record w { nodes = slice_set w.nodes n new; sent = w.sent ++ messages given; left = w.left ++ outputs given }
+    record w {
+      nodes = slice_set w.nodes n new;
+      sent = w.sent ++ messages given;
+      left = w.left ++ outputs given;
+    }
 
 -- the record after a cut: it has the places below what the node committed, or has more already
 abbrev pub recorded : {S C : Type 0} → List C → ReplicaState S C → List C
@@ -58,12 +67,15 @@ MayTake w n (Proposes command) = Unit {0}
 MayTake w n Ticks = Unit {0}
 
 -- what may happen to a node; a machine that is cut comes back from its bytes
-pub data NodeGoes {S C O : Type 0} (rules : Rules S C O) (w : World S C O) : World S C O → Type 0 where
-  takes : (n : ℕ) (r : ReplicaState S C) (input : Input C) {new : ReplicaState S C} {given : List (Effect C O)} →
+pub data NodeGoes {S C O : Type 0} (rules : Rules S C O) (w : World S C O) : World S C O
+    → Type 0 where
+  takes : (n : ℕ) (r : ReplicaState S C) (input : Input C) {new : ReplicaState S C}
+      {given : List (Effect C O)} →
       slice_get w.nodes n ≡ Some r → r.stopped ≡ false → MayTake w n input →
       Loses rules r (replica_step rules r input) new given → NodeGoes rules w (moved w n new given)
   stops : (n : ℕ) (r : ReplicaState S C) → slice_get w.nodes n ≡ Some r →
       NodeGoes rules w (moved w n (halted rules r) [])
-  cuts : (n : ℕ) (r : ReplicaState S C) → slice_get w.nodes n ≡ Some r → r.stopped ≡ false → r.log.base < r.committed →
+  cuts : (n : ℕ) (r : ReplicaState S C) → slice_get w.nodes n ≡ Some r → r.stopped ≡ false →
+      r.log.base < r.committed →
       rules.thawed (rules.frozen r.machine) ≡ Some r.machine →
       NodeGoes rules w (record (moved w n (cut rules r) []) { archive = recorded w.archive r })

@@ -31,12 +31,14 @@ pub(crate) fn is_last(rest: Option<&[u8]>) -> bool
     }
 }
 
+/// Says whether a text has 1 to 65,535 bytes (MQTT 4.7.3).
 pub(crate) fn has_length(text: &[u8]) -> bool
     ensures { result ≡ has_length text.now }
 {
     !text.is_empty() && text.len() <= MAX_BYTES
 }
 
+/// Says whether neither `+` nor `#` is in a text (MQTT 4.7.1).
 pub(crate) fn has_no_wildcard(text: &[u8]) -> bool
     ensures { result ≡ has_no_wildcard text.now }
 {

@@ -50,7 +50,7 @@ impl TopicName {
         Ok(TopicName { text })
     }
 
-    // Returns the Topic Name of a text without a fault.
+    /// Returns the Topic Name of a text without a fault.
     pub(crate) fn of_checked(text: Text) -> TopicName
         requires { is_topic text ≡ true }
         ensures { result ≡ text }

@@ -11,7 +11,8 @@ use Rattle.snapshots.specs.machine.Machine.{Rules, replay, replay_from}
 use Rattle.snapshots.specs.whole.Messages.{Body}
 use Rattle.snapshots.specs.whole.Messages.Body.{NewBallot, Join, State, Install, Installed, Activate, Activated, Superseded, Append, Held, Commit}
 use Rattle.snapshots.specs.whole.Role.TheVariants.{Active, Backup}
-use Rattle.snapshots.specs.whole.Changing.{activates, on_new_ballot, on_join, on_state, on_install, on_installed, on_activated, on_superseded}
+use Rattle.snapshots.specs.whole.Changing.{on_new_ballot, on_join, on_state, on_install}
+use Rattle.snapshots.specs.whole.Activating.{activates, on_installed, on_activated, on_superseded}
 use Rattle.snapshots.specs.whole.Protocol.{received}
 use Rattle.snapshots.specs.whole.Replica.{ReplicaState, is_active, is_fetching, is_installing, others, progress_at}
 use Rattle.snapshots.specs.whole.Sending.{Outcome, message_to, nothing_done}

@@ -19,7 +19,7 @@ use Rattle.snapshots.proofs.of_agreement.Agreed.PastIsKnown.{IsKnown}
 use Rattle.snapshots.proofs.of_agreement.Agreed.PastKnown.{past_known}
 use Rattle.ways_out.specs.Deliveries.{NodeIs}
 use Rattle.ways_out.specs.Following.{Serves}
-use Rattle.ways_out.specs.Laws.{WhatAllHoldIsAgreed}
+use Rattle.ways_out.specs.AnswerLaws.{WhatAllHoldIsAgreed}
 
 -- lists that begin one another are one
 prefix_both : {X : Type 0} (xs ys : List X) → IsPrefixOf xs ys → IsPrefixOf ys xs → xs ≡ ys

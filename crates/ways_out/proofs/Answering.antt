@@ -25,7 +25,7 @@ use Rattle.snapshots.proofs.of_agreement.Effects.{outputs_of_messages}
 use Rattle.ways_out.specs.Deliveries.{after_outcome, AreApart, Delivered, NodeIs, numbers_from}
 use Rattle.ways_out.specs.Following.{Follows, LeadsIn, Serves}
 use Rattle.ways_out.specs.Inside.{known}
-use Rattle.ways_out.specs.Laws.{AnswersCommand, CommandsAreAnswered, IsHeldByAll}
+use Rattle.ways_out.specs.AnswerLaws.{AnswersCommand, CommandsAreAnswered, IsHeldByAll}
 use Rattle.ways_out.proofs.AllCome.{front_stands, last_stands, then_come}
 use Rattle.ways_out.proofs.Broadcasts.{Answered, all_answer, from_each, to_each}
 use Rattle.ways_out.proofs.Gathers.{Gathered, all_but_last, nothing_behind}

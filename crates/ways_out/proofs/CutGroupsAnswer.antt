@@ -41,7 +41,7 @@ use Rattle.snapshots.proofs.Views.{get_whole, outputs_whole}
 use Rattle.ways_out.specs.Deliveries.{AreApart, Delivered as WholeDelivered, NodeIs, numbers_from}
 use Rattle.ways_out.specs.Deliveries.{after_outcome as whole_after_outcome}
 use Rattle.ways_out.specs.Following.{Follows, Serves}
-use Rattle.ways_out.specs.Laws.{AnswersCommand as WholeAnswers, IsHeldByAll as WholeHeldByAll}
+use Rattle.ways_out.specs.AnswerLaws.{AnswersCommand as WholeAnswers, IsHeldByAll as WholeHeldByAll}
 use Rattle.ways_out.proofs.Answering.{commands_are_answered}
 use Rattle.ways_out.specs.Answering.{AnswersCommand, AnswersLast, CutGroupsAnswer, IsHeldByAll}
 use Rattle.ways_out.specs.CutWaysDeliveries.{after_outcome}

@@ -6,7 +6,8 @@ use Rattle.std.proofs.lemmas.Bool.{eq-eqb, ne_eqb, le-leb, lt-ltb}
 use Rattle.snapshots.specs.machine.Machine.{Rules}
 use Rattle.snapshots.specs.whole.Applying.{applied_to, outputs_from, outputs_to}
 use Rattle.snapshots.specs.whole.Messages.Body.{State, Installed, Activate, Activated, Append, Held, Commit}
-use Rattle.snapshots.specs.whole.Changing.{installs, activates}
+use Rattle.snapshots.specs.whole.Changing.{installs}
+use Rattle.snapshots.specs.whole.Activating.{activates}
 use Rattle.snapshots.specs.whole.Messages.{Effect}
 use Rattle.snapshots.specs.whole.Messages.Effect.{Out}
 use Rattle.snapshots.specs.whole.Progress.{Progress}

@@ -9,7 +9,8 @@ use Rattle.snapshots.specs.whole.Messages.{Body as bodies}
 use Rattle.snapshots.specs.whole.Messages.{Effect as WholeEffect}
 use Rattle.snapshots.specs.whole.Messages.{Effect as effects}
 use Rattle.snapshots.specs.whole.Applying.{outputs_from as whole_outputs_from}
-use Rattle.snapshots.specs.whole.Changing.{on_new_ballot as whole_on_new_ballot, on_join as whole_on_join, activates as whole_activates, on_installed as whole_on_installed, on_activated as whole_on_activated, on_superseded as whole_on_superseded}
+use Rattle.snapshots.specs.whole.Changing.{on_new_ballot as whole_on_new_ballot, on_join as whole_on_join}
+use Rattle.snapshots.specs.whole.Activating.{activates as whole_activates, on_installed as whole_on_installed, on_activated as whole_on_activated, on_superseded as whole_on_superseded}
 use Rattle.snapshots.specs.whole.Protocol.{received as whole_received}
 use Rattle.snapshots.specs.whole.Replica.{ReplicaState as WholeState}
 use Rattle.snapshots.specs.whole.Sending.{Outcome as WholeOutcome, message_to_followed as whole_followed, nothing_done as whole_nothing}
@@ -18,7 +19,8 @@ use Rattle.snapshots.specs.ballot_base.declared.message.Body.{Body}
 use Rattle.snapshots.specs.ballot_base.declared.message.Body.TheVariants.{NewBallot, Join, State, Install, Installed, Activate, Activated, Superseded, Append, Held, Commit}
 use Rattle.snapshots.specs.ballot_base.declared.status.Role.TheVariants.{Backup, Active}
 use Rattle.snapshots.specs.ballot_base.Applying.{applied_to, outputs_to}
-use Rattle.snapshots.specs.ballot_base.Changing.{activates, on_activated, on_installed, on_join, on_new_ballot, on_superseded}
+use Rattle.snapshots.specs.ballot_base.Changing.{on_join, on_new_ballot}
+use Rattle.snapshots.specs.ballot_base.Activating.{activates, on_activated, on_installed, on_superseded}
 use Rattle.snapshots.specs.ballot_base.Logs.{Log, part, places, pushed}
 use Rattle.snapshots.specs.ballot_base.Protocol.{received}
 use Rattle.snapshots.specs.ballot_base.Replica.{ReplicaState, is_active, is_installing, others, progress_at}

@@ -21,7 +21,8 @@ use Rattle.ways_out.specs.CutWaysDeliveries.{Delivered, after_outcome}
 
 -- a step of the primary that answers a command after a log: it outputs what the machine answers
 -- there, before any message, and then serves the longer log
-pub record AnswersCommand {S C O : Type 0} (rules : Rules S C O) (archive : List C) (ballot : ℕ) (log : List C) (c : C)
+pub record AnswersCommand {S C O : Type 0} (rules : Rules S C O) (archive : List C) (ballot : ℕ)
+    (log : List C) (c : C)
     (others_of : List ℕ) (primary : ℕ) (o : Outcome S C O) : Type 0 where
   pub rest : List (Effect C O)
   pub silent : outputs rest ≡ []
@@ -29,7 +30,8 @@ pub record AnswersCommand {S C O : Type 0} (rules : Rules S C O) (archive : List
   pub serves : Serves ballot (log ++ c ∷ []) others_of primary (whole archive o.state)
 
 -- the primary at a place takes the last answer, and answers the command
-pub record AnswersLast {S C O : Type 0} (rules : Rules S C O) (a : Moment S C O) (place ballot : ℕ) (log : List C) (c : C)
+pub record AnswersLast {S C O : Type 0} (rules : Rules S C O) (a : Moment S C O) (place ballot : ℕ)
+    (log : List C) (c : C)
     (others_of : List ℕ) (last : ℕ) : Type 0 where
   pub replica : ReplicaState S C
   pub stands : slice_get a.world.nodes place ≡ Some replica

@@ -32,7 +32,8 @@ pub record LeadsOut {S C O : Type 0} (rules : Rules S C O) (config : Config)
       ≡ length a.world.sent + length a.master.members + 5 * length new.members
   pub events : length (way_out (length a.world.sent) (length a.master.members) place
       (length new.members - 1)) + 1 ≡ 4 * length new.members + 2
-  pub led : IsLed (a.master.given + 1) new (log ++ rules.start_of (a.master.given + 1) ∷ []) (whole_moment last)
+  pub led : IsLed (a.master.given + 1) new (log ++ rules.start_of (a.master.given + 1) ∷ [])
+      (whole_moment last)
   pub goes : GoesOnTo rules config past last (log ++ rules.start_of (a.master.given + 1) ∷ [])
 
 -- if starts have no output, there is a way out at each moment of a group, whichever logs were cut
@@ -40,4 +41,5 @@ abbrev pub CutGroupsHaveWaysOut : {S C O : Type 0} → Rules S C O → Type 0
 CutGroupsHaveWaysOut {S} {C} {O} rules =
     StartsGiveNothing rules → (config : Config) (a : Moment S C O) (past : List (Moment S C O)) →
     Past rules config (a ∷ past) → (new : Config) (place source : ℕ) (log : List C) →
-    CanBeLed (whole_moment a) new place source log → LeadsOut rules config (a ∷ past) a new place log
+    CanBeLed (whole_moment a) new place source log
+    → LeadsOut rules config (a ∷ past) a new place log

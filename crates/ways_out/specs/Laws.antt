@@ -1,21 +1,15 @@
 -- Laws.antt: at each moment of a group a new ballot can be led to its start, which all its members
 -- then hold: by which messages, in which order, and what is agreed after them.
-use Rattle.std.specs.Prelude.{ℕ, ◌+◌, ◌-◌, ◌*◌, ◌<◌, ◌≡◌, false, List, [], ◌∷◌, ◌++◌, length, map, None, slice_get, Some}
-use Rattle.snapshots.specs.machine.Machine.{Rules, replay}
+use Rattle.std.specs.Prelude.{ℕ, ◌+◌, ◌-◌, ◌*◌, ◌<◌, ◌≡◌, List, [], ◌∷◌, ◌++◌, length, None, slice_get, Some}
+use Rattle.snapshots.specs.machine.Machine.{Rules}
 use Rattle.snapshots.specs.lists.Lists.{In, IsPrefixOf}
 use Rattle.snapshots.specs.whole.Messages.Body.{Held}
 use Rattle.snapshots.specs.whole.Config.{Config}
-use Rattle.snapshots.specs.whole.Messages.{Effect}
-use Rattle.snapshots.specs.whole.Messages.Effect.{Out}
-use Rattle.snapshots.specs.whole.Protocol.{received, replica_step}
-use Rattle.snapshots.specs.whole.Protocol.Input.{Proposes}
-use Rattle.snapshots.specs.whole.Replica.{ReplicaState, others}
-use Rattle.snapshots.specs.whole.Sending.{Outcome}
+use Rattle.snapshots.specs.whole.Replica.{others}
 use Rattle.snapshots.specs.whole.Serving.{most_places}
 use Rattle.snapshots.specs.agreement.MasterState.{refusal}
 use Rattle.snapshots.specs.agreement.Past.{Moment, Past, IsAgreed}
-use Rattle.snapshots.specs.agreement.World.{outputs}
-use Rattle.ways_out.specs.Deliveries.{AreApart, Delivered, NodeIs, after_outcome, assigned_moment, numbers_from, way_out}
+use Rattle.ways_out.specs.Deliveries.{Delivered, NodeIs, assigned_moment, way_out}
 use Rattle.ways_out.specs.Following.{Follows, Runs, RunsWith, Serves}
 
 -- the machine outputs nothing at the start of a ballot
@@ -68,7 +62,8 @@ pub record LeadsOut {S C O : Type 0} (rules : Rules S C O) (config : Config)
   pub led : IsLed (a.master.given + 1) new (log ++ rules.start_of (a.master.given + 1) ∷ []) last
   -- each other member has answered that it holds all of that log
   pub told : (m : ℕ) → In m (others new.primary new.members) →
-      In (new.primary, record { from = m; body = Held (a.master.given + 1) (length log + 1) }) last.world.sent
+      In (new.primary, record { from = m; body = Held (a.master.given + 1) (length log + 1) })
+      last.world.sent
   pub goes : GoesOnTo rules config past last (log ++ rules.start_of (a.master.given + 1) ∷ [])
 
 -- if starts have no output, there is a way out at each moment of a group
@@ -77,66 +72,3 @@ HasWayOut {S} {C} {O} rules =
     StartsGiveNothing rules → (config : Config) (a : Moment S C O) (past : List (Moment S C O)) →
     Past rules config (a ∷ past) → (new : Config) (place source : ℕ) (log : List C) →
     CanBeLed a new place source log → LeadsOut rules config (a ∷ past) a new place log
-
--- all other members of the active ballot have acknowledged the whole log of its active primary
-pub record AllHoldIt {S C O : Type 0} (a : Moment S C O) (primary : ℕ) (log : List C)
-    (others_of : List ℕ) : Type 0 where
-  pub primary_serves : NodeIs (Serves a.master.active log others_of) a.world.nodes primary
-  pub member : In primary a.master.members
-  pub all_named : (m : ℕ) → In m a.master.members → (m ≡ primary → ⊥) → In m others_of
-  pub told : (m : ℕ) → In m others_of →
-      In (primary, record { from = m; body = Held a.master.active (length log) }) a.world.sent
-
--- then that log is the agreed list, whatever came before
-abbrev pub WhatAllHoldIsAgreed : {S C O : Type 0} → Rules S C O → Type 0
-WhatAllHoldIsAgreed {S} {C} {O} rules =
-    (config : Config) (a : Moment S C O) (past : List (Moment S C O)) →
-    Past rules config (a ∷ past) → (primary : ℕ) (log : List C) (others_of : List ℕ) →
-    AllHoldIt a primary log others_of → IsAgreed config (a ∷ past) log
-
--- a step of the primary that answers a command after a log: it outputs what the machine answers
--- there, before any message, and then serves the longer log
-pub record AnswersCommand {S C O : Type 0} (rules : Rules S C O) (ballot : ℕ) (log : List C) (c : C)
-    (others_of : List ℕ) (primary : ℕ) (o : Outcome S C O) : Type 0 where
-  pub rest : List (Effect C O)
-  pub silent : outputs rest ≡ []
-  pub gives : o.effects ≡ map (Out (length log)) (rules.gives (replay rules log) c) ++ rest
-  pub serves : Serves ballot (log ++ c ∷ []) others_of primary o.state
-
--- a proposal to the primary at a place, whose replica this is, when others follow: it outputs
--- nothing. The others are sent the command, and answer; the primary takes all answers except the
--- last, and when that one comes, it answers the command
-pub record IsHeldByAll {S C O : Type 0} (rules : Rules S C O) (a : Moment S C O) (place ballot : ℕ)
-    (r : ReplicaState S C) (log : List C) (c : C) (front : List ℕ) (last : ℕ) : Type 0 where
-  pub quiet : outputs (replica_step rules r (Proposes c)).effects ≡ []
-  pub before : Moment S C O
-  pub delivered : Delivered rules ballot
-      (after_outcome place (replica_step rules r (Proposes c)) a)
-      (numbers_from (length a.world.sent) (length front + 1)
-      ++ numbers_from (length a.world.sent + (length front + 1)) (length front)) before
-  pub master : before.master ≡ a.master
-  pub sent : length before.world.sent ≡ length a.world.sent + 2 * (length front + 1)
-  pub told : (m : ℕ) → In m (front ++ last ∷ []) →
-      In (place + 1, record { from = m; body = Held ballot (length log + 1) }) before.world.sent
-  pub comes : slice_get before.world.sent (length a.world.sent + 2 * length front + 1)
-      ≡ Some (place + 1, record { from = last; body = Held ballot (length log + 1) })
-  pub primary : NodeIs (λ m q. (q.stopped ≡ false) × AnswersCommand rules ballot log c
-      (front ++ last ∷ []) m (received rules q last (Held ballot (length log + 1))))
-      before.world.nodes (place + 1)
-  pub each : (m : ℕ) → In m (front ++ last ∷ []) →
-      NodeIs (Follows ballot (log ++ c ∷ [])) before.world.nodes m
-
--- the primary of such a ballot answers the next command: at once if it is the only member, and
--- otherwise when all others have answered
-abbrev pub CommandsAreAnswered : {S C O : Type 0} → Rules S C O → Type 0
-CommandsAreAnswered {S} {C} {O} rules =
-    (config : Config) (a : Moment S C O) (past : List (Moment S C O)) →
-    Past rules config (a ∷ past) → (ballot place : ℕ) (r : ReplicaState S C) (log : List C)
-    (others_of : List ℕ) (c : C) → slice_get a.world.nodes place ≡ Some r →
-    Serves ballot log others_of (place + 1) r → length log < most_places →
-    (others_of ≡ [] → AnswersCommand rules ballot log c [] (place + 1)
-    (replica_step rules r (Proposes c)))
-    × ((front : List ℕ) (last : ℕ) → others_of ≡ front ++ last ∷ [] → AreApart others_of →
-    (In (place + 1) others_of → ⊥) →
-    ((m : ℕ) → In m others_of → NodeIs (Follows ballot log) a.world.nodes m) →
-    IsHeldByAll rules a place ballot r log c front last)

@@ -5,5 +5,6 @@ use Rattle.ways_out.specs.Deliveries.{asked_and_answered, way_out}
 -- with this many others than its primary, a ballot is led to its start by five messages and four
 -- for each other; one command then takes two for each other
 abbrev pub WaysAreShort : Type 0
-WaysAreShort = (sent members place others : ℕ) → (length (way_out sent members place others) ≡ 5 + 4 * others)
+WaysAreShort =
+    (sent members place others : ℕ) → (length (way_out sent members place others) ≡ 5 + 4 * others)
     × (length (asked_and_answered sent others) ≡ 2 * others)

@@ -1,3 +1,4 @@
+pub mod AnswerLaws
 pub mod Deliveries
 pub mod Following
 pub mod Inside

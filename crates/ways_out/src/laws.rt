@@ -1,6 +1,7 @@
 // Laws of ways out. The calls do nothing; their contracts are the laws.
 
-ghost use Rattle.ways_out.specs.Laws.{CommandsAreAnswered, HasWayOut, WhatAllHoldIsAgreed};
+ghost use Rattle.ways_out.specs.Laws.{HasWayOut};
+ghost use Rattle.ways_out.specs.AnswerLaws.{CommandsAreAnswered, WhatAllHoldIsAgreed};
 
 use snapshots::machine::Machine;
 

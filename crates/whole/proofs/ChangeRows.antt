@@ -12,7 +12,8 @@ use Rattle.whole.specs.Protocol.{ticked}
 use Rattle.whole.specs.Replica.{ReplicaState, is_backup, is_fetching, is_installing, others, progress_at}
 use Rattle.whole.specs.Sending.{nothing_done, message_to, message_to_each}
 use Rattle.whole.specs.Serving.{most_places, added}
-use Rattle.whole.specs.Changing.{on_new_ballot, on_join, on_install, on_superseded, installs, on_state, activates, on_installed, on_activated, on_tick_fetching, on_tick_installing}
+use Rattle.whole.specs.Changing.{on_new_ballot, on_join, on_install, installs, on_state, on_tick_fetching, on_tick_installing}
+use Rattle.whole.specs.Activating.{on_superseded, activates, on_installed, on_activated}
 
 -- NewBallot
 pub on_new_ballot-joins : {S C : Type 0} (O : Type 0) (r : ReplicaState S C) (b : ℕ) (members : List ℕ) (a : ℕ) (old : List ℕ) →

@@ -7,7 +7,8 @@ use Rattle.ballot_base.specs.declared.status.Role.{Role}
 use Rattle.ballot_base.specs.declared.status.Role.TheVariants.{Backup, Fetching, Installing, Active}
 use Rattle.whole.specs.Sending.{Outcome, nothing_done}
 use Rattle.whole.specs.Serving.{proposed, on_append, on_held, on_commit, on_tick_active}
-use Rattle.whole.specs.Changing.{on_new_ballot, on_join, on_state, on_install, on_installed, on_activated, on_superseded, on_tick_fetching, on_tick_installing}
+use Rattle.whole.specs.Changing.{on_new_ballot, on_join, on_state, on_install, on_tick_fetching, on_tick_installing}
+use Rattle.whole.specs.Activating.{on_installed, on_activated, on_superseded}
 use Rattle.whole.specs.Replica.{ReplicaState}
 
 -- the input of a replica in one step

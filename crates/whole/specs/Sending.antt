@@ -24,7 +24,8 @@ message_to_each O id body receivers = map (message_to O id body) receivers
 
 abbrev pub message_to_followed : {C : Type 0} (O : Type 0) →
     ℕ → Body C → List Progress → List (Effect C O)
-message_to_followed O id body progress = map (λ reached. message_to O id body reached.member) progress
+message_to_followed O id body progress =
+    map (λ reached. message_to O id body reached.member) progress
 
 -- an outcome after messages that were sent first
 abbrev pub sent_first : {S C O : Type 0} → List (Effect C O) → Outcome S C O → Outcome S C O

@@ -7,7 +7,7 @@ use Rattle.std.proofs.lemmas.Option.{none-some}
 use Rattle.headline.specs.ballot.Losses.{one_more}
 use Rattle.escaping_client.specs.client.Core.{Core, publication_with}
 use Rattle.escaping_client.specs.client_base.Answered.{Turn}
-use Rattle.escaping_client.specs.client_base.Calls.{publish_refusal, published}
+use Rattle.escaping_client.specs.client_base.Publishing.{publish_refusal, published}
 use Rattle.escaping_client.specs.client_base.State.{ClientState, is_online, is_open}
 use Rattle.escaping_client.specs.client_base.Steps.{Call, disconnected, keeper_step, request_refusal, subscribed, unless_refused, unsubscribed}
 use Rattle.escaping_client.specs.client_base.declared.error.ClientError.{ClientError}

@@ -20,8 +20,10 @@ use Rattle.client.specs.client_base.declared.stage.Stage.{Stage}
 use Rattle.client.specs.client_base.declared.stage.Stage.TheVariants as stages
 use Rattle.client.specs.client_base.State.{ClientState, is_online, is_open}
 use Rattle.client.specs.client_base.Answered.{Turn, accepted_of, accepting, awaits_pubrec, on_publish, on_pubrec}
-use Rattle.client.specs.client_base.Calls.{confirmed, discarded, loses_session, numbered, on_first, on_later, publish_refusal, published, received}
-use Rattle.client.specs.client_base.Handled.{handled, handled_first, handled_online, is_sent_with, releasing, takes_in}
+use Rattle.client.specs.client_base.Calls.{confirmed, discarded, loses_session, numbered, on_first, on_later, received}
+use Rattle.client.specs.client_base.Publishing.{publish_refusal, published}
+use Rattle.client.specs.client_base.Handled.{handled, handled_first, handled_online}
+use Rattle.client.specs.client_base.Handshakes.{is_sent_with, releasing, takes_in}
 use Rattle.client.specs.client_base.Steps.{Call, disconnected, keeper_step, request_refusal, subscribed, unless_refused, unsubscribed}
 use Rattle.byte_world.specs.exactly_once.Sides.{Side}
 use Rattle.byte_world.specs.Accepted.{accepted_once, is_accepted_once, publication_accepted}

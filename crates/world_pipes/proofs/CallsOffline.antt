@@ -13,7 +13,7 @@ use Rattle.client.specs.client_base.declared.stage.Stage.{Stage}
 use Rattle.client.specs.client_base.declared.stage.Stage.TheVariants as stages
 use Rattle.client.specs.client_base.State.{ClientState, is_online, is_open}
 use Rattle.client.specs.client_base.Answered.{Turn}
-use Rattle.client.specs.client_base.Calls.{has_free_id, next_id, publish_refusal, published}
+use Rattle.client.specs.client_base.Publishing.{has_free_id, next_id, publish_refusal, published}
 use Rattle.client.specs.client_base.History as history
 use Rattle.client.specs.client_base.Keeper.{Written}
 use Rattle.client.specs.client_base.Steps.{Call, keeper_step, subscribed, unless_refused, unsubscribed}

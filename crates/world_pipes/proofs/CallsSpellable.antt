@@ -24,7 +24,7 @@ use Rattle.client.specs.client_base.declared.request.Request.TheVariants as requ
 use Rattle.client.specs.client_base.declared.stage.Stage.{Stage}
 use Rattle.client.specs.client_base.declared.stage.Stage.TheVariants as stages
 use Rattle.client.specs.client_base.State.{ClientState, is_online, used_ids}
-use Rattle.client.specs.client_base.Calls.{has_free_id, next_id, publish_packet, publish_refusal, published}
+use Rattle.client.specs.client_base.Publishing.{has_free_id, next_id, publish_packet, publish_refusal, published}
 use Rattle.client.specs.client_base.Steps.{Call, asked, disconnected, keeper_step, request_refusal, unless_refused}
 use Rattle.client.proofs.of_client_base.FollowsCalls.{kept_of, turn_of}
 use Rattle.world_pipes.specs.Standing.{CanGoOut}

@@ -7,7 +7,7 @@ use Rattle.client.specs.client_base.declared.error.ClientError.{ClientError}
 use Rattle.client.specs.client_base.declared.error.ClientError.TheVariants as errors
 use Rattle.client.specs.client_base.State.{ClientState, is_online}
 use Rattle.client.specs.client_base.Answered.{Turn}
-use Rattle.client.specs.client_base.Calls.{has_free_id, is_over_limit, publish_packet, publish_refusal}
+use Rattle.client.specs.client_base.Publishing.{has_free_id, is_over_limit, publish_packet, publish_refusal}
 use Rattle.client.specs.client_base.Steps.{unless_refused}
 
 -- a call that is not refused

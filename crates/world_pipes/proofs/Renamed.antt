@@ -9,7 +9,8 @@ use Rattle.client.specs.session_base.declared.publication.Publication.{Publicati
 use Rattle.client.specs.session_base.Publication.{publication_of}
 use Rattle.client.specs.lists.Lists.{has_id}
 use Rattle.client.specs.client_base.Keeper as keepers
-use Rattle.client.specs.client_base.Handled.{handled, handled_first, handled_online, is_sent_with, releasing, takes_in}
+use Rattle.client.specs.client_base.Handled.{handled, handled_first, handled_online}
+use Rattle.client.specs.client_base.Handshakes.{is_sent_with, releasing, takes_in}
 use Rattle.byte_world.specs.exactly_once.Sides.{Connection, Side}
 
 -- a side whose connection has a number for a name

@@ -17,7 +17,8 @@ use Rattle.client.specs.client_base.declared.stage.Stage.{Stage}
 use Rattle.client.specs.client_base.declared.stage.Stage.TheVariants as stages
 use Rattle.client.specs.client_base.State.{ClientState, is_open, is_online}
 use Rattle.client.specs.client_base.Answered.{Turn, on_publish, on_pubrec, awaits_pubrec}
-use Rattle.client.specs.client_base.Calls.{on_first, on_later, received, publish_refusal, published}
+use Rattle.client.specs.client_base.Calls.{on_first, on_later, received}
+use Rattle.client.specs.client_base.Publishing.{publish_refusal, published}
 use Rattle.client.specs.client_base.Steps.{Call, keeper_step, request_refusal, subscribed, unsubscribed, unless_refused}
 use Rattle.client.specs.Core.{Core}
 use Rattle.client.specs.Reading.{Handles, OnBytes, EndsWith}

@@ -4,7 +4,8 @@ use Rattle.whole.specs.machine.Machine.{Rules}
 use Rattle.whole.specs.lists.Lists.{In}
 use Rattle.whole.specs.lists.Lists.In.{here, there}
 use Rattle.whole.specs.Config.{Config}
-use Rattle.agreement.specs.Inside.Ballots.{Given, History, Told, TellsHere, Extends}
+use Rattle.agreement.specs.Inside.Ballots.{Given, History, Told, TellsHere}
+use Rattle.agreement.specs.Inside.Extending.{Extends}
 use Rattle.agreement.specs.Inside.Serves.{Serves}
 use Rattle.agreement.specs.Inside.OpeningHistory.{first_ballot}
 use Rattle.agreement.specs.MasterState.{MasterState}

@@ -8,7 +8,8 @@ use Rattle.whole.specs.lists.Lists.In.{here}
 use Rattle.whole.proofs.of_lists.Beginnings.{prefix_take}
 use Rattle.whole.specs.Config.{Config}
 use Rattle.whole.specs.Replica.{ReplicaState}
-use Rattle.agreement.specs.Inside.Ballots.{Given, History, Told, TellsHere, Extends}
+use Rattle.agreement.specs.Inside.Ballots.{Given, History, Told, TellsHere}
+use Rattle.agreement.specs.Inside.Extending.{Extends}
 use Rattle.agreement.specs.Inside.Ballots.Told.{told_at_opening, told_by_held, told_by_installed, told_as_primary}
 use Rattle.agreement.specs.Inside.Serves.{Serves}
 use Rattle.agreement.specs.Inside.OpeningHistory.{first_ballot}

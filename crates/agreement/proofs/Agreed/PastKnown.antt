@@ -4,7 +4,8 @@ use Rattle.whole.specs.machine.Machine.{Rules}
 use Rattle.whole.specs.lists.Lists.{In}
 use Rattle.whole.specs.lists.Lists.In.{here, there}
 use Rattle.whole.specs.Config.{Config}
-use Rattle.agreement.specs.Inside.Ballots.{Given, History, Extends}
+use Rattle.agreement.specs.Inside.Ballots.{Given, History}
+use Rattle.agreement.specs.Inside.Extending.{Extends}
 use Rattle.agreement.specs.Inside.GroupSteps.{adds_of, GroupStep}
 use Rattle.agreement.specs.Inside.Serves.{Serves}
 use Rattle.agreement.specs.Inside.OpeningHistory.{opening_history}

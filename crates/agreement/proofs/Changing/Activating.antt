@@ -11,14 +11,15 @@ use Rattle.whole.specs.Role.TheVariants.{Active}
 use Rattle.whole.specs.Replica.{ReplicaState, is_installing, others, progress_at}
 use Rattle.whole.specs.Sending.{Outcome}
 use Rattle.whole.specs.Serving.{most_places}
-use Rattle.whole.specs.Changing.{on_activated}
+use Rattle.whole.specs.Activating.{on_activated}
 use Rattle.agreement.specs.World.{World}
 use Rattle.whole.specs.lists.Lists.{In, IsPrefixOf}
 use Rattle.whole.specs.lists.Lists.In.{here, there}
 use Rattle.agreement.specs.Inside.Ballots.{Given, History, Told}
 use Rattle.agreement.specs.Inside.Ballots.Applied.{in_ballot}
 use Rattle.agreement.specs.Inside.Keeps.{KeepsAdding}
-use Rattle.agreement.specs.Inside.Sound.{Says, IsInstalling, IsSoundNode, IsSound}
+use Rattle.agreement.specs.Inside.Sound.{IsInstalling, IsSoundNode, IsSound}
+use Rattle.agreement.specs.Inside.Saying.{Says}
 use Rattle.agreement.proofs.Frame.Adding.{adds_less}
 use Rattle.agreement.proofs.Frame.EqualLists.{prefix_of_same}
 use Rattle.agreement.proofs.Serving.CommandAdded.{keeps_added}

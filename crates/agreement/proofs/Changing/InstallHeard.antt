@@ -11,9 +11,11 @@ use Rattle.whole.specs.Sending.{message_to}
 use Rattle.agreement.specs.World.{World, messages, outputs}
 use Rattle.whole.specs.lists.Lists.{In, IsPrefixOf}
 use Rattle.whole.specs.lists.Lists.In.{here, there}
-use Rattle.agreement.specs.Inside.Ballots.{Given, Line, History, Extends}
+use Rattle.agreement.specs.Inside.Ballots.{Given, Line, History}
+use Rattle.agreement.specs.Inside.Extending.{Extends}
 use Rattle.agreement.specs.Inside.Moves.{Moves}
-use Rattle.agreement.specs.Inside.Sound.{Says, IsOf, IsSound}
+use Rattle.agreement.specs.Inside.Sound.{IsSound}
+use Rattle.agreement.specs.Inside.Saying.{Says, IsOf}
 use Rattle.whole.proofs.of_lists.Beginnings.{prefix_length, take_prefix}
 use Rattle.agreement.proofs.Effects.{thinned_messages, thinned_outputs}
 use Rattle.agreement.proofs.Frame.SaysLater.{of_kept}

@@ -5,15 +5,17 @@ use Rattle.whole.specs.machine.Machine.{Rules}
 use Rattle.whole.specs.Messages.{Message, Effect}
 use Rattle.whole.specs.Messages.Body.{Installed}
 use Rattle.whole.specs.Replica.{ReplicaState, is_installing, others}
-use Rattle.whole.specs.Changing.{activates}
+use Rattle.whole.specs.Activating.{activates}
 use Rattle.agreement.specs.World.{World, messages, outputs, moved}
 use Rattle.whole.specs.lists.Lists.{In}
 use Rattle.whole.specs.lists.Lists.In.{here, there}
-use Rattle.agreement.specs.Inside.Ballots.{Given, Line, History, Told, Applied, Extends}
+use Rattle.agreement.specs.Inside.Ballots.{Given, Line, History, Told, Applied}
+use Rattle.agreement.specs.Inside.Extending.{Extends}
 use Rattle.agreement.specs.Inside.Ballots.Told.{told_by_installed}
 use Rattle.agreement.specs.Inside.Ballots.Applied.{nothing, in_ballot}
 use Rattle.agreement.specs.Inside.Keeps.{Keeps}
-use Rattle.agreement.specs.Inside.Sound.{Says, IsInstalling, IsSoundNode, IsSound}
+use Rattle.agreement.specs.Inside.Sound.{IsInstalling, IsSoundNode, IsSound}
+use Rattle.agreement.specs.Inside.Saying.{Says}
 use Rattle.agreement.proofs.Frame.Later.{told_kept}
 use Rattle.agreement.proofs.Frame.Joining.{IsSilent, MovesQuietly, quiet_extends}
 use Rattle.agreement.proofs.Frame.Quiet.{before_quiet, quiet_keeps}

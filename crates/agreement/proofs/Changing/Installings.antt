@@ -7,7 +7,7 @@ use Rattle.whole.specs.machine.Machine.{Rules}
 use Rattle.whole.specs.Messages.Body.{Installed}
 use Rattle.whole.specs.Replica.{ReplicaState, is_installing}
 use Rattle.whole.specs.Sending.{Outcome}
-use Rattle.whole.specs.Changing.{on_installed}
+use Rattle.whole.specs.Activating.{on_installed}
 use Rattle.agreement.specs.World.{World}
 use Rattle.whole.specs.lists.Lists.{In}
 use Rattle.agreement.specs.Inside.Ballots.{History}

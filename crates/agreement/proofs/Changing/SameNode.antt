@@ -3,7 +3,8 @@ use Rattle.std.proofs.Common.{ℕ, ◌⊎◌, inl, inr, List, length, refl, arit
 use Rattle.whole.specs.Messages.{Effect}
 use Rattle.whole.specs.Replica.{ReplicaState}
 use Rattle.agreement.specs.World.{World, moved}
-use Rattle.agreement.specs.Inside.Ballots.{Line, History, Told, Extends, IsWithin}
+use Rattle.agreement.specs.Inside.Ballots.{Line, History, Told}
+use Rattle.agreement.specs.Inside.Extending.{Extends, IsWithin}
 use Rattle.agreement.specs.Inside.Moves.{Moves, with_lines}
 use Rattle.agreement.specs.Inside.Sound.{IsSoundNode}
 use Rattle.agreement.proofs.Frame.Framing.{move_extends}

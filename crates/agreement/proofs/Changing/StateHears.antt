@@ -5,7 +5,8 @@ use Rattle.whole.specs.Replica.{ReplicaState}
 use Rattle.agreement.specs.World.{World}
 use Rattle.whole.specs.lists.Lists.{IsPrefixOf}
 use Rattle.agreement.specs.Inside.Ballots.{Given, Line, History, Sealed}
-use Rattle.agreement.specs.Inside.Sound.{Says, IsOf, IsOffered, IsFetching}
+use Rattle.agreement.specs.Inside.Sound.{IsFetching}
+use Rattle.agreement.specs.Inside.Saying.{Says, IsOf, IsOffered}
 
 -- what a fetching primary knows when a State of its ballot comes
 pub record StateHeard {S C O : Type 0} (w : World S C O) (h : History C) (n : ℕ) (r : ReplicaState S C) (xs : List C) : Type 0 where

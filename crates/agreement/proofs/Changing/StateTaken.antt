@@ -7,7 +7,8 @@ use Rattle.whole.specs.Replica.{ReplicaState, others}
 use Rattle.whole.specs.Changing.{installs}
 use Rattle.agreement.specs.World.{World, moved}
 use Rattle.whole.specs.lists.Lists.{In, IsPrefixOf}
-use Rattle.agreement.specs.Inside.Ballots.{Given, Line, History, Told, Applied, Extends}
+use Rattle.agreement.specs.Inside.Ballots.{Given, Line, History, Told, Applied}
+use Rattle.agreement.specs.Inside.Extending.{Extends}
 use Rattle.agreement.specs.Inside.Ballots.Applied.{nothing, in_ballot}
 use Rattle.agreement.specs.Inside.Ballots.Told.{told_as_primary}
 use Rattle.agreement.specs.Inside.Keeps.{Keeps, LineAdds}

@@ -7,7 +7,7 @@ use Rattle.whole.specs.Messages.{Effect}
 use Rattle.whole.specs.Role.TheVariants.{Backup}
 use Rattle.whole.specs.Replica.{ReplicaState, is_installing}
 use Rattle.whole.specs.Sending.{Outcome}
-use Rattle.whole.specs.Changing.{on_superseded}
+use Rattle.whole.specs.Activating.{on_superseded}
 use Rattle.agreement.specs.World.{World, moved}
 use Rattle.agreement.specs.Inside.Ballots.{History, Applied}
 use Rattle.agreement.specs.Inside.Ballots.Applied.{nothing, in_ballot}

@@ -5,7 +5,8 @@ use Rattle.std.proofs.lemmas.Bool.{cases_lt}
 use Rattle.std.proofs.lemmas.List.{length-take-le}
 use Rattle.agreement.specs.World.{World}
 use Rattle.whole.specs.lists.Lists.{In}
-use Rattle.agreement.specs.Inside.Ballots.{Line, History, IsChosenIn, AreBallots, AreLines, IsWithin}
+use Rattle.agreement.specs.Inside.Ballots.{Line, History, IsChosenIn, AreBallots, AreLines}
+use Rattle.agreement.specs.Inside.Extending.{IsWithin}
 use Rattle.agreement.specs.Leaving.{Segment}
 use Rattle.whole.proofs.of_lists.Beginnings.{prefix_length}
 use Rattle.agreement.proofs.Frame.Bases.{chosen_told}

@@ -6,7 +6,8 @@ use Rattle.whole.specs.machine.Machine.{Rules}
 use Rattle.whole.specs.Messages.{Effect}
 use Rattle.whole.specs.Replica.{ReplicaState}
 use Rattle.agreement.specs.World.{World, messages, moved}
-use Rattle.agreement.specs.Inside.Ballots.{Line, History, Told, Extends, IsWithin}
+use Rattle.agreement.specs.Inside.Ballots.{Line, History, Told}
+use Rattle.agreement.specs.Inside.Extending.{Extends, IsWithin}
 use Rattle.agreement.specs.Inside.Moves.{Moves, with_lines, TellsNow}
 use Rattle.agreement.specs.Inside.Sound.{IsSound}
 use Rattle.whole.proofs.of_lists.Beginnings.{prefix_length}

@@ -12,7 +12,8 @@ use Rattle.whole.specs.Applying.{outputs_from, outputs_between}
 use Rattle.agreement.specs.World.{World, outputs, moved}
 use Rattle.whole.specs.lists.Lists.{In, IsPrefixOf}
 use Rattle.whole.specs.lists.Lists.In.{here, there}
-use Rattle.agreement.specs.Inside.Ballots.{Given, Line, History, IsChosenIn, Extends, AreBallots, AreLines, IsWithin}
+use Rattle.agreement.specs.Inside.Ballots.{Given, Line, History, IsChosenIn, AreBallots, AreLines}
+use Rattle.agreement.specs.Inside.Extending.{Extends, IsWithin}
 use Rattle.agreement.specs.Inside.Moves.{Moves, with_lines}
 use Rattle.agreement.specs.Inside.Sound.{LeftIs, IsSound}
 use Rattle.agreement.specs.Leaving.{Segment}

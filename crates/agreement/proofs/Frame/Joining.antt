@@ -8,7 +8,8 @@ use Rattle.whole.specs.Messages.Body.{Installed, Held}
 use Rattle.whole.specs.Replica.{ReplicaState}
 use Rattle.agreement.specs.World.{World, messages, outputs, moved}
 use Rattle.whole.specs.lists.Lists.{In}
-use Rattle.agreement.specs.Inside.Ballots.{Line, History, Told, Extends, IsWithin}
+use Rattle.agreement.specs.Inside.Ballots.{Line, History, Told}
+use Rattle.agreement.specs.Inside.Extending.{Extends, IsWithin}
 use Rattle.agreement.specs.Inside.Ballots.Told.{told_at_opening, told_by_held, told_by_installed, told_as_primary}
 use Rattle.agreement.specs.Inside.Sound.{IsSoundNode}
 use Rattle.whole.proofs.of_lists.Beginnings.{prefix_same}

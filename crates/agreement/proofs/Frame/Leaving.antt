@@ -8,7 +8,8 @@ use Rattle.whole.specs.Messages.{Effect}
 use Rattle.whole.specs.Replica.{ReplicaState}
 use Rattle.agreement.specs.World.{World, outputs, moved}
 use Rattle.whole.specs.lists.Lists.{In, IsPrefixOf}
-use Rattle.agreement.specs.Inside.Ballots.{Line, History, IsChosenIn, Extends}
+use Rattle.agreement.specs.Inside.Ballots.{Line, History, IsChosenIn}
+use Rattle.agreement.specs.Inside.Extending.{Extends}
 use Rattle.agreement.specs.Inside.Moves.{Moves, with_lines}
 use Rattle.agreement.specs.Inside.Sound.{LeftIs}
 use Rattle.agreement.specs.Leaving.{Segment}

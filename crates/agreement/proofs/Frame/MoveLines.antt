@@ -5,7 +5,8 @@ use Rattle.whole.specs.Messages.{Effect}
 use Rattle.whole.specs.Replica.{ReplicaState}
 use Rattle.agreement.specs.World.{World, moved}
 use Rattle.whole.specs.lists.Lists.{In, IsPrefixOf}
-use Rattle.agreement.specs.Inside.Ballots.{TellsHere, Given, Line, History, Told, IsChosenIn, Sealed, AreLines, IsWithin}
+use Rattle.agreement.specs.Inside.Ballots.{TellsHere, Given, Line, History, Told, IsChosenIn, Sealed, AreLines}
+use Rattle.agreement.specs.Inside.Extending.{IsWithin}
 use Rattle.agreement.specs.Inside.Moves.{Moves, with_lines, LineGoesOn, TellsNow}
 use Rattle.agreement.specs.Inside.Moves.LineGoesOn.{stays, grows, begins}
 use Rattle.whole.proofs.of_lists.Beginnings.{prefix_same, prefix_then}

@@ -10,7 +10,8 @@ use Rattle.agreement.specs.World.{World, messages, moved}
 use Rattle.whole.specs.lists.Lists.{In}
 use Rattle.agreement.specs.Inside.Ballots.{Line, History, AreBallots, IsChain}
 use Rattle.agreement.specs.Inside.Moves.{Moves, with_lines}
-use Rattle.agreement.specs.Inside.Sound.{Says, IsSoundNode, LeftIs, IsSound}
+use Rattle.agreement.specs.Inside.Sound.{IsSoundNode, LeftIs, IsSound}
+use Rattle.agreement.specs.Inside.Saying.{Says}
 use Rattle.whole.proofs.of_lists.Places.{get_set, get_set_other}
 use Rattle.whole.proofs.of_lists.Members.{in_append}
 use Rattle.agreement.proofs.Frame.SaysLater.{says_kept}

@@ -4,7 +4,8 @@ use Rattle.whole.specs.Messages.{Effect}
 use Rattle.whole.specs.Replica.{ReplicaState}
 use Rattle.agreement.specs.World.{World, moved}
 use Rattle.whole.specs.lists.Lists.{IsPrefixOf}
-use Rattle.agreement.specs.Inside.Ballots.{Given, Line, History, Told, Extends, IsWithin}
+use Rattle.agreement.specs.Inside.Ballots.{Given, Line, History, Told}
+use Rattle.agreement.specs.Inside.Extending.{Extends, IsWithin}
 use Rattle.agreement.specs.Inside.Moves.{Moves, with_lines, TellsNow}
 use Rattle.agreement.specs.Inside.Sound.{IsSoundNode}
 use Rattle.whole.proofs.of_lists.Beginnings.{prefix_then}

@@ -8,8 +8,10 @@ use Rattle.whole.specs.Messages.{Message, Effect}
 use Rattle.whole.specs.Replica.{ReplicaState}
 use Rattle.agreement.specs.World.{World, messages, moved}
 use Rattle.whole.specs.lists.Lists.{In}
-use Rattle.agreement.specs.Inside.Ballots.{Given, History, AreLines, Extends, IsWithin}
-use Rattle.agreement.specs.Inside.Sound.{Says, IsSoundNode, IsSound}
+use Rattle.agreement.specs.Inside.Ballots.{Given, History, AreLines}
+use Rattle.agreement.specs.Inside.Extending.{Extends, IsWithin}
+use Rattle.agreement.specs.Inside.Sound.{IsSoundNode, IsSound}
+use Rattle.agreement.specs.Inside.Saying.{Says}
 use Rattle.agreement.specs.Leaving.{Segment}
 use Rattle.whole.proofs.of_lists.Places.{get_set, get_set_other}
 use Rattle.whole.proofs.of_lists.Members.{in_append}

@@ -4,8 +4,9 @@ use Rattle.whole.specs.Messages.{Body}
 use Rattle.whole.specs.Messages.Body.{NewBallot, Join, State, Install, Installed, Activate, Activated, Superseded, Append, Held, Commit}
 use Rattle.agreement.specs.World.{World}
 use Rattle.whole.specs.lists.Lists.{In, IsPrefixOf}
-use Rattle.agreement.specs.Inside.Ballots.{Given, History, Told, IsChosenIn, Extends, IsWithin}
-use Rattle.agreement.specs.Inside.Sound.{HasJoined, IsOf, IsOffered, Says}
+use Rattle.agreement.specs.Inside.Ballots.{Given, History, Told, IsChosenIn}
+use Rattle.agreement.specs.Inside.Extending.{Extends, IsWithin}
+use Rattle.agreement.specs.Inside.Saying.{HasJoined, IsOf, IsOffered, Says}
 use Rattle.agreement.specs.Inside.Ballots.Told.{told_at_opening, told_by_held, told_by_installed, told_as_primary}
 use Rattle.whole.proofs.of_lists.Beginnings.{prefix_then, prefix_length, prefix_get}
 use Rattle.agreement.proofs.Frame.Later.{sealed_kept, chosen_kept}

@@ -5,7 +5,7 @@ use Rattle.std.proofs.lemmas.Bool.{cases_lt}
 use Rattle.whole.specs.Replica.{ReplicaState}
 use Rattle.agreement.specs.World.{World}
 use Rattle.whole.specs.lists.Lists.{In, IsPrefixOf}
-use Rattle.agreement.specs.Inside.Sound.{IsOffered}
+use Rattle.agreement.specs.Inside.Saying.{IsOffered}
 use Rattle.agreement.specs.Inside.Ballots.{Given, Line, History, Told, IsChosenIn, Sealed, AreBallots, AreLines, IsPlaced}
 use Rattle.whole.proofs.of_lists.Beginnings.{prefix_then, prefix_take, take_prefix}
 use Rattle.agreement.proofs.Frame.Bases.{chosen_told, sealed_wider}

@@ -7,7 +7,7 @@ use Rattle.whole.specs.machine.Machine.{Rules, replay}
 use Rattle.whole.specs.Applying.{applied_to, outputs_between}
 use Rattle.whole.specs.Messages.{Body}
 use Rattle.whole.specs.Messages.Body.{NewBallot, Join, State, Install, Installed, Activate, Activated, Superseded, Append, Held, Commit}
-use Rattle.whole.specs.Changing.{on_activated}
+use Rattle.whole.specs.Activating.{on_activated}
 use Rattle.whole.specs.Protocol.{Input, received, replica_step}
 use Rattle.whole.specs.Protocol.Input.{Receives, Proposes, Ticks}
 use Rattle.whole.specs.Replica.{ReplicaState, is_active, is_backup, is_installing, others, progress_at}

@@ -4,7 +4,7 @@ use Rattle.std.specs.Prelude.{nat_lt, nat_le, ◌&&◌, ◌==◌}
 use Rattle.std.proofs.lemmas.Bool.{cases_Bool, cases_lt}
 use Rattle.whole.specs.machine.Machine.{Rules}
 use Rattle.whole.specs.Applying.{applied_to}
-use Rattle.whole.specs.Changing.{on_activated}
+use Rattle.whole.specs.Activating.{on_activated}
 use Rattle.whole.specs.Messages.{Body}
 use Rattle.whole.specs.Messages.Body.{NewBallot, Join, State, Install, Installed, Activate, Activated, Superseded, Append, Held, Commit}
 use Rattle.whole.specs.Role.{Role}

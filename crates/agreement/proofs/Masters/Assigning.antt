@@ -5,7 +5,8 @@ use Rattle.whole.specs.Config.{Config}
 use Rattle.agreement.specs.World.{World}
 use Rattle.whole.specs.lists.Lists.{In}
 use Rattle.whole.specs.lists.Lists.In.{here}
-use Rattle.agreement.specs.Inside.Ballots.{Given, History, IsChain, AreBallots, Extends}
+use Rattle.agreement.specs.Inside.Ballots.{Given, History, IsChain, AreBallots}
+use Rattle.agreement.specs.Inside.Extending.{Extends}
 use Rattle.agreement.specs.MasterState.{MasterState, assigned}
 use Rattle.agreement.specs.Inside.Masters.{IsMaster}
 use Rattle.agreement.specs.Steps.{tells_from_master}

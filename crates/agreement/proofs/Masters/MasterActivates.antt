@@ -8,11 +8,13 @@ use Rattle.whole.specs.Messages.Body.{Activate, Activated}
 use Rattle.agreement.specs.World.{World}
 use Rattle.whole.specs.lists.Lists.{In}
 use Rattle.whole.specs.lists.Lists.In.{here, there}
-use Rattle.agreement.specs.Inside.Ballots.{Given, Line, History, IsChosenIn, IsChain, AreBallots, Extends}
+use Rattle.agreement.specs.Inside.Ballots.{Given, Line, History, IsChosenIn, IsChain, AreBallots}
+use Rattle.agreement.specs.Inside.Extending.{Extends}
 use Rattle.agreement.specs.MasterState.{MasterState, MasterOutcome, activated}
 use Rattle.agreement.specs.Inside.Masters.{IsMaster}
 use Rattle.agreement.specs.Steps.{tells_from_master}
-use Rattle.agreement.specs.Inside.Sound.{Says, IsSound}
+use Rattle.agreement.specs.Inside.Sound.{IsSound}
+use Rattle.agreement.specs.Inside.Saying.{Says}
 use Rattle.agreement.proofs.Masters.Assigned.{Assigned}
 use Rattle.agreement.proofs.Masters.MasterSends.{ToldBack, with_ballots, chain_more}
 use Rattle.agreement.proofs.Masters.MasterMoves.{master_goes_on, master_lost}

@@ -7,11 +7,13 @@ use Rattle.whole.specs.Messages.Body.{Activate, Activated, Superseded}
 use Rattle.agreement.specs.World.{World}
 use Rattle.whole.specs.lists.Lists.{In}
 use Rattle.whole.specs.lists.Lists.In.{here}
-use Rattle.agreement.specs.Inside.Ballots.{History, Extends}
+use Rattle.agreement.specs.Inside.Ballots.{History}
+use Rattle.agreement.specs.Inside.Extending.{Extends}
 use Rattle.agreement.specs.MasterState.{MasterState, activated}
 use Rattle.agreement.specs.Inside.Masters.{IsMaster}
 use Rattle.agreement.specs.Steps.{tells_from_master}
-use Rattle.agreement.specs.Inside.Sound.{Says, IsSound}
+use Rattle.agreement.specs.Inside.Sound.{IsSound}
+use Rattle.agreement.specs.Inside.Saying.{Says}
 use Rattle.agreement.proofs.Masters.Assigned.{Assigned}
 use Rattle.agreement.proofs.Frame.Joining.{IsSilent}
 use Rattle.agreement.proofs.Masters.MasterSends.{ToldBack}

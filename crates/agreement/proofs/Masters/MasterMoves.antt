@@ -6,10 +6,12 @@ use Rattle.whole.specs.Messages.{Message}
 use Rattle.agreement.specs.World.{World}
 use Rattle.whole.specs.lists.Lists.{In}
 use Rattle.whole.specs.lists.Lists.In.{here, there}
-use Rattle.agreement.specs.Inside.Ballots.{Given, Line, History, IsChosenIn, AreBallots, Extends}
+use Rattle.agreement.specs.Inside.Ballots.{Given, Line, History, IsChosenIn, AreBallots}
+use Rattle.agreement.specs.Inside.Extending.{Extends}
 use Rattle.agreement.specs.MasterState.{MasterOutcome}
 use Rattle.agreement.specs.Steps.{tells_from_master}
-use Rattle.agreement.specs.Inside.Sound.{Says, IsSound}
+use Rattle.agreement.specs.Inside.Sound.{IsSound}
+use Rattle.agreement.specs.Inside.Saying.{Says}
 use Rattle.agreement.proofs.Frame.Joining.{IsSilent, AreSilent}
 use Rattle.agreement.proofs.Masters.MasterSends.{with_ballots, ToldBack, master_sends}
 

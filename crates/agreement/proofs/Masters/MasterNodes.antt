@@ -4,7 +4,8 @@ use Rattle.std.proofs.lemmas.Bool.{cases_lt}
 use Rattle.whole.specs.Replica.{ReplicaState}
 use Rattle.agreement.specs.World.{World}
 use Rattle.whole.specs.lists.Lists.{In}
-use Rattle.agreement.specs.Inside.Ballots.{Given, Line, History, Told, AreLines, Extends, IsWithin}
+use Rattle.agreement.specs.Inside.Ballots.{Given, Line, History, Told, AreLines}
+use Rattle.agreement.specs.Inside.Extending.{Extends, IsWithin}
 use Rattle.agreement.specs.Inside.Sound.{IsSoundNode}
 use Rattle.agreement.proofs.Frame.Later.{told_kept, applied_kept}
 use Rattle.agreement.proofs.Frame.SaysLater.{of_kept}

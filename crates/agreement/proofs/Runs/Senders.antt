@@ -7,7 +7,8 @@ use Rattle.whole.specs.machine.Machine.{Rules}
 use Rattle.whole.specs.Applying.{outputs_from}
 use Rattle.whole.specs.Messages.{Body, Effect, Message}
 use Rattle.whole.specs.Messages.Body.{NewBallot, Join, State, Install, Installed, Activate, Activated, Superseded, Append, Held, Commit}
-use Rattle.whole.specs.Changing.{on_new_ballot, on_join, installs, on_state, on_install, activates, on_installed, on_activated, on_superseded}
+use Rattle.whole.specs.Changing.{on_new_ballot, on_join, installs, on_state, on_install}
+use Rattle.whole.specs.Activating.{activates, on_installed, on_activated, on_superseded}
 use Rattle.whole.specs.Messages.Effect.{To, Out}
 use Rattle.whole.specs.Progress.{Progress}
 use Rattle.whole.specs.Protocol.{Input, received, ticked, replica_step}

@@ -16,7 +16,8 @@ use Rattle.whole.proofs.of_lists.Members.{in_append}
 use Rattle.agreement.specs.MasterState.{MasterState, MasterOutcome, AssignRefusal, activated, assigned, refusal, master_behind}
 use Rattle.agreement.specs.Steps.{MayHappen, tells_from_master, world_behind}
 use Rattle.agreement.specs.Steps.MayHappen.{node_takes, node_stops, master_assigns, master_hears, assignment_lost, answer_lost}
-use Rattle.agreement.specs.Inside.Ballots.{Given, History, Extends}
+use Rattle.agreement.specs.Inside.Ballots.{Given, History}
+use Rattle.agreement.specs.Inside.Extending.{Extends}
 use Rattle.agreement.specs.Inside.Serves.{IsNode, AreSenders, IsLed, Serves}
 use Rattle.agreement.specs.Inside.Sound.{IsSound}
 use Rattle.agreement.proofs.Effects.{thinned_messages}

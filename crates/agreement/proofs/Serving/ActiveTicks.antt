@@ -15,7 +15,8 @@ use Rattle.whole.specs.lists.Lists.In.{here, there}
 use Rattle.agreement.specs.Inside.Ballots.{History, Told, IsChosenIn}
 use Rattle.agreement.specs.Inside.Ballots.Told.{told_as_primary}
 use Rattle.agreement.specs.Inside.Keeps.{Keeps}
-use Rattle.agreement.specs.Inside.Sound.{Says, IsActive, IsSoundNode, IsSound}
+use Rattle.agreement.specs.Inside.Sound.{IsActive, IsSoundNode, IsSound}
+use Rattle.agreement.specs.Inside.Saying.{Says}
 use Rattle.whole.proofs.of_lists.Members.{in_append}
 use Rattle.agreement.proofs.Effects.{messages-append, outputs-append, outputs_of_messages}
 use Rattle.agreement.proofs.Frame.Joining.{IsSilent}

@@ -10,12 +10,14 @@ use Rattle.whole.specs.Serving.{extended}
 use Rattle.agreement.specs.World.{World, messages, moved}
 use Rattle.whole.specs.lists.Lists.{In, IsPrefixOf}
 use Rattle.whole.specs.lists.Lists.In.{here, there}
-use Rattle.agreement.specs.Inside.Ballots.{Given, Line, History, Applied, Extends}
+use Rattle.agreement.specs.Inside.Ballots.{Given, Line, History, Applied}
+use Rattle.agreement.specs.Inside.Extending.{Extends}
 use Rattle.agreement.specs.Inside.Ballots.Applied.{nothing, in_ballot}
 use Rattle.agreement.specs.Inside.Keeps.LineAdds.{as_it_was}
 use Rattle.agreement.specs.Inside.Keeps.{Keeps}
 use Rattle.agreement.specs.Inside.Moves.{Moves, with_lines}
-use Rattle.agreement.specs.Inside.Sound.{Says, IsSoundNode, IsSound}
+use Rattle.agreement.specs.Inside.Sound.{IsSoundNode, IsSound}
+use Rattle.agreement.specs.Inside.Saying.{Says}
 use Rattle.whole.proofs.of_lists.Beginnings.{prefix_then, prefix_length, take_prefix}
 use Rattle.agreement.proofs.Effects.{thinned_messages, thinned_outputs}
 use Rattle.agreement.proofs.Serving.Committing.{Follows}

@@ -12,7 +12,8 @@ use Rattle.agreement.specs.World.{World}
 use Rattle.whole.specs.lists.Lists.{In, IsPrefixOf}
 use Rattle.agreement.specs.Inside.Ballots.{Given, Line, History}
 use Rattle.agreement.specs.Inside.Keeps.{Keeps}
-use Rattle.agreement.specs.Inside.Sound.{Says, IsSound}
+use Rattle.agreement.specs.Inside.Sound.{IsSound}
+use Rattle.agreement.specs.Inside.Saying.{Says}
 use Rattle.agreement.proofs.Serving.Committing.{Follows, follows_is}
 use Rattle.agreement.proofs.Frame.Quiet.{keeps_nothing}
 use Rattle.agreement.proofs.Serving.AppendTaken.{append_taken}

@@ -12,7 +12,8 @@ use Rattle.whole.specs.lists.Lists.{In}
 use Rattle.agreement.specs.Inside.Ballots.{History}
 use Rattle.agreement.specs.Inside.Keeps.{KeepsAdding}
 use Rattle.agreement.specs.Inside.Moves.{with_lines, lined_at}
-use Rattle.agreement.specs.Inside.Sound.{Says, IsSound}
+use Rattle.agreement.specs.Inside.Sound.{IsSound}
+use Rattle.agreement.specs.Inside.Saying.{Says}
 use Rattle.whole.proofs.of_lists.Beginnings.{prefix_push, take_prefix}
 use Rattle.whole.proofs.of_lists.Places.{get_pushed}
 use Rattle.agreement.proofs.Effects.{outputs_of_messages}

@@ -16,7 +16,8 @@ use Rattle.whole.specs.lists.Lists.{In}
 use Rattle.agreement.specs.Inside.Ballots.{Line, History, IsChosenIn}
 use Rattle.agreement.specs.Inside.Keeps.{KeepsAdding}
 use Rattle.agreement.specs.Inside.Moves.{Moves, with_lines}
-use Rattle.agreement.specs.Inside.Sound.{Says, IsActive, IsSoundNode, IsSound}
+use Rattle.agreement.specs.Inside.Sound.{IsActive, IsSoundNode, IsSound}
+use Rattle.agreement.specs.Inside.Saying.{Says}
 use Rattle.whole.proofs.of_lists.Members.{in_append}
 use Rattle.agreement.proofs.Effects.{messages-append, outputs-append, outputs_of_messages, thinned_messages, thinned_outputs}
 use Rattle.agreement.proofs.Serving.ActiveTicks.{said_to_progress, active_chosen, active_log, followed_other}

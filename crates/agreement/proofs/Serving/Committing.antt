@@ -15,7 +15,8 @@ use Rattle.whole.specs.lists.Lists.{In, IsPrefixOf}
 use Rattle.agreement.specs.Inside.Ballots.{Given, Line, History, Applied}
 use Rattle.agreement.specs.Inside.Ballots.Applied.{nothing, in_ballot}
 use Rattle.agreement.specs.Inside.Keeps.{Keeps}
-use Rattle.agreement.specs.Inside.Sound.{Says, IsSoundNode, IsSound}
+use Rattle.agreement.specs.Inside.Sound.{IsSoundNode, IsSound}
+use Rattle.agreement.specs.Inside.Saying.{Says}
 use Rattle.agreement.proofs.Frame.Later.{chosen_kept, takes}
 use Rattle.agreement.proofs.Frame.Joining.{MovesQuietly, quiet_extends}
 use Rattle.agreement.proofs.Frame.Quiet.{before_quiet, quiet_keeps, keeps_nothing}

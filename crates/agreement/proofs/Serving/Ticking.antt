@@ -16,7 +16,8 @@ use Rattle.whole.specs.lists.Lists.{In}
 use Rattle.whole.specs.lists.Lists.In.{here, there}
 use Rattle.agreement.specs.Inside.Ballots.{Given, History}
 use Rattle.agreement.specs.Inside.Keeps.{Keeps}
-use Rattle.agreement.specs.Inside.Sound.{Says, IsFetching, IsInstalling, IsActive, IsSound}
+use Rattle.agreement.specs.Inside.Sound.{IsFetching, IsInstalling, IsActive, IsSound}
+use Rattle.agreement.specs.Inside.Saying.{Says}
 use Rattle.agreement.proofs.Frame.Framing.{within_of}
 use Rattle.agreement.proofs.Frame.SaysLater.{says_kept}
 use Rattle.agreement.proofs.Frame.Joining.{IsSilent, AreSilent, quiet_extends}

@@ -8,7 +8,8 @@ use Rattle.whole.specs.machine.Machine.{Rules}
 use Rattle.whole.specs.Role.TheVariants.{Active}
 use Rattle.whole.specs.Replica.{ReplicaState, is_fetching, is_installing}
 use Rattle.whole.specs.Sending.{Outcome}
-use Rattle.whole.specs.Changing.{on_new_ballot, on_join, on_install, on_superseded, on_state, on_installed}
+use Rattle.whole.specs.Changing.{on_new_ballot, on_join, on_install, on_state}
+use Rattle.whole.specs.Activating.{on_superseded, on_installed}
 use Rattle.whole.specs.Serving.{on_append, on_held, on_commit, commit, commit_at, added, least, raised, follows, leads}
 use Rattle.whole.proofs.StepRows.{added-is}
 

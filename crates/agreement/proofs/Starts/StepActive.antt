@@ -15,7 +15,7 @@ use Rattle.whole.specs.Replica.{ReplicaState, is_active, is_installing, others, 
 use Rattle.whole.specs.Sending.{Outcome}
 use Rattle.whole.specs.Serving.{most_places, proposed, on_tick_active}
 use Rattle.whole.proofs.StepRows.{proposed-adds, proposed-not_active, proposed-full}
-use Rattle.whole.specs.Changing.{on_activated}
+use Rattle.whole.specs.Activating.{on_activated}
 use Rattle.agreement.proofs.Frame.Roles.{role_active, role_installing}
 use Rattle.whole.proofs.ChangeRows.{on_activated-stays, on_activated-adds}
 use Rattle.agreement.proofs.Starts.StaysActive.{StaysActive, active_new_ballot, active_join, active_state, active_install, active_installed, active_superseded, active_append, active_held, active_commit, added_keeps}

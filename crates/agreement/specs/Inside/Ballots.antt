@@ -1,6 +1,5 @@
 -- Ballots.antt: what is said about several ballots.
 use Rattle.std.specs.Prelude.{ℕ, ◌+◌, ◌<◌, ◌≤◌, ◌≡◌, ◌⊎◌, List, [], ◌∷◌, length, take, slice_get, Option, Some}
-use Rattle.whole.specs.Messages.{Message}
 use Rattle.whole.specs.Messages.Body.{Held, Installed}
 use Rattle.whole.specs.Replica.{ReplicaState}
 use Rattle.agreement.specs.World.{World}
@@ -113,23 +112,3 @@ pub data Applied {S C O : Type 0} (w : World S C O) (h : History C)
   nothing : r.committed ≡ 0 → Applied w h r
   in_ballot : (b k : ℕ) (l : Line C) → In b h.activated → b ≤ r.joined → h.line b ≡ Some l →
       IsChosenIn w h b k → IsPrefixOf (take r.committed r.log) (take k l.list) → Applied w h r
-
--- a later world: what was output and acknowledged stays, no node goes back to a lower ballot, and
--- none acknowledges in a ballot that it has left
-pub record Extends {S C O : Type 0} (w : World S C O) (h : History C) (v : World S C O)
-    (i : History C) : Type 0 where
-  pub sent : (x : ℕ × Message C) → In x w.sent → In x v.sent
-  pub nodes : (n : ℕ) (r : ReplicaState S C) → slice_get w.nodes n ≡ Some r →
-      (s : ReplicaState S C) × (slice_get v.nodes n ≡ Some s) × (r.joined ≤ s.joined)
-  pub given : (b : ℕ) (g : Given) → h.given b ≡ Some g → i.given b ≡ Some g
-  pub lines : (b : ℕ) (l : Line C) → h.line b ≡ Some l →
-      (k : Line C) × (i.line b ≡ Some k) × (k.base ≡ l.base) × IsPrefixOf l.list k.list
-  -- a node that acknowledges more in a ballot has not left it
-  pub told : (n b k : ℕ) (r : ReplicaState S C) → slice_get w.nodes n ≡ Some r →
-      Told v i (n + 1) b k →
-      Told w h (n + 1) b k ⊎ (r.joined ≤ b)
-
--- what is acknowledged lies within the ballot's list
-abbrev pub IsWithin : {S C O : Type 0} → World S C O → History C → Type 0
-IsWithin {S = S} {C = C} w h = (m b k : ℕ) (l : Line C) → h.line b ≡ Some l → Told w h m b k →
-    k ≤ length l.list

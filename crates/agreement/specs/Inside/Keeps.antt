@@ -8,7 +8,8 @@ use Rattle.whole.specs.Losses.{Thinned}
 use Rattle.whole.specs.Sending.{Outcome}
 use Rattle.agreement.specs.World.{World, moved}
 use Rattle.whole.specs.lists.Lists.{In, IsPrefixOf}
-use Rattle.agreement.specs.Inside.Ballots.{Told, TellsHere, Given, Line, History, Extends}
+use Rattle.agreement.specs.Inside.Ballots.{Told, TellsHere, Given, Line, History}
+use Rattle.agreement.specs.Inside.Extending.{Extends}
 use Rattle.agreement.specs.Inside.Sound.{IsSound}
 
 -- a later world is sound, with a history that continues from the one before

@@ -3,7 +3,7 @@
 ghost use Rattle.std.specs.Prelude.{◌≡◌, ◌++◌, ◌&&◌, ◌==◌, nat_lt, nat_le, true, false, ◌-◌, ◌<◌, ◌≤◌, length, IfOk, OnOk, OnErr, MatchResult};
 ghost use Rattle.ballot_base.specs.Sends.{Sends};
 ghost use Rattle.ballot.specs.Inside.{Begins, Went};
-ghost use Rattle.ballot_base.specs.Changing.{on_activated};
+ghost use Rattle.ballot_base.specs.Activating.{on_activated};
 ghost use Rattle.ballot_base.specs.Logs.{Log, places, popped, pushed};
 ghost use Rattle.ballot_base.specs.Replica.{is_installing, others, progress_at};
 ghost use Rattle.ballot_base.specs.Serving.{commit, most_places};
@@ -21,9 +21,9 @@ use ballot_base::{
 use std::mem;
 
 impl<M: Machine> Replica<M> {
-    // Handles Activated: applies the places of the log, drops their outputs, and appends the start
-    // of the ballot. If memory runs out for the start the message is lost; if a place cannot be
-    // applied the replica stops, and undoes what it did.
+    /// Handles Activated: applies the places of the log, drops their outputs, and appends the start
+    /// of the ballot. If memory runs out for the start the message is lost; if a place cannot be
+    /// applied the replica stops, and undoes what it did.
     pub(super) fn on_activated(
         &mut self,
         ballot: u64,
@@ -72,7 +72,9 @@ impl<M: Machine> Replica<M> {
             progress_at (places self.old.state.log)
             (others self.old.state.id self.old.state.members)) }
         ensures state { OnOk result (self.new ≡ record self.old {
-          state = record self.old.state { log = pushed self.old.state.log (M.rules.start_of ballot) };
+          state = record self.old.state {
+            log = pushed self.old.state.log (M.rules.start_of ballot);
+          };
         }) }
         ensures err { OnErr result (self.new ≡ self.old) }
     {
@@ -197,8 +199,8 @@ impl<M: Machine> Replica<M> {
         Ok(sent & told)
     }
 
-    // Says whether an activated ballot begins here: all members hold its log, and there is a place
-    // left.
+    /// Says whether an activated ballot begins here: all members hold its log, and there is a place
+    /// left.
     pub(super) fn may_begin(&self, ballot: u64) -> bool
         ensures { result ≡ ((self.now.state.joined == ballot
             && is_installing self.now.state.role)

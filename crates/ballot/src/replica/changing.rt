@@ -14,7 +14,7 @@ use ballot_base::machine::Machine;
 use ballot_base::{Body, Effect, Log, Members, Role, counted, others_of, send_joins, send_state};
 
 impl<M: Machine> Replica<M> {
-    // Handles NewBallot: a new primary asks the earlier ballot's members for their logs.
+    /// Handles NewBallot: a new primary asks the earlier ballot's members for their logs.
     pub(super) fn on_new_ballot(
         &mut self,
         ballot: u64,
@@ -43,7 +43,7 @@ impl<M: Machine> Replica<M> {
         self.losses = counted(self.losses, sent);
     }
 
-    // Handles Join: the replica leaves all lower ballots, and sends its log.
+    /// Handles Join: the replica leaves all lower ballots, and sends its log.
     pub(super) fn on_join(
         &mut self,
         from: u8,
@@ -77,8 +77,8 @@ impl<M: Machine> Replica<M> {
         }
     }
 
-    // Handles State: a new primary takes the first log that comes, and sends it to the other
-    // members.
+    /// Handles State: a new primary takes the first log that comes, and sends it to the other
+    /// members.
     pub(super) fn on_state(
         &mut self,
         ballot: u64,
@@ -111,8 +111,8 @@ impl<M: Machine> Replica<M> {
         self.losses = counted(self.losses, sent);
     }
 
-    // Handles Install: a member takes the log of a new ballot once. Later it only answers, since
-    // more may have been appended to it.
+    /// Handles Install: a member takes the log of a new ballot once. Later it only answers, since
+    /// more may have been appended to it.
     pub(super) fn on_install(
         &mut self,
         from: u8,
@@ -186,7 +186,7 @@ impl<M: Machine> Replica<M> {
         }
     }
 
-    // Says whether the log is sent to the primary of a ballot.
+    /// Says whether the log is sent to the primary of a ballot.
     pub(super) fn may_join(&self, ballot: u64, previous: u64) -> bool
         ensures { result ≡ (nat_le self.now.state.joined ballot
             && nat_le previous self.now.state.held_in) }
@@ -194,21 +194,21 @@ impl<M: Machine> Replica<M> {
         self.joined <= ballot && previous <= self.held_in
     }
 
-    // Says whether a new primary takes a log of this length, which lacks no applied place.
+    /// Says whether a new primary takes a log of this length, which lacks no applied place.
     pub(super) fn waits_for(&self, ballot: u64, held: u64) -> bool
         ensures { result ≡ waits_for self.now.state ballot held }
     {
         self.joined == ballot && (self.role.is_fetching() && self.committed <= held)
     }
 
-    // Says whether the log belongs to a ballot that is joined.
+    /// Says whether the log belongs to a ballot that is joined.
     pub(super) fn holds(&self, ballot: u64) -> bool
         ensures { result ≡ (self.now.state.joined == ballot && self.now.state.held_in == ballot) }
     {
         self.joined == ballot && self.held_in == ballot
     }
 
-    // Says whether a member takes a log of this length, which lacks no applied place.
+    /// Says whether a member takes a log of this length, which lacks no applied place.
     pub(super) fn lacks(&self, ballot: u64, held: u64) -> bool
         ensures { result ≡ lacks self.now.state ballot held }
     {

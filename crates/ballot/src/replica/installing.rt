@@ -3,7 +3,7 @@
 ghost use Rattle.std.specs.Prelude.{◌≡◌, ◌&&◌, ◌==◌, []};
 ghost use Rattle.std.specs.List.{list_any};
 ghost use Rattle.ballot.specs.Inside.{Went};
-ghost use Rattle.ballot_base.specs.Changing.{on_installed, on_superseded};
+ghost use Rattle.ballot_base.specs.Activating.{on_installed, on_superseded};
 ghost use Rattle.ballot_base.specs.Replica.{is_installing};
 
 use super::Replica;
@@ -11,8 +11,8 @@ use ballot_base::machine::Machine;
 use ballot_base::{Body, Effect, MASTER, Role, forget};
 
 impl<M: Machine> Replica<M> {
-    // Handles Installed: a member no longer lacks the log. With the last one the master may
-    // activate the ballot.
+    /// Handles Installed: a member no longer lacks the log. With the last one the master may
+    /// activate the ballot.
     pub(super) fn on_installed(
         &mut self,
         from: u8,
@@ -33,7 +33,7 @@ impl<M: Machine> Replica<M> {
         self.say(MASTER, Body::Activate(self.joined), out);
     }
 
-    // Handles Superseded: the ballot was superseded.
+    /// Handles Superseded: the replica gives the ballot up, and waits for a later one.
     pub(super) fn on_superseded(&mut self, ballot: u64)
         ensures went { Went M.rules self.old
             (on_superseded M.Output self.old.state ballot) self.new [] [] }
@@ -44,7 +44,7 @@ impl<M: Machine> Replica<M> {
         }
     }
 
-    // Says whether this new primary has not yet received a member's answer that it took the log.
+    /// Says whether this new primary has not yet received a member's answer that it took the log.
     pub(super) fn waits_for_answer(&self, from: u8, ballot: u64) -> bool
         ensures { result ≡ ((self.now.state.joined == ballot
             && is_installing self.now.state.role)
@@ -53,7 +53,7 @@ impl<M: Machine> Replica<M> {
         self.installs(ballot) && self.lacking.contains(&from)
     }
 
-    // Says whether this is the new primary of a ballot, which hands its log over.
+    /// Says whether this is the new primary of a ballot, which hands its log over.
     pub(super) fn installs(&self, ballot: u64) -> bool
         ensures { result ≡ (self.now.state.joined == ballot
             && is_installing self.now.state.role) }

@@ -123,7 +123,7 @@ impl<M: Machine> Replica<M> {
         self.losses = counted(self.losses, sent);
     }
 
-    // Sends one message, and counts it if it was lost.
+    /// Sends one message, and counts it if it was lost.
     pub(super) fn say(
         &mut self,
         receiver: u8,
@@ -204,14 +204,14 @@ impl<M: Machine> Replica<M> {
         }
     }
 
-    // Says whether this is a backup that holds the log of a ballot.
+    /// Says whether this is a backup that holds the log of a ballot.
     pub(super) fn follows(&self, ballot: u64) -> bool
         ensures { result ≡ follows self.now.state ballot }
     {
         (self.joined == ballot && self.held_in == ballot) && self.role.is_backup()
     }
 
-    // Says whether this is the active primary of a ballot.
+    /// Says whether this is the active primary of a ballot.
     pub(super) fn leads(&self, ballot: u64) -> bool
         ensures { result ≡ leads self.now.state ballot }
     {

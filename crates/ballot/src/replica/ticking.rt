@@ -74,8 +74,8 @@ impl<M: Machine> Replica<M> {
         behind & told
     }
 
-    // Sends the log to the members that lack it; if there is none, the master may activate the
-    // ballot.
+    /// Sends the log to the members that lack it; if there is none, the master may activate the
+    /// ballot.
     pub(super) fn hand_over(&self, out: &mut Vec<Effect<M::Command, M::Output>>) -> bool
         ensures { Sends out.old.items out.new.items
             (installs M.Output self.now.state self.now.state.lacking) result }

@@ -6,7 +6,8 @@ use Rattle.subs.specs.packet.declared.subscribe.Subscription.{Subscription}
 use Rattle.broker_spec.specs.retained.Retained.{RetainedTopics}
 use Rattle.broker_spec.specs.session_base.Session.{SessionState, with_filters, with_queue}
 use Rattle.broker_spec.specs.session_base.Subscriptions.{with_subscription, with_subscriptions}
-use Rattle.broker_spec.specs.session_base.Queue.{room, copies_left}
+use Rattle.broker_spec.specs.session_base.Queue.{room}
+use Rattle.broker_spec.specs.session_base.Copies.{copies_left}
 use Rattle.broker_spec.specs.session_base.Sending.{copies_sent}
 use Rattle.broker_base.specs.Place.{Limits}
 use Rattle.broker_base.specs.Subscriptions.{as_held, granted_of}

@@ -10,7 +10,8 @@ use Rattle.client_base.specs.declared.error.ClientError.TheVariants as errors
 use Rattle.client_base.specs.declared.kept_publication.KeptPublication.{KeptPublication}
 use Rattle.client_base.specs.State.{ClientState, is_online, publish_kept}
 use Rattle.client_base.specs.Answered.{Turn, going_on}
-use Rattle.client_base.specs.Calls.{is_over_limit, refused}
+use Rattle.client_base.specs.Calls.{refused}
+use Rattle.client_base.specs.Publishing.{is_over_limit}
 use Rattle.client.specs.Core.{Core, IsDone}
 use Rattle.client.specs.Reading.{Reads, turn_of, StopsFor, Handles, cause_of, fed}
 

@@ -11,7 +11,8 @@ use Rattle.client_base.specs.lists.Lists.{has_id, Each}
 use Rattle.client_base.proofs.of_lists.OfEach.{each_append}
 use Rattle.client_base.specs.Keeper.{Keeper, all_own}
 use Rattle.client_base.specs.Written.{plain, writing, resent, sent_all}
-use Rattle.client_base.specs.Handled.{at_pubrec, is_sent_with, takes_in, releasing, discarded, confirmed, handled, handled_online, handled_first, at_puback, at_pubcomp}
+use Rattle.client_base.specs.Handled.{discarded, confirmed, handled, handled_online, handled_first}
+use Rattle.client_base.specs.Handshakes.{at_pubrec, is_sent_with, takes_in, releasing, at_puback, at_pubcomp}
 use Rattle.exactly_once.specs.Sides.{Connection, Side}
 use Rattle.exactly_once.specs.Carried.{publications_of}
 use Rattle.client_base.specs.OrderLaws.{AreNumbered}

@@ -13,7 +13,7 @@ use Rattle.client_base.proofs.of_lists.Beginnings.{prefix_get}
 use Rattle.client_base.proofs.of_lists.OfEach.{each_append}
 use Rattle.client_base.specs.Keeper.{Own, Written, Keeper, all_own}
 use Rattle.client_base.specs.Written.{plain, sent_again, sent_first, sent_all, resent}
-use Rattle.client_base.specs.Handled.{at_puback, at_pubrec, at_pubcomp}
+use Rattle.client_base.specs.Handshakes.{at_puback, at_pubrec, at_pubcomp}
 use Rattle.exactly_once.specs.Sides.{Connection}
 use Rattle.exactly_once.specs.Carried.{publication_in, publications_of}
 use Rattle.client_base.specs.OrderLaws.{AreNumbered}

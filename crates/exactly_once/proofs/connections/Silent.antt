@@ -13,7 +13,8 @@ use Rattle.client_base.specs.session_base.Publication.{publication_of}
 use Rattle.exactly_once.specs.Sides.{Connection, Side}
 use Rattle.client_base.specs.Keeper.{Keeper}
 use Rattle.client_base.specs.Written.{plain, writing}
-use Rattle.client_base.specs.Handled.{at_pubrec, is_sent_with, takes_in, releasing, handled, handled_online, handled_first}
+use Rattle.client_base.specs.Handled.{handled, handled_online, handled_first}
+use Rattle.client_base.specs.Handshakes.{at_pubrec, is_sent_with, takes_in, releasing}
 use Rattle.exactly_once.proofs.publishing.Answered.{counted_side}
 
 -- ---- what is confirmed stays so

@@ -11,7 +11,8 @@ use Rattle.client_base.specs.session_base.declared.publication.Publication.{Publ
 use Rattle.client_base.specs.session_base.Publication.{publication_of}
 use Rattle.client_base.specs.lists.Lists.{has_id}
 use Rattle.exactly_once.specs.Sides.{Side}
-use Rattle.client_base.specs.Handled.{is_sent_with, takes_in, releasing, handled_online, handled_first, handled}
+use Rattle.client_base.specs.Handled.{handled_online, handled_first, handled}
+use Rattle.client_base.specs.Handshakes.{is_sent_with, takes_in, releasing}
 use Rattle.exactly_once.proofs.subscribing.Given.{one_handled}
 
 -- online on an open connection that is confirmed

@@ -15,7 +15,8 @@ use Rattle.exactly_once.specs.Sends.{put_to}
 use Rattle.exactly_once.specs.Sides.{Connection, Side}
 use Rattle.client_base.specs.Keeper.{Keeper}
 use Rattle.client_base.specs.Written.{plain, writing}
-use Rattle.client_base.specs.Handled.{at_pubrec, at_pubcomp, is_sent_with, handled_online}
+use Rattle.client_base.specs.Handled.{handled_online}
+use Rattle.client_base.specs.Handshakes.{at_pubrec, at_pubcomp, is_sent_with}
 use Rattle.client_base.specs.session_base.Identifiers.{without_id}
 use Rattle.exactly_once.specs.Story.{with_side}
 use Rattle.exactly_once.specs.Inside.Projections.{forward_of_own, backward_of_own, to_be_taken, is_current, as_publisher, GoesTo}

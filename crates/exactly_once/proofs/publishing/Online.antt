@@ -15,7 +15,8 @@ use Rattle.exactly_once.specs.Sends.{put_to}
 use Rattle.client_base.specs.Keeper.{Written, Keeper}
 use Rattle.exactly_once.specs.Sides.{Connection}
 use Rattle.client_base.specs.Written.{plain, writing}
-use Rattle.client_base.specs.Handled.{at_puback, not_subscribes, not_unsubscribes, takes_in, lost, handled_online}
+use Rattle.client_base.specs.Handled.{not_subscribes, not_unsubscribes, lost, handled_online}
+use Rattle.client_base.specs.Handshakes.{at_puback, takes_in}
 use Rattle.client_base.specs.session_base.Identifiers.{without_id}
 use Rattle.exactly_once.specs.Story.{with_side}
 use Rattle.exactly_once.specs.Inside.Projections.{items_of_own, forward_of_own, backward_of_own, as_publisher, GoesTo}

@@ -8,7 +8,7 @@ use Rattle.client_base.specs.session_base.Publication.{is_acknowledged}
 use Rattle.exactly_once.specs.Items.{Item, releasing, finishing, has_sent}
 use Rattle.client_base.proofs.of_lists.Tests.{or_right}
 use Rattle.client_base.specs.Keeper.{Own}
-use Rattle.client_base.specs.Handled.{at_puback, at_pubrec, at_pubcomp, is_sent_with}
+use Rattle.client_base.specs.Handshakes.{at_puback, at_pubrec, at_pubcomp, is_sent_with}
 use Rattle.exactly_once.specs.Carried.{is_two}
 use Rattle.exactly_once.specs.Inside.Projections.{items_of_own, own_item}
 

@@ -10,7 +10,8 @@ use Rattle.client_base.specs.session_base.Publication.{publication_of}
 use Rattle.client_base.specs.lists.Lists.{has_id}
 use Rattle.client_base.specs.Keeper.{Keeper}
 use Rattle.client_base.specs.Written.{plain, writing}
-use Rattle.client_base.specs.Handled.{at_pubrec, is_sent_with, takes_in, handled, handled_online, handled_first}
+use Rattle.client_base.specs.Handled.{handled, handled_online, handled_first}
+use Rattle.client_base.specs.Handshakes.{at_pubrec, is_sent_with, takes_in}
 use Rattle.exactly_once.specs.Sides.{Side}
 use Rattle.exactly_once.proofs.subscribing.Given.{one_handled}
 

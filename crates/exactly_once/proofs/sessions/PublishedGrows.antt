@@ -14,7 +14,8 @@ use Rattle.broker_base.specs.Place.{Limits}
 use Rattle.client_base.specs.Keeper.{Own, Keeper, all_own, next_number}
 use Rattle.client_base.specs.OrderLaws.{AreNumbered}
 use Rattle.client_base.specs.Written.{plain, writing}
-use Rattle.client_base.specs.Handled.{at_pubrec, is_sent_with, takes_in, releasing, discarded, handled, handled_online, handled_first}
+use Rattle.client_base.specs.Handled.{discarded, handled, handled_online, handled_first}
+use Rattle.client_base.specs.Handshakes.{at_pubrec, is_sent_with, takes_in, releasing}
 use Rattle.client_base.proofs.NumbersStay.{AreAllNumbered, joined_numbers}
 use Rattle.exactly_once.specs.Sides.{Side}
 use Rattle.exactly_once.specs.Story.{Story, Happens}

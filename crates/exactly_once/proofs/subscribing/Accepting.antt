@@ -13,7 +13,7 @@ use Rattle.broker_base.specs.Place.{Limits}
 use Rattle.exactly_once.specs.Handshake.{Forward, Link, Handshake, taking, accepting}
 use Rattle.exactly_once.specs.Sides.{Connection, Side}
 use Rattle.client_base.specs.Written.{plain, writing}
-use Rattle.client_base.specs.Handled.{takes_in}
+use Rattle.client_base.specs.Handshakes.{takes_in}
 use Rattle.exactly_once.specs.Story.{Story, with_side}
 use Rattle.exactly_once.specs.Inside.Projections.{published_in, as_subscriber, IsLike, GoesTo}
 use Rattle.exactly_once.proofs.subscribing.events.Handling.{handles_one}

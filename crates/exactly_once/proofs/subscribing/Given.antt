@@ -16,7 +16,8 @@ use Rattle.client_base.proofs.of_lists.OfEach.{each_then}
 use Rattle.exactly_once.specs.Sends.{sends_to, put_to}
 use Rattle.client_base.specs.Keeper.{Written}
 use Rattle.exactly_once.specs.Sides.{Connection, Side}
-use Rattle.client_base.specs.Handled.{is_sent_with, takes_in, releasing, handled_online, handled_first, handled}
+use Rattle.client_base.specs.Handled.{handled_online, handled_first, handled}
+use Rattle.client_base.specs.Handshakes.{is_sent_with, takes_in, releasing}
 use Rattle.exactly_once.specs.Story.{Story, Happens, counted_at}
 use Rattle.client_base.specs.Written.{writes_first}
 use Rattle.exactly_once.specs.Story.Happens.{takes, others_take, receives, opens_anew, loses, disconnects, publishes_one, subscribes, unsubscribes}

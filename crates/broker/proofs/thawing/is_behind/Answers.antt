@@ -1,7 +1,7 @@
 use Rattle.std.proofs.Common.{◌∙◌, ap, sym, None}
 use Rattle.session_base.specs.Counted.{last_of}
 use Rattle.session_base.proofs.Follows.{last_is}
-use Rattle.broker_form.specs.Form.{is_behind}
+use Rattle.broker_form.specs.Follows.{is_behind}
 use Rattle.broker.proofs.thawing.is_behind.Goals as goal
 
 pub returns-in-Some-clause-test : goal.returns-in-Some-clause-test

@@ -1,6 +1,7 @@
 use Rattle.std.proofs.Common.{◌≡◌, ◌-◌, [], length}
 use Rattle.session_base.specs.Counted.{items_behind}
-use Rattle.broker_form.specs.Form.{topic_follows, retained_at}
+use Rattle.broker_form.specs.Form.{retained_at}
+use Rattle.broker_form.specs.Follows.{topic_follows}
 use Rattle.broker.proofs.thawing.read_topics.Given as goal
 
 abbrev pub invariant-loop : goal.invariant-loop

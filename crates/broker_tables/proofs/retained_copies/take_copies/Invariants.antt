@@ -1,6 +1,7 @@
 -- What came so far, and what is still to come, make the whole.
 use Rattle.std.proofs.Common.{◌≡◌, ◌≤◌, ◌++◌, length}
-use Rattle.session.specs.session_base.Queue.{copies_left, room}
+use Rattle.session.specs.session_base.Queue.{room}
+use Rattle.session.specs.session_base.Copies.{copies_left}
 use Rattle.broker_rows.specs.broker_spec.Entries.{queued}
 use Rattle.session.specs.session_base.Sending.{copies_sent}
 use Rattle.session.specs.session_base.Session.{with_queue}

@@ -5,7 +5,7 @@ use Rattle.client_base.specs.session_base.Publication.{is_acknowledged}
 use Rattle.client_base.proofs.of_lists.Tests.{or_none, none_or}
 use Rattle.client_base.specs.Keeper.{Own, ids_of_own}
 use Rattle.client_base.specs.declared.request.Request.{Request}
-use Rattle.client_base.specs.Handled.{at_puback, at_pubrec, at_pubcomp}
+use Rattle.client_base.specs.Handshakes.{at_puback, at_pubrec, at_pubcomp}
 use Rattle.client_base.specs.State.{id_of_request}
 
 -- the first ones are among the second ones, in order

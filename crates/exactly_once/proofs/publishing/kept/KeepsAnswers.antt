@@ -8,7 +8,7 @@ use Rattle.client_base.proofs.of_lists.Identifiers.{has_append, distinct_front, 
 use Rattle.exactly_once.proofs.BusyIdentifiers.{sent_not_released}
 use Rattle.client_base.specs.Keeper.{Own, Keeper, ids_of_own, ids_in_use}
 use Rattle.client_base.specs.State.{id_of_request}
-use Rattle.client_base.specs.Handled.{at_puback, at_pubrec, at_pubcomp}
+use Rattle.client_base.specs.Handshakes.{at_puback, at_pubrec, at_pubcomp}
 use Rattle.client_base.specs.session_base.Identifiers.{without_id}
 use Rattle.exactly_once.specs.Inside.Projections.{items_of_own}
 use Rattle.exactly_once.specs.Inside.Shape.{OwnInShape, none_unsent}

@@ -19,7 +19,8 @@ use Rattle.exactly_once.specs.Sends.{put_to}
 use Rattle.exactly_once.specs.Sides.{Connection}
 use Rattle.client_base.specs.Keeper.{Keeper}
 use Rattle.client_base.specs.Written.{plain, writing}
-use Rattle.client_base.specs.Handled.{at_pubrec, is_sent_with, not_subscribes, not_unsubscribes, takes_in, releasing, handled, handled_online, handled_first}
+use Rattle.client_base.specs.Handled.{not_subscribes, not_unsubscribes, handled, handled_online, handled_first}
+use Rattle.client_base.specs.Handshakes.{at_pubrec, is_sent_with, takes_in, releasing}
 use Rattle.exactly_once.specs.Inside.Projections.{items_of_own, forward_of_own, backward_of_own, to_be_taken, is_current, as_publisher}
 use Rattle.exactly_once.specs.Inside.Shape.{OwnInShape, HeldInShape}
 use Rattle.exactly_once.proofs.publishing.Written.{dropped_next}

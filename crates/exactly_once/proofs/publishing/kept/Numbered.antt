@@ -7,7 +7,7 @@ use Rattle.exactly_once.specs.Items.{Item, busy, has_sent}
 use Rattle.client_base.proofs.of_lists.Tests.{or_none, or_second, eq_is}
 use Rattle.exactly_once.proofs.BusyIdentifiers.{sent_busy}
 use Rattle.client_base.specs.Keeper.{Own, ids_of_own}
-use Rattle.client_base.specs.Handled.{at_pubrec, at_puback, at_pubcomp}
+use Rattle.client_base.specs.Handshakes.{at_pubrec, at_puback, at_pubcomp}
 use Rattle.exactly_once.specs.Carried.{is_two}
 use Rattle.exactly_once.specs.Inside.Projections.{items_of_own}
 use Rattle.exactly_once.specs.Inside.Shape.{AreNumbered}

@@ -13,7 +13,8 @@ use Rattle.exactly_once.specs.Sends.{put_to}
 use Rattle.exactly_once.specs.Sides.{Connection, Side}
 use Rattle.client_base.specs.Keeper.{Keeper}
 use Rattle.client_base.specs.Written.{plain, writing, resent, sent_all}
-use Rattle.client_base.specs.Handled.{at_puback, at_pubrec, at_pubcomp, is_sent_with, not_subscribes, not_unsubscribes, releasing, discarded, confirmed, lost, handled_online, handled_first, handled}
+use Rattle.client_base.specs.Handled.{not_subscribes, not_unsubscribes, discarded, confirmed, lost, handled_online, handled_first, handled}
+use Rattle.client_base.specs.Handshakes.{at_puback, at_pubrec, at_pubcomp, is_sent_with, releasing}
 use Rattle.client_base.specs.session_base.Identifiers.{without_id}
 use Rattle.exactly_once.specs.Story.{Story, with_side}
 use Rattle.exactly_once.specs.Headline.{accepted_on}

@@ -1,5 +1,5 @@
 use Rattle.std.proofs.Common.{◌∙◌, ap, sym}
-use Rattle.broker_form.specs.Form.{is_behind}
+use Rattle.broker_form.specs.Follows.{is_behind}
 use Rattle.broker.proofs.LastRows.{last_at}
 use Rattle.broker.proofs.rows.Rows.is_behind.Goals as goal
 

@@ -1,7 +1,7 @@
 use Rattle.std.proofs.Common.{◌≡◌, ◌-◌, true, false, ap, sym, ◌∙◌, refl, rules as rules_of}
 use Rattle.ballot.specs.Cutting.{can_cut}
 use Rattle.master.specs.declared.event.Event.TheVariants.{Cut}
-use Rattle.master.specs.Exact.{cut_turn, cutting}
+use Rattle.master.specs.Turns.{cut_turn, cutting}
 use Rattle.master.proofs.Counting.{cuts_nothing, cuts_turn, some_idle, steps_cut, steps_idle}
 use Rattle.master.proofs.Quiet.{cut_needs, exactly_none}
 use Rattle.master.proofs.Turns.{same_replica}

@@ -1,6 +1,6 @@
 use Rattle.std.proofs.Common.{◌≡◌, ◌≤◌, ◌<◌, length, ap, sym, ◌∙◌, refl, arith}
 use Rattle.ballot.specs.Replica.{CountedReplica, ReplicaState}
-use Rattle.master.specs.Exact.{cut_turn}
+use Rattle.master.specs.Turns.{cut_turn}
 use Rattle.master.proofs.Archived.{begins_by, taken_back}
 use Rattle.master.proofs.Groups.{group_cuts, group_kept}
 use Rattle.master.proofs.LossesCounted.{counts_at, counts_cut, counts_lost, counts_set}

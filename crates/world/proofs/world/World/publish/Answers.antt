@@ -2,7 +2,7 @@ use Rattle.std.proofs.Common.{◌≤◌, ◌<◌, [], ◌∷◌, length, refl, s
 use Rattle.std.specs.Option.{is_some}
 use Rattle.std.proofs.lemmas.Option.{same_Some}
 use Rattle.escaping_client.specs.client.Core.{Core}
-use Rattle.escaping_client.specs.client_base.Calls.{publish_refusal}
+use Rattle.escaping_client.specs.client_base.Publishing.{publish_refusal}
 use Rattle.world.specs.declared.world.WorldClient.{WorldClient}
 use Rattle.escaping_nodes.proofs.of_master.Counting.{get_there}
 use Rattle.escaping_client.specs.client_base.Steps.{Call}

@@ -1,0 +1,27 @@
+-- Worked example: the room that is left for retained copies to the later filters of a SUBSCRIBE.
+use Rattle.std.specs.Prelude.{true, false, [], ◌∷◌, ◌++◌, codes}
+use Rattle.retained.specs.packet.declared.qos.QoS.TheVariants as levels
+use Rattle.retained.specs.packet.declared.delivery.Delivery.TheVariants as deliveries
+use Rattle.retained.specs.packet.declared.suback.SubackCode.TheVariants as answers
+use Rattle.retained.specs.packet.declared.packet.Packet.TheVariants as packets
+use Rattle.broker_spec.specs.RowWords.{Gives, a, b, connect, gets, sends, small, publish_on, asks, asked_at, published_on}
+
+-- t/1 needs one entry and t/# two, so t/2 finds no room left; at QoS 0 it needs none
+abbrev pub RoomIsLessWhatEarlierFiltersNeed : Type 0
+RoomIsLessWhatEarlierFiltersNeed =
+    Gives (small 3 16) (connect 2 a
+    ∷ published_on levels.AtLeastOnce (codes "t/1" ∷ codes "t/2" ∷ []) ++ connect 1 b ∷ [])
+    (gets 1 (asks 1 (asked_at levels.AtLeastOnce (codes "t/1" ∷ codes "t/#" ∷ codes "t/2" ∷ [])
+    ++ asked_at levels.AtMostOnce (codes "t/2" ∷ []))) ∷ [])
+    ((sends 1
+    (packets.Suback
+    (record {
+      id = 1;
+      codes =
+          answers.Granted levels.AtLeastOnce ∷ answers.Granted levels.AtLeastOnce
+          ∷ answers.Failure ∷ answers.Granted levels.AtMostOnce ∷ [];
+    }))
+    ∷ sends 1 (publish_on (codes "t/1") (deliveries.AtLeastOnce false 1) true (codes "x"))
+    ∷ sends 1 (publish_on (codes "t/1") (deliveries.AtLeastOnce false 2) true (codes "x"))
+    ∷ sends 1 (publish_on (codes "t/2") (deliveries.AtLeastOnce false 3) true (codes "x"))
+    ∷ sends 1 (publish_on (codes "t/2") deliveries.AtMostOnce true (codes "x")) ∷ []) ∷ [])

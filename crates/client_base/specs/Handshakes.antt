@@ -1,0 +1,54 @@
+-- What a packet of the server does to the handshakes of a client with its history (MQTT 4.3).
+use Rattle.std.specs.Prelude.{ℕ, Bool, false, not, ◌&&◌, ◌||◌, ◌==◌, if◌then◌else◌, List, [], ◌∷◌, ◌++◌, map}
+use Rattle.session_base.specs.packet.declared.delivery.Delivery.{Delivery}
+use Rattle.session_base.specs.packet.declared.delivery.Delivery.TheVariants as deliveries
+use Rattle.session_base.specs.packet.declared.packet.Packet.TheVariants as packets
+use Rattle.session_base.specs.declared.publication.Publication.{Publication}
+use Rattle.session_base.specs.Publication.{is_acknowledged}
+use Rattle.session_base.specs.lists.Lists.{has_id}
+use Rattle.client_base.specs.Keeper.{Own, Side}
+use Rattle.client_base.specs.Written.{plain, writing}
+
+abbrev pub at_puback : ℕ → Own → Own
+at_puback i (Own.Sent k p id) =
+    if (i == id) && is_acknowledged p.qos then Own.Done k p else Own.Sent k p id
+at_puback i o = o
+
+abbrev pub at_pubrec : ℕ → Own → Own
+at_pubrec i (Own.Sent k p id) =
+    if (i == id) && not (is_acknowledged p.qos) then Own.Released k p id else Own.Sent k p id
+at_pubrec i o = o
+
+abbrev pub at_pubcomp : ℕ → Own → Own
+at_pubcomp i (Own.Released k p id) = if i == id then Own.Done k p else Own.Released k p id
+at_pubcomp i o = o
+
+abbrev pub is_sent_with : ℕ → List Own → Bool
+is_sent_with i (Own.Sent k p id ∷ own) =
+    ((i == id) && not (is_acknowledged p.qos)) || is_sent_with i own
+is_sent_with i (_ ∷ own) = is_sent_with i own
+is_sent_with i [] = false
+
+abbrev pub releasing : {Name : Type 0} → ℕ → Side Name → Side Name
+releasing i side =
+    if is_sent_with i side.keeper.own
+    then writing (plain (packets.Pubrel i) ∷ [])
+    (record side {
+      keeper = record side.keeper {
+        own = map (at_pubrec i) side.keeper.own;
+        releases = side.keeper.releases ++ i ∷ [];
+      };
+    })
+    else if has_id i side.keeper.releases then writing (plain (packets.Pubrel i) ∷ []) side
+    else side
+
+abbrev pub takes_in : {Name : Type 0} → Delivery → Publication → Side Name → Side Name
+takes_in deliveries.AtMostOnce p side = side
+takes_in (deliveries.AtLeastOnce dup id) p side = writing (plain (packets.Puback id) ∷ []) side
+takes_in (deliveries.ExactlyOnce dup id) p side =
+    writing (plain (packets.Pubrec id) ∷ [])
+    (if has_id id side.keeper.received then side
+    else record {
+      keeper = record side.keeper { received = id ∷ side.keeper.received };
+      connection = record side.connection { accepted = side.connection.accepted ++ p ∷ [] };
+    })

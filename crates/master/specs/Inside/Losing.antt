@@ -1,0 +1,104 @@
+-- Losing.antt: steps and turns that may lose something when memory runs out, and count it.
+use Rattle.std.specs.Prelude.{ℕ, Bool, true, false, ◌-◌, ◌^◌, ◌<◌, ◌≡◌, ◌⊎◌, List, [], ◌++◌, Some}
+use Rattle.ballot.specs.machine.Machine.{Rules}
+use Rattle.ballot.specs.Message.{Message}
+use Rattle.ballot.specs.Effect.{Effect}
+use Rattle.ballot.specs.Effect.TheVariants.{To, Out}
+use Rattle.ballot.specs.Losses.{IsQuiet, Thinned, Loses, one_more}
+use Rattle.ballot.specs.Protocol.{Input, replica_step}
+use Rattle.ballot.specs.Protocol.Input.{Receives, Proposes, Ticks}
+use Rattle.ballot.specs.Replica.{ReplicaState, CountedReplica}
+use Rattle.ballot.specs.Unread.{is_unread}
+use Rattle.snapshots.specs.Masters.{MasterOutcome}
+use Rattle.snapshots.specs.Steps.{tells_from_master}
+use Rattle.snapshots.specs.World.{messages, outputs, moved}
+use Rattle.master.specs.declared.turning.Taken.{Taken}
+use Rattle.master.specs.declared.turning.Taken.TheVariants.{Received, Proposed, Ticked}
+use Rattle.master.specs.Group.{GroupState}
+use Rattle.master.specs.Exact.{behind}
+use Rattle.master.specs.Turns.{NodeTurn}
+use Rattle.master.specs.Turns.Turn.{by_cut}
+use Rattle.master.specs.Steps.{Freezes}
+
+-- the input of a node
+abbrev pub input_of : {C : Type 0} → Taken C → Input C
+input_of (Received message) = Receives message
+input_of (Proposed command) = Proposes command
+input_of Ticked = Ticks
+
+-- there is no snapshot that has to be read and does not thaw
+abbrev pub IsRead : {S C O : Type 0} → Rules S C O → ReplicaState S C → Input C → Type 0
+IsRead rules r (Receives message) = is_unread rules r message.body ≡ false
+IsRead rules r (Proposes command) = Unit {0}
+IsRead rules r Ticks = Unit {0}
+
+-- a replica took its step exactly, and counted nothing
+abbrev pub TookExactly : {S C O : Type 0} → Rules S C O → CountedReplica S C → Input C →
+    CountedReplica S C → List (Effect C O) → Type 0
+TookExactly rules old input new given =
+    (new.state ≡ (replica_step rules old.state input).state)
+    × (given ≡ (replica_step rules old.state input).effects)
+    × (new.losses ≡ old.losses)
+
+-- a replica took its step, perhaps with losses: without losses if it was whole, or if it sends
+-- nothing, keeps the log and applies nothing. If the count did not change, and is below its
+-- greatest number, the step was whole
+pub record TookIn {S C O : Type 0} (rules : Rules S C O) (old : CountedReplica S C)
+    (input : Input C)
+    (new : CountedReplica S C) (before behind : List (Effect C O)) (whole : Bool) : Type 0 where
+  pub given : List (Effect C O)
+  pub appended : behind ≡ before ++ given
+  pub loses : Loses rules old.state (replica_step rules old.state input) new.state given
+  pub exact : whole ≡ true → TookExactly rules old input new given
+  pub counted : (new.losses ≡ old.losses) ⊎ (new.losses ≡ one_more old.losses)
+  pub quiet : IsQuiet old.state (replica_step rules old.state input) →
+      IsRead rules old.state input →
+      TookExactly rules old input new given
+  pub told : new.losses ≡ old.losses → old.losses < 2 ^ 64 - 1 → whole ≡ true
+
+-- whether an effect is a message
+abbrev pub is_message : {C O : Type 0} → Effect C O → Bool
+is_message (To receiver message) = true
+is_message (Out place output) = false
+
+-- messages among effects were moved after those sent before, except some that were lost; none is
+-- lost if there is none
+pub record Parted {C O : Type 0} (given left parted : List (Effect C O))
+    (sent more : List (ℕ × Message C)) (whole : Bool) : Type 0 where
+  pub kept : List (Effect C O)
+  pub thinned : Thinned kept given
+  pub exact : whole ≡ true → kept ≡ given
+  pub idle : given ≡ [] → whole ≡ true
+  pub sent_is : more ≡ sent ++ messages kept
+  pub outputs_are : outputs parted ≡ outputs left ++ outputs kept
+  pub messages_are : messages parted ≡ messages left
+
+-- a group after a turn of one node, or one with losses that was counted; no loss is counted if the
+-- node sends nothing, keeps its log and applies nothing
+pub record TookTurn {S C O : Type 0} (rules : Rules S C O) (old : GroupState S C O)
+    (t : NodeTurn S C O) (new : GroupState S C O) : Type 0 where
+  pub state : ReplicaState S C
+  pub given : List (Effect C O)
+  pub moment : new.moment
+      ≡ record old.moment { world = moved old.moment.world t.place state given }
+  pub way : ((state ≡ t.outcome.state) × (given ≡ t.outcome.effects) × (new.losses ≡ old.losses))
+      ⊎ (Loses rules t.before t.outcome state given × (new.losses ≡ one_more old.losses))
+  pub quiet : IsQuiet t.before t.outcome →
+      (state ≡ t.outcome.state) × (given ≡ t.outcome.effects) × (new.losses ≡ old.losses)
+
+-- a group after a cut of one node's log, or one for which memory ran out, which was counted
+pub record TookCut {S C O : Type 0} (rules : Rules S C O) (old : GroupState S C O)
+    (t : NodeTurn S C O) (new : GroupState S C O) : Type 0 where
+  pub way : ((new.moment ≡ behind old.moment (Some (by_cut t)))
+      × (new.losses ≡ old.losses)
+      × Freezes rules (Some (by_cut t)))
+      ⊎ (new ≡ record old { losses = one_more old.losses })
+
+-- a group after a turn of the master, or one whose message was lost, which was counted
+pub record MasterTook {S C O : Type 0} (old : GroupState S C O) (o : MasterOutcome C)
+    (new : GroupState S C O) : Type 0 where
+  pub way : ((new.moment
+      ≡ record { master = o.state; world = tells_from_master old.moment.world o })
+      × (new.losses ≡ old.losses))
+      ⊎ ((new.moment ≡ record old.moment { master = o.state })
+      × (new.losses ≡ one_more old.losses))

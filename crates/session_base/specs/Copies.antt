@@ -1,0 +1,21 @@
+-- Copies of retained publications that come to a queue one by one, after a SUBSCRIBE (MQTT 3.3.1.3).
+use Rattle.std.specs.Prelude.{ℕ, if◌then◌else◌, List, [], ◌∷◌, ◌++◌, filter}
+use Rattle.session_base.specs.declared.publication.Publication.{Publication}
+use Rattle.session_base.specs.Publication.{is_answered}
+use Rattle.session_base.specs.Queue.{Queue, enqueue, filled}
+
+-- Of a connected client's queue: each copy of QoS 1 or 2 comes last, and what may start after it
+-- starts.
+abbrev pub copies_left : ℕ → List Publication → Queue → Queue
+copies_left window (p ∷ copies) queue =
+    if is_answered p.qos then copies_left window copies (filled window (enqueue p queue))
+    else copies_left window copies queue
+copies_left window [] queue = queue
+
+-- of the queue of a client without a connection: those of QoS 1 and 2 wait
+abbrev pub copies_waiting : List Publication → Queue → Queue
+copies_waiting copies queue =
+    record {
+      in_flight = queue.in_flight;
+      waiting = queue.waiting ++ filter (λ p. is_answered p.qos) copies;
+    }

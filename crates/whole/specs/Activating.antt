@@ -1,0 +1,46 @@
+-- Activating.antt: the rows of the protocol from the last Installed to Activated, or to Superseded,
+-- on whole logs.
+use Rattle.std.specs.Prelude.{ℕ, List, [], ◌∷◌, length, ◌==◌, ◌&&◌, nat_lt, nat_le, if◌then◌else◌}
+use Rattle.std.specs.List.{list_any}
+use Rattle.ballot_base.specs.machine.Machine.{Rules}
+use Rattle.whole.specs.Messages.Body.{Activate}
+use Rattle.whole.specs.Messages.{Effect}
+use Rattle.ballot_base.specs.declared.status.Role.TheVariants.{Backup, Active}
+use Rattle.whole.specs.Sending.{Outcome, nothing_done, message_to, master}
+use Rattle.whole.specs.Applying.{applied_to}
+use Rattle.whole.specs.Serving.{most_places, added}
+use Rattle.whole.specs.Replica.{ReplicaState, is_installing, others, progress_at}
+
+-- with the last that lacked the log the master may activate the ballot
+abbrev pub activates : {S C : Type 0} (O : Type 0) → ReplicaState S C → List ℕ → List (Effect C O)
+activates O r [] = message_to O r.id (Activate r.joined) master ∷ []
+activates O r (member ∷ members) = []
+
+-- Installed(ballot, ..): the sender no longer lacks the log
+unfoldable pub on_installed : {S C : Type 0} (O : Type 0) → ReplicaState S C → ℕ → ℕ → Outcome S C O
+on_installed O r from ballot =
+    let fewer = record r { lacking = others from r.lacking } in
+    if (r.joined == ballot && is_installing r.role)
+    && list_any (λ member. member == from) r.lacking
+    then record { state = fewer; effects = activates O fewer fewer.lacking }
+    else nothing_done O r
+
+-- Activated(ballot), if no member lacks the log: its places are applied, their outputs dropped, and
+-- the start of the ballot is added after them
+unfoldable pub on_activated : {S C O : Type 0} → Rules S C O → ReplicaState S C → ℕ → Outcome S C O
+on_activated {O = O} rules r ballot =
+    let active = record (applied_to rules r (length r.log)) {
+      role = Active;
+      progress = progress_at (length r.log) (others r.id r.members);
+    } in
+    if (r.joined == ballot && is_installing r.role)
+    && (nat_le (length r.lacking) 0 && nat_lt (length r.log) most_places)
+    then added rules active (rules.start_of ballot)
+    else nothing_done O r
+
+-- Superseded(ballot)
+unfoldable pub on_superseded : {S C : Type 0} (O : Type 0) → ReplicaState S C → ℕ → Outcome S C O
+on_superseded O r ballot =
+    if r.joined == ballot && is_installing r.role
+    then record { state = record r { role = Backup }; effects = [] }
+    else nothing_done O r
