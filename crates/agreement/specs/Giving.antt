@@ -1,6 +1,7 @@
 -- Giving.antt: the outputs of one node, in a step and between two moments at which it leads one
 -- ballot.
-use Rattle.std.specs.Prelude.{ℕ, true, false, ◌≤◌, ◌≡◌, ◌==◌, List, [], ◌∷◌, ◌++◌, length, if◌then◌else◌}
+use Rattle.std.specs.Prelude.{ℕ, true, false, ◌≤◌, ◌≡◌, ◌==◌, List, [], ◌∷◌, ◌++◌}
+use Rattle.std.specs.Prelude.{length, if◌then◌else◌}
 use Rattle.whole.specs.machine.Machine.{Rules}
 use Rattle.whole.specs.Applying.{outputs_between}
 use Rattle.whole.specs.Config.{Config}
@@ -10,7 +11,8 @@ use Rattle.agreement.specs.Past.{Learns, Moment, Past}
 use Rattle.agreement.specs.Past.Past.{began, went_on, learned}
 use Rattle.agreement.specs.Primaries.{IsPrimary}
 use Rattle.agreement.specs.Steps.{MayHappen}
-use Rattle.agreement.specs.Steps.MayHappen.{node_takes, node_stops, master_assigns, master_hears, assignment_lost, answer_lost}
+use Rattle.agreement.specs.Steps.MayHappen.{node_takes, node_stops, master_assigns, master_hears}
+use Rattle.agreement.specs.Steps.MayHappen.{assignment_lost, answer_lost}
 use Rattle.agreement.specs.World.{World, outputs}
 
 -- the outputs of the node at place n in a step, each with its place in the list

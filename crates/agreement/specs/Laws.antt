@@ -1,5 +1,6 @@
 -- Laws.antt: what holds for every past of a group whose master answers each Assign.
-use Rattle.std.specs.Prelude.{ℕ, Bool, ◌≤◌, ◌≡◌, List, [], ◌∷◌, ◌++◌, filter, length, slice_get, Some}
+use Rattle.std.specs.Prelude.{ℕ, Bool, ◌≤◌, ◌≡◌, List, [], ◌∷◌, ◌++◌, filter, length}
+use Rattle.std.specs.Prelude.{slice_get, Some}
 use Rattle.whole.specs.machine.Machine.{Rules}
 use Rattle.whole.specs.lists.Lists.{In, IsPrefixOf}
 use Rattle.whole.specs.Applying.{outputs_between}
@@ -11,7 +12,8 @@ use Rattle.agreement.specs.Leaving.{LeftInOrder}
 use Rattle.agreement.specs.MasterState.{MasterState}
 use Rattle.agreement.specs.Past.{Moment, Past, IsAgreed}
 use Rattle.agreement.specs.Primaries.{IsPrimary}
-use Rattle.agreement.specs.Proposals.{IsOfBallot, IsPartOf, IsTaken, commands_of, proposal_of, proposals_of, rows_in, taken_at, taken_in, taken_of, takes_at}
+use Rattle.agreement.specs.Proposals.{IsOfBallot, IsPartOf, IsTaken, commands_of, proposal_of}
+use Rattle.agreement.specs.Proposals.{proposals_of, rows_in, taken_at, taken_in, taken_of, takes_at}
 use Rattle.agreement.specs.Replays.{AreReplays}
 use Rattle.agreement.specs.Steps.{MayHappen}
 use Rattle.agreement.specs.World.{World, log_of, outputs}

@@ -1,5 +1,6 @@
 -- MasterState.antt: what the master keeps, and what it does on Assign and Activate.
-use Rattle.std.specs.Prelude.{ℕ, Bool, true, ◌+◌, ◌==◌, List, Option, Some, None, if◌then◌else◌, ◌^◌, nat_le}
+use Rattle.std.specs.Prelude.{ℕ, Bool, true, ◌+◌, ◌==◌, List, Option, Some, None, if◌then◌else◌}
+use Rattle.std.specs.Prelude.{◌^◌, nat_le}
 use Rattle.whole.specs.Config.{Config}
 use Rattle.whole.specs.LawfulConfig.{is_lawful}
 use Rattle.whole.specs.Messages.{Body}
@@ -77,6 +78,6 @@ refusal m config =
     else Some bad_members
 
 -- the master after an Assign: if it is refused, nothing changes
-abbrev pub master_behind : MasterState → Config → Option AssignRefusal → MasterState
-master_behind m config (Some why) = m
-master_behind m config None = assigning m config
+abbrev pub master_after : MasterState → Config → Option AssignRefusal → MasterState
+master_after m config (Some why) = m
+master_after m config None = assigning m config

@@ -1,6 +1,7 @@
 -- Past.antt: the moments of a group from its opening on, and what its members have acknowledged
 -- (told) in each ballot.
-use Rattle.std.specs.Prelude.{ℕ, true, false, ◌+◌, ◌≤◌, ◌≡◌, ◌⊎◌, List, [], ◌∷◌, length, slice_get, take, Some}
+use Rattle.std.specs.Prelude.{ℕ, true, false, ◌+◌, ◌≤◌, ◌≡◌, ◌⊎◌, List, [], ◌∷◌, length, slice_get}
+use Rattle.std.specs.Prelude.{take, Some}
 use Rattle.whole.specs.lists.Lists.{In, IsPrefixOf}
 use Rattle.whole.specs.machine.Machine.{Rules}
 use Rattle.whole.specs.Messages.Body.{Held, Installed}

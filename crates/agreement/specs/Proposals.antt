@@ -1,6 +1,7 @@
 -- Proposals.antt: what was proposed to nodes, in order, what of it they took, and what logs keep of
 -- that order.
-use Rattle.std.specs.Prelude.{ℕ, Bool, true, false, ◌≡◌, List, [], ◌∷◌, ◌++◌, length, filter, slice_get, Some, nat_lt, ◌==◌, if◌then◌else◌}
+use Rattle.std.specs.Prelude.{ℕ, Bool, true, false, ◌≡◌, List, [], ◌∷◌, ◌++◌, length, filter}
+use Rattle.std.specs.Prelude.{slice_get, Some, nat_lt, ◌==◌, if◌then◌else◌}
 use Rattle.whole.specs.machine.Machine.{Rules}
 use Rattle.whole.specs.lists.Lists.{In}
 use Rattle.whole.specs.Config.{Config}
@@ -12,7 +13,8 @@ use Rattle.agreement.specs.Past.{Moment, Past}
 use Rattle.agreement.specs.Past.Past.{began, went_on, learned}
 use Rattle.agreement.specs.Primaries.{IsPrimary}
 use Rattle.agreement.specs.Steps.{MayHappen}
-use Rattle.agreement.specs.Steps.MayHappen.{node_takes, node_stops, master_assigns, master_hears, assignment_lost, answer_lost}
+use Rattle.agreement.specs.Steps.MayHappen.{node_takes, node_stops, master_assigns, master_hears}
+use Rattle.agreement.specs.Steps.MayHappen.{assignment_lost, answer_lost}
 use Rattle.agreement.specs.World.{World}
 
 -- the proposal that a node is given, with the ballot that it has joined
@@ -85,9 +87,9 @@ rows_in {C} ballot rows = filter (λ (row : ℕ × C). row.0 == ballot) rows
 pub record IsTaken {S C O : Type 0} (w v : World S C O) (n : ℕ) (row : ℕ × C) : Type 0 where
   pub primary : IsPrimary w n row.0
   pub runs : primary.replica.stopped ≡ false
-  pub behind : ReplicaState S C
-  pub stands : slice_get v.nodes n ≡ Some behind
-  pub log : behind.log ≡ primary.replica.log ++ row.1 ∷ []
+  pub after : ReplicaState S C
+  pub stands : slice_get v.nodes n ≡ Some after
+  pub log : after.log ≡ primary.replica.log ++ row.1 ∷ []
 
 -- some of a list, in order
 pub data IsPartOf {X : Type 0} : List X → List X → Type 0 where

@@ -1,6 +1,7 @@
 -- Steps.antt: what may happen in a group: a node takes its step, perhaps with losses, or stops; its
 -- master answers an Assign, or receives an Activate. Messages of the master may be lost, too.
-use Rattle.std.specs.Prelude.{ℕ, ◌+◌, ◌≡◌, false, List, [], slice_get, Some, ◌∷◌, ◌++◌, Option, None}
+use Rattle.std.specs.Prelude.{ℕ, ◌+◌, ◌≡◌, false, List, [], slice_get, Some, ◌∷◌, ◌++◌}
+use Rattle.std.specs.Prelude.{Option, None}
 use Rattle.whole.specs.machine.Machine.{Rules}
 use Rattle.whole.specs.Config.{Config}
 use Rattle.whole.specs.Messages.Body.{Activate}
@@ -11,7 +12,8 @@ use Rattle.whole.specs.Protocol.Input.{Receives, Proposes, Ticks}
 use Rattle.whole.specs.Replica.{ReplicaState}
 use Rattle.agreement.specs.World.{World, moved}
 use Rattle.whole.specs.lists.Lists.{In}
-use Rattle.agreement.specs.MasterState.{MasterState, assigned, activated, MasterOutcome, AssignRefusal, refusal, master_behind}
+use Rattle.agreement.specs.MasterState.{MasterState, assigned, activated, MasterOutcome}
+use Rattle.agreement.specs.MasterState.{AssignRefusal, refusal, master_after}
 use Rattle.whole.specs.Sending.{master}
 
 -- a node may take a message only if it was sent to it
@@ -26,10 +28,10 @@ tells_from_master w o =
     record w { sent = w.sent ++ (o.receiver, record { from = master; body = o.body }) ∷ [] }
 
 -- the world after an Assign: its primary is sent the ballot
-abbrev pub world_behind : {S C O : Type 0} →
+abbrev pub world_after : {S C O : Type 0} →
     MasterState → World S C O → Config → Option AssignRefusal → World S C O
-world_behind m w config (Some why) = w
-world_behind {S = S} {C = C} m w config None = tells_from_master w (assigned C m config)
+world_after m w config (Some why) = w
+world_after {S = S} {C = C} m w config None = tells_from_master w (assigned C m config)
 
 -- what may happen in a group whose master answers each Assign
 pub data MayHappen {S C O : Type 0} (rules : Rules S C O) :
@@ -42,15 +44,15 @@ pub data MayHappen {S C O : Type 0} (rules : Rules S C O) :
   node_stops : {m : MasterState} {w : World S C O} (n : ℕ) (r : ReplicaState S C) →
       slice_get w.nodes n ≡ Some r → MayHappen rules m w m (moved w n (halted rules r) [])
   master_assigns : {m : MasterState} {w : World S C O} (config : Config) →
-      MayHappen rules m w (master_behind m config (refusal m config))
-      (world_behind m w config (refusal m config))
+      MayHappen rules m w (master_after m config (refusal m config))
+      (world_after m w config (refusal m config))
   master_hears : {m : MasterState} {w : World S C O} (from b : ℕ) →
       In (0, record { from = from; body = Activate b }) w.sent →
       MayHappen rules m w (activated C m b from m.waiting).state
       (tells_from_master w (activated C m b from m.waiting))
   -- the same if the master's message is lost
   assignment_lost : {m : MasterState} {w : World S C O} (config : Config) →
-      MayHappen rules m w (master_behind m config (refusal m config)) w
+      MayHappen rules m w (master_after m config (refusal m config)) w
   answer_lost : {m : MasterState} {w : World S C O} (from b : ℕ) →
       In (0, record { from = from; body = Activate b }) w.sent →
       MayHappen rules m w (activated C m b from m.waiting).state w

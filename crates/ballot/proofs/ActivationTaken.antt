@@ -98,7 +98,7 @@ become_active_is {S = S} {C = C} {O = O} rules old grown active b progress p m a
 -- the ballot has begun, or a place could not be applied after its start
 abbrev pub Begun : {S C O : Type 0} → Rules S C O → CountedReplica S C → CountedReplica S C → ℕ → List Progress → List (Effect C O) →
     List (Effect C O) → CountedReplica S C → Type 0
-Begun rules active new committed waiting before behind old = (behind ≡ before) × (new ≡ record {
+Begun rules active new committed waiting before after old = (after ≡ before) × (new ≡ record {
   state = record active.state {
     log = popped active.state.log;
     committed = committed;
@@ -111,16 +111,16 @@ Begun rules active new committed waiting before behind old = (behind ≡ before)
 })
 
 pub activated_begun : {S C O T E : Type 0} (rules : Rules S C O) (result : Result T E) (old active new : CountedReplica S C) (b committed : ℕ)
-    (waiting : List Progress) (before behind : List (Effect C O)) →
+    (waiting : List Progress) (before after : List (Effect C O)) →
     may_begin old.state b ≡ true → active ≡ begun_of rules old b → committed ≡ old.state.committed → waiting ≡ old.state.progress →
-    MatchResult result (λ _. Begins rules active new before behind) (λ _. Begun rules active new committed waiting before behind old) →
-    Went rules old (on_activated rules old.state b) new before behind
-activated_begun {S = S} {C = C} {O = O} rules (Ok x) old active new b committed waiting before behind may a m w begins =
-    let y : Begins rules (begun_of rules old b) new before behind = subst (λ (z : CountedReplica S C). Begins rules z new before behind) a begins in
-    subst (λ (o : Outcome S C O). Went rules old o new before behind) (sym (on_activated-adds rules old.state b may
+    MatchResult result (λ _. Begins rules active new before after) (λ _. Begun rules active new committed waiting before after old) →
+    Went rules old (on_activated rules old.state b) new before after
+activated_begun {S = S} {C = C} {O = O} rules (Ok x) old active new b committed waiting before after may a m w begins =
+    let y : Begins rules (begun_of rules old b) new before after = subst (λ (z : CountedReplica S C). Begins rules z new before after) a begins in
+    subst (λ (o : Outcome S C O). Went rules old o new before after) (sym (on_activated-adds rules old.state b may
     ∙ added-commits rules (active_of rules old.state) (rules.start_of b)))
-    (went_sent old _ new before behind y.whole (y.sends old.state.log (rules.start_of b) refl) y.state y.counted)
-activated_begun {S = S} {C = C} {O = O} rules (Err x) old active new b committed waiting before behind may a m w (same, n) =
+    (went_sent old _ new before after y.whole (y.sends old.state.log (rules.start_of b) refl) y.state y.counted)
+activated_begun {S = S} {C = C} {O = O} rules (Err x) old active new b committed waiting before after may a m w (same, n) =
     let role : old.state.role ≡ Installing =
     installing_is old.state.role (and_parts (old.state.joined == b) (is_installing old.state.role)
     (and_parts (old.state.joined == b && is_installing old.state.role) (nat_le (length old.state.lacking) 0 && nat_lt (places old.state.log) most_places) may).0).1 in
@@ -152,40 +152,40 @@ activated_begun {S = S} {C = C} {O = O} rules (Err x) old active new b committed
       state = record old.state { role = q; stopped = true; machine = rules.opening };
       losses = one_more old.losses;
     } in x) (sym role) in
-    subst (λ (o : Outcome S C O). Went rules old o new before behind) (sym (on_activated-adds rules old.state b may))
-    (went_halted old _ new before behind (ap (λ (y : CountedReplica S C). y.state) is) (ap (λ (y : CountedReplica S C). y.losses) is) same
+    subst (λ (o : Outcome S C O). Went rules old o new before after) (sym (on_activated-adds rules old.state b may))
+    (went_halted old _ new before after (ap (λ (y : CountedReplica S C). y.state) is) (ap (λ (y : CountedReplica S C). y.losses) is) same
     (activated_loud rules old.state b))
 
 -- and such a replica runs
 pub begun_runs : {S C O T E : Type 0} (rules : Rules S C O) (result : Result T E) (old active new : CountedReplica S C) (b committed : ℕ)
-    (waiting : List Progress) (before behind : List (Effect C O)) →
+    (waiting : List Progress) (before after : List (Effect C O)) →
     active ≡ begun_of rules old b → old.state.stopped ≡ false →
-    MatchResult result (λ _. Begins rules active new before behind) (λ _. Begun rules active new committed waiting before behind old) →
-    OnOk result (new.state.stopped ≡ false) × OnErr result ((new.state.stopped ≡ true) × (behind ≡ before))
-begun_runs {S = S} {C = C} {O = O} rules (Ok x) old active new b committed waiting before behind a running begins =
+    MatchResult result (λ _. Begins rules active new before after) (λ _. Begun rules active new committed waiting before after old) →
+    OnOk result (new.state.stopped ≡ false) × OnErr result ((new.state.stopped ≡ true) × (after ≡ before))
+begun_runs {S = S} {C = C} {O = O} rules (Ok x) old active new b committed waiting before after a running begins =
     (ap (λ (r : ReplicaState S C). r.stopped) begins.state ∙ commit-stopped rules active.state ∙ ap (λ (z : CountedReplica S C). z.state.stopped) a ∙ running, tt)
-begun_runs {S = S} {C = C} {O = O} rules (Err x) old active new b committed waiting before behind a running (same, n) =
+begun_runs {S = S} {C = C} {O = O} rules (Err x) old active new b committed waiting before after a running (same, n) =
     (tt, (ap (λ (z : CountedReplica S C). z.state.stopped) n, same))
 
 -- the places that are applied stay below the start
-pub start_behind : {S C : Type 0} (old grown : CountedReplica S C) (start : C) →
+pub start_after : {S C : Type 0} (old grown : CountedReplica S C) (start : C) →
     grown ≡ record old { state = record old.state { log = pushed old.state.log start } } → old.state.committed ≤ places old.state.log →
     grown.state.committed < places grown.state.log
-start_behind {S = S} {C = C} old grown start p within =
+start_after {S = S} {C = C} old grown start p within =
     let k : grown.state.committed ≡ old.state.committed = ap (λ (z : CountedReplica S C). z.state.committed) p in
     let n : places grown.state.log ≡ places (pushed old.state.log start) = ap (λ (z : CountedReplica S C). places z.state.log) p in
     omega (arith, within, k, n, places_pushed old.state.log start)
 
-pub start_behind_active : {S C O : Type 0} (rules : Rules S C O) (old active : CountedReplica S C) (b k : ℕ) → active ≡ begun_of rules old b →
+pub start_after_active : {S C O : Type 0} (rules : Rules S C O) (old active : CountedReplica S C) (b k : ℕ) → active ≡ begun_of rules old b →
     k ≡ old.state.committed → old.state.committed ≤ places old.state.log → k < places active.state.log
-start_behind_active {S = S} {C = C} rules old active b k a e within =
+start_after_active {S = S} {C = C} rules old active b k a e within =
     let n : places active.state.log ≡ places (pushed old.state.log (rules.start_of b)) = ap (λ (z : CountedReplica S C). places z.state.log) a in
     omega (arith, within, e, n, places_pushed old.state.log (rules.start_of b))
 
-pub start_behind_stopped : {S C O : Type 0} (rules : Rules S C O) (grown stopped : CountedReplica S C) →
+pub start_after_stopped : {S C O : Type 0} (rules : Rules S C O) (grown stopped : CountedReplica S C) →
     stopped ≡ record grown { state = halted rules grown.state } → grown.state.committed < places grown.state.log →
     stopped.state.committed < places stopped.state.log
-start_behind_stopped {S = S} {C = C} rules grown stopped h low = subst (λ (z : CountedReplica S C). z.state.committed < places z.state.log) (sym h) low
+start_after_stopped {S = S} {C = C} rules grown stopped h low = subst (λ (z : CountedReplica S C). z.state.committed < places z.state.log) (sym h) low
 
 -- what the helpers commit is what all hold
 pub told_commit : {S C O : Type 0} (rules : Rules S C O) (r : ReplicaState S C) (held long : ℕ) (progress : List Progress) →
@@ -196,13 +196,13 @@ told_commit rules r held long progress h l p =
 
 -- the start was sent, and then what all hold was committed
 pub start_sent : {S C O : Type 0} (rules : Rules S C O) (r : ReplicaState S C) (front : Log C) (last found : C) (rest : List C) (base long held long' : ℕ)
-    (progress progress' : List Progress) (before mid behind : List (Effect C O)) (sent told : Bool) →
+    (progress progress' : List Progress) (before mid after : List (Effect C O)) (sent told : Bool) →
     r.log ≡ pushed front last → rest ≡ r.log.rest → base ≡ r.log.base → long ≡ length rest → found ≡ get_or rest (long - 1) found → progress ≡ r.progress →
     Sends before mid (message_to_followed O r.id (Append r.joined (base + (long - 1)) found) progress) sent →
     held ≡ least long' progress' → long' ≡ places r.log → progress' ≡ r.progress →
-    Sends mid behind (commit_at rules r held).effects told →
-    Sends before behind (message_to_followed O r.id (Append r.joined (places front) last) r.progress ++ (commit rules r).effects) (sent && told)
-start_sent {S = S} {C = C} {O = O} rules r front last found rest base long held long' progress progress' before mid behind sent told e us b l f p sends h l' p' commits =
+    Sends mid after (commit_at rules r held).effects told →
+    Sends before after (message_to_followed O r.id (Append r.joined (places front) last) r.progress ++ (commit rules r).effects) (sent && told)
+start_sent {S = S} {C = C} {O = O} rules r front last found rest base long held long' progress progress' before mid after sent told e us b l f p sends h l' p' commits =
     let kept : rest ≡ front.rest ++ last ∷ [] = us ∙ ap (λ (x : Log C). x.rest) e in
     let first : base ≡ front.base = b ∙ ap (λ (x : Log C). x.base) e in
     let at : long - 1 ≡ length front.rest = let n : length rest ≡ length (front.rest ++ last ∷ []) = ap length kept in omega (arith, n, l, length-append front.rest (last ∷ [])) in
@@ -212,4 +212,4 @@ start_sent {S = S} {C = C} {O = O} rules r front last found rest base long held 
     (subst (λ ps. Sends before mid (message_to_followed O r.id (Append r.joined (places front) last) ps) sent) p
     (subst (λ (x : C). Sends before mid (message_to_followed O r.id (Append r.joined (places front) x) progress) sent) is
     (subst (λ k. Sends before mid (message_to_followed O r.id (Append r.joined k found) progress) sent) place sends)))
-    (subst (λ (o : Outcome S C O). Sends mid behind o.effects told) (told_commit rules r held long' progress' h l' p') commits)
+    (subst (λ (o : Outcome S C O). Sends mid after o.effects told) (told_commit rules r held long' progress' h l' p') commits)

@@ -25,19 +25,19 @@ use Rattle.ballot.proofs.MessagesTaken.{went_sent, went_lost}
 
 -- a replica that took a row's state and then sent its messages did the row
 pub went_said : {S C O : Type 0} {rules : Rules S C O} {unread : Bool} (old mid : CountedReplica S C) (o : Outcome S C O) (new : CountedReplica S C)
-    (before behind : List (Effect C O)) → mid ≡ record { state = o.state; losses = old.losses } → Says mid o.effects new before behind →
-    Heard rules old o unread new before behind
-went_said {S = S} {C = C} old mid o new before behind e said =
-    went_sent old o new before behind said.whole said.sends
+    (before after : List (Effect C O)) → mid ≡ record { state = o.state; losses = old.losses } → Says mid o.effects new before after →
+    Heard rules old o unread new before after
+went_said {S = S} {C = C} old mid o new before after e said =
+    went_sent old o new before after said.whole said.sends
     (ap (λ (z : CountedReplica S C). z.state) said.counted ∙ ap (λ (z : CountedReplica S C). z.state) e)
     (ap (λ (z : CountedReplica S C). z.losses) said.counted
     ∙ ap (λ (z : CountedReplica S C). cond said.whole z.losses (one_more z.losses)) e)
 
 -- NewBallot of a ballot above
 pub new_ballot_taken : {S C : Type 0} (O : Type 0) {rules : Rules S C O} (old new : CountedReplica S C) (ballot : ℕ) (members : List ℕ) (previous : ℕ)
-    (previous_members receivers lacking : List ℕ) (progress : List Progress) (before behind : List (Effect C O)) (sent : Bool) →
+    (previous_members receivers lacking : List ℕ) (progress : List Progress) (before after : List (Effect C O)) (sent : Bool) →
     old.state.joined < ballot → receivers ≡ previous_members → lacking ≡ [] → progress ≡ [] →
-    Sends before behind (message_to_each O old.state.id (Join ballot previous) receivers) sent →
+    Sends before after (message_to_each O old.state.id (Join ballot previous) receivers) sent →
     new.state ≡ record old.state {
       joined = ballot;
       role = Fetching;
@@ -47,12 +47,12 @@ pub new_ballot_taken : {S C : Type 0} (O : Type 0) {rules : Rules S C O} (old ne
       lacking = lacking;
       progress = progress;
     } → new.losses ≡ cond sent old.losses (one_more old.losses) →
-    Went rules old (on_new_ballot O old.state ballot members previous previous_members) new before behind
-new_ballot_taken {S = S} {C = C} O {rules = rules} old new ballot members previous previous_members receivers lacking progress before behind sent low r l p sends state losses =
-    subst (λ (o : Outcome S C O). Went rules old o new before behind)
+    Went rules old (on_new_ballot O old.state ballot members previous previous_members) new before after
+new_ballot_taken {S = S} {C = C} O {rules = rules} old new ballot members previous previous_members receivers lacking progress before after sent low r l p sends state losses =
+    subst (λ (o : Outcome S C O). Went rules old o new before after)
     (sym (on_new_ballot-joins O old.state ballot members previous previous_members low))
-    (went_sent old _ new before behind sent
-    (subst (λ ms. Sends before behind (message_to_each O old.state.id (Join ballot previous) ms) sent) r sends)
+    (went_sent old _ new before after sent
+    (subst (λ ms. Sends before after (message_to_each O old.state.id (Join ballot previous) ms) sent) r sends)
     (state
     ∙ ap (λ ms. let z : ReplicaState S C = record old.state {
       joined = ballot;
@@ -75,16 +75,16 @@ new_ballot_taken {S = S} {C = C} O {rules = rules} old new ballot members previo
 
 -- Join that is answered
 pub join_answered : {S C : Type 0} (O : Type 0) {rules : Rules S C O} (old mid new : CountedReplica S C) (from ballot previous : ℕ) (log : Log C)
-    (before behind : List (Effect C O)) (sent : Bool) →
+    (before after : List (Effect C O)) (sent : Bool) →
     (nat_le old.state.joined ballot && nat_le previous old.state.held_in) ≡ true → log ≡ old.state.log →
-    Sends before behind (message_to O old.state.id (State ballot log) from ∷ []) sent →
+    Sends before after (message_to O old.state.id (State ballot log) from ∷ []) sent →
     mid ≡ record old { state = cond (nat_lt old.state.joined ballot) (record old.state { joined = ballot; role = Backup }) old.state } →
     new.state ≡ mid.state → new.losses ≡ cond sent mid.losses (one_more mid.losses) →
-    Went rules old (on_join O old.state from ballot previous) new before behind
-join_answered {S = S} {C = C} O {rules = rules} old mid new from ballot previous log before behind sent may l sends m state losses =
-    subst (λ (o : Outcome S C O). Went rules old o new before behind) (sym (on_join-answers O old.state from ballot previous may))
-    (went_sent old _ new before behind sent
-    (subst (λ us. Sends before behind (message_to O old.state.id (State ballot us) from ∷ []) sent) l sends)
+    Went rules old (on_join O old.state from ballot previous) new before after
+join_answered {S = S} {C = C} O {rules = rules} old mid new from ballot previous log before after sent may l sends m state losses =
+    subst (λ (o : Outcome S C O). Went rules old o new before after) (sym (on_join-answers O old.state from ballot previous may))
+    (went_sent old _ new before after sent
+    (subst (λ us. Sends before after (message_to O old.state.id (State ballot us) from ∷ []) sent) l sends)
     (state ∙ ap (λ (z : CountedReplica S C). z.state) m)
     (losses ∙ ap (λ (z : CountedReplica S C). cond sent z.losses (one_more z.losses)) m))
 
@@ -95,20 +95,20 @@ installs_some O r (member ∷ members) e = cc
 
 -- State that is taken
 pub state_taken : {S C O : Type 0} {rules : Rules S C O} (old took mid new : CountedReplica S C) (ballot : ℕ) (log : Log C) (unread : Bool)
-    (lacking : List ℕ) (before behind : List (Effect C O)) (sent : Bool) →
+    (lacking : List ℕ) (before after : List (Effect C O)) (sent : Bool) →
     waits_for old.state ballot (places log) ≡ true → taken rules old.state log ≡ Some took.state → took.losses ≡ old.losses →
     lacking ≡ others old.state.id old.state.members →
     mid ≡ record took { state = record took.state { held_in = ballot; role = Installing; lacking = lacking } } →
-    Sends before behind (installs O mid.state mid.state.lacking) sent →
+    Sends before after (installs O mid.state mid.state.lacking) sent →
     new.state ≡ mid.state → new.losses ≡ cond sent mid.losses (one_more mid.losses) →
-    Heard rules old (on_state rules old.state ballot log) unread new before behind
-state_taken {S = S} {C = C} {O = O} {rules = rules} old took mid new ballot log unread lacking before behind sent waits is losses l m sends state count =
+    Heard rules old (on_state rules old.state ballot log) unread new before after
+state_taken {S = S} {C = C} {O = O} {rules = rules} old took mid new ballot log unread lacking before after sent waits is losses l m sends state count =
     let all : CountedReplica S C = record took { state = record took.state { held_in = ballot; role = Installing; lacking = others old.state.id old.state.members } } in
     let same : mid ≡ all =
     m ∙ ap (λ ms. let z : CountedReplica S C = record took { state = record took.state { held_in = ballot; role = Installing; lacking = ms } } in z) l in
-    subst (λ (o : Outcome S C O). Heard rules old o unread new before behind) (sym (on_state-takes rules old.state took.state ballot log waits is))
-    (went_sent old _ new before behind sent
-    (subst (λ (z : CountedReplica S C). Sends before behind (installs O z.state z.state.lacking) sent) same sends)
+    subst (λ (o : Outcome S C O). Heard rules old o unread new before after) (sym (on_state-takes rules old.state took.state ballot log waits is))
+    (went_sent old _ new before after sent
+    (subst (λ (z : CountedReplica S C). Sends before after (installs O z.state z.state.lacking) sent) same sends)
     (state ∙ ap (λ (z : CountedReplica S C). z.state) same)
     (count ∙ ap (λ (z : CountedReplica S C). cond sent z.losses (one_more z.losses)) same ∙ ap (λ n. cond sent n (one_more n)) losses))
 
@@ -154,21 +154,21 @@ taken_is_read {S = S} {C = C} {P = P} rules r took log may is unread = by_log (r
 
 -- Install that is taken, one that counts as lost, and one that is only answered
 pub install_taken : {S C O : Type 0} {rules : Rules S C O} (old took mid new : CountedReplica S C) (from ballot held : ℕ) (log : Log C) (unread : Bool)
-    (before behind : List (Effect C O)) →
+    (before after : List (Effect C O)) →
     lacks old.state ballot held ≡ true → held ≡ places log → taken rules old.state log ≡ Some took.state → took.losses ≡ old.losses →
     took.state.id ≡ old.state.id →
     mid ≡ record took { state = record took.state { joined = ballot; held_in = ballot; role = Backup } } →
-    Says mid (message_to O mid.state.id (Installed ballot held) from ∷ []) new before behind →
-    Heard rules old (on_install rules old.state from ballot log) unread new before behind
-install_taken {S = S} {C = C} {O = O} {rules = rules} old took mid new from ballot held log unread before behind may h is losses id m said =
+    Says mid (message_to O mid.state.id (Installed ballot held) from ∷ []) new before after →
+    Heard rules old (on_install rules old.state from ballot log) unread new before after
+install_taken {S = S} {C = C} {O = O} {rules = rules} old took mid new from ballot held log unread before after may h is losses id m said =
     let may' = subst (λ k. lacks old.state ballot k ≡ true) h may in
     let same : mid ≡ record { state = record took.state { joined = ballot; held_in = ballot; role = Backup }; losses = old.losses } =
     m ∙ ap (λ n. let z : CountedReplica S C = record { state = record took.state { joined = ballot; held_in = ballot; role = Backup }; losses = n } in z) losses in
     let named : mid.state.id ≡ old.state.id = ap (λ (z : CountedReplica S C). z.state.id) same ∙ id in
-    subst (λ (o : Outcome S C O). Heard rules old o unread new before behind) (sym (on_install-takes rules old.state took.state from ballot log may' is))
-    (went_said old mid _ new before behind same
-    (subst (λ k. Says mid (message_to O old.state.id (Installed ballot k) from ∷ []) new before behind) h
-    (subst (λ k. Says mid (message_to O k (Installed ballot held) from ∷ []) new before behind) named said)))
+    subst (λ (o : Outcome S C O). Heard rules old o unread new before after) (sym (on_install-takes rules old.state took.state from ballot log may' is))
+    (went_said old mid _ new before after same
+    (subst (λ k. Says mid (message_to O old.state.id (Installed ballot k) from ∷ []) new before after) h
+    (subst (λ k. Says mid (message_to O k (Installed ballot held) from ∷ []) new before after) named said)))
 
 pub install_lost : {S C O : Type 0} {rules : Rules S C O} (old new : CountedReplica S C) (from ballot held : ℕ) (log : Log C) (before : List (Effect C O)) →
     lacks old.state ballot held ≡ true → held ≡ places log → new.state ≡ old.state → new.losses ≡ one_more old.losses →
@@ -188,15 +188,15 @@ install_lost {S = S} {C = C} {O = O} {rules = rules} old new from ballot held lo
         let e = ap (λ (o : Outcome S C O). o.effects) (sym (on_install-takes rules old.state took from ballot log may' is)) ∙ quiet.nothing_sent in cc
 
 pub install_answered : {S C O : Type 0} {rules : Rules S C O} (old new : CountedReplica S C) (from ballot held : ℕ) (log : Log C) (unread : Bool)
-    (before behind : List (Effect C O)) →
+    (before after : List (Effect C O)) →
     lacks old.state ballot held ≡ false → (old.state.joined == ballot && old.state.held_in == ballot) ≡ true → held ≡ places log →
-    Says old (message_to O old.state.id (Installed ballot held) from ∷ []) new before behind →
-    Heard rules old (on_install rules old.state from ballot log) unread new before behind
-install_answered {S = S} {C = C} {O = O} {rules = rules} old new from ballot held log unread before behind other here h said =
+    Says old (message_to O old.state.id (Installed ballot held) from ∷ []) new before after →
+    Heard rules old (on_install rules old.state from ballot log) unread new before after
+install_answered {S = S} {C = C} {O = O} {rules = rules} old new from ballot held log unread before after other here h said =
     let off = subst (λ k. lacks old.state ballot k ≡ false) h other in
-    subst (λ (o : Outcome S C O). Heard rules old o unread new before behind) (sym (on_install-answers rules old.state from ballot log off here))
-    (went_said old old _ new before behind refl
-    (subst (λ k. Says old (message_to O old.state.id (Installed ballot k) from ∷ []) new before behind) h said))
+    subst (λ (o : Outcome S C O). Heard rules old o unread new before after) (sym (on_install-answers rules old.state from ballot log off here))
+    (went_said old old _ new before after refl
+    (subst (λ k. Says old (message_to O old.state.id (Installed ballot k) from ∷ []) new before after) h said))
 
 -- Installed of a member that lacked the log: others lack it, or it was the last
 pub installed_noted : {S C : Type 0} (O : Type 0) {rules : Rules S C O} (old new : CountedReplica S C) (from ballot : ℕ) (lacking : List ℕ)
@@ -225,22 +225,22 @@ installed_noted {S = S} {C = C} O {rules = rules} old new from ballot lacking ou
     }
 
 pub installed_last : {S C : Type 0} (O : Type 0) {rules : Rules S C O} (old mid new : CountedReplica S C) (from ballot joined : ℕ) (lacking : List ℕ)
-    (before behind : List (Effect C O)) →
+    (before after : List (Effect C O)) →
     ((old.state.joined == ballot && is_installing old.state.role) && list_any (λ member. member == from) old.state.lacking) ≡ true →
     lacking ≡ others from old.state.lacking → lacking ≡ [] → joined ≡ old.state.joined →
     mid ≡ record old { state = record old.state { lacking = lacking } } →
-    Says mid (message_to O mid.state.id (Activate joined) master ∷ []) new before behind →
-    Went rules old (on_installed O old.state from ballot) new before behind
-installed_last {S = S} {C = C} O {rules = rules} old mid new from ballot joined lacking before behind may l none j m said =
+    Says mid (message_to O mid.state.id (Activate joined) master ∷ []) new before after →
+    Went rules old (on_installed O old.state from ballot) new before after
+installed_last {S = S} {C = C} O {rules = rules} old mid new from ballot joined lacking before after may l none j m said =
     let same : mid ≡ record old { state = record old.state { lacking = others from old.state.lacking } } =
     m ∙ ap (λ ms. let z : CountedReplica S C = record old { state = record old.state { lacking = ms } } in z) l in
-    subst (λ (o : Outcome S C O). Went rules old o new before behind) (sym (on_installed-counts O old.state from ballot may))
-    (went_said old mid _ new before behind same
-    (subst (λ (es : List (Effect C O)). Says mid es new before behind) (by_none (others from old.state.lacking) (sym l ∙ none)) here))
+    subst (λ (o : Outcome S C O). Went rules old o new before after) (sym (on_installed-counts O old.state from ballot may))
+    (went_said old mid _ new before after same
+    (subst (λ (es : List (Effect C O)). Says mid es new before after) (by_none (others from old.state.lacking) (sym l ∙ none)) here))
   where
-    here : Says mid (message_to O old.state.id (Activate old.state.joined) master ∷ []) new before behind
-    here = subst (λ k. Says mid (message_to O old.state.id (Activate k) master ∷ []) new before behind) j
-        (subst (λ (z : CountedReplica S C). Says mid (message_to O z.state.id (Activate joined) master ∷ []) new before behind) m said)
+    here : Says mid (message_to O old.state.id (Activate old.state.joined) master ∷ []) new before after
+    here = subst (λ k. Says mid (message_to O old.state.id (Activate k) master ∷ []) new before after) j
+        (subst (λ (z : CountedReplica S C). Says mid (message_to O z.state.id (Activate joined) master ∷ []) new before after) m said)
 
     by_none : (ms : List ℕ) → ms ≡ [] →
         message_to O old.state.id (Activate old.state.joined) master ∷ [] ≡ activates O (record old.state { lacking = ms }) ms

@@ -65,18 +65,18 @@ commit_gives {S = S} {C = C} {O = O} rules r held machine log progress start mid
 -- a command that was sent, put into the log and committed is added
 pub add_done : {S C O : Type 0} (rules : Rules S C O) (old grown after new : CountedReplica S C) (command : C)
     (log : Log C) (progress progress' : List Progress) (long held : ℕ) (sent told whole : Bool)
-    (start mid behind : List (Effect C O)) →
+    (start mid later : List (Effect C O)) →
     Sends start mid (message_to_followed O old.state.id (Append old.state.joined (places old.state.log) command) progress) sent →
     progress ≡ old.state.progress →
     log ≡ pushed old.state.log command →
     grown ≡ record { state = record old.state { log = log }; losses = old.losses } →
     long ≡ places log → progress' ≡ old.state.progress → held ≡ least long progress' →
     after ≡ record { state = (commit_at rules grown.state held).state; losses = grown.losses } →
-    Sends mid behind (commit_at rules grown.state held).effects told →
+    Sends mid later (commit_at rules grown.state held).effects told →
     whole ≡ (sent && told) →
     new ≡ record { state = after.state; losses = cond whole after.losses (one_more after.losses) } →
-    Done old (added rules old.state command) new start behind
-add_done {S = S} {C = C} {O = O} rules old grown after new command log progress progress' long held sent told whole start mid behind
+    Done old (added rules old.state command) new start later
+add_done {S = S} {C = C} {O = O} rules old grown after new command log progress progress' long held sent told whole start mid later
     appends m l p0 n0 m' h0 a commits w n =
     let p : grown ≡ record { state = record old.state { log = pushed old.state.log command }; losses = old.losses } =
     p0 ∙ ap (λ xs. let z : CountedReplica S C = record { state = record old.state { log = xs }; losses = old.losses } in z) l in
@@ -86,16 +86,16 @@ add_done {S = S} {C = C} {O = O} rules old grown after new command log progress 
     let o : Outcome S C O = commit_at rules r (least (places (pushed old.state.log command)) old.state.progress) in
     let same : commit_at rules grown.state held ≡ o =
     ap (λ (z : CountedReplica S C). commit_at rules z.state held) p ∙ ap (commit_at rules r) h in
-    let all : Sends start behind (message_to_followed O old.state.id (Append old.state.joined (places old.state.log) command) old.state.progress ++ o.effects) (sent && told) =
+    let all : Sends start later (message_to_followed O old.state.id (Append old.state.joined (places old.state.log) command) old.state.progress ++ o.effects) (sent && told) =
     Sends-then
     (subst (λ xs. Sends start mid (message_to_followed O old.state.id (Append old.state.joined (places old.state.log) command) xs) sent) m appends)
-    (subst (λ (z : Outcome S C O). Sends mid behind z.effects told) same commits) in
+    (subst (λ (z : Outcome S C O). Sends mid later z.effects told) same commits) in
     let state : new.state ≡ o.state =
     ap (λ (z : CountedReplica S C). z.state) n ∙ ap (λ (z : CountedReplica S C). z.state) a
     ∙ ap (λ (z : Outcome S C O). z.state) same in
     let losses : after.losses ≡ old.losses =
     ap (λ (z : CountedReplica S C). z.losses) a ∙ ap (λ (z : CountedReplica S C). z.losses) p in
-    subst (λ (z : Outcome S C O). Done old z new start behind) (sym (added-is rules old.state command))
+    subst (λ (z : Outcome S C O). Done old z new start later) (sym (added-is rules old.state command))
     (record {
       given = all.given;
       appended = all.appended;

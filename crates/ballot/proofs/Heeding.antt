@@ -14,7 +14,7 @@ use Rattle.ballot_base.specs.declared.status.Role.TheVariants.{Backup, Fetching,
 use Rattle.ballot_base.specs.Replica.{ReplicaState, is_fetching, is_installing, others, progress_at}
 use Rattle.ballot_base.specs.Applying.{applied_to}
 use Rattle.ballot_base.specs.Sending.{Outcome, nothing_done, message_to_each, message_to_followed}
-use Rattle.ballot_base.specs.Serving.{least, raised, raised_progress, follows, leads, commit_at, on_append, on_held, on_commit, appends_behind, on_tick_active}
+use Rattle.ballot_base.specs.Serving.{least, raised, raised_progress, follows, leads, commit_at, on_append, on_held, on_commit, appends_after, on_tick_active}
 use Rattle.ballot_base.specs.Logs.{Log, places}
 use Rattle.ballot_base.specs.Taking.{taken, with_places, with_snapshot}
 use Rattle.ballot_base.specs.Unread.{is_unread, reads_none}
@@ -63,8 +63,8 @@ moves {P = P} member held (x ∷ progress) some same =
   where
     by_one : raised_progress member held x ≡ x → (rises member held progress ≡ true → P) →
         ((x.member == member && nat_lt x.held held) ≡ true) ⊎ (rises member held progress ≡ true) → P
-    by_one head behind (inr e) = behind e
-    by_one head behind (inl e) =
+    by_one head after (inr e) = after e
+    by_one head after (inl e) =
         let p = and_parts (x.member == member) (nat_lt x.held held) e in
         let low = ltb-true x.held held p.1 in
         let h : max x.held held ≡ x.held =
@@ -89,14 +89,14 @@ taken_out from [] some same = cc
 taken_out {P = P} from (m ∷ members) some same = by_one (λ a b. taken_out from members a b) (cases_Bool (m == from))
   where
     by_one : (list_any (λ m. m == from) members ≡ true → others from members ≡ members → P) → ((m == from) ≡ true) ⊎ ((m == from) ≡ false) → P
-    by_one behind (inl e) =
+    by_one after (inl e) =
         let f : others from (m ∷ members) ≡ others from members = rw e refl in
         let g = ap length (sym f ∙ same) in let h = shorter from members in absurd (omega (arith, g, h))
-    by_one behind (inr e) =
+    by_one after (inr e) =
         let f : others from (m ∷ members) ≡ m ∷ others from members = rw e refl in
         let g : m ∷ others from members ≡ m ∷ members = sym f ∙ same in
         let rest : others from members ≡ members = cc in
-        behind (sym (ap (λ b. b || list_any (λ m. m == from) members) e) ∙ some) rest
+        after (sym (ap (λ b. b || list_any (λ m. m == from) members) e) ∙ some) rest
 
 -- Installed, and Activated
 counts_on : {S C P : Type 0} (O : Type 0) (r : ReplicaState S C) (from b : ℕ) →
@@ -317,18 +317,18 @@ heeds_exactly {O = O} rules r from body heeds is = (
 told_some : {S C : Type 0} {P : Type 0} (O : Type 0) (r : ReplicaState S C) (p : Progress) (progress : List Progress) → r.progress ≡ p ∷ progress →
     on_tick_active O r ≡ nothing_done O r → P
 told_some {S = S} {C = C} O r p progress e f =
-    let behind : List (Effect C O) = appends_behind O r.id r.joined r.log r.progress in
+    let after : List (Effect C O) = appends_after O r.id r.joined r.log r.progress in
     let tell : List Progress → List (Effect C O) = message_to_followed O r.id (Commit r.joined r.committed) in
-    let g : length (behind ++ tell r.progress) ≡ 0 = ap (λ (z : Outcome S C O). length z.effects) (sym (on_tick_active-is O r) ∙ f) in
+    let g : length (after ++ tell r.progress) ≡ 0 = ap (λ (z : Outcome S C O). length z.effects) (sym (on_tick_active-is O r) ∙ f) in
     let h : length (tell r.progress) ≡ suc (length (tell progress)) = ap (λ ps. length (tell ps)) e in
-    let long = length-append behind (tell r.progress) in absurd (omega (arith, g, h, long))
+    let long = length-append after (tell r.progress) in absurd (omega (arith, g, h, long))
 
 told_none : {S C : Type 0} (O : Type 0) (r : ReplicaState S C) → r.progress ≡ [] → on_tick_active O r ≡ nothing_done O r
 told_none {S = S} {C = C} O r e =
     on_tick_active-is O r
     ∙ ap (λ ps. let o : Outcome S C O = record {
       state = r;
-      effects = appends_behind O r.id r.joined r.log ps ++ message_to_followed O r.id (Commit r.joined r.committed) ps;
+      effects = appends_after O r.id r.joined r.log ps ++ message_to_followed O r.id (Commit r.joined r.committed) ps;
     } in o) e
 
 asked_some : {S C : Type 0} {P : Type 0} (O : Type 0) (r : ReplicaState S C) (m : ℕ) (members : List ℕ) → r.previous_members ≡ m ∷ members →

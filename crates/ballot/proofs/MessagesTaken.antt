@@ -21,8 +21,8 @@ use Rattle.ballot.specs.Inside.{Heard, Went}
 use Rattle.ballot_base.specs.lists.Lists.{IsPrefixOf}
 
 -- such a step is one with losses that was counted
-pub went_stepped : {S C O : Type 0} {rules : Rules S C O} {old : CountedReplica S C} {o : Outcome S C O} {unread : Bool} {new : CountedReplica S C} {before behind : List (Effect C O)} →
-    Heard rules old o unread new before behind → Stepped rules old o new before behind
+pub went_stepped : {S C O : Type 0} {rules : Rules S C O} {old : CountedReplica S C} {o : Outcome S C O} {unread : Bool} {new : CountedReplica S C} {before later : List (Effect C O)} →
+    Heard rules old o unread new before later → Stepped rules old o new before later
 went_stepped {rules = rules} {old = old} {o = o} {unread = unread} {new = new} w =
     record { given = w.given; appended = w.appended; steps = by_way w.way }
   where
@@ -33,8 +33,8 @@ went_stepped {rules = rules} {old = old} {o = o} {unread = unread} {new = new} w
     by_way (inr e) = inr (e.0, e.1)
 
 -- a quiet step is done exactly, if no snapshot has to be read
-pub went_quiet : {S C O : Type 0} {rules : Rules S C O} {old : CountedReplica S C} {o : Outcome S C O} {unread : Bool} {new : CountedReplica S C} {before behind : List (Effect C O)} →
-    Heard rules old o unread new before behind → IsQuiet old.state o → unread ≡ false → new ≡ record { state = o.state; losses = old.losses }
+pub went_quiet : {S C O : Type 0} {rules : Rules S C O} {old : CountedReplica S C} {o : Outcome S C O} {unread : Bool} {new : CountedReplica S C} {before later : List (Effect C O)} →
+    Heard rules old o unread new before later → IsQuiet old.state o → unread ≡ false → new ≡ record { state = o.state; losses = old.losses }
 went_quiet {S = S} {C = C} {rules = rules} {old = old} {o = o} {unread = unread} {new = new} w quiet read = by_way w.way
   where
     by_way : ((new.state ≡ o.state) × (w.given ≡ o.effects) × (new.losses ≡ old.losses))
@@ -56,10 +56,10 @@ went_same {S = S} {C = C} {O = O} {rules = rules} old o out e =
     }
 
 -- the row was done, except messages that were lost
-pub went_sent : {S C O : Type 0} {rules : Rules S C O} {unread : Bool} (old : CountedReplica S C) (o : Outcome S C O) (new : CountedReplica S C) (before behind : List (Effect C O))
-    (whole : Bool) → Sends before behind o.effects whole → new.state ≡ o.state →
-    new.losses ≡ cond whole old.losses (one_more old.losses) → Heard rules old o unread new before behind
-went_sent {S = S} {C = C} {O = O} {rules = rules} {unread = unread} old o new before behind whole sent state losses =
+pub went_sent : {S C O : Type 0} {rules : Rules S C O} {unread : Bool} (old : CountedReplica S C) (o : Outcome S C O) (new : CountedReplica S C) (before later : List (Effect C O))
+    (whole : Bool) → Sends before later o.effects whole → new.state ≡ o.state →
+    new.losses ≡ cond whole old.losses (one_more old.losses) → Heard rules old o unread new before later
+went_sent {S = S} {C = C} {O = O} {rules = rules} {unread = unread} old o new before later whole sent state losses =
     record {
       given = sent.given;
       appended = sent.appended;
@@ -74,26 +74,26 @@ went_sent {S = S} {C = C} {O = O} {rules = rules} {unread = unread} old o new be
     by_whole false exact idle e = inr (inl (state, sent.thinned), e, λ quiet. let h = idle quiet.nothing_sent in cc)
 
 -- nothing was done: there was no memory, or a snapshot does not thaw
-pub went_lost : {S C O : Type 0} {rules : Rules S C O} {unread : Bool} (old : CountedReplica S C) (o : Outcome S C O) (new : CountedReplica S C) (before behind : List (Effect C O)) →
-    new.state ≡ old.state → new.losses ≡ one_more old.losses → behind ≡ before → (IsQuiet old.state o → unread ≡ true) →
-    Heard rules old o unread new before behind
-went_lost old o new before behind state losses same busy =
+pub went_lost : {S C O : Type 0} {rules : Rules S C O} {unread : Bool} (old : CountedReplica S C) (o : Outcome S C O) (new : CountedReplica S C) (before later : List (Effect C O)) →
+    new.state ≡ old.state → new.losses ≡ one_more old.losses → later ≡ before → (IsQuiet old.state o → unread ≡ true) →
+    Heard rules old o unread new before later
+went_lost old o new before later state losses same busy =
     record {
       given = [];
       appended = same ∙ sym (append-nil before);
       way = inr (inr (inl (state, refl)), losses, busy);
     }
 
-pub went_ignored : {S C O : Type 0} {rules : Rules S C O} {unread : Bool} (old : CountedReplica S C) (o : Outcome S C O) (new : CountedReplica S C) (before behind : List (Effect C O)) →
-    new.state ≡ old.state → new.losses ≡ one_more old.losses → behind ≡ before → (IsQuiet old.state o → ⊥) →
-    Heard rules old o unread new before behind
-went_ignored old o new before behind state losses same busy = went_lost old o new before behind state losses same (λ quiet. absurd (busy quiet))
+pub went_ignored : {S C O : Type 0} {rules : Rules S C O} {unread : Bool} (old : CountedReplica S C) (o : Outcome S C O) (new : CountedReplica S C) (before later : List (Effect C O)) →
+    new.state ≡ old.state → new.losses ≡ one_more old.losses → later ≡ before → (IsQuiet old.state o → ⊥) →
+    Heard rules old o unread new before later
+went_ignored old o new before later state losses same busy = went_lost old o new before later state losses same (λ quiet. absurd (busy quiet))
 
 -- the replica stopped, because memory ran out
-pub went_halted : {S C O : Type 0} {rules : Rules S C O} {unread : Bool} (old : CountedReplica S C) (o : Outcome S C O) (new : CountedReplica S C) (before behind : List (Effect C O)) →
-    new.state ≡ halted rules old.state → new.losses ≡ one_more old.losses → behind ≡ before → (IsQuiet old.state o → ⊥) →
-    Heard rules old o unread new before behind
-went_halted old o new before behind state losses same busy =
+pub went_halted : {S C O : Type 0} {rules : Rules S C O} {unread : Bool} (old : CountedReplica S C) (o : Outcome S C O) (new : CountedReplica S C) (before later : List (Effect C O)) →
+    new.state ≡ halted rules old.state → new.losses ≡ one_more old.losses → later ≡ before → (IsQuiet old.state o → ⊥) →
+    Heard rules old o unread new before later
+went_halted old o new before later state losses same busy =
     record {
       given = [];
       appended = same ∙ sym (append-nil before);
@@ -113,16 +113,16 @@ longer log other c e f =
 
 -- Append that is answered
 pub append_taken : {S C : Type 0} (O : Type 0) {rules : Rules S C O} (old new : CountedReplica S C) (from ballot place : ℕ) (command : C) (log : Log C)
-    (long : ℕ) (before behind : List (Effect C O)) (sent : Bool) →
+    (long : ℕ) (before later : List (Effect C O)) (sent : Bool) →
     follows old.state ballot ≡ true → place ≤ places old.state.log → log ≡ extended place command old.state.log →
-    long ≡ places log → Sends before behind (message_to O old.state.id (Held ballot long) from ∷ []) sent →
+    long ≡ places log → Sends before later (message_to O old.state.id (Held ballot long) from ∷ []) sent →
     new.state ≡ record old.state { log = log } → new.losses ≡ cond sent old.losses (one_more old.losses) →
-    Went rules old (on_append O old.state from ballot place command) new before behind
-append_taken {S = S} {C = C} O {rules = rules} old new from ballot place command log long before behind sent follower within e n sends state losses =
+    Went rules old (on_append O old.state from ballot place command) new before later
+append_taken {S = S} {C = C} O {rules = rules} old new from ballot place command log long before later sent follower within e n sends state losses =
     let row = on_append-takes O old.state from ballot place command follower within in
-    subst (λ (o : Outcome S C O). Went rules old o new before behind) (sym row)
-    (went_sent old _ new before behind sent
-    (subst (λ k. Sends before behind (message_to O old.state.id (Held ballot k) from ∷ []) sent) (n ∙ ap places e) sends)
+    subst (λ (o : Outcome S C O). Went rules old o new before later) (sym row)
+    (went_sent old _ new before later sent
+    (subst (λ k. Sends before later (message_to O old.state.id (Held ballot k) from ∷ []) sent) (n ∙ ap places e) sends)
     (state ∙ ap (λ xs. let r : ReplicaState S C = record old.state { log = xs } in r) e) losses)
 
 -- Append whose command found no memory
@@ -139,14 +139,14 @@ append_lost {S = S} {C = C} O {rules = rules} old new from ballot place command 
 
 -- Held that raises a progress, and commits what all hold then
 pub held_taken : {S C O : Type 0} (rules : Rules S C O) (old after new : CountedReplica S C) (from ballot held n : ℕ)
-    (progress progress' : List Progress) (long : ℕ) (before behind : List (Effect C O)) (told : Bool) →
+    (progress progress' : List Progress) (long : ℕ) (before later : List (Effect C O)) (told : Bool) →
     leads old.state ballot ≡ true → progress ≡ old.state.progress → long ≡ places old.state.log → n ≡ least long (raised from held progress) →
     after ≡ record { state = (commit_at rules old.state n).state; losses = old.losses } →
-    Sends before behind (commit_at rules old.state n).effects told →
+    Sends before later (commit_at rules old.state n).effects told →
     progress' ≡ raised from held after.state.progress →
     new.state ≡ record after.state { progress = progress' } → new.losses ≡ cond told after.losses (one_more after.losses) →
-    Went rules old (on_held rules old.state from ballot held) new before behind
-held_taken {S = S} {C = C} {O = O} rules old after new from ballot held n progress progress' long before behind told leader m l h a sends m' state losses =
+    Went rules old (on_held rules old.state from ballot held) new before later
+held_taken {S = S} {C = C} {O = O} rules old after new from ballot held n progress progress' long before later told leader m l h a sends m' state losses =
     let n' : n ≡ least (places old.state.log) (raised from held old.state.progress) =
     h ∙ ap (λ k. least k (raised from held progress)) l ∙ ap (λ xs. least (places old.state.log) (raised from held xs)) m in
     let row : on_held rules old.state from ballot held ≡ progress_raised from held (commit_at rules old.state n) =
@@ -154,20 +154,20 @@ held_taken {S = S} {C = C} {O = O} rules old after new from ballot held n progre
     ∙ ap (commit_at rules (record old.state { progress = raised from held old.state.progress })) (sym n')
     ∙ commit_at-raised rules old.state from held n in
     let after_state : after.state ≡ (commit_at rules old.state n).state = ap (λ (z : CountedReplica S C). z.state) a in
-    subst (λ (o : Outcome S C O). Went rules old o new before behind) (sym row)
-    (went_sent old _ new before behind told sends
+    subst (λ (o : Outcome S C O). Went rules old o new before later) (sym row)
+    (went_sent old _ new before later told sends
     (state ∙ ap (λ xs. let r : ReplicaState S C = record after.state { progress = xs } in r) m'
     ∙ ap (λ (r : ReplicaState S C). let z : ReplicaState S C = record r { progress = raised from held r.progress } in z) after_state)
     (losses ∙ ap (λ k. cond told k (one_more k)) (ap (λ (z : CountedReplica S C). z.losses) a)))
 
 -- Held whose places found no memory when they were applied
 pub held_halted : {S C O : Type 0} (rules : Rules S C O) (old after new : CountedReplica S C) (from ballot held n : ℕ)
-    (progress : List Progress) (long : ℕ) (before behind : List (Effect C O)) →
+    (progress : List Progress) (long : ℕ) (before later : List (Effect C O)) →
     leads old.state ballot ≡ true → progress ≡ old.state.progress → long ≡ places old.state.log → n ≡ least long (raised from held progress) →
     old.state.committed < n → after ≡ record { state = halted rules old.state; losses = old.losses } →
-    new.state ≡ after.state → new.losses ≡ one_more after.losses → behind ≡ before →
-    Went rules old (on_held rules old.state from ballot held) new before behind
-held_halted {S = S} {C = C} {O = O} rules old after new from ballot held n progress long before behind leader m l h above a state losses same =
+    new.state ≡ after.state → new.losses ≡ one_more after.losses → later ≡ before →
+    Went rules old (on_held rules old.state from ballot held) new before later
+held_halted {S = S} {C = C} {O = O} rules old after new from ballot held n progress long before later leader m l h above a state losses same =
     let n' : n ≡ least (places old.state.log) (raised from held old.state.progress) =
     h ∙ ap (λ k. least k (raised from held progress)) l ∙ ap (λ xs. least (places old.state.log) (raised from held xs)) m in
     let row : on_held rules old.state from ballot held ≡ progress_raised from held (commit_at rules old.state n) =
@@ -176,8 +176,8 @@ held_halted {S = S} {C = C} {O = O} rules old after new from ballot held n progr
     ∙ commit_at-raised rules old.state from held n in
     let goes : (commit_at rules old.state n).state.committed ≡ n =
     ap (λ (o : Outcome S C O). o.state.committed) (commit_at-goes rules old.state n above) in
-    subst (λ (o : Outcome S C O). Went rules old o new before behind) (sym row)
-    (went_halted old _ new before behind
+    subst (λ (o : Outcome S C O). Went rules old o new before later) (sym row)
+    (went_halted old _ new before later
     (state ∙ ap (λ (z : CountedReplica S C). z.state) a)
     (losses ∙ ap (λ (z : CountedReplica S C). one_more z.losses) a) same
     (λ quiet. let e : (commit_at rules old.state n).state.committed ≡ old.state.committed = quiet.same_committed in omega (arith, e, goes)))
@@ -232,7 +232,7 @@ pub written_back : {X : Type 0} (n : ℕ) (xs ys : List X) → length xs ≡ n �
 written_back n xs ys e = take_at xs (drop (length xs) ys) n e
 
 -- effects of a call that stopped are undone
-pub taken_back : {C O : Type 0} {before behind : List (Effect C O)} (back : List (Effect C O)) (n : ℕ) →
-    IsPrefixOf before behind → n ≡ length before → back ≡ take n behind → back ≡ before
+pub taken_back : {C O : Type 0} {before later : List (Effect C O)} (back : List (Effect C O)) (n : ℕ) →
+    IsPrefixOf before later → n ≡ length before → back ≡ take n later → back ≡ before
 taken_back {before = before} back n grew e cut =
     cut ∙ ap (take n) grew.is ∙ take_at before grew.rest n (sym e)

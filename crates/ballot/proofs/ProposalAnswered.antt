@@ -25,8 +25,8 @@ stays_step {S = S} {C = C} {O = O} rules old o out e =
     }
 
 -- a step that was done with messages missing is one with losses
-pub done_steps : {S C O : Type 0} {rules : Rules S C O} {old : CountedReplica S C} {o : Outcome S C O} {new : CountedReplica S C} {before behind : List (Effect C O)} →
-    Done old o new before behind → Stepped rules old o new before behind
+pub done_steps : {S C O : Type 0} {rules : Rules S C O} {old : CountedReplica S C} {o : Outcome S C O} {new : CountedReplica S C} {before after : List (Effect C O)} →
+    Done old o new before after → Stepped rules old o new before after
 done_steps {S = S} {C = C} {rules = rules} {old = old} {o = o} {new = new} d =
     record {
       given = d.given;
@@ -41,9 +41,9 @@ done_steps {S = S} {C = C} {rules = rules} {old = old} {o = o} {new = new} d =
 
 -- each answer of a proposal is that of a step
 pub answered_steps : {S C O T : Type 0} {rules : Rules S C O} (result : Result T ProposeError) {old : CountedReplica S C} {o : Outcome S C O}
-    {new : CountedReplica S C} {before behind : List (Effect C O)} →
-    MatchResult result (λ _. Done old o new before behind) (λ e. Lacks rules e old new) →
-    OnErr result (behind ≡ before) → Stepped rules old o new before behind
+    {new : CountedReplica S C} {before after : List (Effect C O)} →
+    MatchResult result (λ _. Done old o new before after) (λ e. Lacks rules e old new) →
+    OnErr result (after ≡ before) → Stepped rules old o new before after
 answered_steps (Ok x) d same = done_steps d
 answered_steps (Err NotActive) d same = absurd d
 answered_steps (Err LogFull) d same = absurd d
@@ -62,27 +62,27 @@ answered_steps {S = S} {C = C} (Err Halted) {old = old} {new = new} {before = be
 
 -- an active primary with room adds what is proposed
 pub answered_proposed : {S C O T : Type 0} (rules : Rules S C O) (old : CountedReplica S C) (command : C)
-    (result : Result T ProposeError) (new : CountedReplica S C) (before behind : List (Effect C O)) →
+    (result : Result T ProposeError) (new : CountedReplica S C) (before after : List (Effect C O)) →
     is_active old.state.role ≡ true → places old.state.log < most_places →
-    MatchResult result (λ _. Done old (added rules old.state command) new before behind) (λ e. Lacks rules e old new) →
-    OnErr result (behind ≡ before) → Stepped rules old (proposed rules old.state command) new before behind
-answered_proposed {S = S} {C = C} {O = O} rules old command result new before behind active room d same =
-    subst (λ (o : Outcome S C O). Stepped rules old o new before behind)
+    MatchResult result (λ _. Done old (added rules old.state command) new before after) (λ e. Lacks rules e old new) →
+    OnErr result (after ≡ before) → Stepped rules old (proposed rules old.state command) new before after
+answered_proposed {S = S} {C = C} {O = O} rules old command result new before after active room d same =
+    subst (λ (o : Outcome S C O). Stepped rules old o new before after)
     (sym (proposed-adds rules old.state command active room)) (answered_steps result d same)
 
 -- the replica stopped exactly if Halted is answered
 pub answered_halted : {S C O T : Type 0} (rules : Rules S C O) (result : Result T ProposeError) (old : CountedReplica S C) (o : Outcome S C O)
-    (new : CountedReplica S C) (before behind : List (Effect C O)) →
-    MatchResult result (λ _. Done old o new before behind) (λ e. Lacks rules e old new) →
+    (new : CountedReplica S C) (before after : List (Effect C O)) →
+    MatchResult result (λ _. Done old o new before after) (λ e. Lacks rules e old new) →
     old.state.stopped ≡ false → o.state.stopped ≡ old.state.stopped →
     (IsErrOf result Halted → new.state.stopped ≡ true) × (new.state.stopped ≡ true → IsErrOf result Halted)
-answered_halted {S = S} {C = C} rules (Ok x) old o new before behind d running kept =
+answered_halted {S = S} {C = C} rules (Ok x) old o new before after d running kept =
     let e : new.state.stopped ≡ false = ap (λ (z : ReplicaState S C). z.stopped) d.state ∙ kept ∙ running in
     (λ h. cc, λ h. cc)
-answered_halted rules (Err NotActive) old o new before behind d running kept = absurd d
-answered_halted rules (Err LogFull) old o new before behind d running kept = absurd d
-answered_halted {S = S} {C = C} rules (Err Memory) old o new before behind d running kept =
+answered_halted rules (Err NotActive) old o new before after d running kept = absurd d
+answered_halted rules (Err LogFull) old o new before after d running kept = absurd d
+answered_halted {S = S} {C = C} rules (Err Memory) old o new before after d running kept =
     let e : new.state.stopped ≡ false = ap (λ (z : CountedReplica S C). z.state.stopped) d ∙ running in
     (λ h. cc, λ h. cc)
-answered_halted {S = S} {C = C} rules (Err Halted) old o new before behind d running kept =
+answered_halted {S = S} {C = C} rules (Err Halted) old o new before after d running kept =
     (λ h. ap (λ (z : CountedReplica S C). z.state.stopped) d, λ h. refl)

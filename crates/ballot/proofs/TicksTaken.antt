@@ -10,7 +10,7 @@ use Rattle.ballot_base.specs.Replica.{ReplicaState, CountedReplica}
 use Rattle.ballot_base.specs.Logs.{Log}
 use Rattle.ballot_base.specs.Losses.{IsQuiet, one_more}
 use Rattle.ballot_base.specs.Sending.{Outcome, message_to_followed}
-use Rattle.ballot_base.specs.Serving.{appends_behind}
+use Rattle.ballot_base.specs.Serving.{appends_after}
 use Rattle.ballot_base.specs.Protocol.{replica_step, ticked}
 use Rattle.ballot_base.specs.Protocol.Input.{Ticks}
 use Rattle.ballot_base.proofs.MessageRows.{on_tick_active-is}
@@ -27,40 +27,40 @@ ticked-state O r Installing = refl
 ticked-state {S = S} {C = C} O r Active = ap (λ (o : Outcome S C O). o.state) (on_tick_active-is O r)
 
 -- its messages are sent, except those that are lost
-pub tick_taken : {S C O : Type 0} (rules : Rules S C O) (old new : CountedReplica S C) (before behind : List (Effect C O)) (whole : Bool) →
-    Sends before behind (ticked O old.state old.state.role).effects whole →
+pub tick_taken : {S C O : Type 0} (rules : Rules S C O) (old new : CountedReplica S C) (before after : List (Effect C O)) (whole : Bool) →
+    Sends before after (ticked O old.state old.state.role).effects whole →
     new.state ≡ old.state → new.losses ≡ cond whole old.losses (one_more old.losses) →
-    Went rules old (replica_step rules old.state Ticks) new before behind
-tick_taken {O = O} rules old new before behind whole sends state losses =
-    went_sent old _ new before behind whole sends (state ∙ sym (ticked-state O old.state old.state.role)) losses
+    Went rules old (replica_step rules old.state Ticks) new before after
+tick_taken {O = O} rules old new before after whole sends state losses =
+    went_sent old _ new before after whole sends (state ∙ sym (ticked-state O old.state old.state.role)) losses
 
 -- a tick that sends nothing leaves the replica whole
-pub tick_quiet : {S C O : Type 0} (rules : Rules S C O) (old new : CountedReplica S C) (before behind : List (Effect C O)) →
-    Went rules old (replica_step rules old.state Ticks) new before behind →
+pub tick_quiet : {S C O : Type 0} (rules : Rules S C O) (old new : CountedReplica S C) (before after : List (Effect C O)) →
+    Went rules old (replica_step rules old.state Ticks) new before after →
     IsQuiet old.state (replica_step rules old.state Ticks) → new ≡ old
-tick_quiet {S = S} {C = C} {O = O} rules old new before behind went quiet =
+tick_quiet {S = S} {C = C} {O = O} rules old new before after went quiet =
     went_quiet went quiet refl
     ∙ ap (λ s. let z : CountedReplica S C = record { state = s; losses = old.losses } in z) (ticked-state O old.state old.state.role)
 
 -- what an active primary says again is said in two sends
 pub told : {C : Type 0} (O : Type 0) (id joined committed : ℕ) (log log' : Log C) (progress progress' shown : List Progress)
-    (before mid behind : List (Effect C O)) (first second : Bool) →
+    (before mid after : List (Effect C O)) (first second : Bool) →
     log' ≡ log → progress ≡ shown → progress' ≡ shown →
-    Sends before mid (appends_behind O id joined log' progress) first →
-    Sends mid behind (message_to_followed O id (Commit joined committed) progress') second →
-    Sends before behind (appends_behind O id joined log shown ++ message_to_followed O id (Commit joined committed) shown) (first && second)
-told O id joined committed log log' progress progress' shown before mid behind first second l p p' sends commits =
+    Sends before mid (appends_after O id joined log' progress) first →
+    Sends mid after (message_to_followed O id (Commit joined committed) progress') second →
+    Sends before after (appends_after O id joined log shown ++ message_to_followed O id (Commit joined committed) shown) (first && second)
+told O id joined committed log log' progress progress' shown before mid after first second l p p' sends commits =
     Sends-then
-    (subst (λ ps. Sends before mid (appends_behind O id joined log ps) first) p
-    (subst (λ us. Sends before mid (appends_behind O id joined us progress) first) l sends))
-    (subst (λ ps. Sends mid behind (message_to_followed O id (Commit joined committed) ps) second) p' commits)
+    (subst (λ ps. Sends before mid (appends_after O id joined log ps) first) p
+    (subst (λ us. Sends before mid (appends_after O id joined us progress) first) l sends))
+    (subst (λ ps. Sends mid after (message_to_followed O id (Commit joined committed) ps) second) p' commits)
 
 -- and that is its tick
-pub told_ticks : {S C : Type 0} (O : Type 0) (r : ReplicaState S C) (role : Role) (before behind : List (Effect C O)) (whole : Bool) → role ≡ Active →
-    Sends before behind (appends_behind O r.id r.joined r.log r.progress ++ message_to_followed O r.id (Commit r.joined r.committed) r.progress) whole →
-    Sends before behind (ticked O r role).effects whole
-told_ticks {S = S} {C = C} O r role before behind whole e sends =
-    subst (λ (o : Outcome S C O). Sends before behind o.effects whole) (sym (ap (ticked O r) e ∙ on_tick_active-is O r)) sends
+pub told_ticks : {S C : Type 0} (O : Type 0) (r : ReplicaState S C) (role : Role) (before after : List (Effect C O)) (whole : Bool) → role ≡ Active →
+    Sends before after (appends_after O r.id r.joined r.log r.progress ++ message_to_followed O r.id (Commit r.joined r.committed) r.progress) whole →
+    Sends before after (ticked O r role).effects whole
+told_ticks {S = S} {C = C} O r role before after whole e sends =
+    subst (λ (o : Outcome S C O). Sends before after o.effects whole) (sym (ap (ticked O r) e ∙ on_tick_active-is O r)) sends
 
 pub silent_ticks : {S C : Type 0} (O : Type 0) (r : ReplicaState S C) (role : Role) (out : List (Effect C O)) → role ≡ Backup →
     Sends out out (ticked O r role).effects true

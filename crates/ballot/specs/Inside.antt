@@ -14,9 +14,9 @@ use Rattle.ballot.specs.declared.error.ProposeError.TheVariants.{NotActive, LogF
 
 -- a replica sent messages, and counted it if some were lost
 pub record Says {S C O : Type 0} (old : CountedReplica S C) (wanted : List (Effect C O))
-    (new : CountedReplica S C) (before behind : List (Effect C O)) : Type 0 where
+    (new : CountedReplica S C) (before after : List (Effect C O)) : Type 0 where
   pub whole : Bool
-  pub sends : Sends before behind wanted whole
+  pub sends : Sends before after wanted whole
   pub counted : new
       ≡ record old { losses = if whole then old.losses else one_more old.losses }
 
@@ -24,9 +24,9 @@ pub record Says {S C O : Type 0} (old : CountedReplica S C) (wanted : List (Effe
 -- a message, a place, or a snapshot that has to be read and does not thaw
 pub record Heard {S C O : Type 0} (rules : Rules S C O) (old : CountedReplica S C)
     (outcome : Outcome S C O)
-    (unread : Bool) (new : CountedReplica S C) (before behind : List (Effect C O)) : Type 0 where
+    (unread : Bool) (new : CountedReplica S C) (before after : List (Effect C O)) : Type 0 where
   pub given : List (Effect C O)
-  pub appended : behind ≡ before ++ given
+  pub appended : after ≡ before ++ given
   pub way : ((new.state ≡ outcome.state) × (given ≡ outcome.effects) × (new.losses ≡ old.losses))
       ⊎ (Loses rules old.state outcome new.state given
       × (new.losses ≡ one_more old.losses)
@@ -49,11 +49,11 @@ Lacks rules Halted old new =
 -- a primary that has become active sends the others the last place of its log, and commits what all
 -- hold; messages that were lost are counted
 pub record Begins {S C O : Type 0} (rules : Rules S C O) (old new : CountedReplica S C)
-    (before behind : List (Effect C O)) : Type 0 where
+    (before after : List (Effect C O)) : Type 0 where
   pub whole : Bool
   pub state : new.state ≡ (commit rules old.state).state
   pub sends : (front : Log C) (last : C) → old.state.log ≡ pushed front last →
-      Sends before behind
+      Sends before after
       (message_to_followed O old.state.id
       (Append old.state.joined (places front) last) old.state.progress
       ++ (commit rules old.state).effects) whole

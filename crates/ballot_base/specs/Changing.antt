@@ -1,8 +1,10 @@
 -- Changing.antt: the rows of the protocol between ballots, from NewBallot to Install, and the
 -- ticks of a new primary. A message that a row's condition does not cover changes nothing.
-use Rattle.std.specs.Prelude.{ℕ, Bool, Option, Some, None, List, [], ◌∷◌, ◌==◌, ◌&&◌, ◌||◌, nat_lt, nat_le, if◌then◌else◌}
+use Rattle.std.specs.Prelude.{ℕ, Bool, Option, Some, None, List, [], ◌∷◌, ◌==◌, ◌&&◌, ◌||◌, nat_lt}
+use Rattle.std.specs.Prelude.{nat_le, if◌then◌else◌}
 use Rattle.machine.specs.Machine.{Rules}
-use Rattle.ballot_base.specs.declared.message.Body.TheVariants.{Join, State, Install, Installed, Activate}
+use Rattle.ballot_base.specs.declared.message.Body.TheVariants.{Join, State, Install}
+use Rattle.ballot_base.specs.declared.message.Body.TheVariants.{Installed, Activate}
 use Rattle.ballot_base.specs.declared.message.Effect.{Effect}
 use Rattle.ballot_base.specs.declared.status.Role.TheVariants.{Backup, Fetching, Installing}
 use Rattle.ballot_base.specs.Sending.{Outcome, nothing_done, message_to, message_to_each, master}

@@ -1,5 +1,6 @@
 -- Logs.antt: a log with a snapshot in place of the places below its base.
-use Rattle.std.specs.Prelude.{ℕ, ◌+◌, ◌-◌, List, [], ◌∷◌, ◌++◌, length, take, drop, slice_get, Option, None, nat_lt, if◌then◌else◌}
+use Rattle.std.specs.Prelude.{ℕ, ◌+◌, ◌-◌, List, [], ◌∷◌, ◌++◌, length, take, drop, slice_get}
+use Rattle.std.specs.Prelude.{Option, None, nat_lt, if◌then◌else◌}
 
 -- the bytes of the machine as it is at the base (none at base 0), and the commands from there on
 pub record Log (C : Type 0) : Type 0 where

@@ -40,9 +40,9 @@ Steps rules old outcome new given =
 -- the step was done, perhaps with messages missing, which was counted
 pub record Done {S C O : Type 0} (old : CountedReplica S C) (outcome : Outcome S C O)
     (new : CountedReplica S C)
-    (before behind : List (Effect C O)) : Type 0 where
+    (before after : List (Effect C O)) : Type 0 where
   pub given : List (Effect C O)
-  pub appended : behind ≡ before ++ given
+  pub appended : after ≡ before ++ given
   pub state : new.state ≡ outcome.state
   pub thinned : Thinned given outcome.effects
   pub counted : ((given ≡ outcome.effects) × (new.losses ≡ old.losses))
@@ -58,7 +58,7 @@ pub record IsQuiet {S C O : Type 0} (old : ReplicaState S C) (outcome : Outcome 
 -- a call's effects were appended to what was there, and they are those of the step
 pub record Stepped {S C O : Type 0} (rules : Rules S C O) (old : CountedReplica S C)
     (outcome : Outcome S C O) (new : CountedReplica S C)
-    (before behind : List (Effect C O)) : Type 0 where
+    (before after : List (Effect C O)) : Type 0 where
   pub given : List (Effect C O)
-  pub appended : behind ≡ before ++ given
+  pub appended : after ≡ before ++ given
   pub steps : Steps rules old outcome new given

@@ -1,6 +1,7 @@
 -- Serving.antt: the rows of the protocol inside a ballot: Append, Held, Commit, proposals, ticks.
 -- Receivers are in rising order. A message that no row's condition covers changes nothing.
-use Rattle.std.specs.Prelude.{ℕ, Bool, ◌^◌, List, [], ◌∷◌, ◌++◌, map, min, max, Option, Some, None, ◌==◌, ◌&&◌, nat_lt, nat_le, if◌then◌else◌}
+use Rattle.std.specs.Prelude.{ℕ, Bool, ◌^◌, List, [], ◌∷◌, ◌++◌, map, min, max, Option, Some, None}
+use Rattle.std.specs.Prelude.{◌==◌, ◌&&◌, nat_lt, nat_le, if◌then◌else◌}
 use Rattle.std.specs.List.{flat_map}
 use Rattle.machine.specs.Machine.{Rules}
 use Rattle.ballot_base.specs.declared.message.Body.TheVariants.{Append, Held, Commit}
@@ -8,7 +9,8 @@ use Rattle.ballot_base.specs.declared.message.Effect.{Effect}
 use Rattle.ballot_base.specs.declared.status.Progress.{Progress}
 use Rattle.ballot_base.specs.Applying.{outputs_to, applied_to}
 use Rattle.ballot_base.specs.Logs.{Log, command_at, places, pushed}
-use Rattle.ballot_base.specs.Sending.{Outcome, nothing_done, message_to, message_to_followed, sent_first}
+use Rattle.ballot_base.specs.Sending.{Outcome, nothing_done, message_to}
+use Rattle.ballot_base.specs.Sending.{message_to_followed, sent_first}
 use Rattle.ballot_base.specs.Replica.{ReplicaState, is_active, is_backup}
 
 -- the smallest of a length and all progress
@@ -102,9 +104,9 @@ append_at O id ballot reached None = []
 append_at O id ballot reached (Some command) =
     message_to O id (Append ballot reached.held command) reached.member ∷ []
 
-abbrev pub appends_behind : {C : Type 0} (O : Type 0) →
+abbrev pub appends_after : {C : Type 0} (O : Type 0) →
     ℕ → ℕ → Log C → List Progress → List (Effect C O)
-appends_behind O id ballot log progress =
+appends_after O id ballot log progress =
     flat_map (λ reached. append_at O id ballot reached (command_at log reached.held)) progress
 
 -- an active primary repeats what the other members lack, and what is committed
@@ -112,6 +114,6 @@ unfoldable pub on_tick_active : {S C : Type 0} (O : Type 0) → ReplicaState S C
 on_tick_active O r =
     record {
       state = r;
-      effects = appends_behind O r.id r.joined r.log r.progress
+      effects = appends_after O r.id r.joined r.log r.progress
           ++ message_to_followed O r.id (Commit r.joined r.committed) r.progress;
     }

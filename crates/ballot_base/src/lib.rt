@@ -20,7 +20,7 @@ pub use log::Log;
 pub use machine;
 pub use message::{Body, Effect, Message};
 pub use sending::{
-    MASTER, send, send_appends, send_behind, send_commits, send_installs, send_joins, send_state,
+    MASTER, send, send_after, send_appends, send_commits, send_installs, send_joins, send_state,
 };
 pub use status::{Progress, Role, Status};
 pub use taking::{counted, take_in};

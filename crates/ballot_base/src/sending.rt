@@ -3,7 +3,7 @@
 ghost use Rattle.std.specs.Prelude.{◌≡◌, [], ◌∷◌, IfOk};
 ghost use Rattle.ballot_base.specs.Logs.{command_at};
 ghost use Rattle.ballot_base.specs.Sends.{Sends};
-ghost use Rattle.ballot_base.specs.Serving.{append_at, appends_behind};
+ghost use Rattle.ballot_base.specs.Serving.{append_at, appends_after};
 ghost use Rattle.ballot_base.specs.Sending.{message_to, message_to_each, message_to_followed};
 
 use crate::copying::copy_log;
@@ -94,7 +94,7 @@ pub fn send_appends<M: Machine>(
 }
 
 /// Sends to each node whose progress is below the length of the log the command at its progress.
-pub fn send_behind<M: Machine>(
+pub fn send_after<M: Machine>(
     alloc: Global,
     from: u8,
     ballot: u64,
@@ -103,7 +103,7 @@ pub fn send_behind<M: Machine>(
     out: &mut Vec<Effect<M::Command, M::Output>>,
 ) -> bool
     ensures { Sends out.old.items out.new.items
-        (appends_behind M.Output from ballot log.now progress.now) result }
+        (appends_after M.Output from ballot log.now progress.now) result }
 {
     let mut whole = true;
     for reached in progress {

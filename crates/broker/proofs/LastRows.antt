@@ -10,7 +10,7 @@ use Rattle.std.specs.Map.{keys_of}
 use Rattle.std.proofs.lemmas.Cmp.{nat_list_cmp_total}
 use Rattle.session_base.specs.Counted.{keep, last_of}
 use Rattle.broker_tables.specs.broker_spec.Place.{by_bytes}
-use Rattle.broker_form.specs.Follows.{is_behind}
+use Rattle.broker_form.specs.Follows.{is_after}
 
 less : (o : Ordering) → is_lt o ≡ true → o ≡ Less
 less Less e = refl
@@ -40,18 +40,18 @@ module _ {X : Type 0} where
       omega (arith, a, b, e)
 
   -- a key after the last is after all
-  behind_all : (key : List ℕ) (rows : List (List ℕ × X)) → IsStrictlySortedBy by_bytes (keys_of rows) → is_behind (last_of rows) key ≡ true →
+  after_all : (key : List ℕ) (rows : List (List ℕ × X)) → IsStrictlySortedBy by_bytes (keys_of rows) → is_after (last_of rows) key ≡ true →
       AllByRecursion (λ (row : List ℕ × X). by_bytes row.0 key ≡ Less) rows
   unfolding IsStrictlySortedBy
-  behind_all key [] rising e = tt
-  behind_all key (row ∷ []) rising e = (less (by_bytes row.0 key) e, tt)
-  behind_all key (row ∷ next ∷ rows) rising e =
-      let more = behind_all key (next ∷ rows) rising.1 e in
+  after_all key [] rising e = tt
+  after_all key (row ∷ []) rising e = (less (by_bytes row.0 key) e, tt)
+  after_all key (row ∷ next ∷ rows) rising e =
+      let more = after_all key (next ∷ rows) rising.1 e in
       (nat_list_cmp_total.trans row.0 next.0 key rising.0.0 more.0, more)
 
-  pub insert_last : (key : List ℕ) (value : X) (rows : List (List ℕ × X)) → IsStrictlySortedBy by_bytes (keys_of rows) → is_behind (last_of rows) key ≡ true →
+  pub insert_last : (key : List ℕ) (value : X) (rows : List (List ℕ × X)) → IsStrictlySortedBy by_bytes (keys_of rows) → is_after (last_of rows) key ≡ true →
       insert_entry by_bytes rows key value ≡ rows ++ (key, value) ∷ []
-  insert_last key value rows rising e = by rows (behind_all key rows rising e)
+  insert_last key value rows rising e = by rows (after_all key rows rising e)
     where
       by : (rows : List (List ℕ × X)) → AllByRecursion (λ (row : List ℕ × X). by_bytes row.0 key ≡ Less) rows →
           insert_entry by_bytes rows key value ≡ rows ++ (key, value) ∷ []

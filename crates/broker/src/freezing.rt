@@ -5,7 +5,8 @@ ghost use Rattle.std.specs.List.{flat_map, AllByRecursion};
 ghost use Rattle.session_base.specs.FormLaws.{HasForm};
 ghost use Rattle.broker_tables.specs.broker_spec.Commands.{usual_limits};
 ghost use Rattle.broker_form.specs.InRange.{IsBrokerState};
-ghost use Rattle.broker_form.specs.Writing.{connection_bytes, frozen, retained_bytes, row_bytes, wide_number};
+ghost use Rattle.broker_form.specs.Writing.{connection_bytes, frozen, retained_bytes};
+ghost use Rattle.broker_form.specs.Writing.{row_bytes, wide_number};
 ghost use Rattle.broker_tables.specs.Tables.{state_in};
 ghost use Rattle.broker.specs.Inside.{AreRows, ArePayloads};
 

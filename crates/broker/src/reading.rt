@@ -5,7 +5,8 @@ ghost use Rattle.std.specs.Prelude.{◌≡◌, true, Ok, IfOk};
 ghost use Rattle.packet.specs.ClientId.{is_client};
 ghost use Rattle.packet.specs.packet_base.Outcome.{Gives, Reads};
 ghost use Rattle.session_base.specs.Counted.{keep};
-ghost use Rattle.broker_form.specs.Form.{client_at, connection_at, head_at, name_at, retainable, retained_at, row_at, size_at, wide_number_at};
+ghost use Rattle.broker_form.specs.Form.{client_at, connection_at, head_at, name_at, retainable};
+ghost use Rattle.broker_form.specs.Form.{retained_at, row_at, size_at, wide_number_at};
 
 use broker_tables::ClientRow;
 use broker_tables::broker_spec::{ConnectionId, Window};

@@ -3,11 +3,11 @@
 ghost use Rattle.std.specs.Prelude.{◌≡◌, false, true, [], ◌∷◌, ◌++◌, IfOk, OnOk};
 ghost use Rattle.packet.specs.packet_base.Outcome.{Reads};
 ghost use Rattle.packet.specs.packet_base.Reading.{number_at};
-ghost use Rattle.session_base.specs.Counted.{counted_at, items_behind, last_of, Adds};
+ghost use Rattle.session_base.specs.Counted.{counted_at, items_after, last_of, Adds};
 ghost use Rattle.broker_tables.specs.broker_spec.Connection.{ConnectionName};
 ghost use Rattle.broker_tables.specs.broker_rows.Owners.{owned_by};
 ghost use Rattle.broker_form.specs.Form.{row_at};
-ghost use Rattle.broker_form.specs.Follows.{is_behind, is_taken, row_follows};
+ghost use Rattle.broker_form.specs.Follows.{is_after, is_taken, row_follows};
 ghost use Rattle.broker_tables.specs.Tables.{owners_at};
 ghost use Rattle.broker.specs.Inside.{AreOwned};
 
@@ -71,12 +71,12 @@ impl Rows {
         requires { AreOwned self.now }
         ensures { result ≡ row_follows self.now.sessions.entries (client.now, row.now) }
     {
-        self.is_behind(client) && !self.is_taken(row.connection)
+        self.is_after(client) && !self.is_taken(row.connection)
     }
 
     // Says whether the client is after the last.
-    fn is_behind(&self, client: &ClientId) -> bool
-        ensures { result ≡ is_behind (last_of self.now.sessions.entries) client.now }
+    fn is_after(&self, client: &ClientId) -> bool
+        ensures { result ≡ is_after (last_of self.now.sessions.entries) client.now }
     {
         match self.sessions.last_key_value() {
             Some((last, _)) => last < client,
@@ -112,7 +112,7 @@ impl Rows {
 // Reads this many sessions.
 fn read_rows(alloc: Global, window: Window, count: u16, reader: &mut Reader) -> Result<Rows, Stop>
     ensures exact { Reads (λ rows. rows.sessions.entries) result reader.new
-        (items_behind row_follows (row_at window) count [] reader.old) }
+        (items_after row_follows (row_at window) count [] reader.old) }
     ensures owned { IfOk result AreOwned }
 {
     let mut rows = Rows::new(alloc);

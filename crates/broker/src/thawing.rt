@@ -6,11 +6,11 @@ ghost use Rattle.std.specs.Cmp.Lexicographic.{slice_cmp};
 ghost use Rattle.std.specs.Ordering.{nat_cmp};
 ghost use Rattle.packet.specs.packet_base.Outcome.{Gives, Reads};
 ghost use Rattle.packet.specs.packet_base.Reading.{number_at};
-ghost use Rattle.session_base.specs.Counted.{counted_at, items_behind, last_of, Adds};
+ghost use Rattle.session_base.specs.Counted.{counted_at, items_after, last_of, Adds};
 ghost use Rattle.broker_tables.specs.subs_base.Content.{no_subscriptions};
 ghost use Rattle.broker_tables.specs.subs_base.ListIndex.{content_of};
 ghost use Rattle.broker_form.specs.Form.{broker_at, retained_at};
-ghost use Rattle.broker_form.specs.Follows.{is_behind, topic_follows};
+ghost use Rattle.broker_form.specs.Follows.{is_after, topic_follows};
 ghost use Rattle.broker_tables.specs.Tables.{IsTied, state_in};
 ghost use Rattle.broker_tables.specs.retained.Retained.{IsRising};
 ghost use Rattle.broker.specs.Inside.{AreOwned, state_read, all_held, last_held};
@@ -33,8 +33,8 @@ use std::collections::BTreeMap;
 /// The most topics with a retained publication.
 const MAX_TOPICS: usize = 16_384;
 
-/// Returns the tables of the broker that these bytes are frozen from. Bytes that are not of the form
-/// stop the reading.
+/// Returns the tables of the broker that these bytes are frozen from. Bytes that are not of the
+/// form stop the reading.
 pub(crate) fn thawed_tables(alloc: Global, bytes: &[u8]) -> Result<Tables, Stop>
     ensures exact { Gives state_in result (broker_at bytes.now) }
     ensures tied { IfOk result IsTied }
@@ -83,7 +83,7 @@ fn read_retained(alloc: Global, reader: &mut Reader) -> Result<RetainedStore, St
 fn read_topics(alloc: Global, count: u16, reader: &mut Reader) -> Result<RetainedStore, Stop>
     requires { count ≤ 16384 }
     ensures { Reads (λ x. x) result reader.new
-        (items_behind topic_follows retained_at count [] reader.old) }
+        (items_after topic_follows retained_at count [] reader.old) }
 {
     let mut retained = RetainedStore::new(alloc);
     for _ in 0..count {
@@ -102,7 +102,7 @@ fn add_topic(
     requires { length retained.old < 16384 }
     ensures { Adds topic_follows retained.old (topic, kept) result retained.new }
 {
-    keep(is_behind(retained, &topic))?;
+    keep(is_after(retained, &topic))?;
     match retained.keep(topic, kept) {
         Ok(()) => Ok(()),
         Err(_) => Err(OUT_OF_MEMORY),
@@ -110,8 +110,8 @@ fn add_topic(
 }
 
 // Says whether the topic is after the last.
-fn is_behind(retained: &RetainedStore, topic: &TopicName) -> bool
-    ensures test { result ≡ is_behind (last_of retained.now) topic.now }
+fn is_after(retained: &RetainedStore, topic: &TopicName) -> bool
+    ensures test { result ≡ is_after (last_of retained.now) topic.now }
     ensures rising { IsRising retained.now }
 {
     match retained.iter().next_back() {

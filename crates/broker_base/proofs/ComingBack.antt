@@ -22,7 +22,7 @@ use Rattle.broker_base.proofs.flights.SendsOfStarts.{resent_is}
 use Rattle.broker_base.proofs.QueueAfter.{sound_entries}
 use Rattle.broker_base.proofs.KeptAfter.{kept_with}
 use Rattle.broker_base.proofs.QuietPasts.{no_connection}
-use Rattle.broker_base.proofs.flights.PubrelsBehind.{none_released_ever}
+use Rattle.broker_base.proofs.flights.PubrelsAfter.{none_released_ever}
 
 -- ---- a Connect
 

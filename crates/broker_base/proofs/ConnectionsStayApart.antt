@@ -66,10 +66,10 @@ apart_put x c clean kept w place content (row ∷ rows) is on by_client apart no
         subst (λ (o : Ordering). AreApart (match_ordering o ((c, kept) ∷ (row.0, other) ∷ sessions_left w place content rows) ((row.0, kept) ∷ sessions_left w place content rows) ((row.0, other) ∷ put_session c kept (sessions_left w place content rows)))) (sym e)
         (subst AreApart (put_first c kept (sessions_left w place content rows) (before_left c w place content rows before)) k)
 
-    behind : by_bytes c row.0 ≡ Greater → (o : Option ClientSession) → OnOld row.1.connection o → AreApart (put_session c kept (sessions_left w place content rows)) →
+    after : by_bytes c row.0 ≡ Greater → (o : Option ClientSession) → OnOld row.1.connection o → AreApart (put_session c kept (sessions_left w place content rows)) →
         AreApart (put_session c kept (keyed row.0 o (sessions_left w place content rows)))
-    behind e None old k = k
-    behind e (Some other) old k =
+    after e None old k = k
+    after e (Some other) old k =
         subst (λ (o : Ordering). AreApart (match_ordering o ((c, kept) ∷ (row.0, other) ∷ sessions_left w place content rows) ((row.0, kept) ∷ sessions_left w place content rows) ((row.0, other) ∷ put_session c kept (sessions_left w place content rows)))) (sym e)
         (apart_keyed row.1.connection row.0 (Some other) (put_session c kept (sessions_left w place content rows)) old
         (λ y on_y. let apart_y : same_connection y x ≡ false = same_turned y x ∙ sym (ap (any_connection (same_connection x)) on_y) ∙ nobodys.0 in
@@ -81,7 +81,7 @@ apart_put x c clean kept w place content (row ∷ rows) is on by_client apart no
         AreApart (put_session c kept (keyed row.0 (session_after w place content row.0 row.1) (sessions_left w place content rows)))
     by Less e more = first (row ∷ rows) (e, before_more c row.0 rows e by_client.0) apart nobodys
     by Equal e more = replaced e (session_after w place content row.0 row.1) (subst (λ (b : Client). ComesBefore b rows) (sym (equal_is c row.0 e)) by_client.0) more
-    by Greater e more = behind e (session_after w place content row.0 row.1)
+    by Greater e more = after e (session_after w place content row.0 row.1)
         (old_after w place content row.0 row.1 (is row.0 ∙ ap (λ o. only_if (is_eq o) (Some (x, clean))) e)) more
 
 -- ---- every command

@@ -1,4 +1,4 @@
-pub mod AnswersBehind
+pub mod AnswersAfter
 pub mod AnswersStand
 pub mod ComingBack
 pub mod ConnectionsOfSessions

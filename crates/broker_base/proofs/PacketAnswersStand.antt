@@ -24,8 +24,8 @@ use Rattle.broker_spec.proofs.ClientsInOrder.{same_self}
 use Rattle.broker_base.proofs.SessionsAfter.{at, session_is}
 use Rattle.broker_base.proofs.UntouchedStays.{same_window}
 use Rattle.broker_base.proofs.CopiesOfSessions.{deliveries_are}
-use Rattle.broker_base.proofs.AnswersBehind.{fills_behind, starts_are}
-use Rattle.broker_base.proofs.flights.PubrelsBehind.{pubrels_behind, pubrec_is}
+use Rattle.broker_base.proofs.AnswersAfter.{fills_after, starts_are}
+use Rattle.broker_base.proofs.flights.PubrelsAfter.{pubrels_after, pubrec_is}
 use Rattle.broker_base.proofs.KeptAfter.{kept_now}
 
 -- a packet that leaves nothing ends no connection
@@ -65,21 +65,21 @@ to_all limits later follows past x p owner (d ∷ ds) =
 
 -- ---- the client's answers
 
-behind_puback : (w : ℕ) (x : ConnectionName) (c : Client) (i : ℕ) (old : Option ClientSession) →
-    fills_behind w (commands.Packet x (packets.Puback i)) (Mark.Handled c) c old ≡ handled_of w (packets.Puback i) old
-behind_puback w x c i None = refl
-behind_puback w x c i (Some kept) =
+after_puback : (w : ℕ) (x : ConnectionName) (c : Client) (i : ℕ) (old : Option ClientSession) →
+    fills_after w (commands.Packet x (packets.Puback i)) (Mark.Handled c) c old ≡ handled_of w (packets.Puback i) old
+after_puback w x c i None = refl
+after_puback w x c i (Some kept) =
     ap (λ b. while_connected kept.connection (fill_sends w (if b then on_puback i kept.state.queue.in_flight else kept.state.queue.in_flight) kept.state.queue.waiting)) (same_self c)
 
-behind_pubcomp : (w : ℕ) (x : ConnectionName) (c : Client) (i : ℕ) (old : Option ClientSession) →
-    fills_behind w (commands.Packet x (packets.Pubcomp i)) (Mark.Handled c) c old ≡ handled_of w (packets.Pubcomp i) old
-behind_pubcomp w x c i None = refl
-behind_pubcomp w x c i (Some kept) =
+after_pubcomp : (w : ℕ) (x : ConnectionName) (c : Client) (i : ℕ) (old : Option ClientSession) →
+    fills_after w (commands.Packet x (packets.Pubcomp i)) (Mark.Handled c) c old ≡ handled_of w (packets.Pubcomp i) old
+after_pubcomp w x c i None = refl
+after_pubcomp w x c i (Some kept) =
     ap (λ b. while_connected kept.connection (fill_sends w (if b then on_pubcomp i kept.state.queue.in_flight else kept.state.queue.in_flight) kept.state.queue.waiting)) (same_self c)
 
-behind_pubrec : (w : ℕ) (i : ℕ) (old : Option ClientSession) → pubrels_behind i old ≡ handled_of w (packets.Pubrec i) old
-behind_pubrec w i None = refl
-behind_pubrec w i (Some kept) = refl
+after_pubrec : (w : ℕ) (i : ℕ) (old : Option ClientSession) → pubrels_after i old ≡ handled_of w (packets.Pubrec i) old
+after_pubrec w i None = refl
+after_pubrec w i (Some kept) = refl
 
 nothing : (x : ConnectionName) (w : ℕ) (packet : Packet) (old : Option ClientSession) → ((kept : ClientSession) → handled_of w packet (Some kept) ≡ []) → map (Send x) (handled_of w packet old) ≡ []
 nothing x w packet None h = refl
@@ -92,13 +92,13 @@ handled_are limits later follows past x c (packets.Unsubscribe u) = refl
 handled_are limits later follows past x c (packets.Pubrel id) = refl
 handled_are limits later follows past x c packets.Pingreq = refl
 handled_are limits later follows past x c (packets.Puback i) =
-    ap (map (Send x)) (sym (behind_puback (window_at limits (at (commands.Packet x (packets.Puback i)) (Mark.Handled c) ∷ past)) x c i (client_session limits past c)))
+    ap (map (Send x)) (sym (after_puback (window_at limits (at (commands.Packet x (packets.Puback i)) (Mark.Handled c) ∷ past)) x c i (client_session limits past c)))
     ∙ sym (starts_are limits (at (commands.Packet x (packets.Puback i)) (Mark.Handled c)) past c x refl (not_ending x (current_connection past c)) refl)
 handled_are limits later follows past x c (packets.Pubcomp i) =
-    ap (map (Send x)) (sym (behind_pubcomp (window_at limits (at (commands.Packet x (packets.Pubcomp i)) (Mark.Handled c) ∷ past)) x c i (client_session limits past c)))
+    ap (map (Send x)) (sym (after_pubcomp (window_at limits (at (commands.Packet x (packets.Pubcomp i)) (Mark.Handled c) ∷ past)) x c i (client_session limits past c)))
     ∙ sym (starts_are limits (at (commands.Packet x (packets.Pubcomp i)) (Mark.Handled c)) past c x refl (not_ending x (current_connection past c)) refl)
 handled_are limits later follows past x c (packets.Pubrec i) =
-    ap (map (Send x)) (sym (behind_pubrec (window_at limits (at (commands.Packet x (packets.Pubrec i)) (Mark.Handled c) ∷ past)) i (client_session limits past c)))
+    ap (map (Send x)) (sym (after_pubrec (window_at limits (at (commands.Packet x (packets.Pubrec i)) (Mark.Handled c) ∷ past)) i (client_session limits past c)))
     ∙ sym (pubrec_is limits (at (commands.Packet x (packets.Pubrec i)) (Mark.Handled c)) past c x i refl (not_ending x (current_connection past c)) refl
     (ap (λ b. if b then map (at_pubrec (length past) i) (entries_of limits past c) else entries_of limits past c) (same_self c)))
 handled_are limits later follows past x c packet =

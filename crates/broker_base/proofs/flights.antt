@@ -5,7 +5,7 @@ pub mod FillingAlways
 pub mod FillsWhereItMay
 pub mod IdentifiersInFlight
 pub mod PubrecInFlight
-pub mod PubrelsBehind
+pub mod PubrelsAfter
 pub mod ReleasesInFlight
 pub mod SendsOfCopies
 pub mod SendsOfStarts

@@ -12,7 +12,9 @@ ghost use Rattle.broker_base.specs.StepLaws.{
   GrowingListStandsFor,
 };
 ghost use Rattle.broker_base.specs.StateLaws.{StaysSound, StaysQuiet, StaysInWindow, ListsAreSound};
-ghost use Rattle.broker_base.specs.StepRows.{StepsRefuseAndGoOn, StepsKeepTheOrder, StepsWidenTheWindow, OthersStartNothing, AnswersStartWhatWaits};
+ghost use Rattle.broker_base.specs.StepRows.{StepsRefuseAndGoOn, StepsKeepTheOrder};
+ghost use Rattle.broker_base.specs.StepRows.{StepsWidenTheWindow, OthersStartNothing};
+ghost use Rattle.broker_base.specs.StepRows.{AnswersStartWhatWaits};
 
 /// One more command, whatever its mark, changes each client's session as the step of one session
 /// says.

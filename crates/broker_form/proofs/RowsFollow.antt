@@ -19,7 +19,7 @@ use Rattle.broker_base.specs.ClientSession.{ClientSession}
 use Rattle.broker_base.specs.State.{Sessions, owner_in}
 use Rattle.broker_base.specs.StateLaws.{IsNobodys, AreApart, AreByClient}
 use Rattle.broker_base.proofs.ConnectionsOfSessions.{same_turned}
-use Rattle.broker_form.specs.Follows.{is_behind, is_taken, row_follows}
+use Rattle.broker_form.specs.Follows.{is_after, is_taken, row_follows}
 use Rattle.lists.proofs.Tables.{Table, Rises}
 
 both : (a b : Bool) → (a && b) ≡ true → (a ≡ true) × (b ≡ true)
@@ -38,32 +38,32 @@ less_of Greater e = absurd (cc)
 -- ---- keys
 
 -- each key comes after the last one before it
-abbrev pub Behind : {X : Type 0} → Table X → Table X → Type 0
-Behind front [] = Unit {0}
-Behind front (row ∷ rows) = (is_behind (last_of front) row.0 ≡ true) × Behind (front ++ row ∷ []) rows
+abbrev pub After : {X : Type 0} → Table X → Table X → Type 0
+After front [] = Unit {0}
+After front (row ∷ rows) = (is_after (last_of front) row.0 ≡ true) × After (front ++ row ∷ []) rows
 
 abbrev MayBegin : {X : Type 0} → Table X → Table X → Type 0
-MayBegin front (row ∷ rows) = is_behind (last_of front) row.0 ≡ true
+MayBegin front (row ∷ rows) = is_after (last_of front) row.0 ≡ true
 MayBegin front [] = Unit {0}
 
-behind_from : {X : Type 0} (front rows : Table X) → MayBegin front rows → Rises rows → Behind front rows
+after_from : {X : Type 0} (front rows : Table X) → MayBegin front rows → Rises rows → After front rows
 unfolding IsStrictlySortedBy
-behind_from front [] first h = tt
-behind_from {X} front (row ∷ rows) first h = (first, behind_from (front ++ row ∷ []) rows (next rows h.0) h.1)
+after_from front [] first h = tt
+after_from {X} front (row ∷ rows) first h = (first, after_from (front ++ row ∷ []) rows (next rows h.0) h.1)
   where
     next : (rows : Table X) → AllByRecursion (λ other. by_bytes row.0 other ≡ Less) (keys_of rows) → MayBegin (front ++ row ∷ []) rows
     next [] h = tt
-    next (other ∷ rows) h = ap (λ (o : Option (List ℕ × X)). is_behind o other.0) (last_is None front row) ∙ ap is_lt h.0
+    next (other ∷ rows) h = ap (λ (o : Option (List ℕ × X)). is_after o other.0) (last_is None front row) ∙ ap is_lt h.0
 
-pub rows_behind : {X : Type 0} (rows : Table X) → Rises rows → Behind [] rows
-rows_behind [] h = tt
-rows_behind (row ∷ rows) h = behind_from [] (row ∷ rows) refl h
+pub rows_after : {X : Type 0} (rows : Table X) → Rises rows → After [] rows
+rows_after [] h = tt
+rows_after (row ∷ rows) h = after_from [] (row ∷ rows) refl h
 
-all_above : {X : Type 0} (last : List ℕ × X) (front rows : Table X) → last_of front ≡ Some last → Behind front rows →
+all_above : {X : Type 0} (last : List ℕ × X) (front rows : Table X) → last_of front ≡ Some last → After front rows →
     AllByRecursion (λ key. by_bytes last.0 key ≡ Less) (keys_of rows)
 all_above last front [] e h = tt
 all_above {X} last front (row ∷ rows) e h =
-    let here = less_of (by_bytes last.0 row.0) (ap (λ (o : Option (List ℕ × X)). is_behind o row.0) (sym e) ∙ h.0) in
+    let here = less_of (by_bytes last.0 row.0) (ap (λ (o : Option (List ℕ × X)). is_after o row.0) (sym e) ∙ h.0) in
     (here, further rows (all_above row (front ++ row ∷ []) rows (last_is None front row) h.1) here)
   where
     further : (rows : Table X) → AllByRecursion (λ key. by_bytes row.0 key ≡ Less) (keys_of rows) → by_bytes last.0 row.0 ≡ Less →
@@ -71,12 +71,12 @@ all_above {X} last front (row ∷ rows) e h =
     further [] h e = tt
     further (other ∷ rows) h e = (nat_list_cmp_total.trans last.0 row.0 other.0 e h.0, further rows h.1 e)
 
-rises_from : {X : Type 0} (front rows : Table X) → Behind front rows → Rises rows
+rises_from : {X : Type 0} (front rows : Table X) → After front rows → Rises rows
 unfolding IsStrictlySortedBy
 rises_from front [] h = tt
 rises_from front (row ∷ rows) h = (all_above row (front ++ row ∷ []) rows (last_is None front row) h.1, rises_from (front ++ row ∷ []) rows h.1)
 
-pub rows_rise : {X : Type 0} (rows : Table X) → Behind [] rows → Rises rows
+pub rows_rise : {X : Type 0} (rows : Table X) → After [] rows → Rises rows
 rows_rise rows h = rises_from [] rows h
 
 -- ---- connections
@@ -85,14 +85,14 @@ rows_rise rows h = rises_from [] rows h
 abbrev NotOwned : Sessions → Option ConnectionName → Type 0
 NotOwned rows connection = is_taken rows connection ≡ false
 
-owned_behind : (x : ConnectionName) (front : Sessions) (one : Client × ClientSession) → is_some (owner_in x front) ≡ false →
+owned_after : (x : ConnectionName) (front : Sessions) (one : Client × ClientSession) → is_some (owner_in x front) ≡ false →
     any_connection (same_connection x) one.1.connection ≡ false → is_some (owner_in x (front ++ one ∷ [])) ≡ false
-owned_behind x [] one e f = rw f refl
-owned_behind x (row ∷ front) one e f =
+owned_after x [] one e f = rw f refl
+owned_after x (row ∷ front) one e f =
     elim (any_connection (same_connection x) row.1.connection) as (λ (b : Bool). is_some (if b then Some row else owner_in x front) ≡ false →
     is_some (if b then Some row else owner_in x (front ++ one ∷ [])) ≡ false) [
       | true ↦ λ e. e
-      | false ↦ λ e. owned_behind x front one e f
+      | false ↦ λ e. owned_after x front one e f
     ] e
 
 -- none of these has a connection that one in front has
@@ -107,15 +107,15 @@ none_owned front one (row ∷ rows) apart h =
   where
     by : (o own : Option ConnectionName) → row.1.connection ≡ o → one.1.connection ≡ own → NotOwned front o → NotOwned (front ++ one ∷ []) o
     by None own e f h = refl
-    by (Some x) None e f h = owned_behind x front one h (ap (any_connection (same_connection x)) f)
+    by (Some x) None e f h = owned_after x front one h (ap (any_connection (same_connection x)) f)
     by (Some x) (Some y) e f h =
-        owned_behind x front one h (ap (any_connection (same_connection x)) f ∙ same_turned x y ∙ (sym (ap (any_connection (same_connection y)) e) ∙ (apart y f).0))
+        owned_after x front one h (ap (any_connection (same_connection x)) f ∙ same_turned x y ∙ (sym (ap (any_connection (same_connection y)) e) ∙ (apart y f).0))
 
-rows_follow_from : (front rows : Sessions) → Behind front rows → AreApart rows → NoneOwned front rows → AllFollow row_follows front rows
-rows_follow_from front [] behind apart none = tt
-rows_follow_from front (row ∷ rows) behind apart none = (
-  and_true (is_behind (last_of front) row.0) (not (is_taken front row.1.connection)) behind.0 (ap not none.0),
-  rows_follow_from (front ++ row ∷ []) rows behind.1 apart.1 (none_owned front row rows apart.0 none.1),
+rows_follow_from : (front rows : Sessions) → After front rows → AreApart rows → NoneOwned front rows → AllFollow row_follows front rows
+rows_follow_from front [] after apart none = tt
+rows_follow_from front (row ∷ rows) after apart none = (
+  and_true (is_after (last_of front) row.0) (not (is_taken front row.1.connection)) after.0 (ap not none.0),
+  rows_follow_from (front ++ row ∷ []) rows after.1 apart.1 (none_owned front row rows apart.0 none.1),
 )
   where
     and_true : (a b : Bool) → a ≡ true → b ≡ true → (a && b) ≡ true
@@ -131,13 +131,13 @@ none_at_first (row ∷ rows) = (nothing row.1.connection, none_at_first rows)
     nothing None = refl
 
 pub sessions_follow : (rows : Sessions) → AreByClient rows → AreApart rows → AllFollow row_follows [] rows
-sessions_follow rows by_client apart = rows_follow_from [] rows (rows_behind rows by_client) apart (none_at_first rows)
+sessions_follow rows by_client apart = rows_follow_from [] rows (rows_after rows by_client) apart (none_at_first rows)
 
 -- ---- and the other way round
 
-pub clients_behind : (front rows : Sessions) → AllFollow row_follows front rows → Behind front rows
-clients_behind front [] h = tt
-clients_behind front (row ∷ rows) h = ((both (is_behind (last_of front) row.0) _ h.0).0, clients_behind (front ++ row ∷ []) rows h.1)
+pub clients_after : (front rows : Sessions) → AllFollow row_follows front rows → After front rows
+clients_after front [] h = tt
+clients_after front (row ∷ rows) h = ((both (is_after (last_of front) row.0) _ h.0).0, clients_after (front ++ row ∷ []) rows h.1)
 
 split_owned : (x : ConnectionName) (front : Sessions) (one : Client × ClientSession) → is_some (owner_in x (front ++ one ∷ [])) ≡ false →
     (is_some (owner_in x front) ≡ false) × (any_connection (same_connection x) one.1.connection ≡ false)
@@ -156,7 +156,7 @@ split_owned x (row ∷ front) one e =
 none_taken : (front rows : Sessions) → AllFollow row_follows front rows → NoneOwned front rows
 none_taken front [] h = tt
 none_taken front (row ∷ rows) h = (
-  off (is_taken front row.1.connection) (both (is_behind (last_of front) row.0) (not (is_taken front row.1.connection)) h.0).1,
+  off (is_taken front row.1.connection) (both (is_after (last_of front) row.0) (not (is_taken front row.1.connection)) h.0).1,
   shorter rows (none_taken (front ++ row ∷ []) rows h.1),
 )
   where
@@ -182,4 +182,4 @@ apart_from front (row ∷ rows) h = ((λ x e. nobodys x e rows (none_taken (fron
             same_turned x y ∙ (sym (ap (any_connection (same_connection y)) e) ∙ (split_owned y front row k).1)
 
 pub sessions_are : (rows : Sessions) → AllFollow row_follows [] rows → AreByClient rows × AreApart rows
-sessions_are rows h = (rows_rise rows (clients_behind [] rows h), apart_from [] rows h)
+sessions_are rows h = (rows_rise rows (clients_after [] rows h), apart_from [] rows h)

@@ -36,7 +36,7 @@ use Rattle.broker_form.specs.Writing.{row_bytes, retained_bytes, content_bytes, 
 use Rattle.broker_form.specs.FormLaws.{IsUsualState, FrozenIsThawed, FrozenBeforeIsThawed, ThawedIsInRange}
 use Rattle.broker_form.proofs.Windows.{no_more}
 use Rattle.broker_form.proofs.RowsAgain.{row_again, topic_row_again}
-use Rattle.broker_form.proofs.RowsFollow.{Behind, rows_behind, rows_rise, sessions_follow, sessions_are}
+use Rattle.broker_form.proofs.RowsFollow.{After, rows_after, rows_rise, sessions_follow, sessions_are}
 
 -- ---- frozen and thawed
 
@@ -49,7 +49,7 @@ topics_again : (content : RetainedTopics) → AllByRecursion IsRetained content 
 topics_again [] h = tt
 topics_again (row ∷ content) h = (topic_row_again row h.0, topics_again content h.1)
 
-topics_follow : (front content : RetainedTopics) → Behind front content → AllFollow topic_follows front content
+topics_follow : (front content : RetainedTopics) → After front content → AllFollow topic_follows front content
 topics_follow front [] h = tt
 topics_follow front (row ∷ content) h = (h.0, topics_follow (front ++ row ∷ []) content h.1)
 
@@ -64,7 +64,7 @@ content_again state window h e =
     ap (λ (z : List ℕ). counted_at number_at topic_follows retained_at 16384 z) (sym (append-nil (counted number retained_bytes state.retained)))
     ∙ counted_again number number_at topic_follows retained_bytes retained_at 16384 state.retained []
     (λ n small rest. number_again n rest (omega (arith, small))) topics (topics_again state.retained h.0.retained)
-    (topics_follow [] state.retained (rows_behind state.retained h.0.rising)) in
+    (topics_follow [] state.retained (rows_after state.retained h.0.rising)) in
     rw (
       counted_again number number_at row_follows row_bytes (row_at window) 4096 state.sessions (counted number retained_bytes state.retained)
           (λ n small rest. number_again n rest (omega (arith, small))) few (rows_again window (omega (arith, wide, e)) state.sessions h.0.sound.sessions h.0.sessions fits)
@@ -191,9 +191,9 @@ all_fit : (window : ℕ) (rows : Sessions) → AllByRecursion (IsRow window) row
 all_fit window [] h = tt
 all_fit window (row ∷ rows) h = (h.0.fits, all_fit window rows h.1)
 
-topics_behind : (front content : RetainedTopics) → AllFollow topic_follows front content → Behind front content
-topics_behind front [] h = tt
-topics_behind front (row ∷ content) h = (h.0, topics_behind (front ++ row ∷ []) content h.1)
+topics_after : (front content : RetainedTopics) → AllFollow topic_follows front content → After front content
+topics_after front [] h = tt
+topics_after front (row ∷ content) h = (h.0, topics_after (front ++ row ∷ []) content h.1)
 
 -- ---- the head
 
@@ -230,7 +230,7 @@ content_found window size bytes fits =
         sound = record { by_client = rows.0; apart = rows.1; sessions = all_sound window sessions.0 b.0.each };
         few_sessions = b.0.few;
         sessions = all_in_range window sessions.0 b.0.each;
-        rising = rows_rise retained.0 (topics_behind [] retained.0 c.0.follow);
+        rising = rows_rise retained.0 (topics_after [] retained.0 c.0.follow);
         few_topics = c.0.few;
         retained = c.0.each;
       },

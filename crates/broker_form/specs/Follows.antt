@@ -10,9 +10,9 @@ use Rattle.broker_base.specs.ClientSession.{ClientSession}
 use Rattle.broker_base.specs.State.{Sessions, owner_in}
 
 -- the key comes after the last row's, if there is one
-abbrev pub is_behind : {X : Type 0} → Option (List ℕ × X) → List ℕ → Bool
-is_behind (Some last) key = is_lt (by_bytes last.0 key)
-is_behind None key = true
+abbrev pub is_after : {X : Type 0} → Option (List ℕ × X) → List ℕ → Bool
+is_after (Some last) key = is_lt (by_bytes last.0 key)
+is_after None key = true
 
 -- the connection is that of one of these
 abbrev pub is_taken : Sessions → Option ConnectionName → Bool
@@ -21,8 +21,8 @@ is_taken rows None = false
 
 -- clients rise, and no connection is used twice
 abbrev pub row_follows : Sessions → Client × ClientSession → Bool
-row_follows front row = is_behind (last_of front) row.0 && not (is_taken front row.1.connection)
+row_follows front row = is_after (last_of front) row.0 && not (is_taken front row.1.connection)
 
 -- topics rise
 abbrev pub topic_follows : List (List ℕ × RetainedPublication) → List ℕ × RetainedPublication → Bool
-topic_follows front row = is_behind (last_of front) row.0
+topic_follows front row = is_after (last_of front) row.0

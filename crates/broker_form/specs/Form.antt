@@ -1,5 +1,6 @@
 -- The broker that is thawed from bytes of form 1 or 2 (`Writing.antt`), if any.
-use Rattle.std.specs.Prelude.{ℕ, not, ◌&&◌, ◌||◌, ◌==◌, Bool, nat_lt, nat_le, if◌then◌else◌, List, length, Option, Some, None, is_some, Result, Ok, Err}
+use Rattle.std.specs.Prelude.{ℕ, not, ◌&&◌, ◌||◌, ◌==◌, Bool, nat_lt, nat_le, if◌then◌else◌, List}
+use Rattle.std.specs.Prelude.{length, Option, Some, None, is_some, Result, Ok, Err}
 use Rattle.std.specs.Int.{w64, from_be_bytes}
 use Rattle.packet_base.specs.declared.stop.Stop.{Stop}
 use Rattle.packet_base.specs.Reading.{◌>>=◌, ◌>>◌, byte_at, front_at, number_at, text_at, ended}

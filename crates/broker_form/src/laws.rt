@@ -1,8 +1,10 @@
 // Laws of states. The calls do nothing; their contracts are the laws.
 
 ghost use Rattle.broker_form.specs.RangeLaws.{StaysInRange, AnswersAreSpelled, ListsAreInRange};
-ghost use Rattle.broker_form.specs.FormRows.{FreshIsFrozen, OneSessionIsFrozen, FormOneIsRead, OneSessionGoesOn, OthersAreRefused};
-ghost use Rattle.broker_form.specs.FormLaws.{FrozenIsThawed, FrozenBeforeIsThawed, ThawedIsInRange, ThawedIsFrozen};
+ghost use Rattle.broker_form.specs.FormRows.{FreshIsFrozen, OneSessionIsFrozen, FormOneIsRead};
+ghost use Rattle.broker_form.specs.FormRows.{OneSessionGoesOn, OthersAreRefused};
+ghost use Rattle.broker_form.specs.FormLaws.{FrozenIsThawed, FrozenBeforeIsThawed};
+ghost use Rattle.broker_form.specs.FormLaws.{ThawedIsInRange, ThawedIsFrozen};
 ghost use Rattle.broker_form.specs.FullRow.{FullIsFrozen};
 
 /// A command of a log leaves a broker's state sound, within its limits, and each number, text and

@@ -34,9 +34,9 @@ never_ends c (Some x) = refl
 spares_other : (c d : Client) (kept : ClientSession) → same_client c d ≡ false → touches (at_expel c) d kept ≡ false
 spares_other c d kept other = ap₂ (λ a b. (a || b) || false) other (never_ends c kept.connection)
 
-none_behind : (c : Client) (rows : Sessions) → ComesBefore c rows → Untouched (at_expel c) rows
-none_behind c [] before = tt
-none_behind c (row ∷ rows) before = (spares_other c row.0 row.1 (ap is_eq before.0), none_behind c rows before.1)
+none_after : (c : Client) (rows : Sessions) → ComesBefore c rows → Untouched (at_expel c) rows
+none_after c [] before = tt
+none_after c (row ∷ rows) before = (spares_other c row.0 row.1 (ap is_eq before.0), none_after c rows before.1)
 
 -- it touches the client's row at most
 expel_only : (c : Client) (rows : Sessions) → AreByClient rows → TouchesOnly (at_expel c) c rows
@@ -45,7 +45,7 @@ expel_only c [] by_client = tt
 expel_only c (row ∷ rows) by_client = by (same_client c row.0) refl (expel_only c rows by_client.1)
   where
     by : (b : Bool) → same_client c row.0 ≡ b → TouchesOnly (at_expel c) c rows → TouchesOnly (at_expel c) c (row ∷ rows)
-    by true same later = inl (same, none_behind c rows (subst (λ (d : Client). ComesBefore d rows) (sym (same_is c row.0 same)) by_client.0))
+    by true same later = inl (same, none_after c rows (subst (λ (d : Client). ComesBefore d rows) (sym (same_is c row.0 same)) by_client.0))
     by false other later = inr (other, spares_other c row.0 row.1 other, later)
 
 -- or none, if the client has none

@@ -15,11 +15,11 @@ Finds look (row ∷ rows) = (look row.0 ≡ Some row.1) × Finds look rows
 Finds look [] = Unit {0}
 
 -- also after one more row, of an earlier client
-finds_behind : (first : Client × ClientSession) (all rows : Sessions) → ComesBefore first.0 rows → Finds (λ c. session_in c all) rows → Finds (λ c. session_in c (first ∷ all)) rows
-finds_behind first all [] before finds = tt
-finds_behind first all (row ∷ rows) before finds = (
+finds_after : (first : Client × ClientSession) (all rows : Sessions) → ComesBefore first.0 rows → Finds (λ c. session_in c all) rows → Finds (λ c. session_in c (first ∷ all)) rows
+finds_after first all [] before finds = tt
+finds_after first all (row ∷ rows) before finds = (
   ap (λ o. if is_eq o then Some first.1 else session_in row.0 all) (less_turned first.0 row.0 before.0) ∙ finds.0,
-  finds_behind first all rows before.1 finds.1,
+  finds_after first all rows before.1 finds.1,
 )
 
 -- the look-up in the rows themselves
@@ -28,5 +28,5 @@ unfolding IsStrictlySortedBy
 finds_each [] by_client = tt
 finds_each (row ∷ rows) by_client = (
   ap (λ b. if b then Some row.1 else session_in row.0 rows) (same_self row.0),
-  finds_behind row rows rows by_client.0 (finds_each rows by_client.1),
+  finds_after row rows rows by_client.0 (finds_each rows by_client.1),
 )

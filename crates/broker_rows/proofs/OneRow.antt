@@ -19,9 +19,9 @@ written_here d None row rows same = rw same refl
 written_here d (Some kept) row rows same = rw same refl
 
 -- what is written after the first row
-pub written_behind : (d : Client) (o : Option ClientSession) (row : Client × ClientSession) (rows : Sessions) → same_client d row.0 ≡ false → row ∷ written d o rows ≡ written d o (row ∷ rows)
-written_behind d None row rows other = rw other refl
-written_behind d (Some kept) row rows other = rw other refl
+pub written_after : (d : Client) (o : Option ClientSession) (row : Client × ClientSession) (rows : Sessions) → same_client d row.0 ≡ false → row ∷ written d o rows ≡ written d o (row ∷ rows)
+written_after d None row rows other = rw other refl
+written_after d (Some kept) row rows other = rw other refl
 
 -- the one row is written in its place, or goes
 pub left_one : (w : ℕ) (place : Place) (content : RetainedTopics) (d : Client) (kept : ClientSession) (rows : Sessions) → TouchesOnly place d rows → session_in d rows ≡ Some kept →
@@ -37,9 +37,9 @@ left_one w place content d kept (row ∷ rows) (inl (same, untouched)) found =
     at_head true e f = cc
     at_head false e f = absurd (cc)
 left_one w place content d kept (row ∷ rows) (inr (other, untouched, t)) found =
-    rw untouched (ap (λ rest. row ∷ rest) (left_one w place content d kept rows t (behind (same_client d row.0) other found)))
-    ∙ written_behind d (session_after w place content d kept) row rows other
+    rw untouched (ap (λ rest. row ∷ rest) (left_one w place content d kept rows t (after (same_client d row.0) other found)))
+    ∙ written_after d (session_after w place content d kept) row rows other
   where
-    behind : (b : Bool) → b ≡ false → (if b then Some row.1 else session_in d rows) ≡ Some kept → session_in d rows ≡ Some kept
-    behind false e f = f
-    behind true e f = absurd (cc)
+    after : (b : Bool) → b ≡ false → (if b then Some row.1 else session_in d rows) ≡ Some kept → session_in d rows ≡ Some kept
+    after false e f = f
+    after true e f = absurd (cc)

@@ -39,10 +39,10 @@ on_is x (Some y) e = ap Some (sym (connection_is x y e))
 -- ---- rows after a row
 
 -- no row after the owner's is touched
-pub none_behind : (place : Place) (x : ConnectionName) (d : Client) (rows : Sessions) → IsOnes place x d → ComesBefore d rows → IsNobodys x rows → Untouched place rows
-none_behind place x d [] ones before nobodys = tt
-none_behind place x d (row ∷ rows) ones before nobodys =
-    (ones row.0 row.1 (ap is_eq before.0) nobodys.0, none_behind place x d rows ones before.1 nobodys.1)
+pub none_after : (place : Place) (x : ConnectionName) (d : Client) (rows : Sessions) → IsOnes place x d → ComesBefore d rows → IsNobodys x rows → Untouched place rows
+none_after place x d [] ones before nobodys = tt
+none_after place x d (row ∷ rows) ones before nobodys =
+    (ones row.0 row.1 (ap is_eq before.0) nobodys.0, none_after place x d rows ones before.1 nobodys.1)
 
 -- a client before all rows comes before that of a row that is found
 pub before_owner : (b : Client) (x : ConnectionName) (owner : Client × ClientSession) (rows : Sessions) → ComesBefore b rows → owner_in x rows ≡ Some owner → by_bytes b owner.0 ≡ Less
@@ -85,7 +85,7 @@ owner_only place x owner (row ∷ rows) ones by_client apart found =
         let here : row.0 ≡ owner.0 = ap (λ (r : Client × ClientSession). r.0) same in
         inl (
           subst (λ (c : Client). same_client c row.0 ≡ true) here (same_self row.0),
-          none_behind place x owner.0 rows ones (subst (λ (c : Client). ComesBefore c rows) here by_client.0) (apart.0 x (on_is x row.1.connection on)),
+          none_after place x owner.0 rows ones (subst (λ (c : Client). ComesBefore c rows) here by_client.0) (apart.0 x (on_is x row.1.connection on)),
         )
     by false later off e =
         let other : same_client owner.0 row.0 ≡ false = ap is_eq (less_turned row.0 owner.0 (before_owner row.0 x owner rows by_client.0 e)) in

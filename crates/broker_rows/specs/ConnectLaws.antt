@@ -1,7 +1,8 @@
 -- What a Connect does on a connection that is no client's current one: the client's session begins
 -- or continues, and no other is touched; and what a Start changes (MQTT 3.1.2.4, 3.1.4, 3.2.2,
 -- 4.4).
-use Rattle.std.specs.Prelude.{◌≡◌, ℕ, Bool, true, false, ◌||◌, nat_lt, length, [], ◌∷◌, ◌++◌, map, Some, None, is_some, option_map}
+use Rattle.std.specs.Prelude.{◌≡◌, ℕ, Bool, true, false, ◌||◌, nat_lt, length, [], ◌∷◌, ◌++◌, map}
+use Rattle.std.specs.Prelude.{Some, None, is_some, option_map}
 use Rattle.std.specs.BTreeMap.{insert_entry}
 use Rattle.broker_spec.specs.session_base.Sending.{fill_sends, resend}
 use Rattle.broker_base.specs.Connection.{ConnectionName}

@@ -1,6 +1,7 @@
 -- Copies that come to a connected client's session in parts, as a loop brings them, and a SUBSCRIBE
 -- filter by filter (MQTT 3.8.4, 4.6).
-use Rattle.std.specs.Prelude.{◌≡◌, ℕ, ◌-◌, Bool, true, false, not, ◌||◌, nat_lt, if◌then◌else◌, List, [], ◌∷◌, ◌++◌, length}
+use Rattle.std.specs.Prelude.{◌≡◌, ℕ, ◌-◌, Bool, true, false, not, ◌||◌, nat_lt, if◌then◌else◌}
+use Rattle.std.specs.Prelude.{List, [], ◌∷◌, ◌++◌, length}
 use Rattle.subs.specs.packet.declared.packet.Packet.{Packet}
 use Rattle.subs.specs.packet.declared.subscribe.Subscription.{Subscription}
 use Rattle.broker_spec.specs.retained.Retained.{RetainedTopics}
@@ -36,8 +37,8 @@ CopiesTakeRoom =
 abbrev pub CopiesFindRoom : Type 0
 CopiesFindRoom =
     (window limit : ℕ) → (before : List Publication) → (p : Publication) →
-    (behind : List Publication) → (queue : Queue) →
-    nat_lt (room limit queue) (length (queued (before ++ p ∷ behind))) ≡ false →
+    (after : List Publication) → (queue : Queue) →
+    nat_lt (room limit queue) (length (queued (before ++ p ∷ after))) ≡ false →
     is_answered p.qos ≡ true →
     nat_lt 0 (room limit (copies_left window before queue)) ≡ true
 

@@ -4,7 +4,8 @@ use Rattle.std.specs.Prelude.{◌≡◌, ℕ, Bool, if◌then◌else◌, List, S
 use Rattle.std.specs.BTreeMap.{insert_entry}
 use Rattle.subs.specs.packet.declared.delivery.Delivery.{Delivery}
 use Rattle.broker_spec.specs.session_base.declared.publication.Publication.{Publication}
-use Rattle.broker_spec.specs.session_base.Subscriptions.{HeldFilter, with_subscriptions, without_filters}
+use Rattle.broker_spec.specs.session_base.Subscriptions.{HeldFilter, with_subscriptions}
+use Rattle.broker_spec.specs.session_base.Subscriptions.{without_filters}
 use Rattle.subs.specs.Content.{no_subscriptions, without_client}
 use Rattle.subs.specs.Granted.{Row}
 use Rattle.broker_base.specs.Connection.{ConnectionName}
@@ -17,7 +18,8 @@ use Rattle.broker_rows.specs.Touched.{written}
 use Rattle.broker_rows.specs.Served.{left_off}
 use Rattle.broker_rows.specs.ConnectLaws.{all_left_off}
 use Rattle.broker_rows.specs.Published.{changed, received_on, all_delivered}
-use Rattle.broker_rows.specs.Indexed.{content_in, all_set, all_cleared, all_dropped, clean_clients, all_told}
+use Rattle.broker_rows.specs.Indexed.{content_in, all_set, all_cleared, all_dropped}
+use Rattle.broker_rows.specs.Indexed.{clean_clients, all_told}
 
 -- nothing changes if a session is written with the subscriptions that it had
 abbrev pub WritingKeepsContent : Type 0

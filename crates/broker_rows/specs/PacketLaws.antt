@@ -99,8 +99,7 @@ SubscribeStep =
 abbrev pub PingreqStep : Type 0
 PingreqStep =
     (limits : Limits) → (later : ℕ) → (state : State) → (x : ConnectionName) → (c : Client) →
-    (kept : ClientSession) →
-    IsServed state x c kept →
+    (kept : ClientSession) → IsServed state x c kept →
     step limits later state (commands.Packet x packets.Pingreq)
     ≡ (state, Send x packets.Pingresp ∷ [])
 
@@ -108,8 +107,8 @@ PingreqStep =
 abbrev pub RepeatStep : Type 0
 RepeatStep =
     (limits : Limits) → (later : ℕ) → (state : State) → (x : ConnectionName) → (c : Client) →
-    (kept : ClientSession) →
-    IsServed state x c kept → (p : Publish) → is_again kept p.delivery ≡ true →
+    (kept : ClientSession) → IsServed state x c kept → (p : Publish) →
+    is_again kept p.delivery ≡ true →
     step limits later state (commands.Packet x (packets.Publish p))
     ≡ (state, acknowledged x p.delivery)
 

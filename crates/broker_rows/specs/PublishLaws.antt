@@ -22,7 +22,8 @@ use Rattle.broker_base.specs.Output.TheVariants.{Close}
 use Rattle.subs.specs.Granted.{Row}
 use Rattle.broker_rows.specs.Touched.{written}
 use Rattle.broker_rows.specs.Served.{IsServed, with_session, left_off}
-use Rattle.broker_rows.specs.Published.{granted_rows, changed, received_on, delivered_on, all_delivered, is_full_at, answered_in_turn}
+use Rattle.broker_rows.specs.Published.{granted_rows, changed, received_on, delivered_on}
+use Rattle.broker_rows.specs.Published.{all_delivered, is_full_at, answered_in_turn}
 
 -- whether a granted row's session is full for it, or it would be retained on a topic too many
 abbrev pub is_refused_in : Limits → State → Publication → Bool

@@ -17,7 +17,8 @@ use Rattle.broker_base.specs.State.{Sessions}
 use Rattle.broker_base.specs.RowWords.{a, b, nth, sends, publish}
 use Rattle.broker_rows.specs.Owners.{owners_in, with_owner, without_owner}
 use Rattle.broker_rows.specs.Indexed.{content_in, all_set, all_cleared, all_dropped, clean_clients}
-use Rattle.broker_rows.specs.Published.{granted_rows, changed, received_on, all_delivered, answered_in_turn}
+use Rattle.broker_rows.specs.Published.{granted_rows, changed, received_on}
+use Rattle.broker_rows.specs.Published.{all_delivered, answered_in_turn}
 use Rattle.broker_rows.specs.ConnectLaws.{all_left_off}
 
 abbrev pub c : Client

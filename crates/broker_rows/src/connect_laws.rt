@@ -1,7 +1,8 @@
 // Laws of a Connect on a connection that is no client's current one, and of a Start. The calls do
 // nothing; their contracts are the laws.
 
-ghost use Rattle.broker_rows.specs.ConnectLaws.{BeginningStep, ResumingStep, FullStep, InsertionWrites, StartStep};
+ghost use Rattle.broker_rows.specs.ConnectLaws.{BeginningStep, ResumingStep, FullStep};
+ghost use Rattle.broker_rows.specs.ConnectLaws.{InsertionWrites, StartStep};
 
 /// A Connect that is accepted inserts its client's session, which begins with nothing in it or
 /// continues, and leaves every other (MQTT 3.1.2.4, 3.1.4, 4.4).

@@ -1,7 +1,8 @@
 // Laws of copies that come to a session in parts. The calls do nothing; their contracts are the
 // laws.
 
-ghost use Rattle.broker_rows.specs.CopyLaws.{CopiesJoin, CopiesTakeRoom, CopiesFindRoom, SubscribesInTurn};
+ghost use Rattle.broker_rows.specs.CopyLaws.{CopiesJoin, CopiesTakeRoom};
+ghost use Rattle.broker_rows.specs.CopyLaws.{CopiesFindRoom, SubscribesInTurn};
 
 /// Copies that come to a session in two parts leave and send what all of them do together, and each
 /// of QoS 1 or 2 takes one place of its room, so that each finds room if there is enough for all

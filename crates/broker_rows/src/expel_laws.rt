@@ -1,6 +1,7 @@
 // Laws of an Expel. The call does nothing; its contract is the law.
 
-ghost use Rattle.broker_rows.specs.ExpelLaws.{ExpelDropsTheClient, ExpelRemovesTheOwner, ExpelStep, NobodysExpelStep};
+ghost use Rattle.broker_rows.specs.ExpelLaws.{ExpelDropsTheClient, ExpelRemovesTheOwner};
+ghost use Rattle.broker_rows.specs.ExpelLaws.{ExpelStep, NobodysExpelStep};
 
 /// An Expel removes the client's session with all that it kept, closes its connection if it has
 /// one, and touches no other; the map of owners and the index of subscriptions follow.

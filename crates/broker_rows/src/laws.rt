@@ -1,7 +1,9 @@
 // Laws of the rows. The calls do nothing; their contracts are the laws.
 
-ghost use Rattle.broker_rows.specs.CommandLaws.{OneRowIsWritten, NobodyChangesNothing, OwnerIsFoundByMap};
-ghost use Rattle.broker_rows.specs.PublicationLaws.{GrantedRowsMatch, RoomIsOfGrantedRows, AnswersAreOfGrantedRows};
+ghost use Rattle.broker_rows.specs.CommandLaws.{OneRowIsWritten, NobodyChangesNothing};
+ghost use Rattle.broker_rows.specs.CommandLaws.{OwnerIsFoundByMap};
+ghost use Rattle.broker_rows.specs.PublicationLaws.{GrantedRowsMatch, RoomIsOfGrantedRows};
+ghost use Rattle.broker_rows.specs.PublicationLaws.{AnswersAreOfGrantedRows};
 
 /// A command on a client's current connection writes that client's row or removes it, and no other,
 /// unless it is a PUBLISH that is taken (MQTT 3.1.4).

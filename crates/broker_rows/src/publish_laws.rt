@@ -1,6 +1,7 @@
 // Laws of a PUBLISH that is no repeat. The calls do nothing; their contracts are the laws.
 
-ghost use Rattle.broker_rows.specs.PublishLaws.{RefusedStep, TakenStep, RoomLastsToItsTurn, ChangeIsOfOneRow};
+ghost use Rattle.broker_rows.specs.PublishLaws.{RefusedStep, TakenStep};
+ghost use Rattle.broker_rows.specs.PublishLaws.{RoomLastsToItsTurn, ChangeIsOfOneRow};
 
 /// A publication for which a granted row's session is full, or that would be retained on a topic
 /// too many, is refused whole: its publisher's connection ends (MQTT 4.8).

@@ -27,15 +27,15 @@ comes (Some (y, clean)) over old x e = inl (clean, ap (λ z. Some (z, clean)) (s
 comes None over None x e = absurd (none-is (over None) x e)
 comes None over (Some y) x e = let k = kept-by over y x (over (Some y)) refl e in inr (refl, k.0, k.1)
 
-behind : (past : Past) (place : Place) (c : Client) (x : ConnectionName) → accepts place.command place.mark c ≡ None → ends_any place c (Some x) ≡ false
+after : (past : Past) (place : Place) (c : Client) (x : ConnectionName) → accepts place.command place.mark c ≡ None → ends_any place c (Some x) ≡ false
     → WasOpened past c x → WasOpened (place ∷ past) c x
-behind past place c x a e w =
+after past place c x a e w =
     record { later = place ∷ w.later; place = w.place; earlier = w.earlier; clean = w.clean; is = ap (λ z. place ∷ z) w.is; opened = w.opened; kept = ((a, e), w.kept) }
 
 found-by : (past : Past) (place : Place) (c : Client) (x : ConnectionName) → (current_connection past c ≡ Some x → WasOpened past c x)
     → Comes (accepts place.command place.mark c) (ends_any place c) (current_connection past c) x → WasOpened (place ∷ past) c x
 found-by past place c x ih (inl o) = record { later = []; place = place; earlier = past; clean = o.0; is = refl; opened = o.1; kept = tt }
-found-by past place c x ih (inr k) = behind past place c x k.0 k.1 (ih k.2)
+found-by past place c x ih (inr k) = after past place c x k.0 k.1 (ih k.2)
 
 found : (past : Past) (c : Client) (x : ConnectionName) → current_connection past c ≡ Some x → WasOpened past c x
 unfolding current_connection

@@ -52,19 +52,19 @@ full-at limits (place ∷ past) c =
     by-session (Some clean) false None es = inl refl
     by-session (Some clean) false (Some x) es = inr (starts-full (window_at limits (place ∷ past)) (length past) [] es)
 
-full-here : (w k : ℕ) (before behind : List Entry) (made : ℕ) (p : Publication) → IsFull w k (before ++ Entry.Waits made p ∷ behind)
+full-here : (w k : ℕ) (before after : List Entry) (made : ℕ) (p : Publication) → IsFull w k (before ++ Entry.Waits made p ∷ after)
     → w ≤ k + length (filter is_unfinished before)
-full-here w k [] behind made p h = omega (arith, h.0)
-full-here w k (Entry.Waits m q ∷ es) behind made p h = let ih = full-here w (suc k) es behind made p h.1 in omega (arith, ih)
-full-here w k (Entry.Started m q id start ∷ es) behind made p h = let ih = full-here w (suc k) es behind made p h in omega (arith, ih)
-full-here w k (Entry.Released m q id start release ∷ es) behind made p h = let ih = full-here w (suc k) es behind made p h in omega (arith, ih)
-full-here w k (Entry.Finished m q id start release finish ∷ es) behind made p h = full-here w k es behind made p h
+full-here w k [] after made p h = omega (arith, h.0)
+full-here w k (Entry.Waits m q ∷ es) after made p h = let ih = full-here w (suc k) es after made p h.1 in omega (arith, ih)
+full-here w k (Entry.Started m q id start ∷ es) after made p h = let ih = full-here w (suc k) es after made p h in omega (arith, ih)
+full-here w k (Entry.Released m q id start release ∷ es) after made p h = let ih = full-here w (suc k) es after made p h in omega (arith, ih)
+full-here w k (Entry.Finished m q id start release finish ∷ es) after made p h = full-here w k es after made p h
 
 pub nothing_waits_in_vain : NothingWaitsInVain
-nothing_waits_in_vain limits past c before behind made p e = by (full-at limits past c)
+nothing_waits_in_vain limits past c before after made p e = by (full-at limits past c)
   where
     by : (current_connection past c ≡ None) ⊎ IsFull (window_at limits past) 0 (entries_of limits past c)
         → (current_connection past c ≡ None) ⊎ (window_at limits past ≤ length (filter is_unfinished before))
     by (inl none) = inl none
     by (inr full) =
-        let h = full-here (window_at limits past) 0 before behind made p (rw e at full) in inr (omega (arith, h))
+        let h = full-here (window_at limits past) 0 before after made p (rw e at full) in inr (omega (arith, h))

@@ -143,13 +143,13 @@ passed busy (Entry.Waits made p ∷ es) = passed busy es
 passed busy (Entry.Finished made p id start release finish ∷ es) = passed busy es
 passed busy [] = busy
 
-right-here : (w n : ℕ) (busy : List ℕ) (before behind : List Entry) (made : ℕ) (p : Publication) (id : ℕ)
-    → AllRightly w n busy (before ++ Entry.Started made p id n ∷ behind) → Rightly w id (passed busy before)
-right-here w n busy [] behind made p id h = h.0 refl
-right-here w n busy (Entry.Waits m q ∷ es) behind made p id h = right-here w n busy es behind made p id h
-right-here w n busy (Entry.Started m q i start ∷ es) behind made p id h = right-here w n (i ∷ busy) es behind made p id h.1
-right-here w n busy (Entry.Released m q i start release ∷ es) behind made p id h = right-here w n (i ∷ busy) es behind made p id h
-right-here w n busy (Entry.Finished m q i start release finish ∷ es) behind made p id h = right-here w n busy es behind made p id h
+right-here : (w n : ℕ) (busy : List ℕ) (before after : List Entry) (made : ℕ) (p : Publication) (id : ℕ)
+    → AllRightly w n busy (before ++ Entry.Started made p id n ∷ after) → Rightly w id (passed busy before)
+right-here w n busy [] after made p id h = h.0 refl
+right-here w n busy (Entry.Waits m q ∷ es) after made p id h = right-here w n busy es after made p id h
+right-here w n busy (Entry.Started m q i start ∷ es) after made p id h = right-here w n (i ∷ busy) es after made p id h.1
+right-here w n busy (Entry.Released m q i start release ∷ es) after made p id h = right-here w n (i ∷ busy) es after made p id h
+right-here w n busy (Entry.Finished m q i start release finish ∷ es) after made p id h = right-here w n busy es after made p id h
 
 swapped : (a b c : Bool) → (a || b) || c ≡ b || (a || c)
 swapped true true c = refl
@@ -183,33 +183,33 @@ may-start w id before r =
       least = λ j a b. sym (passed-has j [] before) ∙ r.least j a b;
     }
 
-too-early : (n : ℕ) (before behind : List Entry) (made : ℕ) (p : Publication) (id : ℕ) → Before n (before ++ Entry.Started made p id n ∷ behind) → ⊥
-too-early n [] behind made p id h = let g = h.0 in omega (arith, g)
-too-early n (Entry.Waits m q ∷ es) behind made p id h = too-early n es behind made p id h
-too-early n (Entry.Started m q i start ∷ es) behind made p id h = too-early n es behind made p id h.1
-too-early n (Entry.Released m q i start release ∷ es) behind made p id h = too-early n es behind made p id h
-too-early n (Entry.Finished m q i start release finish ∷ es) behind made p id h = too-early n es behind made p id h
+too-early : (n : ℕ) (before after : List Entry) (made : ℕ) (p : Publication) (id : ℕ) → Before n (before ++ Entry.Started made p id n ∷ after) → ⊥
+too-early n [] after made p id h = let g = h.0 in omega (arith, g)
+too-early n (Entry.Waits m q ∷ es) after made p id h = too-early n es after made p id h
+too-early n (Entry.Started m q i start ∷ es) after made p id h = too-early n es after made p id h.1
+too-early n (Entry.Released m q i start release ∷ es) after made p id h = too-early n es after made p id h
+too-early n (Entry.Finished m q i start release finish ∷ es) after made p id h = too-early n es after made p id h
 
 -- what a place leaves, from entries that started below it
 abbrev pub Starts : ℕ → ℕ → Option ConnectionName → List Entry → Type 0
 Starts w n current es =
-    (before behind : List Entry) (made : ℕ) (p : Publication) (id : ℕ) → es ≡ before ++ Entry.Started made p id n ∷ behind
+    (before after : List Entry) (made : ℕ) (p : Publication) (id : ℕ) → es ≡ before ++ Entry.Started made p id n ∷ after
     → (is_some current ≡ true) × MayStart w id before
 
 starts-online : (w n : ℕ) (x : ConnectionName) (es : List Entry) → Before n es → Starts w n (Some x) (start_all w n [] es)
-starts-online w n x es h before behind made p id e =
-    (refl, may-start w id before (right-here w n [] before behind made p id (rw e at (rightly w n [] es h))))
+starts-online w n x es h before after made p id e =
+    (refl, may-start w id before (right-here w n [] before after made p id (rw e at (rightly w n [] es h))))
 
 starts-offline : (w n : ℕ) (es : List Entry) → Before n es → Starts w n None es
-starts-offline w n es h before behind made p id e = elim (too-early n before behind made p id (rw e at h)) [ ]
+starts-offline w n es h before after made p id e = elim (too-early n before after made p id (rw e at h)) [ ]
 
 starts : (w n : ℕ) (current : Option ConnectionName) (es : List Entry) → Before n es → Starts w n current (started w n current es)
 starts w n None es h = starts-offline w n es h
 starts w n (Some x) es h = starts-online w n x es h
 
 nothing-there : (w n : ℕ) (current : Option ConnectionName) → Starts w n current []
-nothing-there w n current [] behind made p id e = cc
-nothing-there w n current (b ∷ before) behind made p id e = cc
+nothing-there w n current [] after made p id e = cc
+nothing-there w n current (b ∷ before) after made p id e = cc
 
 starts-kept : (w n : ℕ) (current : Option ConnectionName) (session : Option Bool) (beginning : Bool) (es : List Entry)
     → Starts w n current es → Starts w n current (in_session session beginning [] es)

@@ -1,6 +1,7 @@
 -- What the broker answers to a command, in order (MQTT 3.1.4, 3.2, 3.3.4, 3.8.4, 3.10.4, 3.12.4,
 -- 4.3).
-use Rattle.std.specs.Prelude.{suc, Bool, not, if◌then◌else◌, List, [], ◌∷◌, ◌++◌, length, flat_map, Option, Some, None}
+use Rattle.std.specs.Prelude.{suc, Bool, not, if◌then◌else◌, List, [], ◌∷◌, ◌++◌, length, flat_map}
+use Rattle.std.specs.Prelude.{Option, Some, None}
 use Rattle.retained.specs.packet.RefusalCode.TheVariants as refusals
 use Rattle.retained.specs.packet.declared.connack.Connack.TheVariants as connacks
 use Rattle.retained.specs.packet.declared.delivery.Delivery.{Delivery}

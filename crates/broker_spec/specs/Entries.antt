@@ -1,6 +1,7 @@
 -- What is added to a session's queue: copies of publications (MQTT 3.3.1.3, 3.3.5, 3.8.4), and the
 -- state of each entry (MQTT 4.3).
-use Rattle.std.specs.Prelude.{ℕ, Bool, true, false, if◌then◌else◌, List, [], ◌∷◌, ◌++◌, map, filter, Option, Some, None}
+use Rattle.std.specs.Prelude.{ℕ, Bool, true, false, if◌then◌else◌, List, [], ◌∷◌, ◌++◌, map, filter}
+use Rattle.std.specs.Prelude.{Option, Some, None}
 use Rattle.retained.specs.packet.declared.qos.QoS.{QoS}
 use Rattle.retained.specs.packet.declared.subscribe.Subscription.{Subscription}
 use Rattle.retained.specs.packet.declared.packet.Packet.TheVariants as packets

@@ -1,6 +1,7 @@
 -- What readers may want to know about a session's entries: what waits, what starts, identifiers,
 -- and how the list grows.
-use Rattle.std.specs.Prelude.{◌≡◌, ◌≤◌, ℕ, ◌+◌, if◌then◌else◌, true, false, List, [], ◌∷◌, ◌++◌, length, filter, Some, None, is_some, ◌⊎◌}
+use Rattle.std.specs.Prelude.{◌≡◌, ◌≤◌, ℕ, ◌+◌, if◌then◌else◌, true, false, List, [], ◌∷◌, ◌++◌}
+use Rattle.std.specs.Prelude.{length, filter, Some, None, is_some, ◌⊎◌}
 use Rattle.std.specs.List.{AllByRecursion}
 use Rattle.retained.specs.packet.declared.publish.Publish.{Publish}
 use Rattle.retained.specs.packet.declared.packet.Packet.TheVariants as packets
@@ -22,9 +23,9 @@ use Rattle.broker_spec.specs.declared.command.Command.TheVariants as commands
 -- (MQTT 4.6)
 abbrev pub NothingWaitsInVain : Type 0
 NothingWaitsInVain =
-    (limits : Limits) (past : Past) (c : Client) (before behind : List Entry) (made : ℕ)
+    (limits : Limits) (past : Past) (c : Client) (before after : List Entry) (made : ℕ)
     (p : Publication)
-    → entries_of limits past c ≡ before ++ Entry.Waits made p ∷ behind
+    → entries_of limits past c ≡ before ++ Entry.Waits made p ∷ after
     → (current_connection past c ≡ None)
     ⊎ (window_at limits past ≤ length (filter is_unfinished before))
 

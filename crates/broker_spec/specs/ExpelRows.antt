@@ -8,7 +8,8 @@ use Rattle.broker_spec.specs.Past.{current_connection, session_of, session_start
 use Rattle.broker_spec.specs.Times.{entries_of}
 use Rattle.broker_spec.specs.Received.{received_of}
 use Rattle.broker_spec.specs.Commands.{past_of, usual_limits}
-use Rattle.broker_spec.specs.RowWords.{Gives, a, b, nth, connect, gets, sends, connack, publish, subscribed_at}
+use Rattle.broker_spec.specs.RowWords.{Gives, a, b, nth, connect, gets, sends, connack}
+use Rattle.broker_spec.specs.RowWords.{publish, subscribed_at}
 use Rattle.broker_spec.specs.SessionRows.{Ends, Began, connect_clean}
 use Rattle.broker_spec.specs.declared.command.Command.{Command}
 use Rattle.broker_spec.specs.declared.command.Command.TheVariants as commands

@@ -1,6 +1,7 @@
 -- What readers may want to know about the definitions: connections, received identifiers and
 -- subscriptions.
-use Rattle.std.specs.Prelude.{◌≡◌, ◌↔◌, ℕ, Bool, true, false, ◌&&◌, ◌==◌, if◌then◌else◌, List, [], ◌∷◌, ◌++◌, bytes_eq, Option, Some, None, option_map}
+use Rattle.std.specs.Prelude.{◌≡◌, ◌↔◌, ℕ, Bool, true, false, ◌&&◌, ◌==◌, if◌then◌else◌, List, []}
+use Rattle.std.specs.Prelude.{◌∷◌, ◌++◌, bytes_eq, Option, Some, None, option_map}
 use Rattle.std.specs.List.{AllByRecursion, list_any}
 use Rattle.retained.specs.packet.declared.qos.QoS.{QoS}
 use Rattle.retained.specs.packet.declared.delivery.Delivery.{Delivery}
@@ -9,7 +10,8 @@ use Rattle.retained.specs.packet.declared.subscribe.Subscription.{Subscription}
 use Rattle.retained.specs.packet.declared.packet.Packet.TheVariants as packets
 use Rattle.broker_spec.specs.Connection.{ConnectionName}
 use Rattle.broker_spec.specs.Place.{Client, same_client, Mark, Place, Past}
-use Rattle.broker_spec.specs.Past.{accepts, ends_any, current_connection, session_of, begins, in_session}
+use Rattle.broker_spec.specs.Past.{accepts, ends_any, current_connection, session_of}
+use Rattle.broker_spec.specs.Past.{begins, in_session}
 use Rattle.broker_spec.specs.Subscriptions.{granted_of, subscriptions_of}
 use Rattle.retained.specs.lists.Lists.{has_id}
 use Rattle.session_base.specs.Subscriptions.{HeldFilter}

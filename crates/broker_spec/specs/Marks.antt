@@ -1,5 +1,6 @@
 -- The mark of a command, decided by the places below it (MQTT 3.1.4, 3.8.4, 4.3.3, 4.8).
-use Rattle.std.specs.Prelude.{ℕ, ◌-◌, Bool, true, false, not, ◌&&◌, ◌||◌, ◌==◌, nat_lt, nat_le, if◌then◌else◌, List, [], ◌∷◌, length, Option, Some, None, is_some}
+use Rattle.std.specs.Prelude.{ℕ, ◌-◌, Bool, true, false, not, ◌&&◌, ◌||◌, ◌==◌, nat_lt, nat_le}
+use Rattle.std.specs.Prelude.{if◌then◌else◌, List, [], ◌∷◌, length, Option, Some, None, is_some}
 use Rattle.std.specs.List.{list_any}
 use Rattle.retained.specs.packet.declared.qos.QoS.{QoS}
 use Rattle.retained.specs.packet.declared.subscribe.Subscription.{Subscription}

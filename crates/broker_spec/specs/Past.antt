@@ -1,6 +1,7 @@
 -- What a list of commands says about connections and sessions (MQTT 3.1.2.4, 3.1.4, 3.14.4, 4.1).
 -- Every question is about a past, so what holds at a place is decided by the places below it.
-use Rattle.std.specs.Prelude.{◌≡◌, ℕ, ◌-◌, suc, Bool, true, false, ◌&&◌, ◌||◌, not, if◌then◌else◌, [], ◌∷◌, length, drop, Option, Some, None, is_some}
+use Rattle.std.specs.Prelude.{◌≡◌, ℕ, ◌-◌, suc, Bool, true, false, ◌&&◌, ◌||◌, not, if◌then◌else◌}
+use Rattle.std.specs.Prelude.{[], ◌∷◌, length, drop, Option, Some, None, is_some}
 use Rattle.broker_spec.specs.Connection.{ConnectionName, same_connection}
 use Rattle.broker_spec.specs.Place.{Client, same_client, Mark, Place, Past, only_if}
 use Rattle.broker_spec.specs.declared.command.Command.{Command}

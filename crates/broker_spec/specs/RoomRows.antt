@@ -4,7 +4,8 @@ use Rattle.retained.specs.packet.declared.qos.QoS.TheVariants as levels
 use Rattle.retained.specs.packet.declared.delivery.Delivery.TheVariants as deliveries
 use Rattle.retained.specs.packet.declared.suback.SubackCode.TheVariants as answers
 use Rattle.retained.specs.packet.declared.packet.Packet.TheVariants as packets
-use Rattle.broker_spec.specs.RowWords.{Gives, a, b, connect, gets, sends, small, publish_on, asks, asked_at, published_on}
+use Rattle.broker_spec.specs.RowWords.{Gives, a, b, connect, gets, sends, small, publish_on, asks}
+use Rattle.broker_spec.specs.RowWords.{asked_at, published_on}
 
 -- t/1 needs one entry and t/# two, so t/2 finds no room left; at QoS 0 it needs none
 abbrev pub RoomIsLessWhatEarlierFiltersNeed : Type 0

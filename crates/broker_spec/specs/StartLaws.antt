@@ -20,8 +20,8 @@ pub record MayStart (window id : ℕ) (before : List Entry) : Type 0 where
 abbrev pub StartsWhereItMay : Type 0
 StartsWhereItMay =
     (limits : Limits) (place : Place) (past : Past) (c : Client)
-    (before behind : List Entry) (made : ℕ)
+    (before after : List Entry) (made : ℕ)
     (p : Publication) (id : ℕ)
-    → entries_of limits (place ∷ past) c ≡ before ++ Entry.Started made p id (length past) ∷ behind
+    → entries_of limits (place ∷ past) c ≡ before ++ Entry.Started made p id (length past) ∷ after
     → (is_some (current_connection (place ∷ past) c) ≡ true)
     × MayStart (window_at limits (place ∷ past)) id before

@@ -1,5 +1,6 @@
 -- What readers may want to know about the places that take a publication (MQTT 3.3.5, 4.3.3).
-use Rattle.std.specs.Prelude.{◌≡◌, Bool, true, false, List, [], ◌∷◌, length, filter, map, Option, Some}
+use Rattle.std.specs.Prelude.{◌≡◌, Bool, true, false, List, [], ◌∷◌, length, filter, map}
+use Rattle.std.specs.Prelude.{Option, Some}
 use Rattle.retained.specs.packet.declared.qos.QoS.{QoS}
 use Rattle.retained.specs.packet.declared.qos.QoS.TheVariants as levels
 use Rattle.retained.specs.packet.declared.publish.Publish.{Publish}

@@ -1,8 +1,12 @@
 // Laws of the definitions, each the contract of a function that does nothing.
 
-ghost use Rattle.broker_spec.specs.Laws.{CurrentIsLastAccepted, FilterHasLastGranting, RepeatIsUnreleased};
-ghost use Rattle.broker_spec.specs.EntryLaws.{NothingWaitsInVain, EntriesOnlyGrow, PublicationEnters, TakenPublishAddsOne};
-ghost use Rattle.broker_spec.specs.IdentifierLaws.{IdentifiersAreDistinct, IdentifiersAreInTheWindow, IdentifiersAreTo64, StartedComeFirst};
+ghost use Rattle.broker_spec.specs.Laws.{CurrentIsLastAccepted, FilterHasLastGranting};
+ghost use Rattle.broker_spec.specs.Laws.{RepeatIsUnreleased};
+ghost use Rattle.broker_spec.specs.EntryLaws.{NothingWaitsInVain, EntriesOnlyGrow};
+ghost use Rattle.broker_spec.specs.EntryLaws.{PublicationEnters, TakenPublishAddsOne};
+ghost use Rattle.broker_spec.specs.IdentifierLaws.{IdentifiersAreDistinct};
+ghost use Rattle.broker_spec.specs.IdentifierLaws.{IdentifiersAreInTheWindow, IdentifiersAreTo64};
+ghost use Rattle.broker_spec.specs.IdentifierLaws.{StartedComeFirst};
 ghost use Rattle.broker_spec.specs.OriginLaws.{EntersOnce};
 ghost use Rattle.broker_spec.specs.QuietLaws.{PacketOfNobodyIsNothing, WindowIsSteady};
 ghost use Rattle.broker_spec.specs.AnswerLaws.{AnswersAreAddressed};

@@ -1,12 +1,26 @@
 // Worked examples of the definitions, each the contract of a function that does nothing.
 
-ghost use Rattle.broker_spec.specs.Rows.{ConnectIsAnswered, SecondConnectionTakesOver, OlderConnectionIsSilent, SubscribeIsGranted, PublishReachesTheSubscriber, RepeatBeforePubrel, DupAfterPubrel, PubrelTwice, RetainedAtSubscribe, TwoFiltersOnePublication};
-ghost use Rattle.broker_spec.specs.MoreRows.{FullQueueRefuses, FullQueueGoesOn, FullQueueKeepsTheOrder, PingAndUnsubscribe, ViolationsClose, PubackFreesItsIdentifier, WideWindowSendsAll, WindowOf64, WindowGrowsAtStart};
-ghost use Rattle.broker_spec.specs.LimitRows.{LimitsAre, NamesAre, FifthSessionIsRefused, FifthFilterIsRefused, FifthTopicIsRefused, ConnectOnACurrentConnection};
+ghost use Rattle.broker_spec.specs.Rows.{ConnectIsAnswered, SecondConnectionTakesOver};
+ghost use Rattle.broker_spec.specs.Rows.{OlderConnectionIsSilent, SubscribeIsGranted};
+ghost use Rattle.broker_spec.specs.Rows.{PublishReachesTheSubscriber, RepeatBeforePubrel};
+ghost use Rattle.broker_spec.specs.Rows.{DupAfterPubrel, PubrelTwice};
+ghost use Rattle.broker_spec.specs.Rows.{RetainedAtSubscribe, TwoFiltersOnePublication};
+ghost use Rattle.broker_spec.specs.MoreRows.{FullQueueRefuses, FullQueueGoesOn};
+ghost use Rattle.broker_spec.specs.MoreRows.{FullQueueKeepsTheOrder, PingAndUnsubscribe};
+ghost use Rattle.broker_spec.specs.MoreRows.{ViolationsClose, PubackFreesItsIdentifier};
+ghost use Rattle.broker_spec.specs.MoreRows.{WideWindowSendsAll, WindowOf64, WindowGrowsAtStart};
+ghost use Rattle.broker_spec.specs.LimitRows.{LimitsAre, NamesAre, FifthSessionIsRefused};
+ghost use Rattle.broker_spec.specs.LimitRows.{FifthFilterIsRefused, FifthTopicIsRefused};
+ghost use Rattle.broker_spec.specs.LimitRows.{ConnectOnACurrentConnection};
 ghost use Rattle.broker_spec.specs.RoomRows.{RoomIsLessWhatEarlierFiltersNeed};
-ghost use Rattle.broker_spec.specs.QosRows.{LowerQosIsDelivered, RetainedAtTheLowerQos, LastIsRetained, ExactlyOnceIsSentAgain, CopiesComeByClient};
-ghost use Rattle.broker_spec.specs.SessionRows.{SessionsBegin, SessionsEnd, PlacesStandInSessions, EntriesHaveTheirPlaces, NewOnce, LastConnectionIsLive};
-ghost use Rattle.broker_spec.specs.ExpelRows.{ExpelledOnce, NothingIsLeft, IdentifiersAreGone, ExpelEnds};
+ghost use Rattle.broker_spec.specs.QosRows.{LowerQosIsDelivered, RetainedAtTheLowerQos};
+ghost use Rattle.broker_spec.specs.QosRows.{LastIsRetained, ExactlyOnceIsSentAgain};
+ghost use Rattle.broker_spec.specs.QosRows.{CopiesComeByClient};
+ghost use Rattle.broker_spec.specs.SessionRows.{SessionsBegin, SessionsEnd, PlacesStandInSessions};
+ghost use Rattle.broker_spec.specs.SessionRows.{EntriesHaveTheirPlaces, NewOnce};
+ghost use Rattle.broker_spec.specs.SessionRows.{LastConnectionIsLive};
+ghost use Rattle.broker_spec.specs.ExpelRows.{ExpelledOnce, NothingIsLeft};
+ghost use Rattle.broker_spec.specs.ExpelRows.{IdentifiersAreGone, ExpelEnds};
 
 /// A first CONNECT gets CONNACK 0 without a session.
 pub fn connect_is_answered()

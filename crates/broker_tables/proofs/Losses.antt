@@ -43,10 +43,10 @@ unfolding stepped
 nobodys_loss tables x none = nobodys_loss_step usual_limits 64 (state_in tables) x (is_nobodys tables x none)
 
 -- the ties after it
-pub ties_behind : (tables after : Tables) (x : ConnectionName) (c : Client) (kept : ClientSession) → IsServed (state_in tables) x c kept →
+pub ties_after : (tables after : Tables) (x : ConnectionName) (c : Client) (kept : ClientSession) → IsServed (state_in tables) x c kept →
     IsTied tables → IsWithout tables x after → after.sessions.entries ≡ written c (left_off kept) tables.sessions.entries →
     content_of after.index ≡ (cond kept.clean (without_client (content_of tables.index) c) (content_of tables.index)) → IsTied after
-ties_behind tables after x c kept served tied without is index =
+ties_after tables after x c kept served tied without is index =
     tied_to after (written c (left_off kept) tables.sessions.entries) is
     (λ q.
     without q

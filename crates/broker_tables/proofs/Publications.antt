@@ -47,8 +47,8 @@ module _ (tables : Tables) (x : ConnectionName) (c : Client) (kept : ClientSessi
       ∙ ap (λ s. (s, outputs.Close x ∷ [])) (sym (ap (λ q. q.0) (loss_step tables x c kept served)))
 
   -- the sessions after one that is taken
-  abbrev pub sessions_behind : List Row → Tables → Type 0
-  sessions_behind granted after =
+  abbrev pub sessions_after : List Row → Tables → Type 0
+  sessions_after granted after =
       after.sessions.entries ≡ all_delivered tables.window (publication_of p) granted (changed c (received_on p.delivery) tables.sessions.entries)
 
   -- one that is taken

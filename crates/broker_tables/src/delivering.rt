@@ -2,7 +2,8 @@
 
 ghost use Rattle.std.specs.Prelude.{◌≡◌, ◌≤◌, ◌++◌, [], ◌∷◌, true, false, Some, OnOk, IfOk};
 ghost use Rattle.session.specs.packet.declared.packet.Packet.TheVariants as packets;
-ghost use Rattle.session.specs.session_base.Publication.{publish_of, lower_qos, publication_of, is_answered};
+ghost use Rattle.session.specs.session_base.Publication.{publish_of, lower_qos};
+ghost use Rattle.session.specs.session_base.Publication.{publication_of, is_answered};
 ghost use Rattle.session.specs.packet.declared.qos.QoS.TheVariants as levels;
 ghost use Rattle.session.specs.session_base.Queue.{room};
 ghost use Rattle.session.specs.session_base.Copies.{copies_left};

@@ -13,7 +13,9 @@ ghost use Rattle.broker_rows.specs.broker_spec.Commands.{usual_limits};
 ghost use Rattle.broker_rows.specs.broker_spec.Retained.{retains};
 ghost use Rattle.broker_rows.specs.broker_base.Decisions.{is_again, is_one_topic_over};
 ghost use Rattle.broker_rows.specs.broker_base.State.{session_in};
-ghost use Rattle.broker_rows.specs.Published.{is_full_at, all_delivered, answered_in_turn, changed, copy_answered, delivered_on, granted_rows, received_on};
+ghost use Rattle.broker_rows.specs.Published.{is_full_at, all_delivered, answered_in_turn, changed};
+ghost use Rattle.broker_rows.specs.Published.{copy_answered, delivered_on};
+ghost use Rattle.broker_rows.specs.Published.{granted_rows, received_on};
 
 use crate::client_row::ClientRow;
 use crate::delivering::{deliver, lower, publication_of};

@@ -28,17 +28,17 @@ appends_next f xs i x old between new within is front spelled =
 
 -- ---- the same after other bytes
 
-spelled_behind : (front old new : List ℕ) (packet : Packet) → AppendsSpelling old new packet → AppendsSpelling (front ++ old) (front ++ new) packet
-spelled_behind front old new packet spelled =
+spelled_after : (front old new : List ℕ) (packet : Packet) → AppendsSpelling old new packet → AppendsSpelling (front ++ old) (front ++ new) packet
+spelled_after front old new packet spelled =
     (spelled.0, spelled.1, ap (λ bytes. front ++ bytes) spelled.2 ∙ sym (append_assoc front old spelled.0))
 
 appends_further : (front old new : List ℕ) (packets : List Packet) → AppendsAll old new packets → AppendsAll (front ++ old) (front ++ new) packets
 appends_further front old new [] same = ap (λ bytes. front ++ bytes) same
 appends_further front old new (packet ∷ packets) all =
-    (front ++ all.0, spelled_behind front old all.0 packet all.1, appends_further front all.0 new packets all.2)
+    (front ++ all.0, spelled_after front old all.0 packet all.1, appends_further front all.0 new packets all.2)
 
-pub appends_behind : (front bytes : List ℕ) (packets : List Packet) → AppendsAll [] bytes packets → AppendsAll front (front ++ bytes) packets
-appends_behind front bytes packets all =
+pub appends_after : (front bytes : List ℕ) (packets : List Packet) → AppendsAll [] bytes packets → AppendsAll front (front ++ bytes) packets
+appends_after front bytes packets all =
     subst (λ (old : List ℕ). AppendsAll old (front ++ bytes) packets) (append-nil front) (appends_further front [] bytes packets all)
 
 -- ---- what is kept

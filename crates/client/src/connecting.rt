@@ -1,6 +1,7 @@
 // The beginning and the end of a client's connections (MQTT 3.1, 3.2, 3.14).
 
-ghost use Rattle.std.specs.Prelude.{◌≡◌, [], false, true, if◌then◌else◌, IfOk, OnOk, OnErr, IsErrOf};
+ghost use Rattle.std.specs.Prelude.{◌≡◌, [], false, true, if◌then◌else◌, IfOk, OnOk};
+ghost use Rattle.std.specs.Prelude.{OnErr, IsErrOf};
 ghost use Rattle.client_base.specs.State.{resent, is_online};
 ghost use Rattle.client_base.specs.Calls.{opened, confirmed, discarded, numbered};
 ghost use Rattle.client_base.specs.Steps.{Call, keeper_step};

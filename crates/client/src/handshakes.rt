@@ -3,7 +3,9 @@
 ghost use Rattle.std.specs.Prelude.{◌≡◌, false};
 ghost use Rattle.client_base.specs.lists.Lists.{has_id};
 ghost use Rattle.cutter.specs.packet.declared.delivery.Delivery.TheVariants as deliveries;
-ghost use Rattle.client_base.specs.Answered.{on_publish, on_puback, on_pubrec, on_pubcomp, on_pubrel, answered, accepted_of, is_subscribe, is_unsubscribe};
+ghost use Rattle.client_base.specs.Answered.{on_publish, on_puback, on_pubrec, on_pubcomp};
+ghost use Rattle.client_base.specs.Answered.{on_pubrel, answered, accepted_of};
+ghost use Rattle.client_base.specs.Answered.{is_subscribe, is_unsubscribe};
 ghost use Rattle.client.specs.Inside.Turns.{Tries, changed};
 
 use crate::client_core::ClientCore;

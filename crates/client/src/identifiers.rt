@@ -4,7 +4,8 @@ ghost use Rattle.std.specs.Prelude.{◌≡◌, ◌==◌, filter, not, IfSome, Is
 ghost use Rattle.std.specs.List.{list_any};
 ghost use Rattle.client_base.specs.lists.Lists.{has_id};
 ghost use Rattle.client_base.specs.State.{id_of_request, used_ids};
-ghost use Rattle.client_base.specs.Answered.{awaits_puback, awaits_pubrec, is_subscribe, is_unsubscribe};
+ghost use Rattle.client_base.specs.Answered.{awaits_puback, awaits_pubrec};
+ghost use Rattle.client_base.specs.Answered.{is_subscribe, is_unsubscribe};
 ghost use Rattle.client_base.specs.session_base.Identifiers.{without_id};
 ghost use Rattle.client_base.specs.Publishing.{next_id, has_free_id};
 

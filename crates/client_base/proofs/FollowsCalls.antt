@@ -21,13 +21,13 @@ is_none [] = true
 is_none (x ∷ xs) = false
 
 -- one that was not sent, or is done
-first_behind : (own : List Own) (o : Own) → sent_of (o ∷ []) ≡ [] → IsSentFirst (o ∷ []) → IsSentFirst own → IsSentFirst (own ++ o ∷ [])
-first_behind [] o none alone first = alone
-first_behind (Own.Unsent k p id ∷ own) o none alone first =
-    (sent_more own (o ∷ []) ∙ ap₂ (λ x y. x ++ y) first.0 none, first_behind own o none alone first.1)
-first_behind (Own.Sent k p id ∷ own) o none alone first = first_behind own o none alone first
-first_behind (Own.Released k p id ∷ own) o none alone first = first_behind own o none alone first
-first_behind (Own.Done k p ∷ own) o none alone first = first_behind own o none alone first
+first_after : (own : List Own) (o : Own) → sent_of (o ∷ []) ≡ [] → IsSentFirst (o ∷ []) → IsSentFirst own → IsSentFirst (own ++ o ∷ [])
+first_after [] o none alone first = alone
+first_after (Own.Unsent k p id ∷ own) o none alone first =
+    (sent_more own (o ∷ []) ∙ ap₂ (λ x y. x ++ y) first.0 none, first_after own o none alone first.1)
+first_after (Own.Sent k p id ∷ own) o none alone first = first_after own o none alone first
+first_after (Own.Released k p id ∷ own) o none alone first = first_after own o none alone first
+first_after (Own.Done k p ∷ own) o none alone first = first_after own o none alone first
 
 -- one that was sent, if all were
 first_sent : (own : List Own) (k : ℕ) (p : Publication) (id : ℕ) → unsent_of own ≡ [] → IsSentFirst (own ++ Own.Sent k p id ∷ [])
@@ -113,14 +113,14 @@ unsent_stands : (p : Publication) (id n : ℕ) (keeper : Keeper) (state : Client
     → StandsFor (record keeper { own = keeper.own ++ Own.Unsent n p id ∷ [] }) (record state { unsent = state.unsent ++ kept_of p id ∷ [] })
 unsent_stands p id n keeper state s offline =
     none_more (record state { unsent = state.unsent ++ kept_of p id ∷ [] }) (state.sent ++ []) (state.unsent ++ kept_of p id ∷ []) _ (sym (append-nil state.sent)) refl
-    (own_stands keeper state (Own.Unsent n p id) [] (kept_of p id ∷ []) s refl refl refl (first_behind keeper.own (Own.Unsent n p id) refl (refl, tt) s.sent_first)
+    (own_stands keeper state (Own.Unsent n p id) [] (kept_of p id ∷ []) s refl refl refl (first_after keeper.own (Own.Unsent n p id) refl (refl, tt) s.sent_first)
     (λ e. absurd (both_ways keeper.is_online offline e)))
 
 done_stands : (p : Publication) (n : ℕ) (keeper : Keeper) (state : ClientState) → StandsFor keeper state
     → StandsFor (record keeper { own = keeper.own ++ Own.Done n p ∷ [] }) state
 done_stands p n keeper state s =
     none_more state (state.sent ++ []) (state.unsent ++ []) _ (sym (append-nil state.sent)) (sym (append-nil state.unsent))
-    (own_stands keeper state (Own.Done n p) [] [] s refl refl refl (first_behind keeper.own (Own.Done n p) refl tt s.sent_first) (λ e. refl))
+    (own_stands keeper state (Own.Done n p) [] [] s refl refl refl (first_after keeper.own (Own.Done n p) refl tt s.sent_first) (λ e. refl))
 
 pub publish_follows : (p : Publication) (id : ℕ) (side : Side ℕ) (state : ClientState) (answered online up : Bool) → StandsFor side.keeper state → online ≡ up
     → side.keeper.is_online ≡ up → (answered ≡ false → online ≡ true) → Same side (side_of p id side answered up) (turn_of p id state answered online)

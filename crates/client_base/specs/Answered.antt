@@ -1,5 +1,6 @@
 -- What a packet of the server does to a client, and which packets answer it (MQTT 3.2, 4.3, 4.4).
-use Rattle.std.specs.Prelude.{ℕ, Bool, false, not, ◌&&◌, ◌==◌, if◌then◌else◌, List, [], ◌∷◌, ◌++◌, filter, Option, Some, None}
+use Rattle.std.specs.Prelude.{ℕ, Bool, false, not, ◌&&◌, ◌==◌, if◌then◌else◌, List, [], ◌∷◌, ◌++◌}
+use Rattle.std.specs.Prelude.{filter, Option, Some, None}
 use Rattle.std.specs.List.{list_any}
 use Rattle.session_base.specs.packet.declared.delivery.Delivery.{Delivery}
 use Rattle.session_base.specs.packet.declared.delivery.Delivery.TheVariants as deliveries

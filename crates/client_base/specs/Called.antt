@@ -8,7 +8,8 @@ use Rattle.session_base.specs.Publication.{is_answered}
 use Rattle.session_base.specs.Identifiers.{least_free}
 use Rattle.client_base.specs.declared.request.Request.{Request}
 use Rattle.client_base.specs.declared.request.Request.TheVariants as requests
-use Rattle.client_base.specs.Keeper.{Own, Written, Connection, Keeper, Side, ids_in_use, next_number}
+use Rattle.client_base.specs.Keeper.{Own, Written, Connection, Keeper, Side}
+use Rattle.client_base.specs.Keeper.{ids_in_use, next_number}
 use Rattle.client_base.specs.Written.{plain, publishes, writes}
 use Rattle.client_base.specs.Handled.{lost, handled}
 use Rattle.client_base.specs.Steps.{Call}

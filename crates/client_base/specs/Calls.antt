@@ -1,5 +1,6 @@
 -- What opening a connection, and each packet from the server, does to a client (MQTT 3, 4.3, 4.4).
-use Rattle.std.specs.Prelude.{◌+◌, ◌-◌, ◌^◌, Bool, false, not, ◌&&◌, ◌==◌, min, nat_lt, if◌then◌else◌, [], ◌∷◌, ◌++◌, Some, None}
+use Rattle.std.specs.Prelude.{◌+◌, ◌-◌, ◌^◌, Bool, false, not, ◌&&◌, ◌==◌, min, nat_lt}
+use Rattle.std.specs.Prelude.{if◌then◌else◌, [], ◌∷◌, ◌++◌, Some, None}
 use Rattle.session_base.specs.packet.declared.connack.Connack.TheVariants as connacks
 use Rattle.session_base.specs.packet.declared.packet.Packet.{Packet}
 use Rattle.session_base.specs.packet.declared.packet.Packet.TheVariants as packets
@@ -8,7 +9,9 @@ use Rattle.client_base.specs.declared.error.ClientError.TheVariants as errors
 use Rattle.client_base.specs.declared.stage.Stage.{Stage}
 use Rattle.client_base.specs.declared.stage.Stage.TheVariants as stages
 use Rattle.client_base.specs.State.{ClientState, resent, lost}
-use Rattle.client_base.specs.Answered.{Turn, going_on, ending, on_publish, on_pubrel, on_puback, on_pubrec, on_pubcomp, is_subscribe, is_unsubscribe, answered}
+use Rattle.client_base.specs.Answered.{Turn, going_on, ending, on_publish, on_pubrel, on_puback}
+use Rattle.client_base.specs.Answered.{on_pubrec, on_pubcomp, is_subscribe}
+use Rattle.client_base.specs.Answered.{is_unsubscribe, answered}
 
 -- nothing changes, for this cause
 abbrev pub refused : ClientError → ClientState → Turn

@@ -1,5 +1,6 @@
 -- What a packet of the server does to a client with its history (MQTT 3.2, 4.3, 4.4).
-use Rattle.std.specs.Prelude.{ℕ, suc, Bool, true, false, not, ◌&&◌, if◌then◌else◌, [], ◌∷◌, ◌++◌, map, filter}
+use Rattle.std.specs.Prelude.{ℕ, suc, Bool, true, false, not, ◌&&◌, if◌then◌else◌, [], ◌∷◌, ◌++◌}
+use Rattle.std.specs.Prelude.{map, filter}
 use Rattle.session_base.specs.packet.declared.connack.Connack.TheVariants as connacks
 use Rattle.session_base.specs.packet.declared.packet.Packet.{Packet}
 use Rattle.session_base.specs.packet.declared.packet.Packet.TheVariants as packets

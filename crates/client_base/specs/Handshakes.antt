@@ -1,5 +1,6 @@
 -- What a packet of the server does to the handshakes of a client with its history (MQTT 4.3).
-use Rattle.std.specs.Prelude.{ℕ, Bool, false, not, ◌&&◌, ◌||◌, ◌==◌, if◌then◌else◌, List, [], ◌∷◌, ◌++◌, map}
+use Rattle.std.specs.Prelude.{ℕ, Bool, false, not, ◌&&◌, ◌||◌, ◌==◌, if◌then◌else◌, List, [], ◌∷◌}
+use Rattle.std.specs.Prelude.{◌++◌, map}
 use Rattle.session_base.specs.packet.declared.delivery.Delivery.{Delivery}
 use Rattle.session_base.specs.packet.declared.delivery.Delivery.TheVariants as deliveries
 use Rattle.session_base.specs.packet.declared.packet.Packet.TheVariants as packets

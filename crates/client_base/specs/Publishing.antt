@@ -1,5 +1,6 @@
 -- What publishing does to a client, and when it is refused (MQTT 4.3).
-use Rattle.std.specs.Prelude.{ℕ, Bool, false, not, ◌&&◌, nat_lt, if◌then◌else◌, [], ◌∷◌, ◌++◌, length, Option, Some, None}
+use Rattle.std.specs.Prelude.{ℕ, Bool, false, not, ◌&&◌, nat_lt, if◌then◌else◌, [], ◌∷◌, ◌++◌}
+use Rattle.std.specs.Prelude.{length, Option, Some, None}
 use Rattle.session_base.specs.packet.declared.packet.Packet.{Packet}
 use Rattle.session_base.specs.packet.declared.packet.Packet.TheVariants as packets
 use Rattle.session_base.specs.packet.Spelling.{body, longest_body}

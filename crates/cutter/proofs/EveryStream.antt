@@ -29,9 +29,9 @@ has_byte : (p : Packet) (front : List ℕ) → Spells p front → 1 ≤ length f
 has_byte p [] s = let h = s.2 in cc
 has_byte p (first ∷ front) s = omega arith
 
-bytes_behind : (front rest : List ℕ) → AreBytes (front ++ rest) → AreBytes rest
-bytes_behind [] rest fits = fits
-bytes_behind (first ∷ front) rest fits = bytes_behind front rest (λ i. fits (suc i))
+bytes_after : (front rest : List ℕ) → AreBytes (front ++ rest) → AreBytes rest
+bytes_after [] rest fits = fits
+bytes_after (first ∷ front) rest fits = bytes_after front rest (λ i. fits (suc i))
 
 -- the bytes are cut
 abbrev pub IsCut : List ℕ → Type 0
@@ -51,7 +51,7 @@ cut_more fuel again bytes fits few (Err stop) e found = ([], bytes, (refl, no_fr
 cut_more fuel again bytes fits few (Ok (p, rest)) e found =
     let some = has_byte p found.front found.spelled in
     let fewer : length rest ≤ fuel = omega (arith, some, few, ap length found.parts, length-append found.front rest) in
-    let more = again rest (bytes_behind found.front rest (subst AreBytes found.parts fits)) fewer in
+    let more = again rest (bytes_after found.front rest (subst AreBytes found.parts fits)) fewer in
     (p ∷ more.0, more.1, (rest, (found.front, found.spelled, found.whole, found.parts), more.2))
 
 cut_from : (fuel : ℕ) (bytes : List ℕ) → AreBytes bytes → length bytes ≤ fuel → IsCut bytes

@@ -1,5 +1,6 @@
 -- The laws of streams that `src/laws.rt` proves.
-use Rattle.std.specs.Prelude.{◌≡◌, ◌<◌, ℕ, false, List, [], ◌∷◌, ◌++◌, get_or, Option, Some, None, Result, Ok}
+use Rattle.std.specs.Prelude.{◌≡◌, ◌<◌, ℕ, false, List, [], ◌∷◌, ◌++◌, get_or, Option, Some, None}
+use Rattle.std.specs.Prelude.{Result, Ok}
 use Rattle.packet.specs.declared.packet.Packet.{Packet}
 use Rattle.cutter.specs.declared.error.CutError.{CutError}
 use Rattle.cutter.specs.Stream.{Stream, CutsInto, Takes}

@@ -1,6 +1,7 @@
 // Bytes in order.
 
-ghost use Rattle.std.specs.Prelude.{◌≡◌, ◌==◌, ◌+◌, ◌++◌, true, false, [], length, nat_le, if◌then◌else◌, IfOk, IsOk, OnErr, OnOk};
+ghost use Rattle.std.specs.Prelude.{◌≡◌, ◌==◌, ◌+◌, ◌++◌, true, false, [], length, nat_le};
+ghost use Rattle.std.specs.Prelude.{if◌then◌else◌, IfOk, IsOk, OnErr, OnOk};
 ghost use Rattle.packet.specs.Spelling.{IsPacket, spelling};
 
 use machine::Memory;

@@ -1,6 +1,7 @@
 // Laws of streams. The calls do nothing but call those that their laws rest on.
 
-ghost use Rattle.cutter.specs.Laws.{CuttingsAgree, EveryStreamIsCut, NoPacketIsLeft, OneCut, PacketsOfTheStream};
+ghost use Rattle.cutter.specs.Laws.{CuttingsAgree, EveryStreamIsCut, NoPacketIsLeft};
+ghost use Rattle.cutter.specs.Laws.{OneCut, PacketsOfTheStream};
 
 use packet::no_spelling_begins_another;
 

@@ -5,7 +5,7 @@ mod cutting;
 mod error;
 mod holding;
 mod laws;
-mod pipes_laws;
+mod pipe_laws;
 
 pub use cutting::Cutter;
 pub use error::CutError;
@@ -15,4 +15,4 @@ pub use machine;
 pub use machine::Memory;
 pub use packet;
 pub use packet::{packet_base, topics};
-pub use pipes_laws::pipes_are_in_order;
+pub use pipe_laws::pipes_are_in_order;

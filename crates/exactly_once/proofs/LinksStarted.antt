@@ -6,7 +6,7 @@ use Rattle.exactly_once.specs.Items.{Item, busy, sent, start_first}
 use Rattle.exactly_once.specs.Handshake.{Forward, Backward, Link, sending}
 use Rattle.exactly_once.specs.HandshakeSides.{publishes, forward_id, backward_id, IsMeant, IsDue, IsSent, Comes, IsJoined, IsBehind, IsAhead, IsLinked}
 use Rattle.client_base.proofs.of_lists.Tests.{or_none, none_or}
-use Rattle.client_base.proofs.of_lists.Identifiers.{other_id, distinct_behind, distinct_insert}
+use Rattle.client_base.proofs.of_lists.Identifiers.{other_id, distinct_after, distinct_insert}
 use Rattle.client_base.proofs.of_lists.OfEach.{each_append, each_then}
 use Rattle.exactly_once.proofs.RowsSent.{row_sent}
 use Rattle.exactly_once.proofs.BusyIdentifiers.{sent_busy, released_busy}
@@ -82,4 +82,4 @@ pub joined_ahead : {V : Type 0} (received : ℕ → Bool) (old new : List (Item 
 joined_ahead received old new f b j = record { next = sent new; more = []; comes = j.comes; front = sym (append-nil (sent new)) }
 
 pub joined_behind : {V : Type 0} (received : ℕ → Bool) (old new : List (Item V)) (f : List (Forward V)) (b : List Backward) → IsJoined received old new f b → IsBehind received old b
-joined_behind received old new f b j = record { due = j.due; apart = distinct_behind (map forward_id f) (map backward_id b) j.apart }
+joined_behind received old new f b j = record { due = j.due; apart = distinct_after (map forward_id f) (map backward_id b) j.apart }

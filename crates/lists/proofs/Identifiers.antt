@@ -34,9 +34,9 @@ distinct_push (y ∷ xs) x d e =
 pub distinct_rotate : (x : ℕ) (xs : List ℕ) → IsDistinct (x ∷ xs) → IsDistinct (xs ++ x ∷ [])
 distinct_rotate x xs d = distinct_push xs x d.1 d.0
 
-pub distinct_behind : (xs ys : List ℕ) → IsDistinct (xs ++ ys) → IsDistinct ys
-distinct_behind [] ys d = d
-distinct_behind (x ∷ xs) ys d = distinct_behind xs ys d.1
+pub distinct_after : (xs ys : List ℕ) → IsDistinct (xs ++ ys) → IsDistinct ys
+distinct_after [] ys d = d
+distinct_after (x ∷ xs) ys d = distinct_after xs ys d.1
 
 pub distinct_front : (xs ys : List ℕ) → IsDistinct (xs ++ ys) → IsDistinct xs
 distinct_front [] ys d = tt

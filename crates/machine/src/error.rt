@@ -56,7 +56,7 @@ impl Halted {
 
 impl fmt::Display for Halted {
     fn fmt<W: fmt::Write>(&self, f: &mut fmt::Formatter<W>) -> fmt::Result {
-        write!(f, "halted for want of memory")
+        write!(f, "halted: out of memory")
     }
 }
 

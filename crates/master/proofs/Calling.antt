@@ -53,16 +53,16 @@ given_nothing rules empty (inr (inr (inr (a, t)), c)) = t ∙ sym empty
 -- a call of a replica is its step, perhaps with losses; if that sends nothing, leaves the log as it
 -- is and applies nothing, it has none
 pub record Called {S C O : Type 0} (rules : Rules S C O) (old : CountedReplica S C) (input : Input C) (new : CountedReplica S C)
-    (before behind : List (Effect C O)) : Type 0 where
-  pub stepped : Stepped rules old (replica_step rules old.state input) new before behind
+    (before after : List (Effect C O)) : Type 0 where
+  pub stepped : Stepped rules old (replica_step rules old.state input) new before after
   pub quiet : IsQuiet old.state (replica_step rules old.state input) → IsRead rules old.state input →
       new ≡ record old { state = (replica_step rules old.state input).state }
 
 -- a tick changes no replica
-pub ticks_called : {S C O : Type 0} (rules : Rules S C O) (old new : CountedReplica S C) (before behind : List (Effect C O)) →
-    Stepped rules old (replica_step rules old.state Ticks) new before behind → (IsQuiet old.state (replica_step rules old.state Ticks) → new ≡ old) →
-    Called rules old Ticks new before behind
-ticks_called {S = S} {C = C} {O = O} rules old new before behind s still =
+pub ticks_called : {S C O : Type 0} (rules : Rules S C O) (old new : CountedReplica S C) (before after : List (Effect C O)) →
+    Stepped rules old (replica_step rules old.state Ticks) new before after → (IsQuiet old.state (replica_step rules old.state Ticks) → new ≡ old) →
+    Called rules old Ticks new before after
+ticks_called {S = S} {C = C} {O = O} rules old new before after s still =
     record {
       stepped = s;
       quiet = λ q r. still q
@@ -79,10 +79,10 @@ proposal_busy {S = S} {C = C} {O = O} rules r command active room quiet =
     absurd (omega (arith, e, same, f, long))
 
 -- so one that does not is refused
-pub proposes_called : {S C O : Type 0} (rules : Rules S C O) (old new : CountedReplica S C) (command : C) (before behind : List (Effect C O)) →
-    Stepped rules old (proposed rules old.state command) new before behind → (is_active old.state.role ≡ false → new ≡ old) →
-    (is_active old.state.role ≡ true → most_places ≤ places old.state.log → new ≡ old) → Called rules old (Proposes command) new before behind
-proposes_called {S = S} {C = C} {O = O} rules old new command before behind s idle full =
+pub proposes_called : {S C O : Type 0} (rules : Rules S C O) (old new : CountedReplica S C) (command : C) (before after : List (Effect C O)) →
+    Stepped rules old (proposed rules old.state command) new before after → (is_active old.state.role ≡ false → new ≡ old) →
+    (is_active old.state.role ≡ true → most_places ≤ places old.state.log → new ≡ old) → Called rules old (Proposes command) new before after
+proposes_called {S = S} {C = C} {O = O} rules old new command before after s idle full =
     record { stepped = s; quiet = λ q r. by_role (cases_Bool (is_active old.state.role)) (cases_lt (places old.state.log) most_places) q }
   where
     with_outcome : Outcome S C O → CountedReplica S C
@@ -96,16 +96,16 @@ proposes_called {S = S} {C = C} {O = O} rules old new command before behind s id
     by_role (inr off) _ q = idle off ∙ ap with_outcome (sym (proposed-not_active rules old.state command off))
 
 -- the same call by other names
-pub called_as : {S C O : Type 0} (rules : Rules S C O) (old new new' : CountedReplica S C) (i i' : Input C) (before behind behind' : List (Effect C O)) →
-    i' ≡ i → new' ≡ new → behind' ≡ behind → Called rules old i new before behind → Called rules old i' new' before behind'
-called_as {S = S} {C = C} {O = O} rules old new new' i i' before behind behind' e f h s =
-    subst (λ (j : Input C). Called rules old j new' before behind') (sym e)
-    (subst (λ (n : CountedReplica S C). Called rules old i n before behind') (sym f)
+pub called_as : {S C O : Type 0} (rules : Rules S C O) (old new new' : CountedReplica S C) (i i' : Input C) (before after after' : List (Effect C O)) →
+    i' ≡ i → new' ≡ new → after' ≡ after → Called rules old i new before after → Called rules old i' new' before after'
+called_as {S = S} {C = C} {O = O} rules old new new' i i' before after after' e f h s =
+    subst (λ (j : Input C). Called rules old j new' before after') (sym e)
+    (subst (λ (n : CountedReplica S C). Called rules old i n before after') (sym f)
     (subst (λ (us : List (Effect C O)). Called rules old i new before us) (sym h) s))
 
-pub took_in : {S C O : Type 0} {rules : Rules S C O} {old : CountedReplica S C} {input : Input C} {new : CountedReplica S C} {before behind : List (Effect C O)}
-    (whole : Bool) → Called rules old input new before behind → (whole ≡ true → (new.losses ≡ old.losses) × (old.losses < 2 ^ 64 - 1)) →
-    (new.losses ≡ old.losses → old.losses < 2 ^ 64 - 1 → whole ≡ true) → TookIn rules old input new before behind whole
+pub took_in : {S C O : Type 0} {rules : Rules S C O} {old : CountedReplica S C} {input : Input C} {new : CountedReplica S C} {before after : List (Effect C O)}
+    (whole : Bool) → Called rules old input new before after → (whole ≡ true → (new.losses ≡ old.losses) × (old.losses < 2 ^ 64 - 1)) →
+    (new.losses ≡ old.losses → old.losses < 2 ^ 64 - 1 → whole ≡ true) → TookIn rules old input new before after whole
 took_in {S = S} {C = C} {rules = rules} whole c same told =
     record {
       given = c.stepped.given;

@@ -50,8 +50,8 @@ least_same top f g (m ∷ ms) same =
     let z : min (f m) (least_of top f ms) ≡ min (g m) (least_of top g ms) = omega (arith, e, d) in z
 
 -- a pair of numbers, the least of them 0
-next_behind_zero : (next x : ℕ) → next_least 0 next x ≡ (0, min next x)
-next_behind_zero next x = ap (λ b. cond b (x, 0) (0, min next x)) (le-ltb x 0 (omega arith))
+next_after_zero : (next x : ℕ) → next_least 0 next x ≡ (0, min next x)
+next_after_zero next x = ap (λ b. cond b (x, 0) (0, min next x)) (le-ltb x 0 (omega arith))
 
 next_lower : (least next x : ℕ) → x < least → next_least least next x ≡ (x, least)
 next_lower least next x low = ap (λ b. cond b (x, least) (least, min next x)) (lt-ltb x least low)
@@ -60,11 +60,11 @@ next_higher : (least next x : ℕ) → least ≤ x → next_least least next x �
 next_higher least next x high = ap (λ b. cond b (x, least) (least, min next x)) (le-ltb x least high)
 
 -- after a 0 the second is the least of the others
-behind_zero : (told : List ℕ) (next : ℕ) (ms : List ℕ) → least_but_one told 0 next ms ≡ least_of next (λ m. get_or told m 0) ms
-behind_zero told next [] = refl
-behind_zero told next (m ∷ ms) =
-    ap (λ (p : ℕ × ℕ). least_but_one told p.0 p.1 ms) (next_behind_zero next (get_or told m 0))
-    ∙ behind_zero told (min next (get_or told m 0)) ms ∙ least_lower next (get_or told m 0) (λ x. get_or told x 0) ms
+after_zero : (told : List ℕ) (next : ℕ) (ms : List ℕ) → least_but_one told 0 next ms ≡ least_of next (λ m. get_or told m 0) ms
+after_zero told next [] = refl
+after_zero told next (m ∷ ms) =
+    ap (λ (p : ℕ × ℕ). least_but_one told p.0 p.1 ms) (next_after_zero next (get_or told m 0))
+    ∙ after_zero told (min next (get_or told m 0)) ms ∙ least_lower next (get_or told m 0) (λ x. get_or told x 0) ms
 
 -- what the others acknowledged, if one member acknowledged nothing
 abbrev pub told_or : ℕ → ℕ → List ℕ → ℕ → ℕ
@@ -98,21 +98,21 @@ second_more told p top last least next m ms later rising i none low bound = by_m
     found : m ≡ p → least_but_one told least next (m ∷ ms) ≡ least_of least (told_or top p told) (m ∷ ms)
     found same =
         let zero_here : get_or told m 0 ≡ 0 = ap (λ x. get_or told x 0) same ∙ none in
-        let behind : least_of least (λ x. get_or told x 0) ms ≡ least_of least (told_or top p told) ms = least_same least _ _ ms (others same) in
+        let after : least_of least (λ x. get_or told x 0) ms ≡ least_of least (told_or top p told) ms = least_same least _ _ ms (others same) in
         let most = least_top least (told_or top p told) ms in
         let t : told_or top p told m ≡ top = ap (told_or top p told) same ∙ told_or_same top p told in
         let whole : least_of least (told_or top p told) ms ≡ min (told_or top p told m) (least_of least (told_or top p told) ms) = omega (arith, t, most, bound) in
-        by_least (cases_lt 0 least) zero_here (behind ∙ whole)
+        by_least (cases_lt 0 least) zero_here (after ∙ whole)
       where
         by_least : (0 < least) ⊎ (least ≤ 0) → get_or told m 0 ≡ 0 →
             least_of least (λ x. get_or told x 0) ms ≡ least_of least (told_or top p told) (m ∷ ms) →
             least_but_one told least next (m ∷ ms) ≡ least_of least (told_or top p told) (m ∷ ms)
         by_least (inl more) e f =
-            step 0 least (ap (next_least least next) e ∙ next_lower least next 0 more) ∙ behind_zero told least ms ∙ f
+            step 0 least (ap (next_least least next) e ∙ next_lower least next 0 more) ∙ after_zero told least ms ∙ f
         by_least (inr none_left) e f =
             let z : least ≡ 0 = omega (arith, none_left) in
             step 0 least (ap (next_least least next) e ∙ next_higher least next 0 (omega (arith, z)) ∙ ap (λ x. (x, min next 0)) z
-            ∙ ap (λ x. (0, x)) (let y : min next 0 ≡ least = omega (arith, z) in y)) ∙ behind_zero told least ms ∙ f
+            ∙ ap (λ x. (0, x)) (let y : min next 0 ≡ least = omega (arith, z) in y)) ∙ after_zero told least ms ∙ f
 
     by_rest : (m ≡ p → ⊥) → In p ms → least_but_one told least next (m ∷ ms) ≡ least_of least (told_or top p told) (m ∷ ms)
     by_rest ne j = by_order (cases_lt (get_or told m 0) least)
@@ -391,8 +391,8 @@ sole_within {S = S} {C = C} {O = O} rules a xs f n r stands primary = by_ballot 
     later : b < r.held_in → (l : Line C) → h.line r.held_in ≡ Some l → IsPrefixOf r.log l.list → IsPrefixOf r.log f.line.list
     later less l lined front = by_still (s.lines.still r.held_in l lined) (s.ballots.first r.held_in place.0 place.1)
       where
-        behind : 0 < place.0.previous → (l.list ≡ l.base) → IsPrefixOf r.log f.line.list
-        behind more still =
+        after : 0 < place.0.previous → (l.list ≡ l.base) → IsPrefixOf r.log f.line.list
+        after more still =
             let z = s.lines.base_in r.held_in place.0 l place.1 more lined in
             let up = s.ballots.gap r.held_in place.0 place.1 more b f.active less in
             let down = newest place.0.previous (s.ballots.previous r.held_in place.0 place.1 more).0 in
@@ -403,7 +403,7 @@ sole_within {S = S} {C = C} {O = O} rules a xs f n r stands primary = by_ballot 
         by_still : In r.held_in h.activated ⊎ (l.list ≡ l.base) → (r.held_in ≡ 1) ⊎ (0 < place.0.previous) → IsPrefixOf r.log f.line.list
         by_still (inl active) first = let z = newest r.held_in active in absurd (omega (arith, z, less))
         by_still (inr still) (inl one) = let z = positive in absurd (omega (arith, one, z, less))
-        by_still (inr still) (inr more) = behind more still
+        by_still (inr still) (inr more) = after more still
 
     by_ballot : (b < r.held_in) ⊎ (r.held_in ≤ b) → IsPrefixOf r.log f.line.list
     by_ballot (inl less) = later less place.2.0 place.2.1 place.2.3

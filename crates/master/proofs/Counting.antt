@@ -27,7 +27,7 @@ use Rattle.ballot.specs.Body.{Body}
 use Rattle.ballot.specs.Body.TheVariants.{NewBallot, Join, State, Install, Installed, Activate, Activated, Superseded, Append, Held, Commit}
 use Rattle.master.specs.Turns.Turn.{by_node, by_cut, by_master, unheeded}
 use Rattle.master.specs.Group.{GroupState}
-use Rattle.master.specs.Exact.{takes, hears, comes, gives, turn, behind, group_step}
+use Rattle.master.specs.Exact.{takes, hears, comes, gives, turn, after, group_step}
 use Rattle.master.specs.Turns.{NodeTurn, Turn, running, can_take, taking, stopping, cut_turn, cutting}
 use Rattle.master.specs.Steps.{Freezes, Happens, StepsBy, LosesNothing}
 use Rattle.master.specs.Steps.Happens.{nothing_happens, node_goes, master_goes}
@@ -95,7 +95,7 @@ steps_turn {S = S} {C = C} {O = O} rules old new event t e took =
         inl (
           took.moment ∙ ap (λ (s : ReplicaState S C). let z : Moment S C O = record old.moment { world = moved old.moment.world t.place s took.given } in z) a
               ∙ ap (λ (us : List (Effect C O)). let z : Moment S C O = record old.moment { world = moved old.moment.world t.place t.outcome.state us } in z) b
-              ∙ ap (behind old.moment) (sym e),
+              ∙ ap (after old.moment) (sym e),
           c,
         )
     by_way (inr (a, b)) = inr (subst (λ (v : Moment S C O). Happens rules old.moment event v) (sym took.moment) (node_goes t e a), b)
@@ -110,7 +110,7 @@ steps_master {S = S} {C = C} {O = O} rules old new event o e took =
         ⊎ ((new.moment ≡ record old.moment { master = o.state }) × (new.losses ≡ one_more old.losses)) →
         ((new.moment ≡ group_step rules event old.moment) × (new.losses ≡ old.losses))
         ⊎ (Happens rules old.moment event new.moment × (new.losses ≡ one_more old.losses))
-    by_way (inl (a, b)) = inl (a ∙ ap (behind old.moment) (sym e), b)
+    by_way (inl (a, b)) = inl (a ∙ ap (after old.moment) (sym e), b)
     by_way (inr (a, b)) = inr (subst (λ (v : Moment S C O). Happens rules old.moment event v) (sym a) (master_goes o e), b)
 
 -- nothing happened, because memory ran out
@@ -125,20 +125,20 @@ pub steps_cut : {S C O : Type 0} (rules : Rules S C O) (old new : GroupState S C
     turn rules old.moment event ≡ Some (by_cut t) → TookCut rules old t new → StepsBy rules old event new
 steps_cut {S = S} {C = C} {O = O} rules old new event t e took = by_way took.way
   where
-    by_way : ((new.moment ≡ behind old.moment (Some (by_cut t))) × (new.losses ≡ old.losses) × Freezes rules (Some (by_cut t)))
+    by_way : ((new.moment ≡ after old.moment (Some (by_cut t))) × (new.losses ≡ old.losses) × Freezes rules (Some (by_cut t)))
         ⊎ (new ≡ record old { losses = one_more old.losses }) → StepsBy rules old event new
     by_way (inl (a, b, c)) =
-        record { way = inl (a ∙ ap (behind old.moment) (sym e), b); freezes = inl (freezes_as rules (sym e) c) }
+        record { way = inl (a ∙ ap (after old.moment) (sym e), b); freezes = inl (freezes_as rules (sym e) c) }
     by_way (inr lost) = steps_lost rules old new event lost
 
 -- an event that does nothing
 pub steps_idle : {S C O : Type 0} (rules : Rules S C O) (old : GroupState S C O) (event : Event C) →
     turn rules old.moment event ≡ None → StepsBy rules old event old
-steps_idle rules old event e = record { way = inl (sym (ap (behind old.moment) e), refl); freezes = inr refl }
+steps_idle rules old event e = record { way = inl (sym (ap (after old.moment) e), refl); freezes = inr refl }
 
 pub steps_unheeded : {S C O : Type 0} (rules : Rules S C O) (old : GroupState S C O) (event : Event C) →
     turn rules old.moment event ≡ Some unheeded → StepsBy rules old event old
-steps_unheeded rules old event e = record { way = inl (sym (ap (behind old.moment) e), refl); freezes = inr refl }
+steps_unheeded rules old event e = record { way = inl (sym (ap (after old.moment) e), refl); freezes = inr refl }
 
 -- a count that did not rise lost nothing
 pub steps_exactly : {S C O : Type 0} (rules : Rules S C O) (old new : GroupState S C O) (event : Event C) →

@@ -38,7 +38,7 @@ use Rattle.master.specs.declared.activation.Activation.{Activation}
 use Rattle.master.specs.declared.activation.Activation.TheVariants.{Activated as Granted, Superseded as Refused}
 use Rattle.master.specs.Inside.{HasCounted, IsGroup, ToldIn, least_but_one, next_least, moment_of, world_of}
 use Rattle.master.specs.Inside.Losing.{MasterTook, TookCut, TookTurn}
-use Rattle.master.specs.Exact.{behind}
+use Rattle.master.specs.Exact.{after}
 use Rattle.master.specs.Turns.{cut_turn}
 use Rattle.master.specs.Turns.Turn.{by_cut}
 use Rattle.master.specs.Steps.{Freezes}
@@ -332,13 +332,13 @@ answer_is b true activation body e grants refuses = grants e
 answer_is b false activation body e grants refuses = refuses e
 
 -- which counters correspond to the active ballot after an Activate
-pub turned : (told next told' next' : ToldIn) (before behind : ℕ) →
-    (before ≡ behind → (told' ≡ told) × (next' ≡ next)) → ((before ≡ behind → ⊥) → (told' ≡ next) × (next' ≡ told)) →
-    ((behind ≡ before) × (told' ≡ told) × (next' ≡ next)) ⊎ ((behind ≡ before → ⊥) × (told' ≡ next) × (next' ≡ told))
-turned told next told' next' before behind stays turns = by_ballot (cases_eq before behind)
+pub turned : (told next told' next' : ToldIn) (before after : ℕ) →
+    (before ≡ after → (told' ≡ told) × (next' ≡ next)) → ((before ≡ after → ⊥) → (told' ≡ next) × (next' ≡ told)) →
+    ((after ≡ before) × (told' ≡ told) × (next' ≡ next)) ⊎ ((after ≡ before → ⊥) × (told' ≡ next) × (next' ≡ told))
+turned told next told' next' before after stays turns = by_ballot (cases_eq before after)
   where
-    by_ballot : (before ≡ behind) ⊎ (before ≡ behind → ⊥) →
-        ((behind ≡ before) × (told' ≡ told) × (next' ≡ next)) ⊎ ((behind ≡ before → ⊥) × (told' ≡ next) × (next' ≡ told))
+    by_ballot : (before ≡ after) ⊎ (before ≡ after → ⊥) →
+        ((after ≡ before) × (told' ≡ told) × (next' ≡ next)) ⊎ ((after ≡ before → ⊥) × (told' ≡ next) × (next' ≡ told))
     by_ballot (inl e) = inl (sym e, (stays e).0, (stays e).1)
     by_ballot (inr ne) = inr (λ e. ne (sym e), (turns ne).0, (turns ne).1)
 
@@ -477,11 +477,11 @@ pub group_cuts : {S C O : Type 0} (rules : Rules S C O) (a v : Moment S C O) (to
     IsGroup rules v told next
 group_cuts {S = S} {C = C} {O = O} rules a v told next old new n r g is_old is_new stands can took sent_is = by_way took.way
   where
-    by_way : ((new.moment ≡ behind old.moment (Some (by_cut (cut_turn rules n r)))) × (new.losses ≡ old.losses) × Freezes rules (Some (by_cut (cut_turn rules n r))))
+    by_way : ((new.moment ≡ after old.moment (Some (by_cut (cut_turn rules n r)))) × (new.losses ≡ old.losses) × Freezes rules (Some (by_cut (cut_turn rules n r))))
         ⊎ (new ≡ record old { losses = one_more old.losses }) → IsGroup rules v told next
     by_way (inl (is, same, freezes)) =
-        let so : v ≡ behind a (Some (by_cut (cut_turn rules n r))) =
-        sym is_new ∙ is ∙ ap (λ (u : Moment S C O). behind u (Some (by_cut (cut_turn rules n r)))) is_old in
+        let so : v ≡ after a (Some (by_cut (cut_turn rules n r))) =
+        sym is_new ∙ is ∙ ap (λ (u : Moment S C O). after u (Some (by_cut (cut_turn rules n r)))) is_old in
         group_goes rules a v told next told next g
         (subst (λ (u : Moment S C O). MayGo rules a u) (sym so)
         (cut_may rules a.master a.world (cut_turn rules n r) (record { stands = stands; can = can; is = refl }) freezes))

@@ -15,10 +15,10 @@ use Rattle.ballot.specs.Protocol.Input.{Receives, Proposes, Ticks}
 use Rattle.ballot.specs.Replica.{ReplicaState}
 use Rattle.ballot.specs.Sending.{Outcome}
 use Rattle.ballot.proofs.ThinnedEffects.{Thinned-same}
-use Rattle.snapshots.specs.agreement.MasterState.{AssignRefusal, MasterState, refusal, master_behind}
+use Rattle.snapshots.specs.agreement.MasterState.{AssignRefusal, MasterState, refusal, master_after}
 use Rattle.snapshots.specs.Masters.{MasterOutcome, activated, assigned}
 use Rattle.snapshots.specs.Past.{Moment}
-use Rattle.snapshots.specs.Steps.{MayHappen, tells_from_master, world_behind}
+use Rattle.snapshots.specs.Steps.{MayHappen, tells_from_master, world_after}
 use Rattle.snapshots.specs.World.{MayTake}
 use Rattle.snapshots.specs.Steps.MayHappen.{node_goes as node_moves, master_assigns, master_hears, assignment_lost, answer_lost}
 use Rattle.snapshots.specs.World.{World, moved, recorded}
@@ -28,7 +28,7 @@ use Rattle.std.proofs.lemmas.Bool.{and_parts, ltb-true}
 use Rattle.master.specs.declared.event.Event.{Event}
 use Rattle.master.specs.declared.event.Event.TheVariants.{Propose, Assign, Deliver, Tick, Cut, Crash}
 use Rattle.master.specs.Group.{GroupState}
-use Rattle.master.specs.Exact.{takes, hears, comes, comes_to, gives, turn, behind, group_step}
+use Rattle.master.specs.Exact.{takes, hears, comes, comes_to, gives, turn, after, group_step}
 use Rattle.master.specs.Turns.{NodeTurn, Turn, running, unless_stopped, can_take, taking, stopping, cut_turn, cutting}
 use Rattle.master.specs.Turns.Turn.{by_node, by_cut, by_master, unheeded}
 use Rattle.master.specs.Steps.{Freezes, Happens, StepsBy}
@@ -334,7 +334,7 @@ pub master_may : {S C O : Type 0} (rules : Rules S C O) (a : Moment S C O) (o : 
     MayHappen rules a.master a.world o.state (tells_from_master a.world o)
 master_may {S = S} {C = C} {O = O} rules a o (it_gives config granted is) =
     subst (λ (x : MasterOutcome C). MayHappen rules a.master a.world x.state (tells_from_master a.world x)) (sym is)
-    (subst (λ (why : Option AssignRefusal). MayHappen rules a.master a.world (master_behind a.master config why) (world_behind a.master a.world config why)) granted
+    (subst (λ (why : Option AssignRefusal). MayHappen rules a.master a.world (master_after a.master config why) (world_after a.master a.world config why)) granted
     (master_assigns config))
 master_may {S = S} {C = C} {O = O} rules a o (it_answers from b sent is) =
     subst (λ (x : MasterOutcome C). MayHappen rules a.master a.world x.state (tells_from_master a.world x)) (sym is) (master_hears from b sent)
@@ -344,7 +344,7 @@ pub deed_lost : {S C O : Type 0} (rules : Rules S C O) (a : Moment S C O) (o : M
     MayHappen rules a.master a.world o.state a.world
 deed_lost {S = S} {C = C} {O = O} rules a o (it_gives config granted is) =
     subst (λ (x : MasterOutcome C). MayHappen rules a.master a.world x.state a.world) (sym is)
-    (subst (λ (why : Option AssignRefusal). MayHappen rules a.master a.world (master_behind a.master config why) a.world) granted (assignment_lost config))
+    (subst (λ (why : Option AssignRefusal). MayHappen rules a.master a.world (master_after a.master config why) a.world) granted (assignment_lost config))
 deed_lost {S = S} {C = C} {O = O} rules a o (it_answers from b sent is) =
     subst (λ (x : MasterOutcome C). MayHappen rules a.master a.world x.state a.world) (sym is) (answer_lost from b sent)
 
@@ -357,7 +357,7 @@ happens_may rules {a = a} {e = e} (master_goes o is) = deed_lost rules a o (deed
 
 -- and what it comes to
 exactly_may : {S C O : Type 0} (rules : Rules S C O) (a : Moment S C O) (e : Event C) (t : Option (Turn S C O)) → turn rules a e ≡ t →
-    Freezes rules t → MayGo rules a (behind a t)
+    Freezes rules t → MayGo rules a (after a t)
 exactly_may rules a e None is f = nothing_may rules a
 exactly_may rules a e (Some (by_node t)) is f =
     node_may rules a.master a.world t t.outcome.state t.outcome.effects (turn_is rules a e t is) (inl (refl, Thinned-same t.outcome.effects))

@@ -8,7 +8,7 @@ use Rattle.ballot.specs.lists.Lists.{In}
 use Rattle.ballot.specs.lists.Lists.In.{here, there}
 use Rattle.ballot.specs.Config.{Config}
 use Rattle.ballot.specs.LawfulConfig.{are_rising, is_lawful}
-use Rattle.snapshots.specs.agreement.MasterState.{AssignRefusal, MasterState, activated, refusal, master_behind}
+use Rattle.snapshots.specs.agreement.MasterState.{AssignRefusal, MasterState, activated, refusal, master_after}
 use Rattle.snapshots.specs.agreement.Past.{Moment, Past}
 use Rattle.snapshots.specs.agreement.Past.Past.{began, went_on, learned}
 use Rattle.snapshots.specs.agreement.Steps.{MayHappen}
@@ -26,7 +26,7 @@ rises config e =
     (and_parts (are_rising 0 config.members)
     (nat_le 1 (length config.members) && (nat_le (length config.members) 7 && list_any (λ member. member == config.primary) config.members)) e).0
 
-lawful_assigned : (m : MasterState) (config : Config) (o : Option AssignRefusal) → refusal m config ≡ o → AreLawful m → AreLawful (master_behind m config o)
+lawful_assigned : (m : MasterState) (config : Config) (o : Option AssignRefusal) → refusal m config ≡ o → AreLawful m → AreLawful (master_after m config o)
 lawful_assigned m config (Some why) e s = s
 lawful_assigned m config None e s = record { active = s.active; waiting = λ b c f. waits b c f }
   where

@@ -25,7 +25,7 @@ quiet_count false kept losses counted old e all low high told = by_count (cases_
 
 -- what a replica counted, the group counted
 pub count_covers : {S C O : Type 0} {rules : Rules S C O} {old : CountedReplica S C} {input : Input C} {new : CountedReplica S C}
-    {before behind : List (Effect C O)} (whole kept : Bool) (losses counted : ℕ) → TookIn rules old input new before behind whole →
+    {before after : List (Effect C O)} (whole kept : Bool) (losses counted : ℕ) → TookIn rules old input new before after whole →
     counted ≡ cond (whole && kept) losses (one_more losses) → old.losses ≤ losses → losses ≤ 2 ^ 64 - 1 → (new.losses ≤ counted) × (losses ≤ counted)
 count_covers {old = old} {new = new} true true losses counted t e low high =
     let same = (t.exact refl).2 in (omega (arith, same, e, low), omega (arith, e))

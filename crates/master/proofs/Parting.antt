@@ -83,13 +83,13 @@ parted_lost given left staying sent more now whole e is same p =
       messages_are = p.messages_are;
     }
 
-remove_behind : {X : Type 0} (xs ys : List X) (x : X) → remove (xs ++ x ∷ ys) (length xs) ≡ xs ++ ys
-remove_behind [] ys x = refl
-remove_behind (z ∷ xs) ys x = ap (λ us. z ∷ us) (remove_behind xs ys x)
+remove_after : {X : Type 0} (xs ys : List X) (x : X) → remove (xs ++ x ∷ ys) (length xs) ≡ xs ++ ys
+remove_after [] ys x = refl
+remove_after (z ∷ xs) ys x = ap (λ us. z ∷ us) (remove_after xs ys x)
 
-get_behind : {X : Type 0} (xs ys : List X) (x d : X) → get_or (xs ++ x ∷ ys) (length xs) d ≡ x
-get_behind [] ys x d = refl
-get_behind (z ∷ xs) ys x d = get_behind xs ys x d
+get_after : {X : Type 0} (xs ys : List X) (x d : X) → get_or (xs ++ x ∷ ys) (length xs) d ≡ x
+get_after [] ys x d = refl
+get_after (z ∷ xs) ys x d = get_after xs ys x d
 
 -- the next effect
 next_given : {X : Type 0} (old : List X) (from place : ℕ) (d : X) → from ≤ place → place < length old →
@@ -128,7 +128,7 @@ pub parting_at : {C O : Type 0} {old now : List (Effect C O)} {from place at : �
 parting_at {old = old} {now = now} {place = place} {at = at} e p below read =
     read ∙ ap (λ us. get_or us at e) (p.now_is ∙ ap (λ us. p.staying ++ us) (drop_more old place e below))
     ∙ ap (λ k. get_or (p.staying ++ get_or old place e ∷ drop (place + 1) old) k e) p.at_is
-    ∙ get_behind p.staying (drop (place + 1) old) (get_or old place e) e
+    ∙ get_after p.staying (drop (place + 1) old) (get_or old place e) e
 
 pub parting_below : {C O : Type 0} {old now : List (Effect C O)} {from place at : ℕ} {sent more : List (ℕ × Message C)} {whole : Bool} →
     Parting old from place now at sent more whole → place < length old → at < length now
@@ -167,7 +167,7 @@ taken_out : {C O : Type 0} {old now now' : List (Effect C O)} {from place at : �
 taken_out {old = old} {place = place} {at = at} e p below removed =
     removed ∙ ap (λ us. remove us at) (p.now_is ∙ ap (λ us. p.staying ++ us) (drop_more old place e below))
     ∙ ap (λ k. remove (p.staying ++ get_or old place e ∷ drop (place + 1) old) k) p.at_is
-    ∙ remove_behind p.staying (drop (place + 1) old) (get_or old place e)
+    ∙ remove_after p.staying (drop (place + 1) old) (get_or old place e)
 
 pub parting_sent : {C O : Type 0} {old now now' : List (Effect C O)} {from place at at' : ℕ} {sent more more' : List (ℕ × Message C)} {whole whole' : Bool} (e seen : Effect C O) →
     Parting old from place now at sent more whole → from ≤ place → place < length old → e ≡ get_or now at e → seen ≡ get_or now at seen → is_message seen ≡ true →

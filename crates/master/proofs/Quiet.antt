@@ -22,7 +22,7 @@ use Rattle.snapshots.specs.World.{World, moved}
 use Rattle.master.specs.declared.event.Event.{Event}
 use Rattle.master.specs.declared.event.Event.TheVariants.{Assign, Cut, Deliver, Tick, Crash}
 use Rattle.master.specs.Group.{GroupState}
-use Rattle.master.specs.Exact.{behind, gives, turn}
+use Rattle.master.specs.Exact.{after, gives, turn}
 use Rattle.master.specs.Turns.{NodeTurn, Turn, can_take}
 use Rattle.master.specs.Turns.Turn.{by_node, by_cut, by_master, unheeded}
 use Rattle.master.specs.Copying.{has_numbers_alone}
@@ -35,10 +35,10 @@ use Rattle.master.proofs.Counting.{delivers_turn, some_idle, stops_turn, takes_t
 
 -- an event that changes nothing is done by doing nothing
 same_moment : {S C O : Type 0} (rules : Rules S C O) (old : GroupState S C O) (event : Event C) (x : Option (Turn S C O)) →
-    turn rules old.moment event ≡ x → behind old.moment x ≡ old.moment → old ≡ done_exactly rules old event
+    turn rules old.moment event ≡ x → after old.moment x ≡ old.moment → old ≡ done_exactly rules old event
 same_moment {S = S} {C = C} {O = O} rules old event x e f =
     ap (λ (a : Moment S C O). let z : GroupState S C O = record { moment = a; losses = old.losses } in z)
-    (sym f ∙ ap (behind old.moment) (sym e))
+    (sym f ∙ ap (after old.moment) (sym e))
 
 pub exactly_none : {S C O : Type 0} (rules : Rules S C O) (old : GroupState S C O) (event : Event C) →
     turn rules old.moment event ≡ None → old ≡ done_exactly rules old event
@@ -94,8 +94,8 @@ turn_quiet {S = S} {C = C} {O = O} rules old new event t e took quiet =
     (took.moment
     ∙ ap (λ (s : ReplicaState S C). let a : Moment S C O = record old.moment { world = moved old.moment.world t.place s took.given } in a) z.0
     ∙ ap (λ (us : List (Effect C O)). let a : Moment S C O = record old.moment { world = moved old.moment.world t.place t.outcome.state us } in a) z.1
-    ∙ ap (behind old.moment) (sym e))
-    ∙ ap (λ k. let g : GroupState S C O = record { moment = behind old.moment (turn rules old.moment event); losses = k } in g) z.2
+    ∙ ap (after old.moment) (sym e))
+    ∙ ap (λ k. let g : GroupState S C O = record { moment = after old.moment (turn rules old.moment event); losses = k } in g) z.2
 
 -- a cut needs some
 pub cut_needs : {S C O : Type 0} {P : Type 0} (rules : Rules S C O) (a : Moment S C O) (node : ℕ) (t : NodeTurn S C O) →
@@ -190,7 +190,7 @@ pub exactly_stopped : {S C O : Type 0} (rules : Rules S C O) (old new : GroupSta
     new ≡ done_exactly rules old (Crash node)
 exactly_stopped {S = S} {C = C} {O = O} rules old new node at x e =
     e ∙ ap (λ (a : Moment S C O). let z : GroupState S C O = record { moment = a; losses = old.losses } in z)
-    (ap (behind old.moment) (sym (stops_turn rules old.moment.world.nodes node at x)))
+    (ap (after old.moment) (sym (stops_turn rules old.moment.world.nodes node at x)))
 
 -- the same event by another name
 pub quiet_as : {S C O : Type 0} (rules : Rules S C O) (old new : GroupState S C O) (e event : Event C) → event ≡ e →

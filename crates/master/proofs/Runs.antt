@@ -95,7 +95,7 @@ one_agreed {S = S} {C = C} {O = O} config past xs ys x y = by_chosen x.chosen
 went : {S C O : Type 0} (rules : Rules S C O) (config : Config) (w v : GroupState S C O) (past : List (Moment S C O)) (events : List (Event C)) →
     Past rules config (w.moment ∷ past) → Run rules w events v → Went rules config (w.moment ∷ past) v.moment
 went rules config w v past events came ends =
-    record { earlier = past; between = []; goes_on = refl; came = came; grown = λ xs ys before behind. one_agreed config (map whole_moment (w.moment ∷ past)) xs ys before behind }
+    record { earlier = past; between = []; goes_on = refl; came = came; grown = λ xs ys before after. one_agreed config (map whole_moment (w.moment ∷ past)) xs ys before after }
 went {S = S} {C = C} {O = O} rules config w v past events came (goes_on {next = u} {e = e} {events = rest} s r) =
     let now : Past rules config (u.moment ∷ (w.moment ∷ past)) = went_on came (step_may rules w u e s) in
     let q = went rules config u v (w.moment ∷ past) rest now r in
@@ -105,7 +105,7 @@ went {S = S} {C = C} {O = O} rules config w v past events came (goes_on {next = 
       between = q.between ++ u.moment ∷ [];
       goes_on = q.goes_on ∙ sym (append_assoc q.between (u.moment ∷ []) (w.moment ∷ past));
       came = q.came;
-      grown = λ xs ys before behind. prefix_then (agreed_grows rules config u.moment (w.moment ∷ past) xs mid.0 before mid.1) (q.grown mid.0 ys mid.1 behind);
+      grown = λ xs ys before after. prefix_then (agreed_grows rules config u.moment (w.moment ∷ past) xs mid.0 before mid.1) (q.grown mid.0 ys mid.1 after);
     }
 
 -- so the nodes agree after a run

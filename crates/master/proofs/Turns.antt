@@ -66,15 +66,15 @@ count_is true false losses counted e = inr e
 count_is false second losses counted e = inr e
 
 -- a turn of a group
-pub took_turn : {S C O : Type 0} {rules : Rules S C O} (archive : List C) (m : MasterState) (nodes : List (CountedReplica S C)) (sent more : List (ℕ × Message C)) (left behind parted : List (Effect C O))
+pub took_turn : {S C O : Type 0} {rules : Rules S C O} (archive : List C) (m : MasterState) (nodes : List (CountedReplica S C)) (sent more : List (ℕ × Message C)) (left after parted : List (Effect C O))
     (losses counted n from : ℕ) (old new : CountedReplica S C) (input : Input C) (r : ReplicaState S C) (whole kept : Bool) →
     n < length nodes → old ≡ get_or nodes n old → slice_get (map (λ (z : CountedReplica S C). z.state) nodes) n ≡ Some r → from ≡ length left →
-    TookIn rules old input new left behind whole → Parted (drop from behind) (take from behind) parted sent more kept →
+    TookIn rules old input new left after whole → Parted (drop from after) (take from after) parted sent more kept →
     counted ≡ cond (whole && kept) losses (one_more losses) → IsRead rules r input → old.losses ≤ losses → losses ≤ 2 ^ 64 - 1 →
     TookTurn rules (record { moment = moment_of archive m nodes sent left; losses = losses })
     (record { place = n; before = r; outcome = replica_step rules r input })
     (record { moment = moment_of archive m (set nodes n new) more parted; losses = counted })
-took_turn {S = S} {C = C} {O = O} {rules = rules} archive m nodes sent more left behind parted losses counted n from old new input r whole kept below read stands at t p count reads low high =
+took_turn {S = S} {C = C} {O = O} {rules = rules} archive m nodes sent more left after parted losses counted n from old new input r whole kept below read stands at t p count reads low high =
     record {
       state = new.state;
       given = p.kept;
@@ -90,11 +90,11 @@ took_turn {S = S} {C = C} {O = O} {rules = rules} archive m nodes sent more left
     same : old.state ≡ r
     same = let e = sym (stands_at nodes n old below read) ∙ stands in cc
 
-    front : take from behind ≡ left
+    front : take from after ≡ left
     front = ap (take from) t.appended ∙ ap (λ k. take k (left ++ t.given)) at
         ∙ take-append-le (length left) left t.given (omega arith) ∙ take-length left
 
-    rest : drop from behind ≡ t.given
+    rest : drop from after ≡ t.given
     rest = ap (drop from) t.appended ∙ ap (λ k. drop k (left ++ t.given)) at ∙ drop-append_seam left t.given
 
     lossy : Loses rules r (o r) new.state p.kept
@@ -110,7 +110,7 @@ took_turn {S = S} {C = C} {O = O} {rules = rules} archive m nodes sent more left
     quietly : IsQuiet r (o r) → (new.state ≡ (o r).state) × (p.kept ≡ (o r).effects) × (counted ≡ losses)
     quietly q =
         let z = t.quiet (subst (λ (s : ReplicaState S C). IsQuiet s (o s)) (sym same) q) (subst (λ (s : ReplicaState S C). IsRead rules s input) (sym same) reads) in
-        let nothing : drop from behind ≡ [] = rest ∙ z.1 ∙ ap (λ (s : ReplicaState S C). (o s).effects) same ∙ q.nothing_sent in (
+        let nothing : drop from after ≡ [] = rest ∙ z.1 ∙ ap (λ (s : ReplicaState S C). (o s).effects) same ∙ q.nothing_sent in (
           z.0 ∙ ap (λ (s : ReplicaState S C). (o s).state) same,
           thinned_nothing nothing p.thinned ∙ sym q.nothing_sent,
           quiet_count whole kept losses counted old.losses count (p.idle nothing) low high (λ below. t.told z.2 below),

@@ -94,18 +94,18 @@ front_recorded archive log k within low =
     let long = length-take-le log.base archive within in
     take-append-le k (take log.base archive) log.rest (omega (arith, long, low)) ∙ take-take k log.base archive low
 
-front_behind : {X : Type 0} (xs ys : List X) (k : ℕ) → length xs ≤ k → take k (xs ++ ys) ≡ xs ++ take (k - length xs) ys
-front_behind [] ys k low = let e : k ≡ k - 0 = omega arith in ap (λ n. take n ys) e
-front_behind (x ∷ xs) ys zero low = absurd (omega (arith, low))
-front_behind (x ∷ xs) ys (suc k) low =
+front_after : {X : Type 0} (xs ys : List X) (k : ℕ) → length xs ≤ k → take k (xs ++ ys) ≡ xs ++ take (k - length xs) ys
+front_after [] ys k low = let e : k ≡ k - 0 = omega arith in ap (λ n. take n ys) e
+front_after (x ∷ xs) ys zero low = absurd (omega (arith, low))
+front_after (x ∷ xs) ys (suc k) low =
     let e : k - length xs ≡ suc k - length (x ∷ xs) = omega arith in
-    ap (λ us. x ∷ us) (front_behind xs ys k (omega (arith, low)) ∙ ap (λ n. xs ++ take n ys) e)
+    ap (λ us. x ∷ us) (front_after xs ys k (omega (arith, low)) ∙ ap (λ n. xs ++ take n ys) e)
 
 pub front_kept : {C : Type 0} (archive : List C) (log : Log C) (k : ℕ) → log.base ≤ length archive → log.base ≤ k →
     take k (whole_log archive log) ≡ take log.base archive ++ take (k - log.base) log.rest
 front_kept archive log k within high =
     let long = length-take-le log.base archive within in
-    front_behind (take log.base archive) log.rest k (omega (arith, long, high))
+    front_after (take log.base archive) log.rest k (omega (arith, long, high))
     ∙ ap (λ n. take log.base archive ++ take (k - n) log.rest) long
 
 -- so it is the agreed list, if the log is a member's and as long as that

@@ -13,7 +13,8 @@ use Rattle.snapshots.specs.Past.{Moment}
 use Rattle.snapshots.specs.Steps.{tells_from_master}
 use Rattle.snapshots.specs.World.{World, moved, recorded}
 use Rattle.master.specs.declared.event.Event.{Event}
-use Rattle.master.specs.declared.event.Event.TheVariants.{Propose, Assign, Deliver, Tick, Cut, Crash}
+use Rattle.master.specs.declared.event.Event.TheVariants.{Propose, Assign, Deliver, Tick}
+use Rattle.master.specs.declared.event.Event.TheVariants.{Cut, Crash}
 use Rattle.master.specs.Turns.Turn.{by_node, by_cut, by_master, unheeded}
 use Rattle.master.specs.Turns.{Turn, cutting, running, stopping, taking}
 
@@ -55,21 +56,21 @@ turn rules a (Cut node) = cutting rules (node - 1) (running a.world.nodes node)
 turn rules a (Crash node) = stopping rules (node - 1) (running a.world.nodes node)
 
 -- the step of a group if memory suffices, and its steps one after another
-abbrev pub behind : {S C O : Type 0} → Moment S C O → Option (Turn S C O) → Moment S C O
-behind a None = a
-behind a (Some (by_node t)) =
+abbrev pub after : {S C O : Type 0} → Moment S C O → Option (Turn S C O) → Moment S C O
+after a None = a
+after a (Some (by_node t)) =
     record a { world = moved a.world t.place t.outcome.state t.outcome.effects }
-behind a (Some (by_cut t)) =
+after a (Some (by_cut t)) =
     record a {
       world = record (moved a.world t.place t.outcome.state t.outcome.effects) {
         archive = recorded a.world.archive t.before;
       };
     }
-behind a (Some (by_master o)) = record { master = o.state; world = tells_from_master a.world o }
-behind a (Some unheeded) = a
+after a (Some (by_master o)) = record { master = o.state; world = tells_from_master a.world o }
+after a (Some unheeded) = a
 
 abbrev pub group_step : {S C O : Type 0} → Rules S C O → Event C → Moment S C O → Moment S C O
-group_step rules event a = behind a (turn rules a event)
+group_step rules event a = after a (turn rules a event)
 
 abbrev pub group_run : {S C O : Type 0} →
     Rules S C O → List (Event C) → Moment S C O → Moment S C O

@@ -2,7 +2,8 @@
 -- sent.
 use Rattle.std.specs.Prelude.{ℕ, ◌==◌, List, [], ◌∷◌, max, if◌then◌else◌}
 use Rattle.ballot.specs.Body.{Body}
-use Rattle.ballot.specs.Body.TheVariants.{NewBallot, Join, State, Install, Installed, Activate, Activated, Superseded, Append, Held, Commit}
+use Rattle.ballot.specs.Body.TheVariants.{NewBallot, Join, State, Install, Installed, Activate}
+use Rattle.ballot.specs.Body.TheVariants.{Activated, Superseded, Append, Held, Commit}
 use Rattle.ballot.specs.Message.{Message}
 
 -- the length that a body acknowledges in a ballot

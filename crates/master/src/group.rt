@@ -1,6 +1,8 @@
 // A group of replicas and their master.
 
-ghost use Rattle.std.specs.Prelude.{ℕ, ◌-◌, ◌≡◌, ◌<◌, ◌↔◌, true, false, None, Some, [], length, slice_get, map, List, ◌∷◌, ◌++◌, IfOk, IfSome, OnErr, IsErr, IsErrOf};
+ghost use Rattle.std.specs.Prelude.{ℕ, ◌-◌, ◌≡◌, ◌<◌, ◌↔◌, true, false, None, Some, [], length};
+ghost use Rattle.std.specs.Prelude.{slice_get, map, List, ◌∷◌, ◌++◌, IfOk, IfSome, OnErr};
+ghost use Rattle.std.specs.Prelude.{IsErr, IsErrOf};
 ghost use Rattle.ballot.specs.Protocol.{replica_step};
 ghost use Rattle.ballot.specs.Protocol.Input.{Receives};
 ghost use Rattle.ballot.specs.Sending.{nothing_done};

@@ -1,7 +1,9 @@
 // The master: it gives ballots their configurations, and makes them active.
 
-ghost use Rattle.std.specs.Prelude.{◌≡◌, ◌+◌, ◌↔◌, true, false, None, Some, IfOk, IsErrOf, if◌then◌else◌};
-ghost use Rattle.snapshots.specs.agreement.MasterState.{activating, assigning, is_granted, master_behind, opening_master, refusal};
+ghost use Rattle.std.specs.Prelude.{◌≡◌, ◌+◌, ◌↔◌, true, false, None, Some, IfOk};
+ghost use Rattle.std.specs.Prelude.{IsErrOf, if◌then◌else◌};
+ghost use Rattle.snapshots.specs.agreement.MasterState.{activating, assigning, is_granted};
+ghost use Rattle.snapshots.specs.agreement.MasterState.{master_after, opening_master, refusal};
 ghost use Rattle.snapshots.specs.agreement.MasterState.AssignRefusal.{bad_members, ballots_spent};
 ghost use Rattle.ballot.specs.LawfulConfig.{is_lawful};
 
@@ -77,7 +79,7 @@ impl Master {
             ↔ (refusal self.old config ≡ Some ballots_spent) }
 
         // If it is refused, nothing changes.
-        ensures state { self.new ≡ master_behind self.old config (refusal self.old config) }
+        ensures state { self.new ≡ master_after self.old config (refusal self.old config) }
     {
         if !config.is_lawful() {
             return Err(AssignError::BadMembers);

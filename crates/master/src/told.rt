@@ -108,11 +108,11 @@ fn second_least(told: &[u64], places: &[u8]) -> u64
 
 /// Replaces the counters of the ballot before by those of the new one, if another ballot has become
 /// active.
-pub fn turn_over(told: &mut Told, next: &mut Told, before: u64, behind: u64)
-    ensures stays { before ≡ behind → (told.new ≡ told.old) × (next.new ≡ next.old) }
-    ensures turns { (before ≡ behind → ⊥) → (told.new ≡ next.old) × (next.new ≡ told.old) }
+pub fn turn_over(told: &mut Told, next: &mut Told, before: u64, after: u64)
+    ensures stays { before ≡ after → (told.new ≡ told.old) × (next.new ≡ next.old) }
+    ensures turns { (before ≡ after → ⊥) → (told.new ≡ next.old) × (next.new ≡ told.old) }
 {
-    if before != behind {
+    if before != after {
         swap(told, next);
     }
 }

@@ -14,7 +14,7 @@ use Rattle.packet_world.specs.lists.Lists.In.{here}
 use Rattle.packet_world.proofs.of_lists.Beginnings.{prefix_then}
 use Rattle.packet_world.proofs.of_lists.OfEach.{each_append}
 use Rattle.node_moves.specs.cutter.Pipe.{Joins}
-use Rattle.packet_world.specs.agreement.MasterState.{AssignRefusal, master_behind, refusal}
+use Rattle.packet_world.specs.agreement.MasterState.{AssignRefusal, master_after, refusal}
 use Rattle.packet_world.specs.snapshots.Past.{IsAgreed, Moment, Past}
 use Rattle.packet_world.specs.agreement.Proposals.{commands_of as commands_in}
 use Rattle.packet_world.specs.agreement.World.{can_open}
@@ -81,7 +81,7 @@ master_steps {config = config} g h {earlier = earlier} came same f =
           (nodes_stay g h (moment_of g ∷ earlier) (moment_of h ∷ f.before) xs.0 ys same f.kept (f.grows xs.0 ys xs.1 behind) (good xs.0 xs.1)));
     }
 
-pub assigned_nodes : (g : Group) (config : Config) (why : Option AssignRefusal) → (with_master (behind_assign g config why) (master_behind g.master config why)).nodes ≡ g.nodes
+pub assigned_nodes : (g : Group) (config : Config) (why : Option AssignRefusal) → (with_master (behind_assign g config why) (master_after g.master config why)).nodes ≡ g.nodes
 assigned_nodes g config None = refl
 assigned_nodes g config (Some why) = refl
 

@@ -7,7 +7,7 @@ use Rattle.node_moves.specs.ballot.Effect.{Effect}
 use Rattle.node_moves.specs.ballot.Losses.{Thinned}
 use Rattle.packet_world.specs.broker_base.Command.{Command}
 use Rattle.packet_world.specs.broker_base.Output.{Output}
-use Rattle.packet_world.specs.agreement.MasterState.{AssignRefusal, master_behind, refusal}
+use Rattle.packet_world.specs.agreement.MasterState.{AssignRefusal, master_after, refusal}
 use Rattle.packet_world.specs.snapshots.Masters.{activated, assigned}
 use Rattle.packet_world.specs.agreement.World.{can_open}
 use Rattle.node_moves.specs.world_base.Core.{CoreState, Turn}
@@ -43,13 +43,13 @@ pub data MayGo (g : Group) : Group → Type 0 where
       MayGo g (behind_turn (with_record g (recorded_losing g.archive by.run)) n (keeping kept turn) (given_losing by.run))
   -- an administrator asks for another configuration
   master_assigns : (config : Config) →
-      MayGo g (with_master (behind_assign g config (refusal g.master config)) (master_behind g.master config (refusal g.master config)))
+      MayGo g (with_master (behind_assign g config (refusal g.master config)) (master_after g.master config (refusal g.master config)))
   -- a primary asks for its ballot to become the active one
   master_hears : (from ballot : ℕ) → In (0, record { from = from; body = Activate ballot }) g.sent →
       MayGo g (with_master (told_by_master g (activated Command g.master ballot from g.master.waiting))
       (activated Command g.master ballot from g.master.waiting).state)
   -- the same if the master's message is lost
-  assigns_unheard : (config : Config) → MayGo g (with_master g (master_behind g.master config (refusal g.master config)))
+  assigns_unheard : (config : Config) → MayGo g (with_master g (master_after g.master config (refusal g.master config)))
   answers_unheard : (from ballot : ℕ) → In (0, record { from = from; body = Activate ballot }) g.sent →
       MayGo g (with_master g (activated Command g.master ballot from g.master.waiting).state)
 

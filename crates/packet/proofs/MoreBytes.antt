@@ -13,7 +13,7 @@ use Rattle.packet.specs.Spelling.{longest_body}
 use Rattle.packet.specs.Verdict.{body_of, verdict}
 use Rattle.packet.specs.Laws.{FrontsAreUnfinished, FaultsStay}
 use Rattle.packet.proofs.PacketReads.{verdict_again}
-use Rattle.packet.proofs.Behind.{ok_is}
+use Rattle.packet.proofs.After.{ok_is}
 
 -- a body that is there, with more bytes after it
 body_there : (more : List ℕ) (h : Header) (n : ℕ) (rest : List ℕ) → n ≤ length rest

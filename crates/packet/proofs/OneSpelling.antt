@@ -9,7 +9,7 @@ use Rattle.packet.specs.Spelling.{header, body, spelling}
 use Rattle.packet.specs.Verdict.{verdict}
 use Rattle.packet.specs.Laws.{HasOneSpelling, SpellingSpells, NoneBeginsAnother}
 use Rattle.packet.proofs.PacketReads.{verdict_again}
-use Rattle.packet.proofs.Behind.{ok_is}
+use Rattle.packet.proofs.After.{ok_is}
 
 pub has_one : HasOneSpelling
 has_one p whole =

@@ -24,18 +24,18 @@ pub record Begins (bytes : List ℕ) (p : Packet) (rest : List ℕ) : Type 0 whe
   pub whole : IsPacket p
 
 -- what was read, put together
-made : (first : ℕ) (bytes : List ℕ) (h : Header) (n : ℕ) (behind : List ℕ) (p : Packet) → first_byte h ≡ first → Heads bytes n behind → n ≤ longest_body → n ≤ length behind
-    → IsBody h (take n behind) p → Begins (first ∷ bytes) p (drop n behind)
-made first bytes h n behind p said heads small there body_is =
-    let len : length (body p) ≡ n = ap length (sym body_is.spelled) ∙ (let l : length (take n behind) ≡ n = omega (arith, length-take n behind) in l) in
+made : (first : ℕ) (bytes : List ℕ) (h : Header) (n : ℕ) (after : List ℕ) (p : Packet) → first_byte h ≡ first → Heads bytes n after → n ≤ longest_body → n ≤ length after
+    → IsBody h (take n after) p → Begins (first ∷ bytes) p (drop n after)
+made first bytes h n after p said heads small there body_is =
+    let len : length (body p) ≡ n = ap length (sym body_is.spelled) ∙ (let l : length (take n after) ≡ n = omega (arith, length-take n after) in l) in
     let head : first_byte (header p) ≡ first = ap first_byte body_is.said ∙ said in
-    let rest : behind ≡ body p ++ drop n behind = sym (take-append-drop n behind) ∙ ap (λ (x : List ℕ). x ++ drop n behind) body_is.spelled in
-    let behind_first : bytes ≡ heads.form ++ body p ++ drop n behind =
-    heads.parts ∙ ap (λ (x : List ℕ). heads.form ++ x) rest ∙ sym (append_assoc heads.form (body p) (drop n behind)) in
+    let rest : after ≡ body p ++ drop n after = sym (take-append-drop n after) ∙ ap (λ (x : List ℕ). x ++ drop n after) body_is.spelled in
+    let after_first : bytes ≡ heads.form ++ body p ++ drop n after =
+    heads.parts ∙ ap (λ (x : List ℕ). heads.form ++ x) rest ∙ sym (append_assoc heads.form (body p) (drop n after)) in
     record {
       front = first_byte (header p) ∷ heads.form ++ body p;
       spelled = (heads.form, subst (λ (m : ℕ). IsLength heads.form m) (sym len) heads.spelled, refl);
-      parts = ap (λ (x : List ℕ). first ∷ x) behind_first ∙ ap (λ (x : ℕ). x ∷ (heads.form ++ body p ++ drop n behind)) (sym head);
+      parts = ap (λ (x : List ℕ). first ∷ x) after_first ∙ ap (λ (x : ℕ). x ∷ (heads.form ++ body p ++ drop n after)) (sym head);
       whole = (body_is.fits, body_is.listed, omega (arith, len, small));
     }
 

@@ -1,5 +1,6 @@
 -- Client Identifiers as bytes, and the first fault of a text (MQTT 1.5.3, 3.1.3.1).
-use Rattle.std.specs.Prelude.{ℕ, Bool, not, ◌&&◌, nat_lt, if◌then◌else◌, List, length, Option, Some, None, is_none}
+use Rattle.std.specs.Prelude.{ℕ, Bool, not, ◌&&◌, nat_lt, if◌then◌else◌, List, length, Option, Some}
+use Rattle.std.specs.Prelude.{None, is_none}
 use Rattle.std.specs.Str.{is_utf8}
 use Rattle.packet_base.specs.topics.declared.malformed.MalformedKind.{MalformedKind}
 use Rattle.packet_base.specs.topics.declared.malformed.MalformedKind.TheVariants as kinds

@@ -1,5 +1,6 @@
 -- CONNECT without Will, user name and password (MQTT 3.1).
-use Rattle.std.specs.Prelude.{ℕ, ◌*◌, ◌%◌, ◌^◌, ◌<◌, nat_lt, nat_eq, ◌==◌, IsTrue, List, [], ◌∷◌, ◌++◌, drop, codes, Result, Ok}
+use Rattle.std.specs.Prelude.{ℕ, ◌*◌, ◌%◌, ◌^◌, ◌<◌, nat_lt, nat_eq, ◌==◌, IsTrue, List, [], ◌∷◌}
+use Rattle.std.specs.Prelude.{◌++◌, drop, codes, Result, Ok}
 use Rattle.std.specs.List.{starts_with}
 use Rattle.packet_base.specs.topics.declared.malformed.MalformedKind.TheVariants as kinds
 use Rattle.packet_base.specs.declared.refusal_code.RefusalCode.TheVariants as codes_of_refusal

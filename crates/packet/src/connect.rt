@@ -1,6 +1,7 @@
 // CONNECT: a client asks for a connection (MQTT 3.1).
 
-ghost use Rattle.std.specs.Prelude.{◌≡◌, ◌+◌, ◌≤◌, ◌++◌, length, min, vec_len, vec_capacity, IfOk, IsOk};
+ghost use Rattle.std.specs.Prelude.{◌≡◌, ◌+◌, ◌≤◌, ◌++◌, length, min, vec_len, vec_capacity};
+ghost use Rattle.std.specs.Prelude.{IfOk, IsOk};
 ghost use Rattle.packet_base.specs.Outcome.{Gives, WantsMemory};
 ghost use Rattle.packet.specs.Connect.{connect, connect_of, FitsConnect};
 

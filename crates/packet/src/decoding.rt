@@ -2,7 +2,8 @@
 
 ghost use Rattle.std.specs.Prelude.{◌≤◌, length, drop, ◌∷◌, IfOk, IsErrOf};
 ghost use Rattle.packet_base.specs.Outcome.{Gives, WantsMemory};
-ghost use Rattle.packet.specs.Verdict.{verdict, Decodes, IsWithin, IsSpelledSo, ReadsWhatIsSpelled, MayWantMemory};
+ghost use Rattle.packet.specs.Verdict.{verdict, Decodes, IsWithin, IsSpelledSo};
+ghost use Rattle.packet.specs.Verdict.{ReadsWhatIsSpelled, MayWantMemory};
 
 use crate::error::DecodeFault;
 use crate::packet::{MAX_REMAINING, Packet};
@@ -52,7 +53,7 @@ fn front_step(alloc: Global, bytes: &[u8]) -> Result<Step, DecodeFault>
 {
     match bytes {
         [] => Ok(Step::More),
-        [first, behind @ ..] => match front_packet(alloc, *first, behind) {
+        [first, more @ ..] => match front_packet(alloc, *first, more) {
             Ok((packet, len)) => Ok(Step::Whole(packet, 1 + len)),
             Err(Stop::More) => Ok(Step::More),
             Err(Stop::Malformed(kind)) => Err(DecodeFault::Malformed(kind)),
@@ -63,13 +64,13 @@ fn front_step(alloc: Global, bytes: &[u8]) -> Result<Step, DecodeFault>
 
 // Returns the packet of a first byte and the bytes after it, and how many of these it takes.
 #[tactic(auto, unfolding(crate::specs::Verdict::verdict, crate::specs::Verdict::asks_memory))]
-fn front_packet(alloc: Global, first: u8, behind: &[u8]) -> Result<(Packet, usize), Stop>
-    ensures exact { Gives (λ x. (x.0, drop x.1 behind.now)) result (verdict (first ∷ behind.now)) }
-    ensures within { IfOk result (λ x. x.1 ≤ length behind.now) }
-    ensures memory { WantsMemory result → MayWantMemory (first ∷ behind.now) }
+fn front_packet(alloc: Global, first: u8, more: &[u8]) -> Result<(Packet, usize), Stop>
+    ensures exact { Gives (λ x. (x.0, drop x.1 more.now)) result (verdict (first ∷ more.now)) }
+    ensures within { IfOk result (λ x. x.1 ≤ length more.now) }
+    ensures memory { WantsMemory result → MayWantMemory (first ∷ more.now) }
 {
     let header = Header::of(first)?;
-    let (len, rest) = take_length(behind)?;
+    let (len, rest) = take_length(more)?;
     let len = len as usize;
     if len > MAX_REMAINING {
         return Err(Stop::Malformed(MalformedKind::TooLarge));
@@ -79,5 +80,5 @@ fn front_packet(alloc: Global, first: u8, behind: &[u8]) -> Result<(Packet, usiz
     }
     let (body, after) = rest.split_at(len);
     let packet = Packet::read(alloc, header, &mut Reader::new(body))?;
-    Ok((packet, behind.len() - after.len()))
+    Ok((packet, more.len() - after.len()))
 }

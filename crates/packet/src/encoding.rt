@@ -1,7 +1,9 @@
 // Appending a packet to a vector.
 
-ghost use Rattle.std.specs.Prelude.{◌≡◌, ◌≢◌, ◌↔◌, ◌+◌, ◌≤◌, Err, OnOk, OnErr, IsErrOf, vec_len, vec_capacity};
-ghost use Rattle.packet.specs.Spelling.{IsListed, IsTooLarge, IsPacket, AppendsSpelling, spelled_len};
+ghost use Rattle.std.specs.Prelude.{◌≡◌, ◌≢◌, ◌↔◌, ◌+◌, ◌≤◌, Err, OnOk, OnErr, IsErrOf};
+ghost use Rattle.std.specs.Prelude.{vec_len, vec_capacity};
+ghost use Rattle.packet.specs.Spelling.{IsListed, IsTooLarge, IsPacket};
+ghost use Rattle.packet.specs.Spelling.{AppendsSpelling, spelled_len};
 
 use crate::error::EncodeFault;
 use crate::packet::{MAX_REMAINING, Packet};

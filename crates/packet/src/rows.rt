@@ -3,7 +3,8 @@
 ghost use Rattle.std.specs.Prelude.{◌≡◌, ℕ, true, false, List, length};
 ghost use Rattle.packet.specs.ClientId.{has_client_length};
 ghost use Rattle.packet.specs.Spelling.{longest_body};
-ghost use Rattle.packet.specs.FaultRows.{AllCount, first_byte_rows, length_rows, publish_rows, id_rows, list_rows};
+ghost use Rattle.packet.specs.FaultRows.{AllCount, first_byte_rows, length_rows, publish_rows};
+ghost use Rattle.packet.specs.FaultRows.{id_rows, list_rows};
 ghost use Rattle.packet.specs.ConnectFaultRows.{connect_rows};
 
 /// Shows which fault counts if bytes have two.

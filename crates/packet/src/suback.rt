@@ -108,7 +108,7 @@ impl Suback {
     pub(crate) fn body_len(&self) -> usize
         ensures { result ≡ min (length (suback self.now)) usize.MAX }
     {
-        self.codes.len_behind(2)
+        self.codes.len_after(2)
     }
 
     /// Writes the body.

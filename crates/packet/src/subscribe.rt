@@ -103,7 +103,7 @@ impl Subscribe {
     pub(crate) fn body_len(&self) -> usize
         ensures { result ≡ min (length (subscribe self.now)) usize.MAX }
     {
-        self.filters.len_behind(2)
+        self.filters.len_after(2)
     }
 
     /// Writes the body.

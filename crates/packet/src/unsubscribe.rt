@@ -45,7 +45,7 @@ impl Unsubscribe {
     pub(crate) fn body_len(&self) -> usize
         ensures { result ≡ min (length (unsubscribe self.now)) usize.MAX }
     {
-        self.filters.len_behind(2)
+        self.filters.len_after(2)
     }
 
     /// Writes the body.

@@ -88,29 +88,29 @@ stops_then (stops.Malformed kinds.Memory) read next h = tt
 stops_then (stops.Malformed kind) read next h = rw h refl
 stops_then (stops.Refused code) read next h = rw h refl
 
-topic_behind : (old behind front rest : List ℕ) (len : ℕ) → number_at old ≡ Ok (len, behind) → front_at len behind ≡ Ok (front, rest)
+topic_after : (old after front rest : List ℕ) (len : ℕ) → number_at old ≡ Ok (len, after) → front_at len after ≡ Ok (front, rest)
     → topic_at old ≡ (name_of front >>= (λ name. let pair : Result (List ℕ × List ℕ) Stop = Ok (name, rest) in pair))
 unfolding topic_at text_at
-topic_behind old behind front rest len number bytes = rw (number, bytes) (passed (text_of front) topic_of rest)
+topic_after old after front rest len number bytes = rw (number, bytes) (passed (text_of front) topic_of rest)
 
-pub topic_read : (old behind front rest name : List ℕ) (len : ℕ) → number_at old ≡ Ok (len, behind) → front_at len behind ≡ Ok (front, rest) → name_of front ≡ Ok name → topic_at old ≡ Ok (name, rest)
-topic_read old behind front rest name len number bytes is = topic_behind old behind front rest len number bytes ∙ rw is refl
+pub topic_read : (old after front rest name : List ℕ) (len : ℕ) → number_at old ≡ Ok (len, after) → front_at len after ≡ Ok (front, rest) → name_of front ≡ Ok name → topic_at old ≡ Ok (name, rest)
+topic_read old after front rest name len number bytes is = topic_after old after front rest len number bytes ∙ rw is refl
 
-pub topic_stops : (old behind front rest : List ℕ) (len : ℕ) (stop : Stop) → number_at old ≡ Ok (len, behind) → front_at len behind ≡ Ok (front, rest) → StopsBy stop (name_of front) → StopsBy stop (topic_at old)
-topic_stops old behind front rest len stop number bytes is =
-    subst (λ (r : Result (List ℕ × List ℕ) Stop). StopsBy stop r) (sym (topic_behind old behind front rest len number bytes)) (stops_then stop (name_of front) _ is)
+pub topic_stops : (old after front rest : List ℕ) (len : ℕ) (stop : Stop) → number_at old ≡ Ok (len, after) → front_at len after ≡ Ok (front, rest) → StopsBy stop (name_of front) → StopsBy stop (topic_at old)
+topic_stops old after front rest len stop number bytes is =
+    subst (λ (r : Result (List ℕ × List ℕ) Stop). StopsBy stop r) (sym (topic_after old after front rest len number bytes)) (stops_then stop (name_of front) _ is)
 
-filter_behind : (old behind front rest : List ℕ) (len : ℕ) → number_at old ≡ Ok (len, behind) → front_at len behind ≡ Ok (front, rest)
+filter_after : (old after front rest : List ℕ) (len : ℕ) → number_at old ≡ Ok (len, after) → front_at len after ≡ Ok (front, rest)
     → filter_at old ≡ (pattern_of front >>= (λ filter. let pair : Result (List ℕ × List ℕ) Stop = Ok (filter, rest) in pair))
 unfolding filter_at text_at
-filter_behind old behind front rest len number bytes = rw (number, bytes) (passed (text_of front) filter_of rest)
+filter_after old after front rest len number bytes = rw (number, bytes) (passed (text_of front) filter_of rest)
 
-pub filter_read : (old behind front rest filter : List ℕ) (len : ℕ) → number_at old ≡ Ok (len, behind) → front_at len behind ≡ Ok (front, rest) → pattern_of front ≡ Ok filter → filter_at old ≡ Ok (filter, rest)
-filter_read old behind front rest filter len number bytes is = filter_behind old behind front rest len number bytes ∙ rw is refl
+pub filter_read : (old after front rest filter : List ℕ) (len : ℕ) → number_at old ≡ Ok (len, after) → front_at len after ≡ Ok (front, rest) → pattern_of front ≡ Ok filter → filter_at old ≡ Ok (filter, rest)
+filter_read old after front rest filter len number bytes is = filter_after old after front rest len number bytes ∙ rw is refl
 
-pub filter_stops : (old behind front rest : List ℕ) (len : ℕ) (stop : Stop) → number_at old ≡ Ok (len, behind) → front_at len behind ≡ Ok (front, rest) → StopsBy stop (pattern_of front) → StopsBy stop (filter_at old)
-filter_stops old behind front rest len stop number bytes is =
-    subst (λ (r : Result (List ℕ × List ℕ) Stop). StopsBy stop r) (sym (filter_behind old behind front rest len number bytes)) (stops_then stop (pattern_of front) _ is)
+pub filter_stops : (old after front rest : List ℕ) (len : ℕ) (stop : Stop) → number_at old ≡ Ok (len, after) → front_at len after ≡ Ok (front, rest) → StopsBy stop (pattern_of front) → StopsBy stop (filter_at old)
+filter_stops old after front rest len stop number bytes is =
+    subst (λ (r : Result (List ℕ × List ℕ) Stop). StopsBy stop r) (sym (filter_after old after front rest len number bytes)) (stops_then stop (pattern_of front) _ is)
 
 pub ruleset topic_ends = (topic_read, topic_stops)
 

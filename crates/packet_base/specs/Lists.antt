@@ -1,5 +1,6 @@
 -- Lists that go to the end of a body.
-use Rattle.std.specs.Prelude.{Bool, is_ok, ℕ, zero, suc, ◌==◌, not, if◌then◌else◌, List, [], ◌∷◌, length, Result, Ok}
+use Rattle.std.specs.Prelude.{Bool, is_ok, ℕ, zero, suc, ◌==◌, not, if◌then◌else◌, List, [], ◌∷◌}
+use Rattle.std.specs.Prelude.{length, Result, Ok}
 use Rattle.topics.specs.declared.malformed.MalformedKind.TheVariants as kinds
 use Rattle.packet_base.specs.declared.stop.Stop.{Stop}
 use Rattle.packet_base.specs.declared.stop.Stop.TheVariants as stops

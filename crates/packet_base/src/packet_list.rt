@@ -71,7 +71,7 @@ impl<T: Item> PacketList<T> {
     }
 
     /// Returns how many bytes the list has after `before` others, as far as a `usize` counts.
-    pub fn len_behind(&self, before: usize) -> usize
+    pub fn len_after(&self, before: usize) -> usize
         ensures { result ≡ min (before + length (flat_map T.spelled self.now)) usize.MAX }
     {
         let mut len = before;

@@ -2,7 +2,8 @@
 
 ghost use Rattle.std.specs.Prelude.{◌≡◌, ◌<◌, true, IfOk, IsOk, IsTrue, ◌==◌, nat_eq, length, drop};
 ghost use Rattle.std.specs.List.{starts_with};
-ghost use Rattle.packet_base.specs.Reading.{byte_at, front_at, number_at, id_at, text_at, text_of, ended, is_text};
+ghost use Rattle.packet_base.specs.Reading.{byte_at, front_at, number_at, id_at, text_at, text_of};
+ghost use Rattle.packet_base.specs.Reading.{ended, is_text};
 ghost use Rattle.packet_base.specs.TopicFields.{topic_at, filter_at};
 ghost use Rattle.packet_base.specs.Outcome.{Gives, Reads, TakesNoMemory, WantsMemory};
 ghost use Rattle.packet_base.specs.Inside.{name_of, pattern_of};

@@ -1,7 +1,7 @@
 -- MasterIsReachable.antt: a master continues by its answers, and what it sends is one of these.
 use Rattle.std.proofs.Common.{◌≡◌, ℕ, ◌+◌, Bool, true, false, if◌then◌else◌, List, Option, Some, None, Ok, Err, refl, ◌∙◌, ap, sym, subst, true≢false}
 use Rattle.std.specs.Result.{is_ok}
-use Rattle.master.specs.agreement.MasterState.{AssignRefusal, MasterState, activating, is_granted, master_behind, opening_master, refusal}
+use Rattle.master.specs.agreement.MasterState.{AssignRefusal, MasterState, activating, is_granted, master_after, opening_master, refusal}
 use Rattle.master.specs.snapshots.Masters.{activated, assigned}
 use Rattle.master.specs.agreement.MasterState.AssignRefusal.{bad_members, ballots_spent}
 use Rattle.master.specs.declared.activation.Activation.{Activation}
@@ -32,9 +32,9 @@ not_refused (Some bad_members) bad spent = absurd (bad refl)
 not_refused (Some ballots_spent) bad spent = absurd (spent refl)
 
 pub reachable_by_order : (old new : MasterState) (config : Config) → IsReachable old → refusal old config ≡ None
-    → new ≡ master_behind old config (refusal old config) → IsReachable new
+    → new ≡ master_after old config (refusal old config) → IsReachable new
 reachable_by_order old new config reachable taken is =
-    subst IsReachable (sym (is ∙ ap (master_behind old config) taken)) (answers (assigned Command old config) reachable (to_order config taken))
+    subst IsReachable (sym (is ∙ ap (master_after old config) taken)) (answers (assigned Command old config) reachable (to_order config taken))
 
 pub answered_order : (old : MasterState) (config : Config) (ballot previous : ℕ) (members of_previous : List ℕ)
     → IsReachable old → refusal old config ≡ None

@@ -8,7 +8,7 @@ use Rattle.lists.proofs.Tables.{found_put, found_without, put_rises, without_ris
 use Rattle.packet.specs.declared.qos.QoS.{QoS}
 use Rattle.retained.specs.declared.retained_publication.RetainedPublication.{RetainedPublication}
 use Rattle.retained.specs.Retained.{RetainedTopics, IsRising, publication_on, with_topic, after_put, is_empty, is_full_for, is_refused}
-use Rattle.retained.specs.Laws.{Put, Behind, is_on, last_on, kept_of, kept_of_payload, LastIsRetained, StaysInBounds}
+use Rattle.retained.specs.Laws.{Put, After, is_on, last_on, kept_of, kept_of_payload, LastIsRetained, StaysInBounds}
 
 -- ---- the last publication
 
@@ -56,14 +56,14 @@ within content p (byte ∷ payload) taken h =
 
 pub stays_in_bounds : StaysInBounds
 unfolding IsStrictlySortedBy
-stays_in_bounds puts content Behind.nothing = (tt, omega arith)
-stays_in_bounds puts content (Behind.put {puts = before} {content = old} p behind taken) = within old p p.payload taken (stays_in_bounds before old behind)
+stays_in_bounds puts content After.nothing = (tt, omega arith)
+stays_in_bounds puts content (After.put {puts = before} {content = old} p after taken) = within old p p.payload taken (stays_in_bounds before old after)
 
 pub last_is_retained : LastIsRetained
-last_is_retained puts content Behind.nothing topic = refl
-last_is_retained puts content (Behind.put {puts = before} {content = old} p behind taken) topic =
-    let rising = (stays_in_bounds before old behind).0 in
+last_is_retained puts content After.nothing topic = refl
+last_is_retained puts content (After.put {puts = before} {content = old} p after taken) topic =
+    let rising = (stays_in_bounds before old after).0 in
     found_after topic old p p.payload rising
-    ∙ ap (λ rest. if is_on topic p then kept_of_payload p.qos p.payload else rest) (last_is_retained before old behind topic)
+    ∙ ap (λ rest. if is_on topic p then kept_of_payload p.qos p.payload else rest) (last_is_retained before old after topic)
     ∙ sym (kept_either (is_on topic p) p (last_on topic before))
     ∙ ap kept_of (sym (last_more topic before p))

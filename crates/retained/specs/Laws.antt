@@ -1,5 +1,6 @@
 -- Laws of what is retained, in the terms of MQTT 3.3.1.3.
-use Rattle.std.specs.Prelude.{◌≡◌, ◌≤◌, ℕ, Bool, false, List, [], ◌∷◌, ◌++◌, length, reverse, Option, Some, None}
+use Rattle.std.specs.Prelude.{◌≡◌, ◌≤◌, ℕ, Bool, false, List, [], ◌∷◌, ◌++◌, length, reverse}
+use Rattle.std.specs.Prelude.{Option, Some, None}
 use Rattle.std.specs.List.{find}
 use Rattle.std.specs.BTreeMap.{is_at}
 use Rattle.std.specs.Cmp.Lexicographic.{slice_cmp}
@@ -16,11 +17,11 @@ pub record Put : Type 0 where
 
 -- A store that began empty, after publications that it took, the last one at the end. A refused one
 -- changes nothing and needs no case.
-pub data Behind : List Put → RetainedTopics → Type 0 where
-  nothing : Behind [] []
-  put : {puts : List Put} {content : RetainedTopics} (p : Put) → Behind puts content
+pub data After : List Put → RetainedTopics → Type 0 where
+  nothing : After [] []
+  put : {puts : List Put} {content : RetainedTopics} (p : Put) → After puts content
       → is_refused content p.topic p.payload ≡ false
-      → Behind (puts ++ p ∷ []) (after_put content p.topic p.qos p.payload)
+      → After (puts ++ p ∷ []) (after_put content p.topic p.qos p.payload)
 
 abbrev pub is_on : List ℕ → Put → Bool
 is_on topic p = is_at (slice_cmp nat_cmp topic) p.topic
@@ -40,10 +41,10 @@ kept_of None = None
 
 -- what is retained of a topic is its last publication, and nothing if that had no payload
 abbrev pub LastIsRetained : Type 0
-LastIsRetained = (puts : List Put) (content : RetainedTopics) → Behind puts content
+LastIsRetained = (puts : List Put) (content : RetainedTopics) → After puts content
     → (topic : List ℕ) → publication_on topic content ≡ kept_of (last_on topic puts)
 
 -- the topics come in rising order, each once, and are 16,384 at most
 abbrev pub StaysInBounds : Type 0
-StaysInBounds = (puts : List Put) (content : RetainedTopics) → Behind puts content
+StaysInBounds = (puts : List Put) (content : RetainedTopics) → After puts content
     → IsRising content × (length content ≤ 16384)

@@ -1,10 +1,12 @@
 // The store of retained publications.
 
-ghost use Rattle.std.specs.Prelude.{◌≡◌, ◌++◌, ◌↔◌, [], length, take, Err, IsErr, IsOk, IsNone, true, false, IsTrue, OnOk, OnErr, option_copied};
+ghost use Rattle.std.specs.Prelude.{◌≡◌, ◌++◌, ◌↔◌, [], length, take, Err, IsErr, IsOk, IsNone};
+ghost use Rattle.std.specs.Prelude.{true, false, IsTrue, OnOk, OnErr, option_copied};
 ghost use Rattle.std.specs.Cmp.Lexicographic.{slice_cmp};
 ghost use Rattle.std.specs.Ordering.{nat_cmp};
 ghost use Rattle.packet.specs.topics.Text.{has_no_wildcard};
-ghost use Rattle.retained.specs.Retained.{IsRising, publication_on, after_put, with_topic, without_topic, is_full_for, is_refused, matching_entries};
+ghost use Rattle.retained.specs.Retained.{IsRising, publication_on, after_put, with_topic};
+ghost use Rattle.retained.specs.Retained.{without_topic, is_full_for, is_refused, matching_entries};
 
 use crate::error::RetainedError;
 use crate::finding::append_matching;

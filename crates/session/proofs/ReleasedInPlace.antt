@@ -147,7 +147,7 @@ released_in_place id fs place d first h at =
     let here = at_place id fs (has_awaited id fs h) in
     let parts = parted id fs d first h in
     rw (← place_found id (ids_of fs) ∙ place_is (position_or_len (λ k. id == k) (ids_of fs)) (length (ids_of fs)) place at)
-    (rw (here.0, here.1) (ap₂ (λ before behind. before ++ (id, waits_for.Pubcomp) ∷ behind) parts.0 parts.1))
+    (rw (here.0, here.1) (ap₂ (λ before after. before ++ (id, waits_for.Pubcomp) ∷ after) parts.0 parts.1))
 
 -- ---- the identifiers of a map
 

@@ -4,7 +4,8 @@ ghost use Rattle.std.specs.Prelude.{◌≡◌, ◌≤◌, ◌++◌, length, OnOk
 ghost use Rattle.std.specs.List.{flat_map, AllByRecursion};
 ghost use Rattle.session_base.specs.packet_base.Spelling.{number};
 ghost use Rattle.session_base.specs.Counted.{counted};
-ghost use Rattle.session_base.specs.Form.{one_byte, held_bytes, flight_bytes, publication_bytes, state_bytes, HasLength, IsWritable};
+ghost use Rattle.session_base.specs.Form.{one_byte, held_bytes, flight_bytes, publication_bytes};
+ghost use Rattle.session_base.specs.Form.{state_bytes, HasLength, IsWritable};
 ghost use Rattle.session_base.specs.FormLaws.{HasForm};
 ghost use Rattle.session.specs.Inside.{AreWritable};
 

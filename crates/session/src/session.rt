@@ -1,12 +1,15 @@
 // One client's session (MQTT 3.1.2.4, 4.1).
 
-ghost use Rattle.std.specs.Prelude.{◌≡◌, ◌≢◌, ◌≤◌, ◌<◌, ◌++◌, ◌↔◌, [], true, length, IsOk, Ok, Err, OnOk, OnErr};
+ghost use Rattle.std.specs.Prelude.{◌≡◌, ◌≢◌, ◌≤◌, ◌<◌, ◌++◌, ◌↔◌, [], true, length, IsOk, Ok, Err};
+ghost use Rattle.std.specs.Prelude.{OnOk, OnErr};
 ghost use Rattle.session_base.specs.lists.Lists.{has_id};
 ghost use Rattle.session_base.specs.Identifiers.{with_id, without_id};
-ghost use Rattle.session_base.specs.Subscriptions.{is_held, with_subscription, without_filter, granted_qos};
+ghost use Rattle.session_base.specs.Subscriptions.{is_held, with_subscription};
+ghost use Rattle.session_base.specs.Subscriptions.{without_filter, granted_qos};
 ghost use Rattle.session_base.specs.Queue.{on_puback, on_pubrec, on_pubcomp, enqueue, room, filled};
 ghost use Rattle.session_base.specs.Sending.{fill_sends, resend, pubrec_sends};
-ghost use Rattle.session_base.specs.Session.{empty_session, with_filters, with_received, with_queue, with_flights};
+ghost use Rattle.session_base.specs.Session.{empty_session, with_filters, with_received};
+ghost use Rattle.session_base.specs.Session.{with_queue, with_flights};
 ghost use Rattle.session.specs.declared.arrival.Arrival.TheVariants.{First, Again};
 ghost use Rattle.session.specs.declared.error.EnqueueError.TheVariants.{QueueFull};
 

@@ -1,6 +1,7 @@
 // What is sent to a client: the entries in flight, and what waits (MQTT 4.3, 4.4, 4.6).
 
-ghost use Rattle.std.specs.Prelude.{◌≡◌, ◌≤◌, ◌<◌, ◌++◌, [], ◌∷◌, true, false, length, filter, take, drop, IsOk, IfOk, OnOk, OnErr};
+ghost use Rattle.std.specs.Prelude.{◌≡◌, ◌≤◌, ◌<◌, ◌++◌, [], ◌∷◌, true, false, length, filter};
+ghost use Rattle.std.specs.Prelude.{take, drop, IsOk, IfOk, OnOk, OnErr};
 ghost use Rattle.std.specs.List.{list_any};
 ghost use Rattle.session_base.specs.lists.Lists.{has_id};
 ghost use Rattle.session_base.specs.Identifiers.{least_free};
@@ -8,7 +9,9 @@ ghost use Rattle.session_base.specs.Session.{with_flights};
 ghost use Rattle.session_base.specs.OrderLaws.{IsReleasedFirst};
 ghost use Rattle.session_base.specs.Sending.{fill_sends, resend, pubrec_sends};
 ghost use Rattle.session.specs.Inside.{started_with, sends_with, IsAwaited, with_released};
-ghost use Rattle.session_base.specs.Queue.{empty_queue, is_released, awaits_pubrec, awaits_pubcomp, on_puback, on_pubrec, on_pubcomp, released_with, enqueue, room, filled, ids_of};
+ghost use Rattle.session_base.specs.Queue.{empty_queue, is_released, awaits_pubrec, awaits_pubcomp};
+ghost use Rattle.session_base.specs.Queue.{on_puback, on_pubrec, on_pubcomp, released_with};
+ghost use Rattle.session_base.specs.Queue.{enqueue, room, filled, ids_of};
 
 use crate::sending::{
     awaits_of, packet_anew, send_publish, waits_for_puback, waits_for_pubcomp, waits_for_pubrec,
@@ -218,10 +221,10 @@ impl SessionQueue {
         requires awaited { IsAwaited id self.old.in_flight }
         ensures { self.new ≡ with_flights (released_with id self.old.in_flight) self.old }
     {
-        let behind = self.released();
+        let after = self.released();
         if let Some(place) = self.in_flight.get_index_of(&id) {
             mark_released(&mut self.in_flight, id);
-            self.in_flight.move_index(place, behind);
+            self.in_flight.move_index(place, after);
         }
     }
 

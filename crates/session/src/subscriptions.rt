@@ -1,7 +1,8 @@
 // The subscriptions of a session (MQTT 3.8.4, 3.10.4).
 
 ghost use Rattle.std.specs.Prelude.{◌≡◌, [], true, IsOk, OnOk, OnErr, length};
-ghost use Rattle.session_base.specs.Subscriptions.{is_held, with_subscription, without_filter, granted_qos};
+ghost use Rattle.session_base.specs.Subscriptions.{is_held, with_subscription};
+ghost use Rattle.session_base.specs.Subscriptions.{without_filter, granted_qos};
 ghost use Rattle.session_base.specs.Publication.{greater_qos};
 
 use indexmap::IndexMap;

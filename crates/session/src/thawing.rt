@@ -5,8 +5,9 @@ ghost use Rattle.std.specs.List.Sorted.{IsStrictlySortedBy};
 ghost use Rattle.std.specs.Ordering.{nat_cmp};
 ghost use Rattle.session_base.specs.packet_base.Outcome.{Gives, Reads};
 ghost use Rattle.session_base.specs.packet_base.Reading.{byte_at, number_at, id_at};
-ghost use Rattle.session_base.specs.Counted.{counted_at, items_behind, last_of, Adds};
-ghost use Rattle.session_base.specs.Form.{is_new_filter, held_at, is_above, may_follow, flight_at, anything, was_released, waiting_at, state_at};
+ghost use Rattle.session_base.specs.Counted.{counted_at, items_after, last_of, Adds};
+ghost use Rattle.session_base.specs.Form.{is_new_filter, held_at, is_above, may_follow, flight_at};
+ghost use Rattle.session_base.specs.Form.{anything, was_released, waiting_at, state_at};
 ghost use Rattle.session_base.specs.lists.Lists.{has_id};
 ghost use Rattle.session_base.specs.Queue.{ids_of};
 ghost use Rattle.session_base.specs.OrderLaws.{IsReleasedFirst};
@@ -55,7 +56,7 @@ impl Subscriptions {
 
 fn read_filters(alloc: Global, count: u8, reader: &mut Reader) -> Result<Subscriptions, Stop>
     ensures { Reads (λ x. x) result reader.new
-        (items_behind is_new_filter held_at count [] reader.old) }
+        (items_after is_new_filter held_at count [] reader.old) }
 {
     let mut read = Subscriptions::new(alloc);
     for _ in 0..count {
@@ -103,7 +104,7 @@ impl Received {
 }
 
 fn read_ids(alloc: Global, count: u16, reader: &mut Reader) -> Result<Received, Stop>
-    ensures { Reads (λ x. x) result reader.new (items_behind is_above id_at count [] reader.old) }
+    ensures { Reads (λ x. x) result reader.new (items_after is_above id_at count [] reader.old) }
 {
     let mut read = Received::new(alloc);
     for _ in 0..count {
@@ -169,7 +170,7 @@ fn read_flights(
     reader: &mut Reader,
 ) -> Result<IndexMap<PacketId, Awaits>, Stop>
     ensures { Reads (λ x. x.entries) result reader.new
-        (items_behind may_follow flight_at count [] reader.old) }
+        (items_after may_follow flight_at count [] reader.old) }
 {
     let mut read = IndexMap::new(alloc);
     for _ in 0..count {
@@ -240,7 +241,7 @@ fn read_publications(
     reader: &mut Reader,
 ) -> Result<VecDeque<Publication>, Stop>
     ensures { Reads (λ x. x.items) result reader.new
-        (items_behind anything waiting_at count [] reader.old) }
+        (items_after anything waiting_at count [] reader.old) }
 {
     let mut read = VecDeque::new(alloc);
     for _ in 0..count {

@@ -5,7 +5,7 @@ use Rattle.std.specs.Prelude.{flat_map}
 use Rattle.std.specs.List.{AllByRecursion}
 use Rattle.std.proofs.lemmas.Bool.{le-leb}
 use Rattle.packet_base.specs.Lists.{ItemAt}
-use Rattle.session_base.specs.Counted.{counted, counted_at, items_behind}
+use Rattle.session_base.specs.Counted.{counted, counted_at, items_after}
 
 -- each of these may be where it is
 abbrev pub AllFollow : {A : Type 0} → (List A → A → Bool) → List A → List A → Type 0
@@ -18,11 +18,11 @@ IsReadAgain bytes item one = (rest : List ℕ) → item (bytes one ++ rest) ≡ 
 
 items_again : {A : Type 0} (follows : List A → A → Bool) (bytes : A → List ℕ) (item : ItemAt A) (front items : List A) (rest : List ℕ) →
     AllByRecursion (IsReadAgain bytes item) items → AllFollow follows front items →
-    items_behind follows item (length items) front (flat_map bytes items ++ rest) ≡ Ok (front ++ items, rest)
-unfolding items_behind
+    items_after follows item (length items) front (flat_map bytes items ++ rest) ≡ Ok (front ++ items, rest)
+unfolding items_after
 items_again follows bytes item front [] rest again follow = rw (append-nil front) refl
 items_again follows bytes item front (one ∷ more) rest again follow =
-    ap (λ (z : List ℕ). items_behind follows item (suc (length more)) front z) (append_assoc (bytes one) (flat_map bytes more) rest)
+    ap (λ (z : List ℕ). items_after follows item (suc (length more)) front z) (append_assoc (bytes one) (flat_map bytes more) rest)
     ∙ rw (
       again.0 (flat_map bytes more ++ rest),
       follow.0,

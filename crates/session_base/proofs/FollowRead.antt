@@ -10,7 +10,7 @@ use Rattle.packet_base.specs.Lists.{ItemAt}
 use Rattle.packet_base.proofs.Steps.{then_if, check_if}
 use Rattle.session_base.specs.OrderLaws.{IsReleasedFirst}
 use Rattle.session_base.specs.Queue.{Flight}
-use Rattle.session_base.specs.Counted.{counted_at, items_behind}
+use Rattle.session_base.specs.Counted.{counted_at, items_after}
 use Rattle.session_base.specs.Form.{may_follow, flight_at}
 use Rattle.session_base.proofs.Counted.{AllFollow}
 use Rattle.session_base.proofs.Found.{weaker}
@@ -27,14 +27,14 @@ record Followed {A : Type 0} (follows : List A → A → Bool) (many : ℕ) (fro
   follow : AllFollow follows front items
 
 items_follow : {A : Type 0} (follows : List A → A → Bool) (item : ItemAt A) (many : ℕ) (front : List A) (bytes : List ℕ) →
-    IfOk (items_behind follows item many front bytes) (λ x. Followed follows many front x.0)
-unfolding items_behind
+    IfOk (items_after follows item many front bytes) (λ x. Followed follows many front x.0)
+unfolding items_after
 items_follow follows item zero front bytes = record { items = []; many_are = refl; joined = sym (append-nil front); follow = tt }
 items_follow {A} follows item (suc more) front bytes =
     let Q : List A × List ℕ → Type 0 = λ x. Followed follows (suc more) front x.0 in
     then_if (item bytes) _ (λ x. Unit {0}) Q (any (item bytes)) (λ one u.
     check_if (follows front one.0) _ _ Q (λ test.
-    weaker (items_behind follows item more (front ++ one.0 ∷ []) one.1) (λ x. Followed follows more (front ++ one.0 ∷ []) x.0) Q
+    weaker (items_after follows item more (front ++ one.0 ∷ []) one.1) (λ x. Followed follows more (front ++ one.0 ∷ []) x.0) Q
     (items_follow follows item more (front ++ one.0 ∷ []) one.1)
     (λ x k. record { items = one.0 ∷ k.items; many_are = ap suc k.many_are; joined = k.joined ∙ append_assoc front (one.0 ∷ []) k.items; follow = (test, k.follow) })))
 
@@ -45,7 +45,7 @@ counted_follow {A} count follows item most bytes =
     let Q : List A × List ℕ → Type 0 = λ x. AllFollow follows [] x.0 in
     then_if (count bytes) _ (λ x. Unit {0}) Q (any (count bytes)) (λ many u.
     check_if (nat_le many.0 most) _ _ Q (λ test.
-    weaker (items_behind follows item many.0 [] many.1) (λ x. Followed follows many.0 [] x.0) Q (items_follow follows item many.0 [] many.1)
+    weaker (items_after follows item many.0 [] many.1) (λ x. Followed follows many.0 [] x.0) Q (items_follow follows item many.0 [] many.1)
     (λ x k. subst (AllFollow follows []) (sym k.joined) k.follow)))
 
 counted_few : {A : Type 0} (count : ItemAt ℕ) (follows : List A → A → Bool) (item : ItemAt A) (most : ℕ) (bytes : List ℕ) →
@@ -55,7 +55,7 @@ counted_few {A} count follows item most bytes =
     let Q : List A × List ℕ → Type 0 = λ x. length x.0 ≤ most in
     then_if (count bytes) _ (λ x. Unit {0}) Q (any (count bytes)) (λ many u.
     check_if (nat_le many.0 most) _ _ Q (λ test.
-    weaker (items_behind follows item many.0 [] many.1) (λ x. Followed follows many.0 [] x.0) Q (items_follow follows item many.0 [] many.1)
+    weaker (items_after follows item many.0 [] many.1) (λ x. Followed follows many.0 [] x.0) Q (items_follow follows item many.0 [] many.1)
     (λ x k. let n = k.many_are in let all = ap length k.joined in let bound : many.0 ≤ most = leb-true _ _ test in omega (arith, n, all, bound))))
 
 abbrev flights_at : ℕ → List ℕ → Result (List Flight × List ℕ) Stop

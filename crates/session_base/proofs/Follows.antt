@@ -28,17 +28,17 @@ last_is o (first ∷ front) one = last_is (Some first) front one
 abbrev NoneHeld : List HeldFilter → List HeldFilter → Type 0
 NoneHeld front held = AllByRecursion (λ (one : HeldFilter). is_held one.0 front ≡ false) held
 
-held_behind : (f : List ℕ) (front : List HeldFilter) (one : HeldFilter) → is_held f front ≡ false → bytes_eq f one.0 ≡ false → is_held f (front ++ one ∷ []) ≡ false
-held_behind f [] one e k = rw k refl
-held_behind f (first ∷ front) one e k =
+held_after : (f : List ℕ) (front : List HeldFilter) (one : HeldFilter) → is_held f front ≡ false → bytes_eq f one.0 ≡ false → is_held f (front ++ one ∷ []) ≡ false
+held_after f [] one e k = rw k refl
+held_after f (first ∷ front) one e k =
     let parts = or_parts (bytes_eq f first.0) (is_held f front) e in
-    or_from (bytes_eq f first.0) (is_held f (front ++ one ∷ [])) parts.0 (held_behind f front one parts.1 k)
+    or_from (bytes_eq f first.0) (is_held f (front ++ one ∷ [])) parts.0 (held_after f front one parts.1 k)
 
 none_held : (front : List HeldFilter) (one : HeldFilter) (more : List HeldFilter) → is_held one.0 more ≡ false → NoneHeld front more → NoneHeld (front ++ one ∷ []) more
 none_held front one [] e h = tt
 none_held front one (next ∷ more) e h =
     let parts = or_parts (bytes_eq one.0 next.0) (is_held one.0 more) e in
-    (held_behind next.0 front one h.0 (turned one.0 next.0 parts.0), none_held front one more parts.1 h.1)
+    (held_after next.0 front one h.0 (turned one.0 next.0 parts.0), none_held front one more parts.1 h.1)
 
 filters_from : (front held : List HeldFilter) → AreFiltersApart held → NoneHeld front held → AllFollow is_new_filter front held
 filters_from front [] apart none = tt
@@ -82,17 +82,17 @@ id_turned i j e = grind arith
 abbrev NoneThere : List Flight → List Flight → Type 0
 NoneThere front flights = AllByRecursion (λ (flight : Flight). has_id flight.0 (ids_of front) ≡ false) flights
 
-there_behind : (id : ℕ) (front : List Flight) (one : Flight) → has_id id (ids_of front) ≡ false → (id == one.0) ≡ false → has_id id (ids_of (front ++ one ∷ [])) ≡ false
-there_behind id [] one e k = rw k refl
-there_behind id (first ∷ front) one e k =
+there_after : (id : ℕ) (front : List Flight) (one : Flight) → has_id id (ids_of front) ≡ false → (id == one.0) ≡ false → has_id id (ids_of (front ++ one ∷ [])) ≡ false
+there_after id [] one e k = rw k refl
+there_after id (first ∷ front) one e k =
     let parts = or_parts (id == first.0) (has_id id (ids_of front)) e in
-    or_from (id == first.0) (has_id id (ids_of (front ++ one ∷ []))) parts.0 (there_behind id front one parts.1 k)
+    or_from (id == first.0) (has_id id (ids_of (front ++ one ∷ []))) parts.0 (there_after id front one parts.1 k)
 
 none_there : (front : List Flight) (one : Flight) (more : List Flight) → has_id one.0 (ids_of more) ≡ false → NoneThere front more → NoneThere (front ++ one ∷ []) more
 none_there front one [] e h = tt
 none_there front one (next ∷ more) e h =
     let parts = or_parts (one.0 == next.0) (has_id one.0 (ids_of more)) e in
-    (there_behind next.0 front one h.0 (id_turned one.0 next.0 parts.0), none_there front one more parts.1 h.1)
+    (there_after next.0 front one h.0 (id_turned one.0 next.0 parts.0), none_there front one more parts.1 h.1)
 
 -- released ones may still come, or none of these is released
 abbrev Order : List Flight → List Flight → Type 0

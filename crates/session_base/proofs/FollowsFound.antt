@@ -44,12 +44,12 @@ none_of front (one ∷ more) h = (off (is_held one.0 front) h.0, shorter more (n
 
 filters_apart_from : (front held : List HeldFilter) → AllFollow is_new_filter front held → AreFiltersApart held
 filters_apart_from front [] h = tt
-filters_apart_from front (one ∷ more) h = (not_behind more (none_of (front ++ one ∷ []) more h.1), filters_apart_from (front ++ one ∷ []) more h.1)
+filters_apart_from front (one ∷ more) h = (not_after more (none_of (front ++ one ∷ []) more h.1), filters_apart_from (front ++ one ∷ []) more h.1)
   where
-    not_behind : (more : List HeldFilter) → AllByRecursion (λ (next : HeldFilter). is_held next.0 (front ++ one ∷ []) ≡ false) more → is_held one.0 more ≡ false
-    not_behind [] h = refl
-    not_behind (next ∷ more) h =
-        or_from (bytes_eq one.0 next.0) (is_held one.0 more) (turned next.0 one.0 (split_held next.0 front one h.0).1) (not_behind more h.1)
+    not_after : (more : List HeldFilter) → AllByRecursion (λ (next : HeldFilter). is_held next.0 (front ++ one ∷ []) ≡ false) more → is_held one.0 more ≡ false
+    not_after [] h = refl
+    not_after (next ∷ more) h =
+        or_from (bytes_eq one.0 next.0) (is_held one.0 more) (turned next.0 one.0 (split_held next.0 front one h.0).1) (not_after more h.1)
 
 pub filters_are_apart : (held : List HeldFilter) → AllFollow is_new_filter [] held → AreFiltersApart held
 filters_are_apart held h = filters_apart_from [] held h
@@ -102,12 +102,12 @@ none_there front (one ∷ more) h =
 
 distinct_from : (front flights : List Flight) → AllFollow may_follow front flights → IsDistinct (ids_of flights)
 distinct_from front [] h = tt
-distinct_from front (one ∷ more) h = (not_behind more (none_there (front ++ one ∷ []) more h.1), distinct_from (front ++ one ∷ []) more h.1)
+distinct_from front (one ∷ more) h = (not_after more (none_there (front ++ one ∷ []) more h.1), distinct_from (front ++ one ∷ []) more h.1)
   where
-    not_behind : (more : List Flight) → AllByRecursion (λ (next : Flight). has_id next.0 (ids_of (front ++ one ∷ [])) ≡ false) more → has_id one.0 (ids_of more) ≡ false
-    not_behind [] h = refl
-    not_behind (next ∷ more) h =
-        or_from (one.0 == next.0) (has_id one.0 (ids_of more)) (id_turned next.0 one.0 (split_there next.0 front one h.0).1) (not_behind more h.1)
+    not_after : (more : List Flight) → AllByRecursion (λ (next : Flight). has_id next.0 (ids_of (front ++ one ∷ [])) ≡ false) more → has_id one.0 (ids_of more) ≡ false
+    not_after [] h = refl
+    not_after (next ∷ more) h =
+        or_from (one.0 == next.0) (has_id one.0 (ids_of more)) (id_turned next.0 one.0 (split_there next.0 front one h.0).1) (not_after more h.1)
 
 pub flights_are_distinct : (flights : List Flight) → AllFollow may_follow [] flights → IsDistinct (ids_of flights)
 flights_are_distinct flights h = distinct_from [] flights h

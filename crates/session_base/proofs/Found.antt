@@ -7,7 +7,7 @@ use Rattle.packet_base.specs.declared.stop.Stop.{Stop}
 use Rattle.packet_base.specs.Lists.{ItemAt}
 use Rattle.packet_base.proofs.Steps.{then_if, check_if}
 use Rattle.packet_base.proofs.FieldsFound.{IsBytes}
-use Rattle.session_base.specs.Counted.{counted_at, items_behind}
+use Rattle.session_base.specs.Counted.{counted_at, items_after}
 use Rattle.session_base.proofs.Counted.{AllFollow}
 
 -- an item that is read meets it
@@ -28,15 +28,15 @@ pub record Listed {A : Type 0} (follows : List A → A → Bool) (P : A → Type
 
 items_listed : {A : Type 0} (follows : List A → A → Bool) (item : ItemAt A) (P : A → Type 0) → IsFound item P →
     (many : ℕ) (front : List A) (bytes : List ℕ) → IsBytes bytes →
-    IfOk (items_behind follows item many front bytes) (λ x. Listed follows P many front x.0 × IsBytes x.1)
-unfolding items_behind
+    IfOk (items_after follows item many front bytes) (λ x. Listed follows P many front x.0 × IsBytes x.1)
+unfolding items_after
 items_listed follows item P found zero front bytes fits =
     (record { items = []; joined = sym (append-nil front); many_are = refl; follow = tt; each = tt }, fits)
 items_listed {A} follows item P found (suc more) front bytes fits =
     let Q : List A × List ℕ → Type 0 = λ x. Listed follows P (suc more) front x.0 × IsBytes x.1 in
     then_if (item bytes) _ (λ x. P x.0 × IsBytes x.1) Q (found bytes fits) (λ one h.
     check_if (follows front one.0) _ _ Q (λ test.
-    weaker (items_behind follows item more (front ++ one.0 ∷ []) one.1) (λ x. Listed follows P more (front ++ one.0 ∷ []) x.0 × IsBytes x.1) Q
+    weaker (items_after follows item more (front ++ one.0 ∷ []) one.1) (λ x. Listed follows P more (front ++ one.0 ∷ []) x.0 × IsBytes x.1) Q
     (items_listed follows item P found more (front ++ one.0 ∷ []) one.1 h.1)
     (λ x k. (
       record {
@@ -62,7 +62,7 @@ counted_found {A} count follows item P most counts found bytes fits =
     let Q : List A × List ℕ → Type 0 = λ x. AreRead follows P most x.0 × IsBytes x.1 in
     then_if (count bytes) _ (λ x. Unit {0} × IsBytes x.1) Q (counts bytes fits) (λ many h.
     check_if (nat_le many.0 most) _ _ Q (λ test.
-    weaker (items_behind follows item many.0 [] many.1) (λ x. Listed follows P many.0 [] x.0 × IsBytes x.1) Q
+    weaker (items_after follows item many.0 [] many.1) (λ x. Listed follows P many.0 [] x.0 × IsBytes x.1) Q
     (items_listed follows item P found many.0 [] many.1 h.1)
     (λ x k. (
       subst (λ zs. AreRead follows P most zs) (sym k.0.joined)

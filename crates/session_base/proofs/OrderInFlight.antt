@@ -27,12 +27,12 @@ first_filter p (flight ∷ fs) (inl h) =
     elim (p flight) as (λ (b : Bool). IsReleasedFirst (if b then flight ∷ filter p fs else filter p fs)) [ true ↦ inl (h.0, first_filter p fs h.1) | false ↦ first_filter p fs h.1 ]
 first_filter p (flight ∷ fs) (inr h) = first_none (filter p (flight ∷ fs)) (none_filter p (flight ∷ fs) h)
 
-behind_released : (fs gs : List Flight) → IsReleasedFirst gs → IsReleasedFirst (filter is_released fs ++ gs)
-behind_released [] gs h = h
-behind_released (flight ∷ fs) gs h =
+after_released : (fs gs : List Flight) → IsReleasedFirst gs → IsReleasedFirst (filter is_released fs ++ gs)
+after_released [] gs h = h
+after_released (flight ∷ fs) gs h =
     elim (is_released flight) as (λ (b : Bool). is_released flight ≡ b → IsReleasedFirst ((if b then flight ∷ filter is_released fs else filter is_released fs) ++ gs)) [
-      | true ↦ λ e. inl (e, behind_released fs gs h)
-      | false ↦ λ e. behind_released fs gs h
+      | true ↦ λ e. inl (e, after_released fs gs h)
+      | false ↦ λ e. after_released fs gs h
     ] refl
 
 none_left : (q : Flight → Bool) (fs : List Flight) → NoneReleased (filter (λ flight. not (is_released flight) && q flight) fs)
@@ -47,7 +47,7 @@ none_left q (flight ∷ fs) =
 first_pubrec : (id : ℕ) (fs : List Flight) → IsReleasedFirst fs → IsReleasedFirst (on_pubrec id fs)
 first_pubrec id fs h =
     elim (list_any (awaits_pubrec id) fs) as (λ (b : Bool). IsReleasedFirst (if b then released_with id fs else fs)) [
-      | true ↦ behind_released fs _ (inl (refl, first_none _ (none_left (λ flight. not (awaits_pubrec id flight)) fs)))
+      | true ↦ after_released fs _ (inl (refl, first_none _ (none_left (λ flight. not (awaits_pubrec id flight)) fs)))
       | false ↦ h
     ]
 

@@ -8,28 +8,28 @@ use Rattle.packet_base.specs.Outcome.{StopsBy}
 use Rattle.packet_base.specs.Lists.{ItemAt}
 use Rattle.packet_base.specs.Reading.{◌>>=◌, ◌>>◌}
 use Rattle.packet_base.proofs.ItemsInALoop.{stops_at, stops_cases}
-use Rattle.session_base.specs.Counted.{keep, items_behind, Adds}
+use Rattle.session_base.specs.Counted.{keep, items_after, Adds}
 
 module _ {A : Type 0} (follows : List A → A → Bool) (item : ItemAt A) where
   abbrev Read : Type 0
   Read = Result (List A × List ℕ) Stop
 
   abbrev left : ℕ → ℕ → List A → List ℕ → Read
-  left n i front bytes = items_behind follows item (n - i) front bytes
+  left n i front bytes = items_after follows item (n - i) front bytes
 
   -- one item, and the rest
   abbrev turn_of : ℕ → List A → List ℕ → Read
-  turn_of n front bytes = item bytes >>= (λ one. keep (follows front one.0) >> items_behind follows item n (front ++ one.0 ∷ []) one.1)
+  turn_of n front bytes = item bytes >>= (λ one. keep (follows front one.0) >> items_after follows item n (front ++ one.0 ∷ []) one.1)
 
   turn_is : (n i : ℕ) (front : List A) (bytes : List ℕ) → i < n → left n i front bytes ≡ turn_of (n - (i + 1)) front bytes
-  unfolding items_behind
+  unfolding items_after
   turn_is n i front bytes less =
-      let e : n - i ≡ suc (n - (i + 1)) = omega (arith, less) in ap (λ (m : ℕ). items_behind follows item m front bytes) e
+      let e : n - i ≡ suc (n - (i + 1)) = omega (arith, less) in ap (λ (m : ℕ). items_after follows item m front bytes) e
 
   pub ends : (n i : ℕ) (front : List A) (bytes : List ℕ) (total : Read) → n ≤ i → left n i front bytes ≡ total → total ≡ Ok (front, bytes)
-  unfolding items_behind
+  unfolding items_after
   ends n i front bytes total less e =
-      let none : n - i ≡ 0 = omega (arith, less) in sym e ∙ ap (λ (m : ℕ). items_behind follows item m front bytes) none
+      let none : n - i ≡ 0 = omega (arith, less) in sym e ∙ ap (λ (m : ℕ). items_after follows item m front bytes) none
 
   pub goes_on : (n i : ℕ) (front after : List A) (bytes rest : List ℕ) (one : A) (total : Read) → i < n → left n i front bytes ≡ total →
       item bytes ≡ Ok (one, rest) → follows front one ≡ true → after ≡ front ++ one ∷ [] → left n (i + 1) after rest ≡ total

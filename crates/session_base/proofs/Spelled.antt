@@ -19,7 +19,7 @@ use Rattle.session_base.specs.declared.awaits.Awaits.{Awaits}
 use Rattle.session_base.specs.declared.awaits.Awaits.TheVariants as waits_for
 use Rattle.session_base.specs.Publication.{is_answered, is_acknowledged}
 use Rattle.session_base.specs.Session.{SessionState}
-use Rattle.session_base.specs.Counted.{counted, counted_at, items_behind}
+use Rattle.session_base.specs.Counted.{counted, counted_at, items_after}
 use Rattle.session_base.specs.Form.{long_number, one_byte, publication_bytes, held_bytes, awaits_bytes, flight_bytes, state_bytes, flag_at, long_number_at, qos_at, body_length, sized, publication_at, held_at, waiting_at, sent_at, awaits_at, flight_at, is_new_filter, is_above, may_follow, anything, state_at}
 use Rattle.session_base.specs.FormLaws.{ReadIsFrozen}
 use Rattle.session_base.proofs.Found.{weaker}
@@ -164,15 +164,15 @@ record AreWritten {A : Type 0} (bytes : A → List ℕ) (many : ℕ) (front all 
 
 items_spelled : {A : Type 0} (follows : List A → A → Bool) (bytes : A → List ℕ) (item : ItemAt A) → IsSpelled bytes item →
     (many : ℕ) (front : List A) (given : List ℕ) → IsBytes given →
-    IfOk (items_behind follows item many front given) (λ x. AreWritten bytes many front x.0 given x.1)
-unfolding items_behind
+    IfOk (items_after follows item many front given) (λ x. AreWritten bytes many front x.0 given x.1)
+unfolding items_after
 items_spelled follows bytes item each zero front given fits =
     record { items = []; joined = sym (append-nil front); many_are = refl; spelled = record { parts = refl; left = fits } }
 items_spelled {A} follows bytes item each (suc more) front given fits =
     let Q : List A × List ℕ → Type 0 = λ x. AreWritten bytes (suc more) front x.0 given x.1 in
     then_if (item given) _ (λ x. Splits given (bytes x.0) x.1) Q (each given fits) (λ one h.
     check_if (follows front one.0) _ _ Q (λ test.
-    weaker (items_behind follows item more (front ++ one.0 ∷ []) one.1) (λ x. AreWritten bytes more (front ++ one.0 ∷ []) x.0 one.1 x.1) Q
+    weaker (items_after follows item more (front ++ one.0 ∷ []) one.1) (λ x. AreWritten bytes more (front ++ one.0 ∷ []) x.0 one.1 x.1) Q
     (items_spelled follows bytes item each more (front ++ one.0 ∷ []) one.1 h.left)
     (λ x k. record {
       items = one.0 ∷ k.items;
@@ -188,7 +188,7 @@ counted_spelled {A} count count_at follows bytes item most counts each given fit
     let Q : List A × List ℕ → Type 0 = λ x. Splits given (counted count bytes x.0) x.1 in
     then_if (count_at given) _ (λ x. Splits given (count x.0) x.1) Q (counts given fits) (λ many h.
     check_if (nat_le many.0 most) _ _ Q (λ test.
-    weaker (items_behind follows item many.0 [] many.1) (λ x. AreWritten bytes many.0 [] x.0 many.1 x.1) Q
+    weaker (items_after follows item many.0 [] many.1) (λ x. AreWritten bytes many.0 [] x.0 many.1 x.1) Q
     (items_spelled follows bytes item each many.0 [] many.1 h.left)
     (λ x k.
     let whole = Splits-then given (count many.0) many.1 (flat_map bytes k.items) x.1 h k.spelled in

@@ -1,4 +1,4 @@
--- Copies of retained publications that come to a queue one by one, after a SUBSCRIBE (MQTT 3.3.1.3).
+-- Copies of retained publications that come to a queue one by one, at a SUBSCRIBE (MQTT 3.3.1.3).
 use Rattle.std.specs.Prelude.{ℕ, if◌then◌else◌, List, [], ◌∷◌, ◌++◌, filter}
 use Rattle.session_base.specs.declared.publication.Publication.{Publication}
 use Rattle.session_base.specs.Publication.{is_answered}

@@ -1,6 +1,7 @@
 -- Lists whose count is before them: each item is read after those before it, and has to go with
 -- them.
-use Rattle.std.specs.Prelude.{◌≡◌, ℕ, true, false, zero, suc, Bool, nat_le, List, [], ◌∷◌, ◌++◌, length, flat_map, Option, None, Result, Ok, Err}
+use Rattle.std.specs.Prelude.{◌≡◌, ℕ, true, false, zero, suc, Bool, nat_le, List, [], ◌∷◌, ◌++◌}
+use Rattle.std.specs.Prelude.{length, flat_map, Option, None, Result, Ok, Err}
 use Rattle.std.specs.List.{last_or}
 use Rattle.packet_base.specs.topics.declared.malformed.MalformedKind.TheVariants as kinds
 use Rattle.packet_base.specs.declared.stop.Stop.{Stop}
@@ -17,12 +18,12 @@ abbrev pub last_of : {A : Type 0} → List A → Option A
 last_of = last_or None
 
 -- this many items more, each of which may come after those before it
-unfoldable pub items_behind : {A : Type 0} → (List A → A → Bool) → ItemAt A → ℕ → List A → List ℕ →
+unfoldable pub items_after : {A : Type 0} → (List A → A → Bool) → ItemAt A → ℕ → List A → List ℕ →
     Result (List A × List ℕ) Stop
-items_behind follows item zero front bytes = Ok (front, bytes)
-items_behind follows item (suc more) front bytes =
+items_after follows item zero front bytes = Ok (front, bytes)
+items_after follows item (suc more) front bytes =
     item bytes >>= (λ one. keep (follows front one.0)
-    >> items_behind follows item more (front ++ one.0 ∷ []) one.1)
+    >> items_after follows item more (front ++ one.0 ∷ []) one.1)
 
 -- the count, no more than `most`, and the items
 unfoldable pub counted_at : {A : Type 0} → ItemAt ℕ → (List A → A → Bool) → ItemAt A → ℕ → List ℕ →
@@ -30,7 +31,7 @@ unfoldable pub counted_at : {A : Type 0} → ItemAt ℕ → (List A → A → Bo
 counted_at count follows item most bytes = do
   many ← count bytes
   keep (nat_le many.0 most)
-  items_behind follows item many.0 [] many.1
+  items_after follows item many.0 [] many.1
 
 -- and as they are written
 abbrev pub counted : {A : Type 0} → (ℕ → List ℕ) → (A → List ℕ) → List A → List ℕ

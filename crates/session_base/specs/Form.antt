@@ -1,6 +1,7 @@
 -- The session that is read from bytes. It is the same in both forms, except the window: how many
 -- entries are in flight at most.
-use Rattle.std.specs.Prelude.{ℕ, ◌+◌, ◌-◌, Bool, not, ◌==◌, nat_lt, nat_le, if◌then◌else◌, List, length, Result, Ok}
+use Rattle.std.specs.Prelude.{ℕ, ◌+◌, ◌-◌, Bool, not, ◌==◌, nat_lt, nat_le, if◌then◌else◌, List}
+use Rattle.std.specs.Prelude.{length, Result, Ok}
 use Rattle.std.specs.Int.{w32, from_be_bytes}
 use Rattle.packet_base.specs.declared.stop.Stop.{Stop}
 use Rattle.packet_base.specs.Reading.{◌>>=◌, ◌>>◌, byte_at, front_at, number_at, id_at}
@@ -16,8 +17,11 @@ use Rattle.session_base.specs.Subscriptions.{HeldFilter}
 use Rattle.session_base.specs.Queue.{Flight}
 use Rattle.session_base.specs.Session.{SessionState}
 use Rattle.session_base.specs.Counted.{keep, counted_at}
-pub use Rattle.session_base.specs.Writing.{long_number, one_byte, publication_bytes, held_bytes, awaits_bytes, flight_bytes, state_bytes, HasLength, IsWritable}
-pub use Rattle.session_base.specs.Follows.{is_new_filter, is_over, is_above, was_released, may_follow, anything}
+pub use Rattle.session_base.specs.Writing.{long_number, one_byte, publication_bytes, held_bytes}
+pub use Rattle.session_base.specs.Writing.{awaits_bytes, flight_bytes, state_bytes}
+pub use Rattle.session_base.specs.Writing.{HasLength, IsWritable}
+pub use Rattle.session_base.specs.Follows.{is_new_filter, is_over, is_above, was_released}
+pub use Rattle.session_base.specs.Follows.{may_follow, anything}
 
 -- a byte that is 0 or 1
 unfoldable pub flag_at : List ℕ → Result (Bool × List ℕ) Stop

@@ -7,7 +7,9 @@ use Rattle.session_base.specs.declared.publication.Publication.{Publication}
 use Rattle.session_base.specs.declared.awaits.Awaits.TheVariants as waits_for
 use Rattle.session_base.specs.Publication.{publish_of}
 use Rattle.lists.specs.Lists.{IsDistinct}
-use Rattle.session_base.specs.Queue.{Flight, ids_of, awaited, is_released, awaits_puback, awaits_pubrec, awaits_pubcomp, on_puback, on_pubrec, on_pubcomp, fill}
+use Rattle.session_base.specs.Queue.{Flight, ids_of, awaited, is_released, awaits_puback}
+use Rattle.session_base.specs.Queue.{awaits_pubrec, awaits_pubcomp, on_puback, on_pubrec}
+use Rattle.session_base.specs.Queue.{on_pubcomp, fill}
 use Rattle.session_base.specs.Sending.{resend}
 
 -- none of these is released

@@ -1,6 +1,7 @@
 -- The subscriptions of a session, and at which QoS it gets a publication (MQTT 3.3.5, 3.8.4,
 -- 3.10.4).
-use Rattle.std.specs.Prelude.{ℕ, Bool, not, if◌then◌else◌, List, [], ◌∷◌, filter, bytes_eq, Option, Some, None}
+use Rattle.std.specs.Prelude.{ℕ, Bool, not, if◌then◌else◌, List, [], ◌∷◌, filter, bytes_eq, Option}
+use Rattle.std.specs.Prelude.{Some, None}
 use Rattle.std.specs.List.{list_any}
 use Rattle.packet_base.specs.topics.Matching.{is_match}
 use Rattle.packet.specs.declared.qos.QoS.{QoS}

@@ -1,8 +1,14 @@
 // Laws of a client's queue. The calls do nothing; their contracts are the laws.
 
-ghost use Rattle.session_base.specs.Laws.{IsLeastFree, FillKeepsApart, FillIsDone, FillStaysWithin, FillKeepsOrder, FillSendsWhatStarts, FillsJoin, CopiesAreOneFill};
-ghost use Rattle.session_base.specs.OrderLaws.{AnswersFitTheQoS, AnswersKeepApart, OtherAnswersChangeNothing, SecondPubrecChangesNothing, ReleasedComesLast, KeepsReleasedFirst, ResendsInOrder};
-ghost use Rattle.session_base.specs.KeepingLaws.{FiltersStayApart, FiltersKeepTheirOrder, ReceivedStayRising};
+ghost use Rattle.session_base.specs.Laws.{IsLeastFree, FillKeepsApart, FillIsDone, FillStaysWithin};
+ghost use Rattle.session_base.specs.Laws.{FillKeepsOrder, FillSendsWhatStarts};
+ghost use Rattle.session_base.specs.Laws.{FillsJoin, CopiesAreOneFill};
+ghost use Rattle.session_base.specs.OrderLaws.{AnswersFitTheQoS, AnswersKeepApart};
+ghost use Rattle.session_base.specs.OrderLaws.{OtherAnswersChangeNothing};
+ghost use Rattle.session_base.specs.OrderLaws.{SecondPubrecChangesNothing, ReleasedComesLast};
+ghost use Rattle.session_base.specs.OrderLaws.{KeepsReleasedFirst, ResendsInOrder};
+ghost use Rattle.session_base.specs.KeepingLaws.{FiltersStayApart, FiltersKeepTheirOrder};
+ghost use Rattle.session_base.specs.KeepingLaws.{ReceivedStayRising};
 
 /// A fill starts what waits in order, with free identifiers, until nothing waits or the window is
 /// full; and it sends what it starts.

@@ -3,13 +3,14 @@
 #![tactic(auto)]
 
 mod awaits;
+mod form_laws;
 mod laws;
 mod publication;
 mod reading;
-mod session_form_laws;
 mod writing;
 
 pub use awaits::Awaits;
+pub use form_laws::{frozen_is_read, full_session_is_frozen, read_has_form, read_is_frozen};
 pub use laws::{
     answers_fit_the_qos, answers_keep_identifiers_apart, fill_takes_what_waits, fills_join,
     other_answers_change_nothing, resend_keeps_the_order, sessions_keep_their_form,
@@ -21,9 +22,6 @@ pub use publication::Publication;
 pub use reading::{
     body_length, keep, read_flag, read_flight, read_held, read_long_number, read_publication,
     read_qos, read_waiting,
-};
-pub use session_form_laws::{
-    frozen_is_read, full_session_is_frozen, read_has_form, read_is_frozen,
 };
 pub use writing::{
     write_flight, write_held, write_number, write_payload, write_publication, write_text,

@@ -6,7 +6,9 @@ ghost use Rattle.packet.specs.QoS.{qos_of};
 ghost use Rattle.packet.specs.Spelling.{longest_body};
 ghost use Rattle.packet_base.specs.Outcome.{Gives, Reads};
 ghost use Rattle.session_base.specs.Counted.{keep};
-ghost use Rattle.session_base.specs.Form.{flag_at, long_number_at, qos_at, body_length, publication_at, held_at, waiting_at, sent_at, awaits_at, flight_at};
+ghost use Rattle.session_base.specs.Form.{flag_at, long_number_at, qos_at, body_length};
+ghost use Rattle.session_base.specs.Form.{publication_at, held_at, waiting_at, sent_at};
+ghost use Rattle.session_base.specs.Form.{awaits_at, flight_at};
 
 use crate::{Awaits, Publication};
 use packet::{PacketId, Payload, QoS};

@@ -2,7 +2,8 @@
 
 ghost use Rattle.std.specs.Prelude.{◌≡◌, ◌<◌, ◌++◌, length, OnOk};
 ghost use Rattle.packet_base.specs.Spelling.{number, text};
-ghost use Rattle.session_base.specs.Form.{long_number, publication_bytes, held_bytes, flight_bytes, HasLength, IsWritable};
+ghost use Rattle.session_base.specs.Form.{long_number, publication_bytes, held_bytes, flight_bytes};
+ghost use Rattle.session_base.specs.Form.{HasLength, IsWritable};
 
 use crate::{Awaits, Publication};
 use packet::{PacketId, QoS};

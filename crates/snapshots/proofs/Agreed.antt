@@ -83,7 +83,7 @@ pub record WasApplied {S C O : Type 0} (past : List (Moment S C O)) (ballot k : 
   pub same : take k teacher.log ≡ front
 
 -- a step after which the node learns
-pub learns_behind : {S C O : Type 0} (rules : Rules S C O) (config : Config) (a : Moment S C O) (earlier : List (Moment S C O)) (n : ℕ) (r new : WholeState S C)
+pub learns_after : {S C O : Type 0} (rules : Rules S C O) (config : Config) (a : Moment S C O) (earlier : List (Moment S C O)) (n : ℕ) (r new : WholeState S C)
     (input : WholeInput C) (given : List (WholeEffect C O)) (k : ℕ) → (came : Past rules config (a ∷ earlier)) → slice_get a.world.nodes n ≡ Some r → r.stopped ≡ false →
     WholeMayTake a.world n input → WholeThinned given (whole_step rules r input).effects → (whole_step rules r input).state.stopped ≡ false →
     is_active (whole_step rules r input).state.role ≡ false → (whole_step rules r input).state.committed ≤ k →
@@ -92,7 +92,7 @@ pub learns_behind : {S C O : Type 0} (rules : Rules S C O) (config : Config) (a 
     new ≡ whole_applied_to rules (whole_step rules r input).state k →
     (past : Past rules config (record a { world = whole_moved a.world n new given } ∷ record a { world = whole_moved a.world n (whole_step rules r input).state given } ∷ a ∷ earlier))
     × Adds came past (added_at n r input (whole_step rules r input).state given)
-learns_behind {S = S} {C = C} {O = O} rules config a earlier n r new input given k came stands runs may thin going passive low high was is =
+learns_after {S = S} {C = C} {O = O} rules config a earlier n r new input given k came stands runs may thin going passive low high was is =
     (learned (went_on came (node_takes n r input stands runs may (inl (refl, thin)))) learns, record { proposes = refl; takes = refl; takes_at = λ i. refl; gives = λ i. refl })
   where
     middle : Moment S C O

@@ -8,7 +8,7 @@ use Rattle.agreement.specs.machine.Machine.{Rules}
 use Rattle.agreement.specs.ballot_base.declared.status.Progress.{Progress}
 use Rattle.agreement.specs.ballot_base.Replica.{is_active, is_installing, others, progress_at, ReplicaState}
 use Rattle.agreement.specs.ballot_base.declared.status.Role.TheVariants.{Backup, Fetching, Installing, Active}
-use Rattle.agreement.specs.ballot_base.Serving.{least, most_places, raised, added, append_at, appends_behind, commit, commit_at, extended, follows, leads, on_append, on_commit, on_held, on_tick_active, proposed}
+use Rattle.agreement.specs.ballot_base.Serving.{least, most_places, raised, added, append_at, appends_after, commit, commit_at, extended, follows, leads, on_append, on_commit, on_held, on_tick_active, proposed}
 use Rattle.agreement.specs.lists.Lists.{In}
 use Rattle.agreement.specs.lists.Lists.In.{here, there}
 use Rattle.agreement.proofs.of_lists.Members.{in_append}
@@ -95,10 +95,10 @@ own_one : {S C : Type 0} (O : Type 0) (s : ReplicaState S C) (x id : ℕ) (body 
 own_one O s x id body own to m here = own
 own_one O s x id body own to m (there i) = elim i [ ]
 
-own_behind : {S C : Type 0} (O : Type 0) (s : ReplicaState S C) (id b : ℕ) (log : Log C) (progress : List Progress) → SaysOwn {O = O} s (appends_behind O id b log progress)
-own_behind O s id b log [] to m i = elim i [ ]
-own_behind {S = S} {C = C} O s id b log (x ∷ progress) to m i =
-    own_join s (append_at O id b x (command_at log x.held)) (appends_behind O id b log progress) (one (command_at log x.held)) (own_behind O s id b log progress) to m i
+own_after : {S C : Type 0} (O : Type 0) (s : ReplicaState S C) (id b : ℕ) (log : Log C) (progress : List Progress) → SaysOwn {O = O} s (appends_after O id b log progress)
+own_after O s id b log [] to m i = elim i [ ]
+own_after {S = S} {C = C} O s id b log (x ∷ progress) to m i =
+    own_join s (append_at O id b x (command_at log x.held)) (appends_after O id b log progress) (one (command_at log x.held)) (own_after O s id b log progress) to m i
   where
     one : (o : Option C) → SaysOwn {O = O} s (append_at O id b x o)
     one None to m i = elim i [ ]
@@ -244,8 +244,8 @@ tick_keeps O r =
       base = refl;
       snapshot = refl;
       committed = omega arith;
-      own = own_join r (appends_behind O r.id r.joined r.log r.progress) (message_to_followed O r.id (Commit r.joined r.committed) r.progress)
-          (own_behind O r r.id r.joined r.log r.progress) (own_followed O r r.id (Commit r.joined r.committed) r.progress tt);
+      own = own_join r (appends_after O r.id r.joined r.log r.progress) (message_to_followed O r.id (Commit r.joined r.committed) r.progress)
+          (own_after O r r.id r.joined r.log r.progress) (own_followed O r r.id (Commit r.joined r.committed) r.progress tt);
     }
 
 -- ---- logs that are taken: after State a new primary hands out what it took

@@ -206,7 +206,7 @@ pub kept_taking : {S C O : Type 0} (rules : Rules S C O) (config : Config) (m : 
     × ((replica_step rules r input).state.committed ≡ took.committed) × SaysOwn {O = O} (replica_step rules r input).state (replica_step rules r input).effects) →
     new ≡ (replica_step rules r input).state → Thinned given (replica_step rules r input).effects →
     GoesOn rules config m (moved w n new given) k.came (added_whole w.archive n r input new given)
-kept_taking {S = S} {C = C} {O = O} rules config m w earlier n r input ballot log new given k stands runs may (snap, was) t behind is thin =
+kept_taking {S = S} {C = C} {O = O} rules config m w earlier n r input ballot log new given k stands runs may (snap, was) t after is thin =
     record { more = z.more; kept = all.kept; continues = z.continues; adds = all.adds }
   where
     old : IsSnapshot rules w.archive r.log × (r.log.base ≤ r.committed)
@@ -225,7 +225,7 @@ kept_taking {S = S} {C = C} {O = O} rules config m w earlier n r input ballot lo
     by_took : (took : ReplicaState S C) → taken rules r log ≡ Some took → IsSnapshot rules w.archive took.log → took.log.base ≤ took.committed →
         KeptWith rules config m (moved w n new given) z.more k.came (added_whole w.archive n r input new given)
     by_took took e snaps low =
-        let b = behind took e in
+        let b = after took e in
         let x : new.log ≡ took.log = ap (λ (s : ReplicaState S C). s.log) is ∙ b.0 in
         kept_moved rules config m w earlier z.more n r new given (added_whole w.archive n r input new given) k stands z.past z.all
         (subst (λ (l : Log C). IsSnapshot rules w.archive l) (sym x) snaps)

@@ -27,7 +27,7 @@ use Rattle.agreement.specs.ballot_base.Taking.{read_into, taken, with_places, wi
 use Rattle.snapshots.specs.World.{World, MayTake, moved, whole_world}
 use Rattle.agreement.proofs.of_lists.Places.{get_set, get_set_other}
 use Rattle.snapshots.proofs.Continues.{Continues, TellsAs, one_more, two_more}
-use Rattle.snapshots.proofs.Agreed.{WasApplied, fronts_stay, learns_behind}
+use Rattle.snapshots.proofs.Agreed.{WasApplied, fronts_stay, learns_after}
 use Rattle.snapshots.proofs.Fronts.{whole_front, whole_long}
 use Rattle.snapshots.proofs.LogsTaken.{LearnsTo}
 use Rattle.snapshots.proofs.Taking.{places_taken, snapshot_learned, snapshot_taken}
@@ -182,7 +182,7 @@ log_goes_on {S = S} {C = C} {O = O} rules config m w earlier n r input ballot lo
                 let base_long : log.base ≤ length p.state.log =
                 subst (λ (us : List C). log.base ≤ length us) (sym t.log_is) (let a = whole_long w.archive log within in omega (arith, a)) in
                 let low : p.state.committed ≤ log.base = let a = t.committed in omega (arith, a, past) in
-                let z = learns_behind rules config (moment m w) earlier n W (whole w.archive new) (whole_input w.archive input) (whole_effects w.archive given)
+                let z = learns_after rules config (moment m w) earlier n W (whole w.archive new) (whole_input w.archive input) (whole_effects w.archive given)
                 log.base came there_now runs (may_take_whole w n input may) (thinned_then (whole_thinned w.archive thin) l.effects)
                 (t.stopped ∙ runs) t.passive low base_long known (ap (whole w.archive) is ∙ l.state) in
                 let e = subst (λ (v : WholeWorld S C O). (q : Past rules config (record { master = m; world = v } ∷ middle ∷ moment m w ∷ earlier))

@@ -20,10 +20,10 @@ told_in config past more inc b n xs (told_by_message a r i stands held sent fron
 
 pub grows_in : {S C O : Type 0} (config : Config) (past more : List (Moment S C O)) (xs ys : List C) → ((c : Moment S C O) → In c past → In c more) →
     IsAgreed config past xs → IsAgreed config more ys → IsPrefixOf xs ys
-grows_in {S = S} {C = C} {O = O} config past more xs ys inc before behind = by_chosen before.chosen
+grows_in {S = S} {C = C} {O = O} config past more xs ys inc before after = by_chosen before.chosen
   where
     by_chosen : (xs ≡ []) ⊎ ((b : ℕ) × WasActive past b × IsChosen config past b xs) → IsPrefixOf xs ys
     by_chosen (inl nothing) = subst (λ (us : List C). IsPrefixOf us ys) (sym nothing) (record { rest = ys; is = refl })
     by_chosen (inr (b, (a, i, e), (c, has, all))) =
-        behind.longest b xs (a, inc a i, e)
+        after.longest b xs (a, inc a i, e)
         (c, config_in config past more inc b c has, λ n j. let z = all n j in (z.0, told_in config past more inc b n z.0 z.1, z.2))

@@ -35,7 +35,7 @@ use Rattle.snapshots.specs.Matches.{IsBased}
 use Rattle.snapshots.specs.Orders.{AnswersAtTheNextPlaces}
 use Rattle.snapshots.specs.Past.{Moment, whole_moment}
 use Rattle.snapshots.specs.Past.Past.{went_on}
-use Rattle.snapshots.specs.Steps.{MayHappen, world_behind}
+use Rattle.snapshots.specs.Steps.{MayHappen, world_after}
 use Rattle.snapshots.specs.Steps.MayHappen.{node_goes, master_assigns, master_hears, assignment_lost, answer_lost}
 use Rattle.snapshots.specs.Whole.{whole, whole_effects, whole_input, whole_log}
 use Rattle.snapshots.specs.World.{World, moved, outputs, whole_world}
@@ -168,9 +168,9 @@ step_gives {S = S} {C = C} {O = O} rules config m w k v earlier kept step n old 
         GivesNext rules (whole w.archive old) (whole w.archive new) (whole_log w.archive new.log) given
     still there inside given nothing = alike w.archive (ap (whole w.archive) (some_same (slice_get w.nodes n) new old there stood)) inside given nothing
 
-    assigned : (config : Config) (o : Option AssignRefusal) → slice_get (world_behind m w config o).nodes n ≡ Some new →
-        new.committed ≤ length (whole_log (world_behind m w config o).archive new.log) →
-        GivesNext rules (whole w.archive old) (whole (world_behind m w config o).archive new) (whole_log (world_behind m w config o).archive new.log) []
+    assigned : (config : Config) (o : Option AssignRefusal) → slice_get (world_after m w config o).nodes n ≡ Some new →
+        new.committed ≤ length (whole_log (world_after m w config o).archive new.log) →
+        GivesNext rules (whole w.archive old) (whole (world_after m w config o).archive new) (whole_log (world_after m w config o).archive new.log) []
     assigned config None there inside = still there inside [] refl
     assigned config (Some why) there inside = still there inside [] refl
 

@@ -3,11 +3,11 @@ use Rattle.std.proofs.Common.{cond, Bool, ◌≡◌, ℕ, true, false, List, [],
 use Rattle.agreement.specs.machine.Machine.{Rules}
 use Rattle.agreement.specs.whole.Messages.Body.{Activated as whole_activated, Superseded as whole_superseded}
 use Rattle.agreement.specs.whole.Messages.{Body as WholeBody}
-use Rattle.agreement.specs.MasterState.{MasterState, AssignRefusal, activating, is_granted, master_behind, opening_master, refusal}
+use Rattle.agreement.specs.MasterState.{MasterState, AssignRefusal, activating, is_granted, master_after, opening_master, refusal}
 use Rattle.agreement.specs.Giving.{given_of as whole_given_of}
 use Rattle.agreement.specs.Past.{Moment as WholeMoment, Past as WholePast}
 use Rattle.agreement.specs.Proposals.{proposals_of as whole_proposals_of, taken_at as whole_taken_at, taken_of as whole_taken_of}
-use Rattle.agreement.specs.Steps.{world_behind as whole_behind}
+use Rattle.agreement.specs.Steps.{world_after as whole_after}
 use Rattle.agreement.specs.Steps.{MayHappen as happens}
 use Rattle.agreement.specs.ballot_base.declared.config.Config.{Config}
 use Rattle.agreement.specs.ballot_base.declared.message.Body.TheVariants.{Activated, Superseded}
@@ -16,7 +16,7 @@ use Rattle.snapshots.specs.Past.Past.{began, went_on}
 use Rattle.snapshots.specs.Giving.{given_in, given_of}
 use Rattle.snapshots.specs.Masters.{activated, assigned}
 use Rattle.snapshots.specs.Proposals.{proposal_of, proposals_of, taken_at, taken_in, taken_of, takes_at}
-use Rattle.snapshots.specs.Steps.{MayHappen, tells_from_master, world_behind}
+use Rattle.snapshots.specs.Steps.{MayHappen, tells_from_master, world_after}
 use Rattle.snapshots.specs.Steps.MayHappen.{node_goes, master_assigns, master_hears, assignment_lost, answer_lost}
 use Rattle.snapshots.specs.Whole.{whole_body}
 use Rattle.snapshots.specs.World.{World, whole_letter, whole_world}
@@ -33,20 +33,20 @@ use Rattle.snapshots.proofs.Views.{in_whole}
 -- an Assign, by what the master answers
 assigns_on : {S C O : Type 0} (rules : Rules S C O) (config : Config) (m : MasterState) (w : World S C O) (earlier : List (WholeMoment S C O)) (c : Config)
     (o : Option AssignRefusal) → refusal m c ≡ o → (k : Kept rules config m w earlier) →
-    GoesOn rules config (master_behind m c o) (world_behind m w c o) k.came (nothing_added C O)
+    GoesOn rules config (master_after m c o) (world_after m w c o) k.came (nothing_added C O)
 assigns_on {S = S} {C = C} {O = O} rules config m w earlier c o e k = by_answer o step
   where
-    step : StepAdds rules m (whole_world w) (master_behind m c o) (whole_behind m (whole_world w) c o) (nothing_added C O)
-    step = subst (λ (o : Option AssignRefusal). StepAdds rules m (whole_world w) (master_behind m c o) (whole_behind m (whole_world w) c o) (nothing_added C O)) e
+    step : StepAdds rules m (whole_world w) (master_after m c o) (whole_after m (whole_world w) c o) (nothing_added C O)
+    step = subst (λ (o : Option AssignRefusal). StepAdds rules m (whole_world w) (master_after m c o) (whole_after m (whole_world w) c o) (nothing_added C O)) e
         (happens.master_assigns c, record { proposes = refl; takes = refl; takes_at = λ n. refl; gives = λ n. refl })
 
-    by_answer : (o : Option AssignRefusal) → StepAdds rules m (whole_world w) (master_behind m c o) (whole_behind m (whole_world w) c o) (nothing_added C O) →
-        GoesOn rules config (master_behind m c o) (world_behind m w c o) k.came (nothing_added C O)
+    by_answer : (o : Option AssignRefusal) → StepAdds rules m (whole_world w) (master_after m c o) (whole_after m (whole_world w) c o) (nothing_added C O) →
+        GoesOn rules config (master_after m c o) (world_after m w c o) k.came (nothing_added C O)
     by_answer (Some why) step =
         on_by_one rules config m w (moment m w ∷ earlier) k.came (nothing_added C O) (master_unheard rules config m m w earlier k step)
     by_answer None step =
-        on_by_one rules config (master_behind m c None) (world_behind m w c None) (moment m w ∷ earlier) k.came (nothing_added C O)
-        (master_kept rules config m (master_behind m c None) w earlier c.primary (assigned C m c).body k tt step)
+        on_by_one rules config (master_after m c None) (world_after m w c None) (moment m w ∷ earlier) k.came (nothing_added C O)
+        (master_kept rules config m (master_after m c None) w earlier c.primary (assigned C m c).body k tt step)
 
 -- what it answers to an Activate, on whole logs
 answer_whole : {C : Type 0} (archive : List C) (ballot : ℕ) (granted : Bool) →
@@ -75,8 +75,8 @@ step_goes_on {S = S} {C = C} {O = O} rules config m k w v earlier q (master_hear
     (sym (answer_whole w.archive b (is_granted m b m.waiting)))
     (happens.master_hears from b (in_whole (whole_letter w.archive) sent), record { proposes = refl; takes = refl; takes_at = λ n. refl; gives = λ n. refl })))
 step_goes_on {C = C} {O = O} rules config m k w v earlier q (assignment_lost c) =
-    on_by_one rules config (master_behind m c (refusal m c)) w (moment m w ∷ earlier) q.came (nothing_added C O)
-    (master_unheard rules config m (master_behind m c (refusal m c)) w earlier q
+    on_by_one rules config (master_after m c (refusal m c)) w (moment m w ∷ earlier) q.came (nothing_added C O)
+    (master_unheard rules config m (master_after m c (refusal m c)) w earlier q
     (happens.assignment_lost c, record { proposes = refl; takes = refl; takes_at = λ n. refl; gives = λ n. refl }))
 step_goes_on {C = C} {O = O} rules config m k w v earlier q (answer_lost from b sent) =
     on_by_one rules config (activating m b m.waiting) w (moment m w ∷ earlier) q.came (nothing_added C O)

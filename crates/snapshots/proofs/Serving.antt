@@ -14,8 +14,8 @@ use Rattle.agreement.specs.whole.Replica.{ReplicaState as WholeState}
 use Rattle.agreement.specs.ballot_base.Replica.{is_active, ReplicaState}
 use Rattle.agreement.specs.whole.Sending.{Outcome as WholeOutcome, message_to_followed as whole_followed, nothing_done as whole_nothing, sent_first as whole_sent_first}
 use Rattle.agreement.specs.whole.Applying.{outputs_from as whole_outputs_from}
-use Rattle.agreement.specs.ballot_base.Serving.{least, most_places, raised, extended, added, append_at, appends_behind, commit, commit_at, follows, leads, on_append, on_commit, on_held, on_tick_active, proposed}
-use Rattle.agreement.specs.whole.Serving.{commit as whole_commit, commit_at as whole_commit_at, added as whole_added, proposed as whole_proposed, on_append as whole_on_append, on_held as whole_on_held, on_commit as whole_on_commit, on_tick_active as whole_on_tick_active, appends_behind as whole_appends_behind, append_at as whole_append_at, extended as whole_extended}
+use Rattle.agreement.specs.ballot_base.Serving.{least, most_places, raised, extended, added, append_at, appends_after, commit, commit_at, follows, leads, on_append, on_commit, on_held, on_tick_active, proposed}
+use Rattle.agreement.specs.whole.Serving.{commit as whole_commit, commit_at as whole_commit_at, added as whole_added, proposed as whole_proposed, on_append as whole_on_append, on_held as whole_on_held, on_commit as whole_on_commit, on_tick_active as whole_on_tick_active, appends_after as whole_appends_after, append_at as whole_append_at, extended as whole_extended}
 use Rattle.agreement.specs.ballot_base.Logs.{Log, command_at, part, places, pushed}
 use Rattle.snapshots.specs.Whole.{whole_log, whole, whole_body, whole_effect, whole_effects}
 use Rattle.snapshots.specs.Matches.{IsBased, Matches}
@@ -200,13 +200,13 @@ append_at_lost : {C : Type 0} (O : Type 0) (id ballot : ℕ) (reached : Progress
 append_at_lost O id ballot reached None = none
 append_at_lost O id ballot reached (Some c) = loses none
 
-behind_thinned : {C : Type 0} (O : Type 0) (archive : List C) (id ballot : ℕ) (log : Log C) (progress : List Progress) → log.base ≤ length archive →
-    WholeThinned (whole_effects archive (appends_behind O id ballot log progress)) (whole_appends_behind O id ballot (whole_log archive log) progress)
-behind_thinned O archive id ballot log [] within = none
-behind_thinned {C = C} O archive id ballot log (reached ∷ progress) within =
-    subst (λ (us : List (WholeEffect C O)). WholeThinned us (whole_appends_behind O id ballot (whole_log archive log) (reached ∷ progress)))
-    (sym (map-append (whole_effect archive) (append_at O id ballot reached (command_at log reached.held)) (appends_behind O id ballot log progress)))
-    (thinned_join (by_order (cases_lt reached.held log.base)) (behind_thinned O archive id ballot log progress within))
+after_thinned : {C : Type 0} (O : Type 0) (archive : List C) (id ballot : ℕ) (log : Log C) (progress : List Progress) → log.base ≤ length archive →
+    WholeThinned (whole_effects archive (appends_after O id ballot log progress)) (whole_appends_after O id ballot (whole_log archive log) progress)
+after_thinned O archive id ballot log [] within = none
+after_thinned {C = C} O archive id ballot log (reached ∷ progress) within =
+    subst (λ (us : List (WholeEffect C O)). WholeThinned us (whole_appends_after O id ballot (whole_log archive log) (reached ∷ progress)))
+    (sym (map-append (whole_effect archive) (append_at O id ballot reached (command_at log reached.held)) (appends_after O id ballot log progress)))
+    (thinned_join (by_order (cases_lt reached.held log.base)) (after_thinned O archive id ballot log progress within))
   where
     by_order : (reached.held < log.base) ⊎ (log.base ≤ reached.held) →
         WholeThinned (whole_effects archive (append_at O id ballot reached (command_at log reached.held))) (whole_append_at O id ballot reached (slice_get (whole_log archive log) reached.held))
@@ -225,9 +225,9 @@ tick_active_matches {S = S} {C = C} O archive r b =
     record {
       state = refl;
       effects = subst (λ (us : List (WholeEffect C O)). WholeThinned us
-          (whole_appends_behind O r.id r.joined (whole_log archive r.log) r.progress ++ whole_followed O r.id (bodies.Commit r.joined r.committed) r.progress))
-          (sym (map-append (whole_effect archive) (appends_behind O r.id r.joined r.log r.progress) (message_to_followed O r.id (Commit r.joined r.committed) r.progress)
-          ∙ ap (λ (us : List (WholeEffect C O)). whole_effects archive (appends_behind O r.id r.joined r.log r.progress) ++ us)
+          (whole_appends_after O r.id r.joined (whole_log archive r.log) r.progress ++ whole_followed O r.id (bodies.Commit r.joined r.committed) r.progress))
+          (sym (map-append (whole_effect archive) (appends_after O r.id r.joined r.log r.progress) (message_to_followed O r.id (Commit r.joined r.committed) r.progress)
+          ∙ ap (λ (us : List (WholeEffect C O)). whole_effects archive (appends_after O r.id r.joined r.log r.progress) ++ us)
           (whole_to_followed O archive r.id (Commit r.joined r.committed) r.progress)))
-          (thinned_join (behind_thinned O archive r.id r.joined r.log r.progress b.within) (thinned_same _));
+          (thinned_join (after_thinned O archive r.id r.joined r.log r.progress b.within) (thinned_same _));
     }

@@ -4,7 +4,8 @@ use Rattle.std.specs.Prelude.{ℕ, ◌+◌, Option, if◌then◌else◌}
 use Rattle.agreement.specs.MasterState.{MasterState, activating, assigning, is_granted}
 use Rattle.agreement.specs.ballot_base.declared.config.Config.{Config}
 use Rattle.agreement.specs.ballot_base.declared.message.Body.{Body}
-use Rattle.agreement.specs.ballot_base.declared.message.Body.TheVariants.{NewBallot, Activated, Superseded}
+use Rattle.agreement.specs.ballot_base.declared.message.Body.TheVariants.{NewBallot, Activated}
+use Rattle.agreement.specs.ballot_base.declared.message.Body.TheVariants.{Superseded}
 
 -- what the master is after a step, and the message that it sends with its receiver
 pub record MasterOutcome (C : Type 0) : Type 0 where

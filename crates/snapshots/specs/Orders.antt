@@ -1,6 +1,7 @@
 -- Orders.antt: what holds for the order of proposals, and of what nodes give, in every past of a
 -- group that cuts its logs. What is said about logs is said about whole ones.
-use Rattle.std.specs.Prelude.{ℕ, Bool, ◌≤◌, ◌≡◌, List, [], ◌∷◌, ◌++◌, filter, length, map, slice_get, Some}
+use Rattle.std.specs.Prelude.{ℕ, Bool, ◌≤◌, ◌≡◌, List, [], ◌∷◌, ◌++◌, filter, length, map}
+use Rattle.std.specs.Prelude.{slice_get, Some}
 use Rattle.agreement.specs.machine.Machine.{Rules}
 use Rattle.agreement.specs.lists.Lists.{In, IsPrefixOf}
 use Rattle.agreement.specs.whole.Applying.{outputs_between}
@@ -14,7 +15,8 @@ use Rattle.agreement.specs.ballot_base.declared.config.Config.{Config}
 use Rattle.agreement.specs.ballot_base.Replica.{ReplicaState}
 use Rattle.snapshots.specs.Giving.{LeadsOn, given_in, given_of}
 use Rattle.snapshots.specs.Past.{Moment, Past, whole_moment}
-use Rattle.snapshots.specs.Proposals.{proposal_of, proposals_of, taken_at, taken_in, taken_of, takes_at}
+use Rattle.snapshots.specs.Proposals.{proposal_of, proposals_of, taken_at, taken_in}
+use Rattle.snapshots.specs.Proposals.{taken_of, takes_at}
 use Rattle.snapshots.specs.Steps.{MayHappen}
 use Rattle.snapshots.specs.Whole.{whole, whole_log}
 use Rattle.snapshots.specs.World.{World, whole_world}

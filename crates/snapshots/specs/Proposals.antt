@@ -11,7 +11,8 @@ use Rattle.agreement.specs.ballot_base.Replica.{ReplicaState}
 use Rattle.snapshots.specs.Past.{Moment, Past}
 use Rattle.snapshots.specs.Past.Past.{began, went_on}
 use Rattle.snapshots.specs.Steps.{MayHappen}
-use Rattle.snapshots.specs.Steps.MayHappen.{node_goes, master_assigns, master_hears, assignment_lost, answer_lost}
+use Rattle.snapshots.specs.Steps.MayHappen.{node_goes, master_assigns, master_hears}
+use Rattle.snapshots.specs.Steps.MayHappen.{assignment_lost, answer_lost}
 use Rattle.snapshots.specs.World.{NodeGoes, World}
 use Rattle.snapshots.specs.World.NodeGoes.{takes, stops, cuts}
 

@@ -4,7 +4,7 @@
 use Rattle.std.specs.Prelude.{ℕ, [], ◌∷◌, ◌++◌, Option, Some, None}
 use Rattle.agreement.specs.machine.Machine.{Rules}
 use Rattle.agreement.specs.lists.Lists.{In}
-use Rattle.agreement.specs.MasterState.{MasterState, AssignRefusal, master_behind, refusal}
+use Rattle.agreement.specs.MasterState.{MasterState, AssignRefusal, master_after, refusal}
 use Rattle.agreement.specs.ballot_base.declared.config.Config.{Config}
 use Rattle.agreement.specs.ballot_base.declared.message.Body.TheVariants.{Activate}
 use Rattle.agreement.specs.ballot_base.Sending.{master}
@@ -17,25 +17,25 @@ tells_from_master w o =
     record w { sent = w.sent ++ (o.receiver, record { from = master; body = o.body }) ∷ [] }
 
 -- and after an Assign: its primary is sent the ballot
-abbrev pub world_behind : {S C O : Type 0} →
+abbrev pub world_after : {S C O : Type 0} →
     MasterState → World S C O → Config → Option AssignRefusal → World S C O
-world_behind m w config (Some why) = w
-world_behind {C = C} m w config None = tells_from_master w (assigned C m config)
+world_after m w config (Some why) = w
+world_after {C = C} m w config None = tells_from_master w (assigned C m config)
 
 -- what may happen
 pub data MayHappen {S C O : Type 0} (rules : Rules S C O) :
     MasterState → World S C O → MasterState → World S C O → Type 0 where
   node_goes : {m : MasterState} {w v : World S C O} → NodeGoes rules w v → MayHappen rules m w m v
   master_assigns : {m : MasterState} {w : World S C O} (config : Config) →
-      MayHappen rules m w (master_behind m config (refusal m config))
-      (world_behind m w config (refusal m config))
+      MayHappen rules m w (master_after m config (refusal m config))
+      (world_after m w config (refusal m config))
   master_hears : {m : MasterState} {w : World S C O} (from b : ℕ) →
       In (0, record { from = from; body = Activate b }) w.sent →
       MayHappen rules m w (activated C m b from m.waiting).state
       (tells_from_master w (activated C m b from m.waiting))
   -- the same if the master's message is lost
   assignment_lost : {m : MasterState} {w : World S C O} (config : Config) →
-      MayHappen rules m w (master_behind m config (refusal m config)) w
+      MayHappen rules m w (master_after m config (refusal m config)) w
   answer_lost : {m : MasterState} {w : World S C O} (from b : ℕ) →
       In (0, record { from = from; body = Activate b }) w.sent →
       MayHappen rules m w (activated C m b from m.waiting).state w

@@ -1,7 +1,8 @@
 -- Whole.antt: the replica, the messages and the effects on whole logs that correspond to those with
 -- cut logs, by a record of the places below all bases.
 use Rattle.std.specs.Prelude.{List, ◌++◌, map, take}
-use Rattle.agreement.specs.whole.Messages.{Body as WholeBody, Effect as WholeEffect, Message as WholeMessage}
+use Rattle.agreement.specs.whole.Messages.{Body as WholeBody, Effect as WholeEffect}
+use Rattle.agreement.specs.whole.Messages.{Message as WholeMessage}
 use Rattle.agreement.specs.whole.Messages.{Body as bodies}
 use Rattle.agreement.specs.whole.Messages.{Effect as effects}
 use Rattle.agreement.specs.whole.Protocol.{Input as WholeInput}
@@ -11,7 +12,11 @@ use Rattle.agreement.specs.ballot_base.Logs.{Log}
 use Rattle.agreement.specs.ballot_base.declared.message.Body.{Body}
 use Rattle.agreement.specs.ballot_base.declared.message.Effect.{Effect}
 use Rattle.agreement.specs.ballot_base.declared.message.Message.{Message}
-use Rattle.agreement.specs.ballot_base.declared.message.Body.TheVariants.{NewBallot, Join, State, Install, Installed, Activate, Activated, Superseded, Append, Held, Commit}
+use Rattle.agreement.specs.ballot_base.declared.message.Body.TheVariants.{NewBallot, Join, State}
+use Rattle.agreement.specs.ballot_base.declared.message.Body.TheVariants.{Install, Installed}
+use Rattle.agreement.specs.ballot_base.declared.message.Body.TheVariants.{Activate, Activated}
+use Rattle.agreement.specs.ballot_base.declared.message.Body.TheVariants.{Superseded, Append}
+use Rattle.agreement.specs.ballot_base.declared.message.Body.TheVariants.{Held, Commit}
 use Rattle.agreement.specs.ballot_base.declared.message.Effect.TheVariants.{To, Out}
 use Rattle.agreement.specs.ballot_base.Replica.{ReplicaState}
 use Rattle.agreement.specs.ballot_base.Protocol.{Input}

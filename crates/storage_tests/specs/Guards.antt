@@ -9,7 +9,8 @@ use Rattle.session.specs.session_base.Publication.{is_acknowledged}
 use Rattle.broker_form.specs.broker_spec.Commands.{usual_limits}
 use Rattle.broker_form.specs.broker_spec.Entries.{Entry}
 use Rattle.broker_form.specs.broker_spec.Place.{Client, Past, Limits}
-use Rattle.broker_form.specs.broker_spec.RowWords.{Gives, b, nth, connect, gets, sends, connack, publish, subscribed_at}
+use Rattle.broker_form.specs.broker_spec.RowWords.{Gives, b, nth, connect, gets, sends, connack}
+use Rattle.broker_form.specs.broker_spec.RowWords.{publish, subscribed_at}
 use Rattle.broker_form.specs.broker_spec.Times.{entries_of}
 use Rattle.broker_form.specs.broker_spec.declared.command.Command.TheVariants as commands
 use Rattle.broker_form.specs.broker_spec.declared.command.Output.TheVariants.{Close}

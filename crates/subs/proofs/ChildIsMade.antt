@@ -88,9 +88,9 @@ pub place_all : (l : List ℕ) (ls : Levels) → is_all l ls ≡ true → place 
 place_all l ls is = ap (λ v. cond {A = Levels × Bool} v ([], true) (l ∷ (place ls).0, (place ls).1)) is
 
 -- nothing is asked for after a level that is not there
-pub none_behind : (s : Shape) (root : Option ℕ) (path : Levels) (at : ℕ) (l : List ℕ) (ls : Levels) (c : List ℕ)
+pub none_after : (s : Shape) (root : Option ℕ) (path : Levels) (at : ℕ) (l : List ℕ) (ls : Levels) (c : List ℕ)
     → led s.child root path ≡ Some at → is_all l ls ≡ false → s.child at l ≡ None → rows s root (path ++ l ∷ ls) c ≡ None
-none_behind s root path at l ls c way other none =
+none_after s root path at l ls c way other none =
     rows_below s root path at l ls c way
     ∙ ap (λ v. cond v (s.held at true c) (option_and_then (λ b. asked s b ls c) (s.child at l))) other
     ∙ ap (option_and_then (λ b. asked s b ls c)) none

@@ -12,7 +12,7 @@ use Rattle.subs.proofs.Unlinked.{tree_unlinked, rows_unlinked, led_stays}
 -- the ways to the nodes on the way to this one stay
 abbrev pub KeepsWays : Children → Children → Option ℕ → ℕ → Type 0
 KeepsWays old new root at =
-    (path behind : Levels) (k : ℕ) → led old root (path ++ behind) ≡ Some at → led old root path ≡ Some k → led new root path ≡ Some k
+    (path after : Levels) (k : ℕ) → led old root (path ++ after) ≡ Some at → led old root path ≡ Some k → led new root path ≡ Some k
 
 pub record IsGone (old new : Shape) (root : Option ℕ) (at : ℕ) : Type 0 where
   pub tree : IsTree new.child new.used root
@@ -27,15 +27,15 @@ pub gone :
 gone old mid new root at n level tree reached some bare links closes = record {
   tree = tree_unlinked old mid new root at n level tree links closes some bare reached;
   rows = rows_unlinked old mid new root at n level tree links closes some bare reached;
-  ways = λ path behind k way here. led_stays old mid new root at n level tree links closes some bare reached path k here (apart path behind k way here);
+  ways = λ path after k way here. led_stays old mid new root at n level tree links closes some bare reached path k here (apart path after k way here);
 }
   where
     -- a node with a child is not the one that goes
-    apart : (path behind : Levels) (k : ℕ) → led old.child root (path ++ behind) ≡ Some at → led old.child root path ≡ Some k → k ≢ n
-    apart path behind k way here is = on behind (sym on_way ∙ way)
+    apart : (path after : Levels) (k : ℕ) → led old.child root (path ++ after) ≡ Some at → led old.child root path ≡ Some k → k ≢ n
+    apart path after k way here is = on after (sym on_way ∙ way)
       where
-        on_way : led old.child root (path ++ behind) ≡ reach old.child n behind
-        on_way = led_append old.child root path behind ∙ ap (option_and_then (λ m. reach old.child m behind)) here ∙ ap (λ m. reach old.child m behind) is
+        on_way : led old.child root (path ++ after) ≡ reach old.child n after
+        on_way = led_append old.child root path after ∙ ap (option_and_then (λ m. reach old.child m after)) here ∙ ap (λ m. reach old.child m after) is
 
         on : (b : Levels) → reach old.child n b ≡ Some at → ⊥
         on [] h =
@@ -53,10 +53,10 @@ pub parent_stays : (old mid : Children) (root : Option ℕ) (at n : ℕ) (level 
 parent_stays old mid root at n level some ways path h = ways path (level ∷ []) at (led_more old root path level at h ∙ some) h
 
 pub ways_join : (old mid new : Children) (root : Option ℕ) (at n : ℕ) (level : List ℕ) → old at level ≡ Some n → KeepsWays old mid root n → KeepsWays mid new root at → KeepsWays old new root at
-ways_join old mid new root at n level some first second path behind k way here =
-    second path behind k (parent_stays old mid root at n level some first (path ++ behind) way)
-    (first path (behind ++ level ∷ []) k
-    (ap (led old root) (sym (append_assoc path behind (level ∷ []))) ∙ led_more old root (path ++ behind) level at way ∙ some)
+ways_join old mid new root at n level some first second path after k way here =
+    second path after k (parent_stays old mid root at n level some first (path ++ after) way)
+    (first path (after ++ level ∷ []) k
+    (ap (led old root) (sym (append_assoc path after (level ∷ []))) ∙ led_more old root (path ++ after) level at way ∙ some)
     here)
 
 -- an empty node that nothing leads to any more is empty still

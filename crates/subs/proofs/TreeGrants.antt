@@ -47,9 +47,9 @@ begins byte (x ∷ xs) h =
       | false ↦ λ e. let same : Some x ≡ Some byte = sym (onto_is x (levels xs)) ∙ e in let is : x ≡ byte = cc in eq-eqb x byte is
     ] h
 
-plain_first : (byte : ℕ) (text behind : List ℕ) → starts_with byte text ≡ true → starts_with byte (text ++ behind) ≡ true
-plain_first byte [] behind h = absurd cc
-plain_first byte (x ∷ xs) behind h = h
+plain_first : (byte : ℕ) (text after : List ℕ) → starts_with byte text ≡ true → starts_with byte (text ++ after) ≡ true
+plain_first byte [] after h = absurd cc
+plain_first byte (x ∷ xs) after h = h
 
 not_both : (a b : ℕ) (text : List ℕ) → (a ≡ b → ⊥) → starts_with a text ≡ true → starts_with b text ≡ false
 not_both a b [] differ h = refl

@@ -34,7 +34,7 @@ levels_clean (x ∷ xs) =
     ] refl
 
 -- a filter of these levels
-pub text_of : (level : List ℕ) (rest : Levels) → AreClean (level ∷ rest) → (behind : List ℕ) × (levels (level ++ behind) ≡ level ∷ rest)
+pub text_of : (level : List ℕ) (rest : Levels) → AreClean (level ∷ rest) → (after : List ℕ) × (levels (level ++ after) ≡ level ∷ rest)
 text_of level [] h = ([], ap levels (append-nil level) ∙ slice_split_none (λ byte. byte == 47) level h.0)
 text_of level (next ∷ rest) h =
     let r = text_of next rest h.1 in
@@ -79,13 +79,13 @@ module _ (s : Shape) where
       → ((below : ℕ) → found_at s below topic client ≡ Some qos → Origin below topic client qos)
       → found_below s node level topic client ≡ Some qos
       → (filter : Levels) × (asked s node (level ∷ filter) client ≡ Some qos) × (matches_rest (level ∷ filter) (level ∷ topic) ≡ true) × AreClean (level ∷ filter)
-  named_origin node level topic client qos plain clean behind found = go (s.child node level) refl found
+  named_origin node level topic client qos plain clean after found = go (s.child node level) refl found
     where
       go : (o : Option ℕ) → s.child node level ≡ o → option_and_then (λ b. found_at s b topic client) o ≡ Some qos
           → (filter : Levels) × (asked s node (level ∷ filter) client ≡ Some qos) × (matches_rest (level ∷ filter) (level ∷ topic) ≡ true) × AreClean (level ∷ filter)
       go None e is = absurd cc
       go (Some m) e is =
-          let r = behind m is in
+          let r = after m is in
           let all : is_all level r.0 ≡ false = not_all level r.0 (no_hash level plain) in (
             r.0,
             ap (λ b. cond b (s.held node true client) (option_and_then (λ b. asked s b r.0 client) (s.child node level))) all
@@ -99,12 +99,12 @@ module _ (s : Shape) where
       → ((below : ℕ) → found_at s below topic client ≡ Some qos → Origin below topic client qos)
       → found_below s node (codes "+") topic client ≡ Some qos
       → Origin node (level ∷ topic) client qos
-  plus_origin node level topic client qos behind found = go (s.child node (codes "+")) refl found
+  plus_origin node level topic client qos after found = go (s.child node (codes "+")) refl found
     where
       go : (o : Option ℕ) → s.child node (codes "+") ≡ o → option_and_then (λ b. found_at s b topic client) o ≡ Some qos → Origin node (level ∷ topic) client qos
       go None e is = absurd cc
       go (Some m) e is =
-          let r = behind m is in
+          let r = after m is in
           (codes "+" ∷ r.0, ap (option_and_then (λ b. asked s b r.0 client)) e ∙ r.1, r.2, (clean_plus, r.3))
 
   pub found_origin : (node : ℕ) (topic : Levels) (client : List ℕ) (qos : QoS) → bare topic ≡ true → AreClean topic → found_at s node topic client ≡ Some qos → Origin node topic client qos
@@ -115,15 +115,15 @@ module _ (s : Shape) where
       ]
   found_origin node (t ∷ ts) client qos plain clean found =
       let both = and_parts (has_no_wildcard t) (bare ts) plain in
-      let behind : (below : ℕ) → found_at s below ts client ≡ Some qos → Origin below ts client qos = λ below is. found_origin below ts client qos both.1 clean.1 is in
+      let after : (below : ℕ) → found_at s below ts client ≡ Some qos → Origin below ts client qos = λ below is. found_origin below ts client qos both.1 clean.1 is in
       elim (greatest_either (s.held node true client) (greatest (found_below s node t ts client) (found_below s node (codes "+") ts client)) qos found) as (λ _. Origin node (t ∷ ts) client qos) [
         | inl is ↦ from_rest node (t ∷ ts) client qos is
         | inr is ↦
             elim (greatest_either (found_below s node t ts client) (found_below s node (codes "+") ts client) qos is) as (λ _. Origin node (t ∷ ts) client qos) [
               | inl named ↦
-                  let r = named_origin node t ts client qos both.0 clean.0 behind named in
+                  let r = named_origin node t ts client qos both.0 clean.0 after named in
                   (t ∷ r.0, r.1, r.2, r.3)
-              | inr plus ↦ plus_origin node t ts client qos behind plus
+              | inr plus ↦ plus_origin node t ts client qos after plus
             ]
       ]
 
@@ -136,12 +136,12 @@ module _ (s : Shape) where
       → ((below : ℕ) → asked s below filter client ≡ Some qos → Reaches below topic client qos)
       → option_and_then (λ b. asked s b filter client) (s.child node level) ≡ Some qos
       → (found : QoS) × (found_below s node level topic client ≡ Some found) × (qos_number qos ≤ qos_number found)
-  below_reached node level filter topic client qos behind is = go (s.child node level) refl is
+  below_reached node level filter topic client qos after is = go (s.child node level) refl is
     where
       go : (o : Option ℕ) → s.child node level ≡ o → option_and_then (λ b. asked s b filter client) o ≡ Some qos
           → (found : QoS) × (found_below s node level topic client ≡ Some found) × (qos_number qos ≤ qos_number found)
       go None e is = absurd cc
-      go (Some m) e is = let r = behind m is in (r.0, ap (option_and_then (λ b. found_at s b topic client)) e ∙ r.1, r.2)
+      go (Some m) e is = let r = after m is in (r.0, ap (option_and_then (λ b. found_at s b topic client)) e ∙ r.1, r.2)
 
   rest_reached : (node : ℕ) (topic : Levels) (client : List ℕ) (qos : QoS) → s.held node true client ≡ Some qos → Reaches node topic client qos
   rest_reached node [] client qos is = greatest_left _ _ qos is

@@ -1,5 +1,6 @@
 -- What a node and the vector of nodes show.
-use Rattle.std.specs.Prelude.{◌≡◌, ℕ, Bool, true, false, is_some, List, bytes_eq, codes, ◌&&◌, Option, None, option_map, option_and_then, if◌then◌else◌, [], ◌∷◌}
+use Rattle.std.specs.Prelude.{◌≡◌, ℕ, Bool, true, false, is_some, List, bytes_eq, codes, ◌&&◌}
+use Rattle.std.specs.Prelude.{Option, None, option_map, option_and_then, if◌then◌else◌, [], ◌∷◌}
 use Rattle.std.specs.BTreeMap.{get_by}
 use Rattle.std.specs.Cmp.Lexicographic.{slice_cmp}
 use Rattle.std.specs.Ordering.{nat_cmp}

@@ -1,5 +1,6 @@
 -- What nodes named by numbers hold, level by level (MQTT 4.7.1).
-use Rattle.std.specs.Prelude.{ℕ, Bool, true, false, List, [], ◌∷◌, Option, option_and_then, if◌then◌else◌}
+use Rattle.std.specs.Prelude.{ℕ, Bool, true, false, List, [], ◌∷◌, Option}
+use Rattle.std.specs.Prelude.{option_and_then, if◌then◌else◌}
 use Rattle.topics.specs.Text.{Levels, levels}
 use Rattle.topics.specs.Matching.{is_all}
 use Rattle.subs_base.specs.packet.declared.qos.QoS.{QoS}

@@ -1,5 +1,6 @@
 -- Which clients a walk along a topic's levels finds (MQTT 4.7.1).
-use Rattle.std.specs.Prelude.{◌≡◌, ℕ, true, false, List, [], ◌∷◌, codes, Option, Some, None, option_and_then, if◌then◌else◌, nat_lt}
+use Rattle.std.specs.Prelude.{◌≡◌, ℕ, true, false, List, [], ◌∷◌, codes, Option, Some, None}
+use Rattle.std.specs.Prelude.{option_and_then, if◌then◌else◌, nat_lt}
 use Rattle.std.specs.BTreeMap.{BTreeMap, get}
 use Rattle.std.specs.Cmp.Lexicographic.{slice_cmp}
 use Rattle.std.specs.Ordering.{nat_cmp}
@@ -36,8 +37,8 @@ found_at shape at (level ∷ rest) client =
     (option_and_then (λ below. found_at shape below rest client) (shape.child at (codes "+"))))
 
 -- the same after the node of a level, if there is one
-abbrev pub found_behind : Shape → Option ℕ → Levels → List ℕ → Option QoS
-found_behind shape node rest client =
+abbrev pub found_after : Shape → Option ℕ → Levels → List ℕ → Option QoS
+found_after shape node rest client =
     option_and_then (λ below. found_at shape below rest client) node
 
 -- the same for the filters that continue with this level

@@ -1,5 +1,6 @@
 -- Which node levels lead to, and what keeps the nodes a tree.
-use Rattle.std.specs.Prelude.{◌≡◌, ℕ, Bool, true, false, [], ◌∷◌, Option, Some, option_and_then, if◌then◌else◌}
+use Rattle.std.specs.Prelude.{◌≡◌, ℕ, Bool, true, false, [], ◌∷◌, Option, Some}
+use Rattle.std.specs.Prelude.{option_and_then, if◌then◌else◌}
 use Rattle.topics.specs.Text.{Levels}
 use Rattle.topics.specs.Matching.{is_all}
 use Rattle.subs.specs.Shape.{Children}

@@ -8,7 +8,8 @@ ghost use Rattle.topics.specs.Text.{levels_of};
 ghost use Rattle.std.specs.Prelude.{Some};
 ghost use Rattle.subs.specs.Rows.{row_at};
 ghost use Rattle.subs.specs.Standing.{shape, root_of};
-ghost use Rattle.subs.specs.Walk.{greatest, Raises, GivesSome, found_at, found_below, found_for, found_behind};
+ghost use Rattle.subs.specs.Walk.{greatest, Raises, GivesSome, found_at, found_below};
+ghost use Rattle.subs.specs.Walk.{found_for, found_after};
 
 use crate::node_id::NodeId;
 use crate::nodes::Nodes;
@@ -37,8 +38,8 @@ impl Nodes {
         if !topic.starts_with(b"$".as_slice()) {
             return self.find_at(root, Some(topic), found);
         }
-        let (level, behind) = split_level(topic);
-        self.find_behind(child(&self.slab, root, level), behind, found)
+        let (level, after) = split_level(topic);
+        self.find_after(child(&self.slab, root, level), after, found)
     }
 
     // Does the same for the filters that continue after a node.
@@ -57,29 +58,29 @@ impl Nodes {
         let Some(text) = topic else {
             return raise_all(&node.here, found);
         };
-        let (level, behind) = split_level(text);
-        self.find_behind(node.child(level), behind, found)?;
-        self.find_behind(node.plus, behind, found)
+        let (level, after) = split_level(text);
+        self.find_after(node.child(level), after, found)?;
+        self.find_after(node.plus, after, found)
     }
 
     // Does the same after the node of a level, if there is one.
     #[cycle(find_at)]
-    fn find_behind(
+    fn find_after(
         &self,
         below: Option<NodeId>,
-        behind: Option<&[u8]>,
+        after: Option<&[u8]>,
         found: &mut Found,
     ) -> Result<(), AllocError>
         ensures ok { OnOk result
             (Raises found.old found.new
-            (found_behind (shape self.now) (option_map (λ id. id.number) below)
-            (levels_of behind.entry))) }
+            (found_after (shape self.now) (option_map (λ id. id.number) below)
+            (levels_of after.entry))) }
         ensures some { OnErr result
-            (GivesSome (found_behind (shape self.now) (option_map (λ id. id.number) below)
-            (levels_of behind.entry))) }
+            (GivesSome (found_after (shape self.now) (option_map (λ id. id.number) below)
+            (levels_of after.entry))) }
     {
         match below {
-            Some(below) => self.find_at(below, behind, found),
+            Some(below) => self.find_at(below, after, found),
             None => Ok(()),
         }
     }

@@ -37,15 +37,15 @@ impl Nodes {
                 rest: false,
             });
         };
-        let (level, behind) = split_level(text);
-        if is_all(level, behind) {
+        let (level, after) = split_level(text);
+        if is_all(level, after) {
             return Ok(Place {
                 node: at,
                 rest: true,
             });
         }
         let child = self.child_or_new(at, level)?;
-        self.make_place(child, behind)
+        self.make_place(child, after)
     }
 
     // Returns the node after a level, which is made if there is none.

@@ -1,7 +1,8 @@
 // A node: the clients of the filters that end at it, and the numbers of the nodes of the next
 // levels.
 
-ghost use Rattle.std.specs.Prelude.{◌≡◌, OnOk, OnErr, ◌↔◌, IsTrue, IsSome, is_some, true, false, Some, None, option_map};
+ghost use Rattle.std.specs.Prelude.{◌≡◌, OnOk, OnErr, ◌↔◌, IsTrue, IsSome, is_some, true, false};
+ghost use Rattle.std.specs.Prelude.{Some, None, option_map};
 ghost use Rattle.subs.specs.Rows.{row_at};
 ghost use Rattle.subs.specs.Inside.{held_in, child_in, HoldsNothing};
 ghost use Rattle.subs.specs.Changes.{SetsRow, SetsSide, SetsChild};

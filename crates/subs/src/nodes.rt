@@ -1,6 +1,7 @@
 // The nodes, named by their numbers: one for each list of levels that some filter begins with.
 
-ghost use Rattle.std.specs.Prelude.{◌≡◌, OnOk, OnErr, IfOk, IfSome, ◌↔◌, IsTrue, IsSome, Some, None, option_map};
+ghost use Rattle.std.specs.Prelude.{◌≡◌, OnOk, OnErr, IfOk, IfSome, ◌↔◌, IsTrue, IsSome, Some};
+ghost use Rattle.std.specs.Prelude.{None, option_map};
 ghost use Rattle.topics.specs.Text.{levels, levels_of};
 ghost use Rattle.topics.specs.Matching.{is_all};
 ghost use Rattle.subs.specs.Ways.{reach, place};
@@ -142,15 +143,15 @@ impl Nodes {
                 rest: false,
             });
         };
-        let (level, behind) = split_level(text);
-        if is_all(level, behind) {
+        let (level, after) = split_level(text);
+        if is_all(level, after) {
             return Some(Place {
                 node: at,
                 rest: true,
             });
         }
         match child(&self.slab, at, level) {
-            Some(child) => self.find_place(child, behind),
+            Some(child) => self.find_place(child, after),
             None => None,
         }
     }
@@ -158,8 +159,8 @@ impl Nodes {
 
 /// Says whether the level matches every rest: `#` with nothing after it (MQTT 4.7.1.2).
 #[tactic(auto, using(topics::proofs::LevelByLevel::is_last_levels))]
-pub(crate) fn is_all(level: &[u8], behind: Option<&[u8]>) -> bool
-    ensures { result ≡ is_all level.now (levels_of behind.entry) }
+pub(crate) fn is_all(level: &[u8], after: Option<&[u8]>) -> bool
+    ensures { result ≡ is_all level.now (levels_of after.entry) }
 {
-    level == b"#".as_slice() && behind.is_none()
+    level == b"#".as_slice() && after.is_none()
 }

@@ -20,17 +20,17 @@ impl Nodes {
         ensures root { self.new.root ≡ self.old.root }
 
         // The nodes on the way to this one stay.
-        ensures ways { (path behind : Levels) (k : ℕ) → LeadsTo self.old (path ++ behind) at.number
+        ensures ways { (path after : Levels) (k : ℕ) → LeadsTo self.old (path ++ after) at.number
             → LeadsTo self.old path k → LeadsTo self.new path k }
     {
         let Some(text) = text else {
             return;
         };
-        let (level, behind) = split_level(text);
+        let (level, after) = split_level(text);
         let Some(child) = child(&self.slab, at, level) else {
             return;
         };
-        self.prune(child, behind);
+        self.prune(child, after);
         self.drop_empty(at, level);
     }
 
@@ -41,7 +41,7 @@ impl Nodes {
         ensures rows { rows_of self.new ≡ rows_of self.old }
         ensures sound { IsSound self.new }
         ensures root { self.new.root ≡ self.old.root }
-        ensures ways { (path behind : Levels) (k : ℕ) → LeadsTo self.old (path ++ behind) at.number
+        ensures ways { (path after : Levels) (k : ℕ) → LeadsTo self.old (path ++ after) at.number
             → LeadsTo self.old path k → LeadsTo self.new path k }
     {
         let Some(below) = child(&self.slab, at, level) else {

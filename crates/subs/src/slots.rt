@@ -1,6 +1,7 @@
 // The vector of nodes: one is put in or taken out, or a row or a child of one is changed.
 
-ghost use Rattle.std.specs.Prelude.{◌≡◌, OnOk, OnErr, IfOk, IsTrue, is_some, true, Some, None, option_map};
+ghost use Rattle.std.specs.Prelude.{◌≡◌, OnOk, OnErr, IfOk, IsTrue, is_some, true, Some};
+ghost use Rattle.std.specs.Prelude.{None, option_map};
 ghost use Rattle.subs.specs.Changes.{Writes, Fills, Links, Opens, Closes, IsBare};
 ghost use Rattle.subs.specs.Inside.{shape_of};
 ghost use Rattle.subs.specs.Rows.{row_at};

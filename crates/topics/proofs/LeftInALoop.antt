@@ -5,7 +5,7 @@ use Rattle.std.proofs.lemmas.Bool.{true≢false, eqb-true, eqb-false}
 use Rattle.std.proofs.lemmas.List.{take_rest}
 use Rattle.std.proofs.lemmas.Slice.Eq.{bytes_eq-Decides}
 use Rattle.topics.specs.Matching.{starts_with}
-use Rattle.topics.specs.Inside.{matches_levels, IsPair, IsLeft, IsApart, behind_level, ends_match}
+use Rattle.topics.specs.Inside.{matches_levels, IsPair, IsLeft, IsApart, after_level, ends_match}
 use Rattle.topics.proofs.FrontGoesBy.{front_goes_by}
 use Rattle.topics.proofs.PlusGoesBy.{plus_goes_by}
 use Rattle.topics.proofs.WhatIsLeft.{ended_is, nothing_left, hash_left, parent_left, other_left}
@@ -27,12 +27,12 @@ front_step filter topic (p ∷ parts) (n ∷ names) some_p some_n same h =
     (left_then filter topic (p ∷ parts) (p ∷ names) parts names k (front_goes_by p parts names k.pair))
 
 pub plus_step : (filter topic parts names : List ℕ) → starts_with 43 parts ≡ true → IsLeft filter topic parts names
-    → IsLeft filter topic (take (length parts - 1) (drop 1 parts)) (behind_level names)
+    → IsLeft filter topic (take (length parts - 1) (drop 1 parts)) (after_level names)
 plus_step filter topic [] names plus h = absurd cc
 plus_step filter topic (p ∷ parts) names plus h =
     let k : IsLeft filter topic (43 ∷ parts) names = subst (λ (b : ℕ). IsLeft filter topic (b ∷ parts) names) (eqb-true p 43 plus) h in
     rw (take_rest (p ∷ parts) 1)
-    (left_then filter topic (43 ∷ parts) names parts (behind_level names) k (plus_goes_by parts names k.pair))
+    (left_then filter topic (43 ∷ parts) names parts (after_level names) k (plus_goes_by parts names k.pair))
 
 -- texts that are apart match as their ends say
 ends : (parts names : List ℕ) → IsPair parts names → IsApart parts names → starts_with 43 parts ≡ false → ends_match parts names ≡ matches_levels parts names

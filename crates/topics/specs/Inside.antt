@@ -39,9 +39,9 @@ IsApart (part ∷ filter) [] = Unit {0}
 IsApart (part ∷ filter) (name ∷ topic) = part ≢ name
 
 -- the text from its first `/` on, which is 47
-abbrev pub behind_level : List ℕ → List ℕ
-behind_level [] = []
-behind_level (byte ∷ text) = if byte == 47 then byte ∷ text else behind_level text
+abbrev pub after_level : List ℕ → List ℕ
+after_level [] = []
+after_level (byte ∷ text) = if byte == 47 then byte ∷ text else after_level text
 
 -- for texts that are apart: nothing is left, or `#`, or `/#` and nothing of the topic
 abbrev pub ends_match : List ℕ → List ℕ → Bool

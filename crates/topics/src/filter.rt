@@ -1,7 +1,8 @@
 // A Topic Filter: what a subscription asks for (MQTT 4.7.1).
 
 ghost use Rattle.std.specs.Prelude.{◌≡◌, ◌&&◌, Some, None, IfOk, OnOk, IfErr, IsTrue};
-ghost use Rattle.topics.specs.Text.{filter_fault, is_filter, named_topic, RefusesBy, levels, has_length, has_wildcards_in_place, has_no_wildcard, may_stand};
+ghost use Rattle.topics.specs.Text.{filter_fault, is_filter, named_topic, RefusesBy, levels};
+ghost use Rattle.topics.specs.Text.{has_length, has_wildcards_in_place, has_no_wildcard, may_stand};
 
 use crate::level::{has_length, has_no_wildcard, is_hash, is_last, is_plus, split_level};
 use crate::malformed::MalformedKind;
@@ -107,11 +108,11 @@ fn has_wildcards_in_place(text: &[u8]) -> bool
 {
     let mut rest = Some(text);
     while let Some(text) = rest {
-        let (level, behind) = split_level(text);
-        if !may_stand(level, is_last(behind)) {
+        let (level, after) = split_level(text);
+        if !may_stand(level, is_last(after)) {
             return false;
         }
-        rest = behind;
+        rest = after;
     }
     true
 }

@@ -1,8 +1,10 @@
 // Which topics a filter matches (MQTT 4.7).
 
 ghost use Rattle.std.specs.Prelude.{◌≡◌, ◌≤◌, ◌||◌, ◌↔◌, IsTrue, false, length};
-ghost use Rattle.topics.specs.Matching.{Matches, is_match, starts_with, starts_with_wildcard, is_hidden};
-ghost use Rattle.topics.specs.Inside.{matches_levels, IsPair, IsLeft, IsApart, behind_level, ends_match};
+ghost use Rattle.topics.specs.Matching.{Matches, is_match, starts_with};
+ghost use Rattle.topics.specs.Matching.{starts_with_wildcard, is_hidden};
+ghost use Rattle.topics.specs.Inside.{matches_levels, IsPair, IsLeft, IsApart};
+ghost use Rattle.topics.specs.Inside.{after_level, ends_match};
 
 use crate::filter::Filter;
 use crate::level::is_hash;
@@ -34,16 +36,16 @@ fn matches_levels(filter: &[u8], topic: &[u8]) -> bool
     requires { IsPair filter.now topic.now }
     ensures { result ≡ matches_levels filter.now topic.now }
 {
-    let (mut parts, mut names) = behind_front(filter, topic);
+    let (mut parts, mut names) = after_front(filter, topic);
     while starts_with(b'+', parts) {
-        (parts, names) = behind_front(&parts[1..], behind_level(names));
+        (parts, names) = after_front(&parts[1..], after_level(names));
     }
     ends_match(parts, names)
 }
 
 /// Returns what is left of the texts after the bytes with which both begin.
 #[tactic(auto, using(crate::proofs::LeftInALoop::front_step))]
-fn behind_front<'a>(filter: &'a [u8], topic: &'a [u8]) -> (&'a [u8], &'a [u8])
+fn after_front<'a>(filter: &'a [u8], topic: &'a [u8]) -> (&'a [u8], &'a [u8])
     requires { IsPair filter.now topic.now }
     ensures left { IsLeft filter.now topic.now result.0.now result.1.now }
     ensures apart { IsApart result.0.now result.1.now }
@@ -51,20 +53,20 @@ fn behind_front<'a>(filter: &'a [u8], topic: &'a [u8]) -> (&'a [u8], &'a [u8])
 {
     let mut parts = filter;
     let mut names = topic;
-    while let ([part, parts_behind @ ..], [name, names_behind @ ..]) = (parts, names) {
+    while let ([part, parts_after @ ..], [name, names_after @ ..]) = (parts, names) {
         if part != name {
             break;
         }
-        parts = parts_behind;
-        names = names_behind;
+        parts = parts_after;
+        names = names_after;
     }
     (parts, names)
 }
 
 /// Returns the text from its first `/` on.
-#[tactic(auto, using(crate::proofs::PlusGoesBy::behind_cut, crate::proofs::PlusGoesBy::behind_none))]
-fn behind_level(text: &[u8]) -> &[u8]
-    ensures { result.now ≡ behind_level text.now }
+#[tactic(auto, using(crate::proofs::PlusGoesBy::after_cut, crate::proofs::PlusGoesBy::after_none))]
+fn after_level(text: &[u8]) -> &[u8]
+    ensures { result.now ≡ after_level text.now }
 {
     for (i, byte) in text.iter().enumerate() {
         if *byte == b'/' {
@@ -81,7 +83,7 @@ fn ends_match(parts: &[u8], names: &[u8]) -> bool
     match parts {
         [] => names.is_empty(),
         [b'#', ..] => true,
-        [part, behind @ ..] => *part == b'/' && is_hash(behind) && names.is_empty(),
+        [part, after @ ..] => *part == b'/' && is_hash(after) && names.is_empty(),
     }
 }
 

@@ -29,11 +29,11 @@ impl Survey {
         let mut wildcard = false;
         let mut slashes = 0usize;
         let mut rest = text;
-        while let [byte, behind @ ..] = rest {
+        while let [byte, after @ ..] = rest {
             null |= *byte == 0;
             wildcard |= *byte == b'+' || *byte == b'#';
             slashes += usize::from(*byte == b'/');
-            rest = behind;
+            rest = after;
         }
         Survey {
             has_null: null,

@@ -23,7 +23,7 @@ use Rattle.ways_out.specs.Following.{Follows, Serves}
 use Rattle.ways_out.specs.Inside.{installing, known}
 use Rattle.ways_out.proofs.AllCome.{Taken, takes_one, then_come}
 use Rattle.ways_out.proofs.Broadcasts.{to_each}
-use Rattle.ways_out.proofs.Gathers.{nothing_behind}
+use Rattle.ways_out.proofs.Gathers.{nothing_after}
 use Rattle.ways_out.proofs.Holding.{AllHold, all_hold}
 use Rattle.ways_out.proofs.Installing.{get_new, length_to_each}
 use Rattle.ways_out.proofs.LeaderRows.{activated_one, activated_row, added_alone, added_waits, outputs_next}
@@ -44,13 +44,13 @@ granted C m b from config waiting e = ap (activated C m b from) e ∙ same
 -- the end: the ballot is active, and all its members hold its start
 pub record IsActivated {S C O : Type 0} (rules : Rules S C O) (b : ℕ) (log : List C) (place : ℕ) (os : List ℕ) (config : Config) (a : Moment S C O)
     (ks : List ℕ) (long : ℕ) : Type 0 where
-  pub behind : Moment S C O
-  pub delivered : Delivered rules b a ks behind
-  pub master : behind.master ≡ with_active b config a.master
-  pub last : length behind.world.sent ≡ long
-  pub primary : NodeIs (Serves b log os) behind.world.nodes (place + 1)
-  pub each : (m : ℕ) → In m os → NodeIs (Follows b log) behind.world.nodes m
-  pub told : (m : ℕ) → In m os → In (place + 1, record { from = m; body = Held b (length log) }) behind.world.sent
+  pub after : Moment S C O
+  pub delivered : Delivered rules b a ks after
+  pub master : after.master ≡ with_active b config a.master
+  pub last : length after.world.sent ≡ long
+  pub primary : NodeIs (Serves b log os) after.world.nodes (place + 1)
+  pub each : (m : ℕ) → In m os → NodeIs (Follows b log) after.world.nodes m
+  pub told : (m : ℕ) → In m os → In (place + 1, record { from = m; body = Held b (length log) }) after.world.sent
 
 module _ {S C O : Type 0} (rules : Rules S C O) (b : ℕ) (log : List C) (place : ℕ) (r : ReplicaState S C) (config : Config) (runs : r.stopped ≡ false)
     (id : r.id ≡ place + 1) (joined : r.joined ≡ b) (room : length log < most_places) (silent : (s : S) → rules.gives s (rules.start_of b) ≡ []) (a : Moment S C O)
@@ -77,12 +77,12 @@ module _ {S C O : Type 0} (rules : Rules S C O) (b : ℕ) (log : List C) (place 
       IsActivated rules b (log ++ rules.start_of b ∷ []) place [] config a (asked ∷ (asked + 1) ∷ []) (asked + 2)
   activated_alone are =
       record {
-        behind = came.behind;
+        after = came.after;
         delivered = to_master asked (place + 1) b asks came.delivered;
         master = came.master ∙ ap (λ (z : Moment S C O). z.master) told_is;
         last = ap length came.sent
             ∙ ap (λ (l : List (ℕ × Message C)). length ((after_activate (place + 1) b a).world.sent ++ l)) no_messages
-            ∙ ap length (nothing_behind (after_activate (place + 1) b a).world.sent) ∙ told_long;
+            ∙ ap length (nothing_after (after_activate (place + 1) b a).world.sent) ∙ told_long;
         primary = record {
           place = place;
           number = refl;
@@ -131,9 +131,9 @@ module _ {S C O : Type 0} (rules : Rules S C O) (b : ℕ) (log : List C) (place 
       (asked + 2 + length (x ∷ xs) + (length (x ∷ xs) + length (x ∷ xs)))
   activated_all x xs are apart out follow =
       record {
-        behind = held.behind;
+        after = held.after;
         delivered = to_master asked (place + 1) b asks (then_come rules came.delivered
-            (subst (λ j. Delivered rules b came.behind (numbers_from (asked + 2) (length (x ∷ xs)) ++ numbers_from j (length (x ∷ xs))) held.behind) came_long held.delivered));
+            (subst (λ j. Delivered rules b came.after (numbers_from (asked + 2) (length (x ∷ xs)) ++ numbers_from j (length (x ∷ xs))) held.after) came_long held.delivered));
         master = held.master ∙ came.master ∙ ap (λ (z : Moment S C O). z.master) told_is;
         last = held.last ∙ ap (λ j. j + (length (x ∷ xs) + length (x ∷ xs))) came_long;
         primary = held.primary;
@@ -160,7 +160,7 @@ module _ {S C O : Type 0} (rules : Rules S C O) (b : ℕ) (log : List C) (place 
           ∙ ap (λ (l : List (Effect C O)). let o : Outcome S C O = record {
             state = record longer { progress = progress_at (length log) (x ∷ xs) };
             effects = l;
-          } in o) (nothing_behind (message_to_followed O r.id (Append r.joined (length log) (rules.start_of b)) (progress_at (length log) (x ∷ xs))))
+          } in o) (nothing_after (message_to_followed O r.id (Append r.joined (length log) (rules.start_of b)) (progress_at (length log) (x ∷ xs))))
           ∙ ap (λ n. let o : Outcome S C O = record {
             state = record longer { progress = progress_at (length log) (x ∷ xs) };
             effects = message_to_followed O n (Append r.joined (length log) (rules.start_of b)) (progress_at (length log) (x ∷ xs));
@@ -177,16 +177,16 @@ module _ {S C O : Type 0} (rules : Rules S C O) (b : ℕ) (log : List C) (place 
           (after_activate (place + 1) b a) told_sent stands runs row
           (outputs_of_messages {C = C} {O = O} (place + 1) (Append b (length log) (rules.start_of b)) (progress_at (length log) (x ∷ xs))) joined
 
-      came_sent : came.behind.world.sent ≡ (after_activate (place + 1) b a).world.sent ++ to_each (place + 1) (Append b (length log) (rules.start_of b)) (x ∷ xs)
+      came_sent : came.after.world.sent ≡ (after_activate (place + 1) b a).world.sent ++ to_each (place + 1) (Append b (length log) (rules.start_of b)) (x ∷ xs)
       came_sent = came.sent ∙ ap (λ (l : List (ℕ × Message C)). (after_activate (place + 1) b a).world.sent ++ l)
           (messages_to_followed O (place + 1) (length log) (Append b (length log) (rules.start_of b)) (x ∷ xs))
 
-      came_long : length came.behind.world.sent ≡ asked + 2 + length (x ∷ xs)
+      came_long : length came.after.world.sent ≡ asked + 2 + length (x ∷ xs)
       came_long = ap length came_sent ∙ length-append (after_activate (place + 1) b a).world.sent _
           ∙ ap (λ j. j + length (to_each {C = C} (place + 1) (Append b (length log) (rules.start_of b)) (x ∷ xs))) told_long
           ∙ ap (λ j. asked + 2 + j) (length_to_each (place + 1) (Append b (length log) (rules.start_of b)) (x ∷ xs))
 
-      follow_still : (m : ℕ) → In m (x ∷ xs) → NodeIs (Follows b log) came.behind.world.nodes m
+      follow_still : (m : ℕ) → In m (x ∷ xs) → NodeIs (Follows b log) came.after.world.nodes m
       follow_still m i = let z = follow m i in record {
         place = z.place;
         number = z.number;
@@ -195,13 +195,13 @@ module _ {S C O : Type 0} (rules : Rules S C O) (b : ℕ) (log : List C) (place 
         is = z.is;
       }
 
-      held : AllHold rules b (log ++ rules.start_of b ∷ []) place (x ∷ xs) came.behind
-          (numbers_from (asked + 2) (length (x ∷ xs)) ++ numbers_from (length came.behind.world.sent) (length (x ∷ xs)))
-          (length came.behind.world.sent + (length (x ∷ xs) + length (x ∷ xs)))
+      held : AllHold rules b (log ++ rules.start_of b ∷ []) place (x ∷ xs) came.after
+          (numbers_from (asked + 2) (length (x ∷ xs)) ++ numbers_from (length came.after.world.sent) (length (x ∷ xs)))
+          (length came.after.world.sent + (length (x ∷ xs) + length (x ∷ xs)))
       held =
           all_hold rules b longer log (rules.start_of b) place (record { runs = runs; joined = joined; role = refl }) id refl refl refl (silent longer.machine)
-          came.behind (asked + 2) x xs apart out
-          (stand_in ((after_activate (place + 1) b a).world.sent ++ to_each (place + 1) (Append b (length log) (rules.start_of b)) (x ∷ xs)) came.behind.world.sent
+          came.after (asked + 2) x xs apart out
+          (stand_in ((after_activate (place + 1) b a).world.sent ++ to_each (place + 1) (Append b (length log) (rules.start_of b)) (x ∷ xs)) came.after.world.sent
           (asked + 2) (to_each (place + 1) (Append b (length log) (rules.start_of b)) (x ∷ xs)) (sym came_sent)
           (stand_at ((after_activate (place + 1) b a).world.sent ++ to_each (place + 1) (Append b (length log) (rules.start_of b)) (x ∷ xs))
           (length (after_activate (place + 1) b a).world.sent) (asked + 2) (to_each (place + 1) (Append b (length log) (rules.start_of b)) (x ∷ xs)) told_long

@@ -48,12 +48,12 @@ ends_with_one (m ∷ (x ∷ ms)) some =
 
 pub record Taken {S C O : Type 0} (rules : Rules S C O) (b place : ℕ) (one : ReplicaState S C) (given : List (Effect C O)) (a : Moment S C O)
     (ks : List ℕ) : Type 0 where
-  pub behind : Moment S C O
-  pub delivered : Delivered rules b a ks behind
-  pub master : behind.master ≡ a.master
-  pub sent : behind.world.sent ≡ a.world.sent ++ messages given
-  pub stands : slice_get behind.world.nodes place ≡ Some one
-  pub others : (n : ℕ) → (n ≡ place → ⊥) → slice_get behind.world.nodes n ≡ slice_get a.world.nodes n
+  pub after : Moment S C O
+  pub delivered : Delivered rules b a ks after
+  pub master : after.master ≡ a.master
+  pub sent : after.world.sent ≡ a.world.sent ++ messages given
+  pub stands : slice_get after.world.nodes place ≡ Some one
+  pub others : (n : ℕ) → (n ≡ place → ⊥) → slice_get after.world.nodes n ≡ slice_get a.world.nodes n
 
 -- one message that comes to a node
 pub takes_one : {S C O : Type 0} (rules : Rules S C O) (b place k : ℕ) (r one : ReplicaState S C) (m : Message C) (given : List (Effect C O)) (a : Moment S C O) →
@@ -61,7 +61,7 @@ pub takes_one : {S C O : Type 0} (rules : Rules S C O) (b place k : ℕ) (r one 
     received rules r m.from m.body ≡ record { state = one; effects = given } → outputs given ≡ [] → one.joined ≡ b → Taken rules b place one given a (k ∷ [])
 takes_one {S = S} {C = C} {O = O} rules b place k r one m given a sent stands runs row silent joined =
     record {
-      behind = after_outcome place (received rules r m.from m.body) a;
+      after = after_outcome place (received rules r m.from m.body) a;
       delivered = to_node k place r m sent stands runs (ap (λ (o : Outcome S C O). outputs o.effects) row ∙ silent)
           (ap (λ (o : Outcome S C O). o.state.joined) row ∙ joined) all_came;
       master = refl;
@@ -97,8 +97,8 @@ module _ {S C O : Type 0} (rules : Rules S C O) (b place : ℕ) (reply : Body C)
       by_end : EndsWithOne ms → Taken rules b place final given a (numbers_from k (length ms))
       by_end z =
           record {
-            behind = one.behind;
-            delivered = subst (λ ks. Delivered rules b a ks one.behind)
+            after = one.after;
+            delivered = subst (λ ks. Delivered rules b a ks one.after)
                 (sym (numbers_last k z.front z.last) ∙ ap (λ (l : List ℕ). numbers_from k (length l)) (sym z.is))
                 (then_come rules most.delivered one.delivered);
             master = one.master ∙ most.master;
@@ -116,8 +116,8 @@ module _ {S C O : Type 0} (rules : Rules S C O) (b place : ℕ) (reply : Body C)
               (front_stands (place + 1) reply a.world.sent k z.front z.last those)
               (stands ∙ ap (λ (l : List ℕ). Some (state [] l)) z.is)
 
-          one : Taken rules b place final given most.behind ((k + length z.front) ∷ [])
+          one : Taken rules b place final given most.after ((k + length z.front) ∷ [])
           one =
-              takes_one rules b place (k + length z.front) (state z.front (z.last ∷ [])) final (record { from = z.last; body = reply }) given most.behind
+              takes_one rules b place (k + length z.front) (state z.front (z.last ∷ [])) final (record { from = z.last; body = reply }) given most.after
               (ap (λ (l : List (ℕ × Message C)). slice_get l (k + length z.front)) most.sent ∙ last_stands (place + 1) reply a.world.sent k z.front z.last those)
               most.stands (runs z.front (z.last ∷ [])) (ends z.front z.last z.is) silent final_joined

@@ -28,7 +28,7 @@ use Rattle.ways_out.specs.Inside.{known}
 use Rattle.ways_out.specs.AnswerLaws.{AnswersCommand, CommandsAreAnswered, IsHeldByAll}
 use Rattle.ways_out.proofs.AllCome.{front_stands, last_stands, then_come}
 use Rattle.ways_out.proofs.Broadcasts.{Answered, all_answer, from_each, to_each}
-use Rattle.ways_out.proofs.Gathers.{Gathered, all_but_last, nothing_behind}
+use Rattle.ways_out.proofs.Gathers.{Gathered, all_but_last, nothing_after}
 use Rattle.ways_out.proofs.Holding.{in_from_each}
 use Rattle.ways_out.proofs.Installing.{length_from_each, length_to_each}
 use Rattle.ways_out.proofs.LeaderRows.{added_alone, added_waits, held_goes_on, held_last, outputs_next}
@@ -60,7 +60,7 @@ module _ {S C O : Type 0} (rules : Rules S C O) (b place : ℕ) (r : ReplicaStat
         rest = [];
         silent = refl;
         gives = outputs_next rules longer log c log_is serves.applied
-            ∙ ap (λ (s : S). let z : List (Effect C O) = map (Out (length log)) (rules.gives s c) in z) machine ∙ sym (nothing_behind _);
+            ∙ ap (λ (s : S). let z : List (Effect C O) = map (Out (length log)) (rules.gives s c) in z) machine ∙ sym (nothing_after _);
         serves = record {
           leads = record { runs = serves.leads.runs; joined = serves.leads.joined; role = serves.leads.role };
           id = serves.id;
@@ -93,7 +93,7 @@ module _ {S C O : Type 0} (rules : Rules S C O) (b place : ℕ) (r : ReplicaStat
     row = adds
         ∙ added_waits rules r c os some (serves.progress_is ∙ ap (λ n. progress_at n os) (sym long)) (serves.applied ∙ sym long)
         ∙ ap (λ (l : List (Effect C O)). let o : Outcome S C O = record { state = longer; effects = l } in o)
-        (nothing_behind (message_to_followed O r.id (Append r.joined (length r.log) c) r.progress))
+        (nothing_after (message_to_followed O r.id (Append r.joined (length r.log) c) r.progress))
         ∙ ap (λ n. let o : Outcome S C O = record { state = longer; effects = message_to_followed O n (Append r.joined (length r.log) c) r.progress } in o) serves.id
         ∙ ap (λ n. let o : Outcome S C O = record { state = longer; effects = message_to_followed O (place + 1) (Append n (length r.log) c) r.progress } in o) serves.leads.joined
         ∙ ap (λ n. let o : Outcome S C O = record { state = longer; effects = message_to_followed O (place + 1) (Append b n c) r.progress } in o) long
@@ -132,25 +132,25 @@ module _ {S C O : Type 0} (rules : Rules S C O) (b place : ℕ) (r : ReplicaStat
         (stand_in (a.world.sent ++ to_each (place + 1) (Append b (length log) c) os) next.world.sent (length a.world.sent) (to_each (place + 1) (Append b (length log) c) os) (sym next_sent)
         (stand_new a.world.sent (to_each (place + 1) (Append b (length log) c) os))) next_follow
 
-    all_long : length all.behind.world.sent ≡ length a.world.sent + length os + length os
+    all_long : length all.after.world.sent ≡ length a.world.sent + length os + length os
     all_long = ap length all.sent ∙ length-append next.world.sent _
         ∙ (let e : length (from_each {C = C} (place + 1) (Held b (length log + 1)) os) ≡ length os = length_from_each (place + 1) (Held b (length log + 1)) os in
         let f : length next.world.sent + length (from_each {C = C} (place + 1) (Held b (length log + 1)) os) ≡ length a.world.sent + length os + length os = omega (arith, next_long, e) in f)
 
-    answers_stand : StandFrom all.behind.world.sent (length a.world.sent + length os) (from_each (place + 1) (Held b (length log + 1)) (front ++ last ∷ []))
+    answers_stand : StandFrom all.after.world.sent (length a.world.sent + length os) (from_each (place + 1) (Held b (length log + 1)) (front ++ last ∷ []))
     answers_stand =
-        subst (λ l. StandFrom all.behind.world.sent (length a.world.sent + length os) (from_each (place + 1) (Held b (length log + 1)) l)) are
-        (stand_in (next.world.sent ++ from_each (place + 1) (Held b (length log + 1)) os) all.behind.world.sent (length a.world.sent + length os)
+        subst (λ l. StandFrom all.after.world.sent (length a.world.sent + length os) (from_each (place + 1) (Held b (length log + 1)) l)) are
+        (stand_in (next.world.sent ++ from_each (place + 1) (Held b (length log + 1)) os) all.after.world.sent (length a.world.sent + length os)
         (from_each (place + 1) (Held b (length log + 1)) os) (sym all.sent)
         (stand_at (next.world.sent ++ from_each (place + 1) (Held b (length log + 1)) os) (length next.world.sent) (length a.world.sent + length os)
         (from_each (place + 1) (Held b (length log + 1)) os) next_long (stand_new next.world.sent (from_each (place + 1) (Held b (length log + 1)) os))))
 
     -- and all these answers but the last come
-    most : Gathered rules b place (known (length log) longer front (last ∷ [])) all.behind (numbers_from (length a.world.sent + length os) (length front))
+    most : Gathered rules b place (known (length log) longer front (last ∷ [])) all.after (numbers_from (length a.world.sent + length os) (length front))
     most =
         all_but_last rules b place (Held b (length log + 1)) (known (length log) longer) (λ x y. serves.leads.runs) (λ x y. serves.leads.joined)
-        (held_goes_on rules b longer log c lead log_is serves.applied) all.behind (length a.world.sent + length os) [] front last (subst AreApart are apart)
-        (front_stands (place + 1) (Held b (length log + 1)) all.behind.world.sent (length a.world.sent + length os) front last answers_stand)
+        (held_goes_on rules b longer log c lead log_is serves.applied) all.after (length a.world.sent + length os) [] front last (subst AreApart are apart)
+        (front_stands (place + 1) (Held b (length log + 1)) all.after.world.sent (length a.world.sent + length os) front last answers_stand)
         (all.others place out ∙ next_stands ∙ ap (λ l. Some (known (length log) longer [] l)) are)
 
     end_row : received rules (known (length log) longer front (last ∷ [])) last (Held b (length log + 1)) ≡ record {
@@ -174,11 +174,11 @@ module _ {S C O : Type 0} (rules : Rules S C O) (b place : ℕ) (r : ReplicaStat
             held = serves.held;
             log_is = log_is;
             applied = sym (length-append log (c ∷ []));
-            progress_is = nothing_behind (progress_at (length log + 1) (front ++ last ∷ [])) ∙ ap (λ n. progress_at n (front ++ last ∷ [])) (sym (length-append log (c ∷ [])));
+            progress_is = nothing_after (progress_at (length log + 1) (front ++ last ∷ [])) ∙ ap (λ n. progress_at n (front ++ last ∷ [])) (sym (length-append log (c ∷ [])));
           };
         })
 
-    still : (m : ℕ) → In m os → NodeIs (Follows b (log ++ c ∷ [])) all.behind.world.nodes m → NodeIs (Follows b (log ++ c ∷ [])) most.behind.world.nodes m
+    still : (m : ℕ) → In m os → NodeIs (Follows b (log ++ c ∷ [])) all.after.world.nodes m → NodeIs (Follows b (log ++ c ∷ [])) most.after.world.nodes m
     still m i z = record {
       place = z.place;
       number = z.number;
@@ -192,17 +192,17 @@ module _ {S C O : Type 0} (rules : Rules S C O) (b place : ℕ) (r : ReplicaStat
         record {
           quiet = ap (λ (o : Outcome S C O). outputs o.effects) row
               ∙ outputs_of_messages {C = C} {O = O} (place + 1) (Append b (length log) c) (progress_at (length log) os);
-          before = most.behind;
-          delivered = subst (λ n. Delivered rules b next (numbers_from (length a.world.sent) n ++ numbers_from (length a.world.sent + n) (length front)) most.behind) count
+          before = most.after;
+          delivered = subst (λ n. Delivered rules b next (numbers_from (length a.world.sent) n ++ numbers_from (length a.world.sent + n) (length front)) most.after) count
               (then_come rules all.delivered most.delivered);
           master = most.master ∙ all.master;
           sent = (let e = ap length most.sent in let f = all_long in let g = count in omega (arith, e, f, g));
           told = λ m i. subst (λ (l : List (ℕ × Message C)). In (place + 1, record { from = m; body = Held b (length log + 1) }) l) (sym (most.sent ∙ all.sent))
               (in_right next.world.sent (in_from_each (place + 1) (Held b (length log + 1)) os m (subst (λ l. In m l) (sym are) i)));
           comes = ap (λ (l : List (ℕ × Message C)). slice_get l (length a.world.sent + 2 * length front + 1)) most.sent
-              ∙ ap (slice_get all.behind.world.sent) (let g = count in
+              ∙ ap (slice_get all.after.world.sent) (let g = count in
               let e : length a.world.sent + 2 * length front + 1 ≡ length a.world.sent + length os + length front = omega (arith, g) in e)
-              ∙ last_stands (place + 1) (Held b (length log + 1)) all.behind.world.sent (length a.world.sent + length os) front last answers_stand;
+              ∙ last_stands (place + 1) (Held b (length log + 1)) all.after.world.sent (length a.world.sent + length os) front last answers_stand;
           primary = record {
             place = place;
             number = refl;

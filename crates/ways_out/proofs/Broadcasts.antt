@@ -32,12 +32,12 @@ from_each p reply ms = map (λ (m : ℕ). (p, record { from = m; body = reply })
 -- after it
 pub record Answered {S C O : Type 0} (rules : Rules S C O) (b p : ℕ) (reply : Body C) (After : ℕ → ReplicaState S C → Type 0)
     (a : Moment S C O) (ks ms : List ℕ) : Type 0 where
-  pub behind : Moment S C O
-  pub delivered : Delivered rules b a ks behind
-  pub master : behind.master ≡ a.master
-  pub sent : behind.world.sent ≡ a.world.sent ++ from_each p reply ms
-  pub each : (m : ℕ) → In m ms → NodeIs After behind.world.nodes m
-  pub others : (n : ℕ) → (In (n + 1) ms → ⊥) → slice_get behind.world.nodes n ≡ slice_get a.world.nodes n
+  pub after : Moment S C O
+  pub delivered : Delivered rules b a ks after
+  pub master : after.master ≡ a.master
+  pub sent : after.world.sent ≡ a.world.sent ++ from_each p reply ms
+  pub each : (m : ℕ) → In m ms → NodeIs After after.world.nodes m
+  pub others : (n : ℕ) → (In (n + 1) ms → ⊥) → slice_get after.world.nodes n ≡ slice_get a.world.nodes n
 
 module _ {S C O : Type 0} (rules : Rules S C O) (b p : ℕ) (body reply : Body C) (Before After : ℕ → ReplicaState S C → Type 0)
     (answers : (m : ℕ) (r : ReplicaState S C) → Before m r → Answers rules b p body reply After m r) where
@@ -49,7 +49,7 @@ module _ {S C O : Type 0} (rules : Rules S C O) (b p : ℕ) (body reply : Body C
       Answered rules b p reply After a (numbers_from k (length (m ∷ ms))) (m ∷ ms)
   first_answers a k m ms apart first stand before do_rest =
       record {
-        behind = then_all.behind;
+        after = then_all.after;
         delivered = to_node k one.place one.replica (record { from = p; body = body })
             (subst (λ j. slice_get a.world.sent k ≡ Some (j, record { from = p; body = body })) one.number first)
             one.stands does.runs (ap outputs does.sends) does.joined then_all.delivered;
@@ -100,7 +100,7 @@ module _ {S C O : Type 0} (rules : Rules S C O) (b p : ℕ) (body reply : Body C
             is = does.after;
           }
 
-      by_each : (j : ℕ) → In j (m ∷ ms) → NodeIs After then_all.behind.world.nodes j
+      by_each : (j : ℕ) → In j (m ∷ ms) → NodeIs After then_all.after.world.nodes j
       by_each j here =
           record {
             place = one.place;
@@ -116,16 +116,16 @@ module _ {S C O : Type 0} (rules : Rules S C O) (b p : ℕ) (body reply : Body C
       ((m : ℕ) → In m ms → NodeIs Before a.world.nodes m) → Answered rules b p reply After a (numbers_from k (length ms)) ms
   all_answer a k [] apart stand before =
       record {
-        behind = a;
+        after = a;
         delivered = all_came;
         master = refl;
-        sent = sym (nothing_behind a.world.sent);
+        sent = sym (nothing_after a.world.sent);
         each = λ m i. elim i [ ];
         others = λ n out. refl;
       }
     where
-      nothing_behind : {X : Type 0} (xs : List X) → xs ++ [] ≡ xs
-      nothing_behind [] = refl
-      nothing_behind (x ∷ xs) = ap (λ us. x ∷ us) (nothing_behind xs)
+      nothing_after : {X : Type 0} (xs : List X) → xs ++ [] ≡ xs
+      nothing_after [] = refl
+      nothing_after (x ∷ xs) = ap (λ us. x ∷ us) (nothing_after xs)
   all_answer a k (m ∷ ms) (apart, rest) (first, stand) before =
       first_answers a k m ms apart first stand before (λ next s b. all_answer next (k + 1) ms rest s b)

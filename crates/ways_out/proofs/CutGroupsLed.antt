@@ -4,10 +4,10 @@ use Rattle.std.proofs.lemmas.Bool.{both_ways}
 use Rattle.std.proofs.lemmas.List.{length-map, map-append}
 use Rattle.snapshots.specs.lists.Lists.{In}
 use Rattle.snapshots.specs.machine.Machine.{Rules}
-use Rattle.snapshots.specs.agreement.MasterState.{AssignRefusal, MasterState, master_behind, refusal}
+use Rattle.snapshots.specs.agreement.MasterState.{AssignRefusal, MasterState, master_after, refusal}
 use Rattle.snapshots.specs.agreement.Past.{Moment as WholeMoment, Past as WholePast}
 use Rattle.snapshots.specs.agreement.Past.Past.{went_on as whole_went_on}
-use Rattle.snapshots.specs.agreement.Steps.{MayHappen as WholeMayHappen, world_behind as whole_behind}
+use Rattle.snapshots.specs.agreement.Steps.{MayHappen as WholeMayHappen, world_after as whole_after}
 use Rattle.snapshots.specs.agreement.Steps.MayHappen.{master_assigns as whole_assigns}
 use Rattle.snapshots.specs.whole.Messages.Body.{Held}
 use Rattle.snapshots.specs.whole.Messages.{Message as WholeMessage}
@@ -18,7 +18,7 @@ use Rattle.snapshots.specs.ballot_base.declared.config.Config.{Config}
 use Rattle.snapshots.specs.ballot_base.Replica.{others}
 use Rattle.snapshots.specs.Past.{IsAgreed, Moment, Past, whole_moment}
 use Rattle.snapshots.specs.Past.Past.{went_on}
-use Rattle.snapshots.specs.Steps.{MayHappen, world_behind}
+use Rattle.snapshots.specs.Steps.{MayHappen, world_after}
 use Rattle.snapshots.specs.Steps.MayHappen.{master_assigns}
 use Rattle.snapshots.specs.Whole.{whole}
 use Rattle.snapshots.specs.World.{whole_letter}
@@ -45,7 +45,7 @@ assign_goes : {S C O : Type 0} (rules : Rules S C O) (config : Config) (a : Mome
 assign_goes {S = S} {C = C} {O = O} rules config a past new came granted =
     record {
       between = [];
-      came = went_on came (subst (λ (o : Option AssignRefusal). MayHappen rules a.master a.world (master_behind a.master new o) (world_behind a.master a.world new o)) granted
+      came = went_on came (subst (λ (o : Option AssignRefusal). MayHappen rules a.master a.world (master_after a.master new o) (world_after a.master a.world new o)) granted
           (master_assigns new));
       grown = λ xs ys p q. agreed_grows rules config (assigned_moment new a) (a ∷ past) xs ys p q;
     }
@@ -53,7 +53,7 @@ assign_goes {S = S} {C = C} {O = O} rules config a past new came granted =
 whole_assign : {S C O : Type 0} (rules : Rules S C O) (config : Config) (a : WholeMoment S C O) (past : List (WholeMoment S C O)) (new : Config) →
     WholePast rules config (a ∷ past) → refusal a.master new ≡ None → WholePast rules config (whole_assigned new a ∷ a ∷ past)
 whole_assign rules config a past new came granted =
-    whole_went_on came (subst (λ (o : Option AssignRefusal). WholeMayHappen rules a.master a.world (master_behind a.master new o) (whole_behind a.master a.world new o)) granted
+    whole_went_on came (subst (λ (o : Option AssignRefusal). WholeMayHappen rules a.master a.world (master_after a.master new o) (whole_after a.master a.world new o)) granted
     (whole_assigns new))
 
 assign_like : {S C O : Type 0} (rules : Rules S C O) (ballot : ℕ) (a : Moment S C O) (new : Config) → MomentLike rules ballot (whole_assigned new (whole_moment a)) (assigned_moment new a)

@@ -48,13 +48,13 @@ joined_is {S = S} {C = C} b r most = by (cases_lt r.joined b)
 -- the end
 pub record IsFetched {S C O : Type 0} (rules : Rules S C O) (b : ℕ) (log : List C) (place source : ℕ) (r : ReplicaState S C) (os : List ℕ) (a : Moment S C O)
     (ks : List ℕ) (master : MasterState) (long : ℕ) : Type 0 where
-  pub behind : Moment S C O
-  pub delivered : Delivered rules b a ks behind
-  pub master_is : behind.master ≡ master
-  pub sent : slice_get behind.world.sent long ≡ Some (place + 1, record { from = source + 1; body = State b log })
-  pub last : length behind.world.sent ≡ long + 1
-  pub primary : slice_get behind.world.nodes place ≡ Some r
-  pub each : (m : ℕ) → In m os → NodeIs (CanTake b (length log)) behind.world.nodes m
+  pub after : Moment S C O
+  pub delivered : Delivered rules b a ks after
+  pub master_is : after.master ≡ master
+  pub sent : slice_get after.world.sent long ≡ Some (place + 1, record { from = source + 1; body = State b log })
+  pub last : length after.world.sent ≡ long + 1
+  pub primary : slice_get after.world.nodes place ≡ Some r
+  pub each : (m : ℕ) → In m os → NodeIs (CanTake b (length log)) after.world.nodes m
 
 get_far : {X : Type 0} (all more : List X) (i : ℕ) → slice_get (all ++ more) (length all + i) ≡ slice_get more i
 get_far [] more i = ap (slice_get more) (let e : 0 + i ≡ i = omega arith in e)
@@ -92,14 +92,14 @@ module _ {S C O : Type 0} (rules : Rules S C O) (a : Moment S C O) (place source
       (ap (λ (l : List (ℕ × Message C)). slice_get l (length a.world.sent)) assigned_sent ∙ get_new a.world.sent _)
       stands can.runs row (outputs_to_each O (place + 1) (Join (a.master.given + 1) a.master.active) a.master.members) refl
 
-  t1_sent : t1.behind.world.sent ≡ (assigned_moment config a).world.sent ++ to_each (place + 1) (Join (a.master.given + 1) a.master.active) a.master.members
+  t1_sent : t1.after.world.sent ≡ (assigned_moment config a).world.sent ++ to_each (place + 1) (Join (a.master.given + 1) a.master.active) a.master.members
   t1_sent = t1.sent ∙ ap (λ (l : List (ℕ × Message C)). (assigned_moment config a).world.sent ++ l)
       (messages_to_each O (place + 1) (Join (a.master.given + 1) a.master.active) a.master.members)
 
   assigned_long : length (assigned_moment config a).world.sent ≡ length a.world.sent + 1
   assigned_long = length-append a.world.sent _
 
-  t1_long : length t1.behind.world.sent ≡ length a.world.sent + 1 + length a.master.members
+  t1_long : length t1.after.world.sent ≡ length a.world.sent + 1 + length a.master.members
   t1_long = ap length t1_sent ∙ length-append (assigned_moment config a).world.sent _
       ∙ ap (λ j. j + length (to_each {C = C} (place + 1) (Join (a.master.given + 1) a.master.active) a.master.members)) assigned_long
       ∙ ap (λ j. length a.world.sent + 1 + j) (length_to_each (place + 1) (Join (a.master.given + 1) a.master.active) a.master.members)
@@ -107,7 +107,7 @@ module _ {S C O : Type 0} (rules : Rules S C O) (a : Moment S C O) (place source
   -- the member that is asked, then
   record Source : Type 0 where
     asked : ReplicaState S C
-    there : slice_get t1.behind.world.nodes source ≡ Some asked
+    there : slice_get t1.after.world.nodes source ≡ Some asked
     able : CanGive (a.master.given + 1) a.master.active log (source + 1) asked
     new : place ≡ source → asked ≡ r1
 
@@ -119,7 +119,7 @@ module _ {S C O : Type 0} (rules : Rules S C O) (a : Moment S C O) (place source
           let one : rs ≡ rp = let z = gives_stands in let y : slice_get a.world.nodes source ≡ Some rp = ap (slice_get a.world.nodes) same ∙ stands in cc in
           record {
             asked = r1;
-            there = ap (slice_get t1.behind.world.nodes) same ∙ t1.stands;
+            there = ap (slice_get t1.after.world.nodes) same ∙ t1.stands;
             able = record {
               can = record { runs = can.runs; id = can.id ∙ ap (λ j. j + 1) (sym same); joined = omega arith; held = can.held; applied = can.applied };
               holds = subst (λ (r : ReplicaState S C). a.master.active ≤ r.held_in) one gives.holds;
@@ -152,28 +152,28 @@ module _ {S C O : Type 0} (rules : Rules S C O) (a : Moment S C O) (place source
           effects = message_to O (source + 1) (State (a.master.given + 1) l) (place + 1) ∷ [];
         } in o) s.able.log_is
 
-    join_sent : slice_get t1.behind.world.sent (length a.world.sent + 1 + i) ≡ Some (source + 1, record { from = place + 1; body = Join (a.master.given + 1) a.master.active })
+    join_sent : slice_get t1.after.world.sent (length a.world.sent + 1 + i) ≡ Some (source + 1, record { from = place + 1; body = Join (a.master.given + 1) a.master.active })
     join_sent =
         ap (λ (l : List (ℕ × Message C)). slice_get l (length a.world.sent + 1 + i)) t1_sent
         ∙ ap (λ j. slice_get ((assigned_moment config a).world.sent ++ to_each (place + 1) (Join (a.master.given + 1) a.master.active) a.master.members) (j + i)) (sym assigned_long)
         ∙ get_far (assigned_moment config a).world.sent (to_each (place + 1) (Join (a.master.given + 1) a.master.active) a.master.members) i
         ∙ get_each (place + 1) (Join (a.master.given + 1) a.master.active) a.master.members i (source + 1) member
 
-    t2 : Taken rules (a.master.given + 1) source (joined_one (a.master.given + 1) s.asked) (message_to O (source + 1) (State (a.master.given + 1) log) (place + 1) ∷ []) t1.behind
+    t2 : Taken rules (a.master.given + 1) source (joined_one (a.master.given + 1) s.asked) (message_to O (source + 1) (State (a.master.given + 1) log) (place + 1) ∷ []) t1.after
         ((length a.world.sent + 1 + i) ∷ [])
     t2 = takes_one rules (a.master.given + 1) source (length a.world.sent + 1 + i) s.asked (joined_one (a.master.given + 1) s.asked)
         (record { from = place + 1; body = Join (a.master.given + 1) a.master.active }) (message_to O (source + 1) (State (a.master.given + 1) log) (place + 1) ∷ [])
-        t1.behind join_sent s.there s.able.can.runs join_row refl (joined_is (a.master.given + 1) s.asked s.able.can.joined)
+        t1.after join_sent s.there s.able.can.runs join_row refl (joined_is (a.master.given + 1) s.asked s.able.can.joined)
 
-    primary_still : (place ≡ source) ⊎ (place ≡ source → ⊥) → slice_get t2.behind.world.nodes place ≡ Some r1
+    primary_still : (place ≡ source) ⊎ (place ≡ source → ⊥) → slice_get t2.after.world.nodes place ≡ Some r1
     primary_still (inl same) =
-        ap (slice_get t2.behind.world.nodes) same ∙ t2.stands
+        ap (slice_get t2.after.world.nodes) same ∙ t2.stands
         ∙ ap (λ (r : ReplicaState S C). Some (joined_one (a.master.given + 1) r)) (s.new same)
         ∙ ap (λ z. Some (cond z (record r1 { joined = a.master.given + 1; role = Backup }) r1)) (le-ltb (a.master.given + 1) (a.master.given + 1) (omega arith))
     primary_still (inr other) = t2.others place other ∙ t1.stands
 
     each_still : (m : ℕ) → In m os → (z : NodeIs (CanTake (a.master.given + 1) (length log)) a.world.nodes m) → (z.place ≡ source) ⊎ (z.place ≡ source → ⊥) →
-        NodeIs (CanTake (a.master.given + 1) (length log)) t2.behind.world.nodes m
+        NodeIs (CanTake (a.master.given + 1) (length log)) t2.after.world.nodes m
     each_still m j z (inl same) =
         record {
           place = source;
@@ -201,13 +201,13 @@ module _ {S C O : Type 0} (rules : Rules S C O) (a : Moment S C O) (place source
           (length a.world.sent ∷ (length a.world.sent + 1 + i) ∷ []) (assigning a.master config) (length a.world.sent + 1 + length a.master.members)
       by s =
           record {
-            behind = (t2 s).behind;
+            after = (t2 s).after;
             delivered = then_come rules t1.delivered (t2 s).delivered;
             master_is = (t2 s).master ∙ t1.master;
             sent = ap (λ (l : List (ℕ × Message C)). slice_get l (length a.world.sent + 1 + length a.master.members)) (t2 s).sent
-                ∙ ap (slice_get (t1.behind.world.sent ++ (place + 1, record { from = source + 1; body = State (a.master.given + 1) log }) ∷ [])) (sym t1_long)
-                ∙ get_new t1.behind.world.sent _;
-            last = ap length (t2 s).sent ∙ length-append t1.behind.world.sent _ ∙ ap (λ j. j + 1) t1_long;
+                ∙ ap (slice_get (t1.after.world.sent ++ (place + 1, record { from = source + 1; body = State (a.master.given + 1) log }) ∷ [])) (sym t1_long)
+                ∙ get_new t1.after.world.sent _;
+            last = ap length (t2 s).sent ∙ length-append t1.after.world.sent _ ∙ ap (λ j. j + 1) t1_long;
             primary = primary_still s (cases_eq place source);
             each = λ m j. let z = each m j in each_still s m j z (cases_eq z.place source);
           }

@@ -15,9 +15,9 @@ use Rattle.ways_out.specs.Deliveries.Delivered.{all_came, to_node}
 use Rattle.ways_out.proofs.Broadcasts.{from_each}
 use Rattle.ways_out.proofs.Standing.{StandFrom, stand_in}
 
-pub nothing_behind : {X : Type 0} (xs : List X) → xs ++ [] ≡ xs
-nothing_behind [] = refl
-nothing_behind (x ∷ xs) = ap (λ us. x ∷ us) (nothing_behind xs)
+pub nothing_after : {X : Type 0} (xs : List X) → xs ++ [] ≡ xs
+nothing_after [] = refl
+nothing_after (x ∷ xs) = ap (λ us. x ∷ us) (nothing_after xs)
 
 some_left : (ms : List ℕ) (last : ℕ) → ms ++ last ∷ [] ≡ [] → ⊥
 some_left [] last e = cc
@@ -25,12 +25,12 @@ some_left (m ∷ ms) last e = cc
 
 -- after them
 pub record Gathered {S C O : Type 0} (rules : Rules S C O) (b place : ℕ) (one : ReplicaState S C) (a : Moment S C O) (ks : List ℕ) : Type 0 where
-  pub behind : Moment S C O
-  pub delivered : Delivered rules b a ks behind
-  pub master : behind.master ≡ a.master
-  pub sent : behind.world.sent ≡ a.world.sent
-  pub stands : slice_get behind.world.nodes place ≡ Some one
-  pub others : (n : ℕ) → (n ≡ place → ⊥) → slice_get behind.world.nodes n ≡ slice_get a.world.nodes n
+  pub after : Moment S C O
+  pub delivered : Delivered rules b a ks after
+  pub master : after.master ≡ a.master
+  pub sent : after.world.sent ≡ a.world.sent
+  pub stands : slice_get after.world.nodes place ≡ Some one
+  pub others : (n : ℕ) → (n ≡ place → ⊥) → slice_get after.world.nodes n ≡ slice_get a.world.nodes n
 
 -- the node at a place, whose state is known by whose answers came, and whose are still to come
 module _ {S C O : Type 0} (rules : Rules S C O) (b place : ℕ) (reply : Body C) (state : List ℕ → List ℕ → ReplicaState S C)
@@ -47,7 +47,7 @@ module _ {S C O : Type 0} (rules : Rules S C O) (b place : ℕ) (reply : Body C)
       Gathered rules b place (state (came ++ m ∷ ms) (last ∷ [])) a (numbers_from k (length (m ∷ ms)))
   first_comes a k m came ms last apart first stand stands do_rest =
       record {
-        behind = rest.behind;
+        after = rest.after;
         delivered = to_node k place (state came (m ∷ (ms ++ last ∷ []))) (record { from = m; body = reply }) first stands
             (runs came (m ∷ (ms ++ last ∷ []))) (ap (λ (o : Outcome S C O). outputs o.effects) does)
             (ap (λ (o : Outcome S C O). o.state.joined) does ∙ joined (came ++ m ∷ []) (ms ++ last ∷ [])) rest.delivered;
@@ -64,7 +64,7 @@ module _ {S C O : Type 0} (rules : Rules S C O) (b place : ℕ) (reply : Body C)
       next = after_outcome place (received rules (state came (m ∷ (ms ++ last ∷ []))) m reply) a
 
       same : next.world.sent ≡ a.world.sent
-      same = ap (λ (o : Outcome S C O). a.world.sent ++ messages o.effects) does ∙ nothing_behind a.world.sent
+      same = ap (λ (o : Outcome S C O). a.world.sent ++ messages o.effects) does ∙ nothing_after a.world.sent
 
       rest : Gathered rules b place (state ((came ++ m ∷ []) ++ ms) (last ∷ [])) next (numbers_from (k + 1) (length ms))
       rest =
@@ -77,11 +77,11 @@ module _ {S C O : Type 0} (rules : Rules S C O) (b place : ℕ) (reply : Body C)
       Gathered rules b place (state (came ++ ms) (last ∷ [])) a (numbers_from k (length ms))
   all_but_last a k came [] last apart stand stands =
       record {
-        behind = a;
+        after = a;
         delivered = all_came;
         master = refl;
         sent = refl;
-        stands = stands ∙ ap (λ (l : List ℕ). Some (state l (last ∷ []))) (sym (nothing_behind came));
+        stands = stands ∙ ap (λ (l : List ℕ). Some (state l (last ∷ []))) (sym (nothing_after came));
         others = λ n ne. refl;
       }
   all_but_last a k came (m ∷ ms) last (apart, others) (first, stand) stands =

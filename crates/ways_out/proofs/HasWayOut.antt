@@ -81,18 +81,18 @@ module _ {S C O : Type 0} (rules : Rules S C O) (silent : StartsGiveNothing rule
       by : Out → LeadsOut rules config (a ∷ past) a new place log
       by o =
           record {
-            last = o.behind;
-            delivered = subst (λ k. Delivered rules (a.master.given + 1) (assigned_moment new a) (way_out (length a.world.sent) (length a.master.members) place k) o.behind) count o.delivered;
+            last = o.after;
+            delivered = subst (λ k. Delivered rules (a.master.given + 1) (assigned_moment new a) (way_out (length a.world.sent) (length a.master.members) place k) o.after) count o.delivered;
             sent = (let e = o.last in let z = whole in omega (arith, e, z));
             events = (let e = way_out_count (length a.world.sent) (length a.master.members) place (length new.members - 1) in let z = whole in let y = count in omega (arith, e, z, y));
             led = record {
               active = ap (λ (m : MasterState). m.active) o.master_is;
               members = ap (λ (m : MasterState). m.members) o.master_is;
-              primary = subst (λ m. NodeIs (Serves (a.master.given + 1) longer (others new.primary new.members)) o.behind.world.nodes m) (sym first.number) o.primary;
+              primary = subst (λ m. NodeIs (Serves (a.master.given + 1) longer (others new.primary new.members)) o.after.world.nodes m) (sym first.number) o.primary;
               each = o.each;
             };
-            told = λ m i. subst (λ p. In (p, record { from = m; body = Held (a.master.given + 1) (length log + 1) }) o.behind.world.sent) (sym first.number)
-                (subst (λ n. In (first.place + 1, record { from = m; body = Held (a.master.given + 1) n }) o.behind.world.sent) one_more (o.told m i));
+            told = λ m i. subst (λ p. In (p, record { from = m; body = Held (a.master.given + 1) (length log + 1) }) o.after.world.sent) (sym first.number)
+                (subst (λ n. In (first.place + 1, record { from = m; body = Held (a.master.given + 1) n }) o.after.world.sent) one_more (o.told m i));
             goes = record {
               between = goes.between;
               came = goes.came;
@@ -110,18 +110,18 @@ module _ {S C O : Type 0} (rules : Rules S C O) (silent : StartsGiveNothing rule
           whole : length (others new.primary new.members) + 1 ≡ length new.members
           whole = others_count new.primary new.members led (lawful_apart new lawful)
 
-          goes : Goes rules config (a ∷ past) o.behind
+          goes : Goes rules config (a ∷ past) o.after
           goes = deliveries_go rules config (a ∷ past) o.delivered (assign_goes rules config a past new came can.granted)
 
-          agrees : IsAgreed config (o.behind ∷ (goes.between ++ (a ∷ past))) longer
+          agrees : IsAgreed config (o.after ∷ (goes.between ++ (a ∷ past))) longer
           agrees =
-              what_all_hold_is_agreed rules config o.behind (goes.between ++ (a ∷ past)) goes.came (first.place + 1) longer (others new.primary new.members)
+              what_all_hold_is_agreed rules config o.after (goes.between ++ (a ∷ past)) goes.came (first.place + 1) longer (others new.primary new.members)
               (record {
-                primary_serves = subst (λ b. NodeIs (Serves b longer (others new.primary new.members)) o.behind.world.nodes (first.place + 1))
+                primary_serves = subst (λ b. NodeIs (Serves b longer (others new.primary new.members)) o.after.world.nodes (first.place + 1))
                     (sym (ap (λ (m : MasterState). m.active) o.master_is)) o.primary;
                 member = subst (λ ms. In (first.place + 1) ms) (sym (ap (λ (m : MasterState). m.members) o.master_is)) (subst (λ m. In m new.members) first.number led);
                 all_named = λ m i ne. others_of m (subst (λ ms. In m ms) (ap (λ (m : MasterState). m.members) o.master_is) i) ne;
-                told = λ m i. subst (λ b. In (first.place + 1, record { from = m; body = Held b (length longer) }) o.behind.world.sent)
+                told = λ m i. subst (λ b. In (first.place + 1, record { from = m; body = Held b (length longer) }) o.after.world.sent)
                     (sym (ap (λ (m : MasterState). m.active) o.master_is)) (o.told m i);
               })
             where

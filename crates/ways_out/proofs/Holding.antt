@@ -20,7 +20,7 @@ use Rattle.ways_out.specs.Following.{Follows, LeadsIn, Serves}
 use Rattle.ways_out.specs.Inside.{known}
 use Rattle.ways_out.proofs.AllCome.{Taken, all_come, then_come}
 use Rattle.ways_out.proofs.Broadcasts.{Answered, all_answer, from_each, to_each}
-use Rattle.ways_out.proofs.Gathers.{nothing_behind}
+use Rattle.ways_out.proofs.Gathers.{nothing_after}
 use Rattle.ways_out.proofs.Installing.{length_from_each, length_to_each}
 use Rattle.ways_out.proofs.LeaderRows.{held_goes_on, held_last}
 use Rattle.ways_out.proofs.Rows.{append_answers, messages_to_followed}
@@ -29,13 +29,13 @@ use Rattle.ways_out.proofs.Standing.{StandFrom, stand_in, stand_new}
 -- the end: all members hold it, and it is committed
 pub record AllHold {S C O : Type 0} (rules : Rules S C O) (b : ℕ) (log : List C) (place : ℕ) (os : List ℕ) (a : Moment S C O) (ks : List ℕ)
     (long : ℕ) : Type 0 where
-  pub behind : Moment S C O
-  pub delivered : Delivered rules b a ks behind
-  pub master : behind.master ≡ a.master
-  pub last : length behind.world.sent ≡ long
-  pub primary : NodeIs (Serves b log os) behind.world.nodes (place + 1)
-  pub each : (m : ℕ) → In m os → NodeIs (Follows b log) behind.world.nodes m
-  pub told : (m : ℕ) → In m os → In (place + 1, record { from = m; body = Held b (length log) }) behind.world.sent
+  pub after : Moment S C O
+  pub delivered : Delivered rules b a ks after
+  pub master : after.master ≡ a.master
+  pub last : length after.world.sent ≡ long
+  pub primary : NodeIs (Serves b log os) after.world.nodes (place + 1)
+  pub each : (m : ℕ) → In m os → NodeIs (Follows b log) after.world.nodes m
+  pub told : (m : ℕ) → In m os → In (place + 1, record { from = m; body = Held b (length log) }) after.world.sent
 
 pub in_from_each : {C : Type 0} (p : ℕ) (reply : Body C) (ms : List ℕ) (m : ℕ) → In m ms → In (p, record { from = m; body = reply }) (from_each p reply ms)
 in_from_each p reply [] m i = elim i [ ]
@@ -59,7 +59,7 @@ module _ {S C O : Type 0} (rules : Rules S C O) (b : ℕ) (r : ReplicaState S C)
   given_messages : (os : List ℕ) → messages (given_last rules r log c os) ≡ to_each r.id (Commit r.joined (length log + 1)) os
   given_messages os =
       ap (λ (l : List O). messages {C = C} {O = O} (map (Out (length log)) l ++ message_to_followed O r.id (Commit r.joined (length log + 1)) (progress_at (length log + 1) os ++ []))) silent
-      ∙ ap (λ (l : List Progress). messages {C = C} {O = O} (message_to_followed O r.id (Commit r.joined (length log + 1)) l)) (nothing_behind (progress_at (length log + 1) os))
+      ∙ ap (λ (l : List Progress). messages {C = C} {O = O} (message_to_followed O r.id (Commit r.joined (length log + 1)) l)) (nothing_after (progress_at (length log + 1) os))
       ∙ messages_to_followed O r.id (length log + 1) (Commit r.joined (length log + 1)) os
 
   pub all_hold : (a : Moment S C O) (k x : ℕ) (xs : List ℕ) → AreApart (x ∷ xs) → (In (place + 1) (x ∷ xs) → ⊥) →
@@ -71,12 +71,12 @@ module _ {S C O : Type 0} (rules : Rules S C O) (b : ℕ) (r : ReplicaState S C)
       (length a.world.sent + (length (x ∷ xs) + length (x ∷ xs)))
   all_hold a k x xs apart out stand stands follow =
       record {
-        behind = came.behind;
+        after = came.after;
         delivered = then_come rules all.delivered came.delivered;
         master = came.master ∙ all.master;
-        last = ap length came.sent ∙ length-append all.behind.world.sent _
+        last = ap length came.sent ∙ length-append all.after.world.sent _
             ∙ (let e : length (messages came_given) ≡ length (x ∷ xs) = ap length (given_messages (x ∷ xs)) ∙ length_to_each r.id (Commit r.joined (length log + 1)) (x ∷ xs) in
-            let f : length all.behind.world.sent + length (messages came_given) ≡ length a.world.sent + (length (x ∷ xs) + length (x ∷ xs)) = omega (arith, e, all_long) in f);
+            let f : length all.after.world.sent + length (messages came_given) ≡ length a.world.sent + (length (x ∷ xs) + length (x ∷ xs)) = omega (arith, e, all_long) in f);
         primary = record {
           place = place;
           number = refl;
@@ -88,7 +88,7 @@ module _ {S C O : Type 0} (rules : Rules S C O) (b : ℕ) (r : ReplicaState S C)
             held = own;
             log_is = long;
             applied = sym (length-append log (c ∷ []));
-            progress_is = nothing_behind (progress_at (length log + 1) (x ∷ xs)) ∙ ap (λ n. progress_at n (x ∷ xs)) (sym (length-append log (c ∷ [])));
+            progress_is = nothing_after (progress_at (length log + 1) (x ∷ xs)) ∙ ap (λ n. progress_at n (x ∷ xs)) (sym (length-append log (c ∷ [])));
           };
         };
         each = λ m i. still m i (all.each m i);
@@ -109,10 +109,10 @@ module _ {S C O : Type 0} (rules : Rules S C O) (b : ℕ) (r : ReplicaState S C)
           all_answer rules b (place + 1) (Append b (length log) c) (Held b (length log + 1)) (Follows b log) (Follows b (log ++ c ∷ []))
           (append_answers rules (place + 1) b log c) a k (x ∷ xs) apart stand follow
 
-      all_long : length all.behind.world.sent ≡ length a.world.sent + length (x ∷ xs)
+      all_long : length all.after.world.sent ≡ length a.world.sent + length (x ∷ xs)
       all_long = ap length all.sent ∙ length-append a.world.sent _ ∙ ap (λ j. length a.world.sent + j) (length_from_each (place + 1) (Held b (length log + 1)) (x ∷ xs))
 
-      came : Taken rules b place final came_given all.behind (numbers_from (length a.world.sent) (length (x ∷ xs)))
+      came : Taken rules b place final came_given all.after (numbers_from (length a.world.sent) (length (x ∷ xs)))
       came =
           all_come rules b place (Held b (length log + 1)) (known (length log) r) (λ c' l. lead.runs) (λ c' l. lead.joined) (held_goes_on rules b r log c lead long committed) (x ∷ xs)
           final came_given (given_outputs (x ∷ xs)) lead.joined
@@ -121,13 +121,13 @@ module _ {S C O : Type 0} (rules : Rules S C O) (b : ℕ) (r : ReplicaState S C)
             state = applied_to rules (known (length log) r l []) (length log + 1);
             effects = given_last rules r log c l;
           } in o) (sym e))
-          all.behind (length a.world.sent) (λ e. cc) apart
-          (stand_in (a.world.sent ++ from_each (place + 1) (Held b (length log + 1)) (x ∷ xs)) all.behind.world.sent (length a.world.sent)
+          all.after (length a.world.sent) (λ e. cc) apart
+          (stand_in (a.world.sent ++ from_each (place + 1) (Held b (length log + 1)) (x ∷ xs)) all.after.world.sent (length a.world.sent)
           (from_each (place + 1) (Held b (length log + 1)) (x ∷ xs)) (sym all.sent)
           (stand_new a.world.sent (from_each (place + 1) (Held b (length log + 1)) (x ∷ xs))))
           (all.others place out ∙ stands)
 
-      still : (m : ℕ) → In m (x ∷ xs) → NodeIs (Follows b (log ++ c ∷ [])) all.behind.world.nodes m → NodeIs (Follows b (log ++ c ∷ [])) came.behind.world.nodes m
+      still : (m : ℕ) → In m (x ∷ xs) → NodeIs (Follows b (log ++ c ∷ [])) all.after.world.nodes m → NodeIs (Follows b (log ++ c ∷ [])) came.after.world.nodes m
       still m i z = record {
         place = z.place;
         number = z.number;

@@ -23,13 +23,13 @@ use Rattle.ways_out.proofs.Standing.{stand_at, stand_in, stand_new}
 -- the end: the log is installed at all members, and the primary has asked for its ballot
 pub record IsInstalled {S C O : Type 0} (rules : Rules S C O) (b : ℕ) (log : List C) (place : ℕ) (r : ReplicaState S C) (os : List ℕ) (a : Moment S C O)
     (ks : List ℕ) (asked : ℕ) : Type 0 where
-  pub behind : Moment S C O
-  pub delivered : Delivered rules b a ks behind
-  pub master : behind.master ≡ a.master
-  pub asks : slice_get behind.world.sent asked ≡ Some (0, record { from = place + 1; body = Activate b })
-  pub last : length behind.world.sent ≡ asked + 1
-  pub primary : slice_get behind.world.nodes place ≡ Some (installing b log r [])
-  pub each : (m : ℕ) → In m os → NodeIs (Follows b log) behind.world.nodes m
+  pub after : Moment S C O
+  pub delivered : Delivered rules b a ks after
+  pub master : after.master ≡ a.master
+  pub asks : slice_get after.world.sent asked ≡ Some (0, record { from = place + 1; body = Activate b })
+  pub last : length after.world.sent ≡ asked + 1
+  pub primary : slice_get after.world.nodes place ≡ Some (installing b log r [])
+  pub each : (m : ℕ) → In m os → NodeIs (Follows b log) after.world.nodes m
 
 pub length_to_each : {C : Type 0} (p : ℕ) (body : Body C) (ms : List ℕ) → length (to_each p body ms) ≡ length ms
 length_to_each p body [] = refl
@@ -50,7 +50,7 @@ module _ {S C O : Type 0} (rules : Rules S C O) (b : ℕ) (log : List C) (place 
       slice_get a.world.nodes place ≡ Some r → IsInstalled rules b log place r [] a (k ∷ []) (length a.world.sent)
   alone a k from are sent stands =
       record {
-        behind = one.behind;
+        after = one.after;
         delivered = one.delivered;
         master = one.master;
         asks = ap (λ (l : List (ℕ × Message C)). slice_get l (length a.world.sent)) one.sent ∙ get_new a.world.sent _;
@@ -80,13 +80,13 @@ module _ {S C O : Type 0} (rules : Rules S C O) (b : ℕ) (log : List C) (place 
       (length a.world.sent + (length (x ∷ xs) + length (x ∷ xs)))
   with_others a k from x xs are apart out sent stands can =
       record {
-        behind = came.behind;
+        after = came.after;
         delivered = then_come rules one.delivered (then_come rules all.delivered came.delivered);
         master = came.master ∙ all.master ∙ one.master;
         asks = ap (λ (l : List (ℕ × Message C)). slice_get l (length a.world.sent + (length (x ∷ xs) + length (x ∷ xs)))) came.sent
-            ∙ ap (λ j. slice_get (all.behind.world.sent ++ (0, record { from = place + 1; body = Activate b }) ∷ []) j) (sym long)
-            ∙ get_new all.behind.world.sent _;
-        last = ap length came.sent ∙ length-append all.behind.world.sent _ ∙ ap (λ j. j + 1) long;
+            ∙ ap (λ j. slice_get (all.after.world.sent ++ (0, record { from = place + 1; body = Activate b }) ∷ []) j) (sym long)
+            ∙ get_new all.after.world.sent _;
+        last = ap length came.sent ∙ length-append all.after.world.sent _ ∙ ap (λ j. j + 1) long;
         primary = came.stands;
         each = λ m i. still m i (all.each m i);
       }
@@ -104,13 +104,13 @@ module _ {S C O : Type 0} (rules : Rules S C O) (b : ℕ) (log : List C) (place 
       one = takes_one rules b place k r (installing b log r (x ∷ xs)) (record { from = from; body = State b log }) _ a sent stands runs row
           (outputs_to_each O (place + 1) (Install b log) (x ∷ xs)) joined
 
-      one_sent : one.behind.world.sent ≡ a.world.sent ++ to_each (place + 1) (Install b log) (x ∷ xs)
+      one_sent : one.after.world.sent ≡ a.world.sent ++ to_each (place + 1) (Install b log) (x ∷ xs)
       one_sent = one.sent ∙ ap (λ (l : List (ℕ × Message C)). a.world.sent ++ l) (messages_to_each O (place + 1) (Install b log) (x ∷ xs))
 
-      one_long : length one.behind.world.sent ≡ length a.world.sent + length (x ∷ xs)
+      one_long : length one.after.world.sent ≡ length a.world.sent + length (x ∷ xs)
       one_long = ap length one_sent ∙ length-append a.world.sent _ ∙ ap (λ j. length a.world.sent + j) (length_to_each (place + 1) (Install b log) (x ∷ xs))
 
-      can_still : (m : ℕ) → In m (x ∷ xs) → NodeIs (CanTake b (length log)) one.behind.world.nodes m
+      can_still : (m : ℕ) → In m (x ∷ xs) → NodeIs (CanTake b (length log)) one.after.world.nodes m
       can_still m i = let z = can m i in record {
         place = z.place;
         number = z.number;
@@ -119,14 +119,14 @@ module _ {S C O : Type 0} (rules : Rules S C O) (b : ℕ) (log : List C) (place 
         is = z.is;
       }
 
-      all : Answered rules b (place + 1) (Installed b (length log)) (Follows b log) one.behind (numbers_from (length a.world.sent) (length (x ∷ xs))) (x ∷ xs)
+      all : Answered rules b (place + 1) (Installed b (length log)) (Follows b log) one.after (numbers_from (length a.world.sent) (length (x ∷ xs))) (x ∷ xs)
       all =
           all_answer rules b (place + 1) (Install b log) (Installed b (length log)) (CanTake b (length log)) (Follows b log)
-          (install_answers rules (place + 1) b log) one.behind (length a.world.sent) (x ∷ xs) apart
-          (stand_in (a.world.sent ++ to_each (place + 1) (Install b log) (x ∷ xs)) one.behind.world.sent (length a.world.sent) (to_each (place + 1) (Install b log) (x ∷ xs)) (sym one_sent)
+          (install_answers rules (place + 1) b log) one.after (length a.world.sent) (x ∷ xs) apart
+          (stand_in (a.world.sent ++ to_each (place + 1) (Install b log) (x ∷ xs)) one.after.world.sent (length a.world.sent) (to_each (place + 1) (Install b log) (x ∷ xs)) (sym one_sent)
           (stand_new a.world.sent (to_each (place + 1) (Install b log) (x ∷ xs)))) can_still
 
-      came : Taken rules b place (installing b log r []) (message_to O (place + 1) (Activate b) master ∷ []) all.behind
+      came : Taken rules b place (installing b log r []) (message_to O (place + 1) (Activate b) master ∷ []) all.after
           (numbers_from (length a.world.sent + length (x ∷ xs)) (length (x ∷ xs)))
       came =
           all_come rules b place (Installed b (length log)) (installing_with b log r) (λ c l. runs) (λ c l. joined) (installed_goes_on rules b (length log) log r joined) (x ∷ xs)
@@ -134,18 +134,18 @@ module _ {S C O : Type 0} (rules : Rules S C O) (b : ℕ) (log : List C) (place 
           (λ c m e. installed_last rules b (length log) log r joined m
           ∙ ap (λ n. let o : Outcome S C O = record { state = installing b log r []; effects = message_to O n (Activate r.joined) master ∷ [] } in o) id
           ∙ ap (λ n. let o : Outcome S C O = record { state = installing b log r []; effects = message_to O (place + 1) (Activate n) master ∷ [] } in o) joined)
-          all.behind (length a.world.sent + length (x ∷ xs)) (λ e. cc) apart
-          (stand_in (one.behind.world.sent ++ from_each (place + 1) (Installed b (length log)) (x ∷ xs)) all.behind.world.sent (length a.world.sent + length (x ∷ xs)) (from_each (place + 1) (Installed b (length log)) (x ∷ xs)) (sym all.sent)
-          (stand_at (one.behind.world.sent ++ from_each (place + 1) (Installed b (length log)) (x ∷ xs)) (length one.behind.world.sent) (length a.world.sent + length (x ∷ xs)) (from_each (place + 1) (Installed b (length log)) (x ∷ xs)) one_long (stand_new one.behind.world.sent (from_each (place + 1) (Installed b (length log)) (x ∷ xs)))))
+          all.after (length a.world.sent + length (x ∷ xs)) (λ e. cc) apart
+          (stand_in (one.after.world.sent ++ from_each (place + 1) (Installed b (length log)) (x ∷ xs)) all.after.world.sent (length a.world.sent + length (x ∷ xs)) (from_each (place + 1) (Installed b (length log)) (x ∷ xs)) (sym all.sent)
+          (stand_at (one.after.world.sent ++ from_each (place + 1) (Installed b (length log)) (x ∷ xs)) (length one.after.world.sent) (length a.world.sent + length (x ∷ xs)) (from_each (place + 1) (Installed b (length log)) (x ∷ xs)) one_long (stand_new one.after.world.sent (from_each (place + 1) (Installed b (length log)) (x ∷ xs)))))
           (all.others place out ∙ one.stands)
 
-      long : length all.behind.world.sent ≡ length a.world.sent + (length (x ∷ xs) + length (x ∷ xs))
-      long = ap length all.sent ∙ length-append one.behind.world.sent _
+      long : length all.after.world.sent ≡ length a.world.sent + (length (x ∷ xs) + length (x ∷ xs))
+      long = ap length all.sent ∙ length-append one.after.world.sent _
           ∙ (let e : length (from_each {C = C} (place + 1) (Installed b (length log)) (x ∷ xs)) ≡ length (x ∷ xs) = length_from_each (place + 1) (Installed b (length log)) (x ∷ xs) in
-          let f : length one.behind.world.sent + length (from_each {C = C} (place + 1) (Installed b (length log)) (x ∷ xs))
+          let f : length one.after.world.sent + length (from_each {C = C} (place + 1) (Installed b (length log)) (x ∷ xs))
           ≡ length a.world.sent + (length (x ∷ xs) + length (x ∷ xs)) = omega (arith, one_long, e) in f)
 
-      still : (m : ℕ) → In m (x ∷ xs) → NodeIs (Follows b log) all.behind.world.nodes m → NodeIs (Follows b log) came.behind.world.nodes m
+      still : (m : ℕ) → In m (x ∷ xs) → NodeIs (Follows b log) all.after.world.nodes m → NodeIs (Follows b log) came.after.world.nodes m
       still m i z = record {
         place = z.place;
         number = z.number;

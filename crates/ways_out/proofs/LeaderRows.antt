@@ -23,7 +23,7 @@ use Rattle.snapshots.specs.lists.Lists.{In}
 use Rattle.snapshots.specs.lists.Lists.In.{here, there}
 use Rattle.ways_out.specs.Following.{LeadsIn}
 use Rattle.ways_out.specs.Inside.{installing, known}
-use Rattle.ways_out.proofs.Gathers.{nothing_behind}
+use Rattle.ways_out.proofs.Gathers.{nothing_after}
 use Rattle.ways_out.proofs.Rows.{any_first, both, others_first}
 
 -- ---- State and Installed
@@ -128,7 +128,7 @@ added_alone {S = S} {C = C} {O = O} rules r c progress committed =
     ∙ ap (λ (l : List (Effect C O)). let o : Outcome S C O = record {
       state = applied_to rules (record r { log = r.log ++ c ∷ [] }) (length r.log + 1);
       effects = l;
-    } in o) (nothing_behind (outputs_to rules (record r { log = r.log ++ c ∷ [] }) (length r.log + 1)))
+    } in o) (nothing_after (outputs_to rules (record r { log = r.log ++ c ∷ [] }) (length r.log + 1)))
 
 -- what is given for the place after all that are applied
 pub outputs_next : {S C O : Type 0} (rules : Rules S C O) (r : ReplicaState S C) (log : List C) (c : C) → r.log ≡ log ++ c ∷ [] → r.committed ≡ length log →
@@ -137,7 +137,7 @@ outputs_next {S = S} {C = C} {O = O} rules r log c is committed =
     ap (λ k. outputs_from rules r.machine k (drop k (take (length log + 1) r.log))) committed
     ∙ ap (λ (l : List C). outputs_from rules r.machine (length log) (drop (length log) (take (length log + 1) l))) is
     ∙ ap (outputs_from rules r.machine (length log)) (last_alone log)
-    ∙ nothing_behind (map (Out (length log)) (rules.gives r.machine c))
+    ∙ nothing_after (map (Out (length log)) (rules.gives r.machine c))
   where
     last_of : (xs : List C) → drop (length xs) (take (suc (length xs)) (xs ++ c ∷ [])) ≡ c ∷ []
     last_of [] = refl
@@ -238,5 +238,5 @@ module _ {S C O : Type 0} (rules : Rules S C O) (b : ℕ) (r : ReplicaState S C)
     where
       all_hold : least (length r.log) (progress_at (length log + 1) (came ++ m ∷ []) ++ []) ≡ length log + 1
       all_hold =
-          ap (least (length r.log)) (nothing_behind (progress_at (length log + 1) (came ++ m ∷ [])))
+          ap (least (length r.log)) (nothing_after (progress_at (length log + 1) (came ++ m ∷ [])))
           ∙ least_at (length r.log) (length log + 1) (came ++ m ∷ []) (omega (arith, count)) ∙ count

@@ -10,10 +10,10 @@ use Rattle.snapshots.specs.whole.Protocol.Input.{Receives}
 use Rattle.snapshots.specs.whole.Messages.{Effect}
 use Rattle.snapshots.specs.whole.Losses.{Thinned}
 use Rattle.snapshots.specs.whole.Losses.Thinned.{none, keeps}
-use Rattle.snapshots.specs.agreement.MasterState.{AssignRefusal, master_behind, refusal}
+use Rattle.snapshots.specs.agreement.MasterState.{AssignRefusal, master_after, refusal}
 use Rattle.snapshots.specs.agreement.Past.{Moment, Past, IsAgreed}
 use Rattle.snapshots.specs.agreement.Past.Past.{went_on}
-use Rattle.snapshots.specs.agreement.Steps.{MayHappen, world_behind}
+use Rattle.snapshots.specs.agreement.Steps.{MayHappen, world_after}
 use Rattle.snapshots.specs.agreement.Steps.MayHappen.{node_takes, master_assigns, master_hears}
 use Rattle.snapshots.proofs.of_agreement.Agreed.PastAgrees.{has_agreed}
 use Rattle.snapshots.proofs.of_agreement.Agreed.PastGrows.{agreed_only_grows}
@@ -48,7 +48,7 @@ pub assign_goes : {S C O : Type 0} (rules : Rules S C O) (config : Config) (a : 
 assign_goes {S = S} {C = C} {O = O} rules config a past new came granted =
     record {
       between = [];
-      came = went_on came (subst (λ (o : Option AssignRefusal). MayHappen rules a.master a.world (master_behind a.master new o) (world_behind a.master a.world new o)) granted
+      came = went_on came (subst (λ (o : Option AssignRefusal). MayHappen rules a.master a.world (master_after a.master new o) (world_after a.master a.world new o)) granted
           (master_assigns new));
       grown = λ xs ys p q. agreed_only_grows config (a ∷ past) (assigned_moment new a) xs ys p q;
     }

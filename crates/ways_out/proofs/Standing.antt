@@ -18,15 +18,15 @@ pub stand_more : {X : Type 0} (all more : List X) (k : ℕ) (xs : List X) → St
 stand_more all more k [] s = tt
 stand_more all more k (x ∷ xs) (e, s) = (get_more all more k x e, stand_more all more (k + 1) xs s)
 
-get_behind : {X : Type 0} (all : List X) (x : X) (xs : List X) → slice_get (all ++ x ∷ xs) (length all) ≡ Some x
-get_behind [] x xs = refl
-get_behind (y ∷ all) x xs = get_behind all x xs
+get_after : {X : Type 0} (all : List X) (x : X) (xs : List X) → slice_get (all ++ x ∷ xs) (length all) ≡ Some x
+get_after [] x xs = refl
+get_after (y ∷ all) x xs = get_after all x xs
 
 -- what is added is at the places from there on
 pub stand_new : {X : Type 0} (all xs : List X) → StandFrom (all ++ xs) (length all) xs
 stand_new all [] = tt
 stand_new {X = X} all (x ∷ xs) = (
-  get_behind all x xs,
+  get_after all x xs,
   subst (λ (l : List X). StandFrom l (length all + 1) xs) (append_assoc all (x ∷ []) xs)
       (subst (λ k. StandFrom ((all ++ x ∷ []) ++ xs) k xs) (length-append all (x ∷ [])) (stand_new (all ++ x ∷ []) xs)),
 )

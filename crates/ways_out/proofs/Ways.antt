@@ -40,13 +40,13 @@ way_out_count sent members place count =
 -- the end
 pub record IsOut {S C O : Type 0} (rules : Rules S C O) (b : ℕ) (log : List C) (place : ℕ) (os : List ℕ) (master : MasterState) (a : Moment S C O)
     (ks : List ℕ) (long : ℕ) : Type 0 where
-  pub behind : Moment S C O
-  pub delivered : Delivered rules b a ks behind
-  pub master_is : behind.master ≡ master
-  pub last : length behind.world.sent ≡ long
-  pub primary : NodeIs (Serves b log os) behind.world.nodes (place + 1)
-  pub each : (m : ℕ) → In m os → NodeIs (Follows b log) behind.world.nodes m
-  pub told : (m : ℕ) → In m os → In (place + 1, record { from = m; body = Held b (length log) }) behind.world.sent
+  pub after : Moment S C O
+  pub delivered : Delivered rules b a ks after
+  pub master_is : after.master ≡ master
+  pub last : length after.world.sent ≡ long
+  pub primary : NodeIs (Serves b log os) after.world.nodes (place + 1)
+  pub each : (m : ℕ) → In m os → NodeIs (Follows b log) after.world.nodes m
+  pub told : (m : ℕ) → In m os → In (place + 1, record { from = m; body = Held b (length log) }) after.world.sent
 
 module _ {S C O : Type 0} (rules : Rules S C O) (silent : (s : S) (b : ℕ) → rules.gives s (rules.start_of b) ≡ []) (a : Moment S C O) (place source i : ℕ)
     (rp rs : ReplicaState S C) (os : List ℕ) (log : List C) (config : Config)
@@ -78,12 +78,12 @@ module _ {S C O : Type 0} (rules : Rules S C O) (silent : (s : S) (b : ℕ) → 
   out_alone : os ≡ [] → Fetched → Out
   out_alone none f =
       record {
-        behind = h.behind;
-        delivered = subst (λ ks. Delivered rules (a.master.given + 1) (assigned_moment config a) ks h.behind) numbers (then_come rules f.delivered (then_come rules g.delivered h.delivered));
+        after = h.after;
+        delivered = subst (λ ks. Delivered rules (a.master.given + 1) (assigned_moment config a) ks h.after) numbers (then_come rules f.delivered (then_come rules g.delivered h.delivered));
         master_is = h.master ∙ ap (with_active (a.master.given + 1) config) (g.master ∙ f.master_is);
         last = h.last ∙ (let z = f.last in let y = ap length none in
-            let e : length f.behind.world.sent + 2 ≡ length a.world.sent + length a.master.members + 4 + 5 * length os = omega (arith, z, y) in e);
-        primary = subst (λ l. NodeIs (Serves (a.master.given + 1) (log ++ rules.start_of (a.master.given + 1) ∷ []) l) h.behind.world.nodes (place + 1)) (sym none) h.primary;
+            let e : length f.after.world.sent + 2 ≡ length a.world.sent + length a.master.members + 4 + 5 * length os = omega (arith, z, y) in e);
+        primary = subst (λ l. NodeIs (Serves (a.master.given + 1) (log ++ rules.start_of (a.master.given + 1) ∷ []) l) h.after.world.nodes (place + 1)) (sym none) h.primary;
         each = λ m j. absurd (no_member m (subst (λ l. In m l) none j));
         told = λ m j. absurd (no_member m (subst (λ l. In m l) none j));
       }
@@ -91,61 +91,61 @@ module _ {S C O : Type 0} (rules : Rules S C O) (silent : (s : S) (b : ℕ) → 
       no_member : (m : ℕ) → In m [] → ⊥
       no_member m j = elim j [ ]
 
-      g : IsInstalled rules (a.master.given + 1) log place r1 [] f.behind ((length a.world.sent + 1 + length a.master.members) ∷ []) (length f.behind.world.sent)
-      g = alone rules (a.master.given + 1) log place r1 can.runs can.id refl refl can.applied f.behind (length a.world.sent + 1 + length a.master.members) (source + 1)
+      g : IsInstalled rules (a.master.given + 1) log place r1 [] f.after ((length a.world.sent + 1 + length a.master.members) ∷ []) (length f.after.world.sent)
+      g = alone rules (a.master.given + 1) log place r1 can.runs can.id refl refl can.applied f.after (length a.world.sent + 1 + length a.master.members) (source + 1)
           (are_here ∙ none) f.sent f.primary
 
-      h : IsActivated rules (a.master.given + 1) (log ++ rules.start_of (a.master.given + 1) ∷ []) place [] config g.behind
-          (length f.behind.world.sent ∷ (length f.behind.world.sent + 1) ∷ []) (length f.behind.world.sent + 2)
-      h = activated_alone rules (a.master.given + 1) log place r1 config can.runs can.id refl room (λ s. silent s (a.master.given + 1)) g.behind
-          (length f.behind.world.sent) g.asks g.last (ap (λ (m : MasterState). m.waiting) (g.master ∙ f.master_is)) g.primary (are_here ∙ none)
+      h : IsActivated rules (a.master.given + 1) (log ++ rules.start_of (a.master.given + 1) ∷ []) place [] config g.after
+          (length f.after.world.sent ∷ (length f.after.world.sent + 1) ∷ []) (length f.after.world.sent + 2)
+      h = activated_alone rules (a.master.given + 1) log place r1 config can.runs can.id refl room (λ s. silent s (a.master.given + 1)) g.after
+          (length f.after.world.sent) g.asks g.last (ap (λ (m : MasterState). m.waiting) (g.master ∙ f.master_is)) g.primary (are_here ∙ none)
 
       numbers : length a.world.sent ∷ (length a.world.sent + 1 + i) ∷ (length a.world.sent + 1 + length a.master.members)
-          ∷ length f.behind.world.sent ∷ (length f.behind.world.sent + 1) ∷ []
+          ∷ length f.after.world.sent ∷ (length f.after.world.sent + 1) ∷ []
           ≡ way_out (length a.world.sent) (length a.master.members) i (length os)
       numbers =
           ap (λ z. length a.world.sent ∷ (length a.world.sent + 1 + i) ∷ (length a.world.sent + 1 + length a.master.members) ∷ z ∷ (z + 1) ∷ [])
-          (let z = f.last in let e : length f.behind.world.sent ≡ asked_at (length a.world.sent) (length a.master.members) 0 = omega (arith, z) in e)
+          (let z = f.last in let e : length f.after.world.sent ≡ asked_at (length a.world.sent) (length a.master.members) 0 = omega (arith, z) in e)
           ∙ ap (λ (l : List ℕ). way_out (length a.world.sent) (length a.master.members) i (length l)) (sym none)
 
   -- with others
   out_with : (x : ℕ) (xs : List ℕ) → os ≡ x ∷ xs → Fetched → Out
   out_with x xs some f =
       record {
-        behind = h.behind;
-        delivered = subst (λ ks. Delivered rules (a.master.given + 1) (assigned_moment config a) ks h.behind) numbers (then_come rules f.delivered (then_come rules g.delivered h.delivered));
+        after = h.after;
+        delivered = subst (λ ks. Delivered rules (a.master.given + 1) (assigned_moment config a) ks h.after) numbers (then_come rules f.delivered (then_come rules g.delivered h.delivered));
         master_is = h.master ∙ ap (with_active (a.master.given + 1) config) (g.master ∙ f.master_is);
         last = h.last ∙ (let z = f.last in let y = ap length some in
-            let e : length f.behind.world.sent + (length (x ∷ xs) + length (x ∷ xs)) + 2 + length (x ∷ xs) + (length (x ∷ xs) + length (x ∷ xs))
+            let e : length f.after.world.sent + (length (x ∷ xs) + length (x ∷ xs)) + 2 + length (x ∷ xs) + (length (x ∷ xs) + length (x ∷ xs))
             ≡ length a.world.sent + length a.master.members + 4 + 5 * length os = omega (arith, z, y) in e);
-        primary = subst (λ l. NodeIs (Serves (a.master.given + 1) (log ++ rules.start_of (a.master.given + 1) ∷ []) l) h.behind.world.nodes (place + 1)) (sym some) h.primary;
+        primary = subst (λ l. NodeIs (Serves (a.master.given + 1) (log ++ rules.start_of (a.master.given + 1) ∷ []) l) h.after.world.nodes (place + 1)) (sym some) h.primary;
         each = λ m j. h.each m (subst (λ l. In m l) some j);
         told = λ m j. h.told m (subst (λ l. In m l) some j);
       }
     where
-      g : IsInstalled rules (a.master.given + 1) log place r1 (x ∷ xs) f.behind
+      g : IsInstalled rules (a.master.given + 1) log place r1 (x ∷ xs) f.after
           ((length a.world.sent + 1 + length a.master.members)
-          ∷ (numbers_from (length f.behind.world.sent) (length (x ∷ xs)) ++ numbers_from (length f.behind.world.sent + length (x ∷ xs)) (length (x ∷ xs))))
-          (length f.behind.world.sent + (length (x ∷ xs) + length (x ∷ xs)))
-      g = with_others rules (a.master.given + 1) log place r1 can.runs can.id refl refl can.applied f.behind (length a.world.sent + 1 + length a.master.members) (source + 1)
+          ∷ (numbers_from (length f.after.world.sent) (length (x ∷ xs)) ++ numbers_from (length f.after.world.sent + length (x ∷ xs)) (length (x ∷ xs))))
+          (length f.after.world.sent + (length (x ∷ xs) + length (x ∷ xs)))
+      g = with_others rules (a.master.given + 1) log place r1 can.runs can.id refl refl can.applied f.after (length a.world.sent + 1 + length a.master.members) (source + 1)
           x xs (are_here ∙ some) (subst AreApart some apart) (λ j. out (subst (λ l. In (place + 1) l) (sym some) j)) f.sent f.primary
           (λ m j. f.each m (subst (λ l. In m l) (sym some) j))
 
-      h : IsActivated rules (a.master.given + 1) (log ++ rules.start_of (a.master.given + 1) ∷ []) place (x ∷ xs) config g.behind
-          ((length f.behind.world.sent + (length (x ∷ xs) + length (x ∷ xs))) ∷ (length f.behind.world.sent + (length (x ∷ xs) + length (x ∷ xs)) + 1)
-          ∷ (numbers_from (length f.behind.world.sent + (length (x ∷ xs) + length (x ∷ xs)) + 2) (length (x ∷ xs))
-          ++ numbers_from (length f.behind.world.sent + (length (x ∷ xs) + length (x ∷ xs)) + 2 + length (x ∷ xs)) (length (x ∷ xs))))
-          (length f.behind.world.sent + (length (x ∷ xs) + length (x ∷ xs)) + 2 + length (x ∷ xs) + (length (x ∷ xs) + length (x ∷ xs)))
-      h = activated_all rules (a.master.given + 1) log place r1 config can.runs can.id refl room (λ s. silent s (a.master.given + 1)) g.behind
-          (length f.behind.world.sent + (length (x ∷ xs) + length (x ∷ xs))) g.asks g.last (ap (λ (m : MasterState). m.waiting) (g.master ∙ f.master_is)) g.primary
+      h : IsActivated rules (a.master.given + 1) (log ++ rules.start_of (a.master.given + 1) ∷ []) place (x ∷ xs) config g.after
+          ((length f.after.world.sent + (length (x ∷ xs) + length (x ∷ xs))) ∷ (length f.after.world.sent + (length (x ∷ xs) + length (x ∷ xs)) + 1)
+          ∷ (numbers_from (length f.after.world.sent + (length (x ∷ xs) + length (x ∷ xs)) + 2) (length (x ∷ xs))
+          ++ numbers_from (length f.after.world.sent + (length (x ∷ xs) + length (x ∷ xs)) + 2 + length (x ∷ xs)) (length (x ∷ xs))))
+          (length f.after.world.sent + (length (x ∷ xs) + length (x ∷ xs)) + 2 + length (x ∷ xs) + (length (x ∷ xs) + length (x ∷ xs)))
+      h = activated_all rules (a.master.given + 1) log place r1 config can.runs can.id refl room (λ s. silent s (a.master.given + 1)) g.after
+          (length f.after.world.sent + (length (x ∷ xs) + length (x ∷ xs))) g.asks g.last (ap (λ (m : MasterState). m.waiting) (g.master ∙ f.master_is)) g.primary
           x xs (are_here ∙ some) (subst AreApart some apart) (λ j. out (subst (λ l. In (place + 1) l) (sym some) j)) g.each
 
       numbers : ◌≡◌ {A = List ℕ}
           (length a.world.sent ∷ (length a.world.sent + 1 + i) ∷ (length a.world.sent + 1 + length a.master.members)
-          ∷ ((numbers_from (length f.behind.world.sent) (length (x ∷ xs)) ++ numbers_from (length f.behind.world.sent + length (x ∷ xs)) (length (x ∷ xs)))
-          ++ (length f.behind.world.sent + (length (x ∷ xs) + length (x ∷ xs))) ∷ (length f.behind.world.sent + (length (x ∷ xs) + length (x ∷ xs)) + 1)
-          ∷ (numbers_from (length f.behind.world.sent + (length (x ∷ xs) + length (x ∷ xs)) + 2) (length (x ∷ xs))
-          ++ numbers_from (length f.behind.world.sent + (length (x ∷ xs) + length (x ∷ xs)) + 2 + length (x ∷ xs)) (length (x ∷ xs)))))
+          ∷ ((numbers_from (length f.after.world.sent) (length (x ∷ xs)) ++ numbers_from (length f.after.world.sent + length (x ∷ xs)) (length (x ∷ xs)))
+          ++ (length f.after.world.sent + (length (x ∷ xs) + length (x ∷ xs))) ∷ (length f.after.world.sent + (length (x ∷ xs) + length (x ∷ xs)) + 1)
+          ∷ (numbers_from (length f.after.world.sent + (length (x ∷ xs) + length (x ∷ xs)) + 2) (length (x ∷ xs))
+          ++ numbers_from (length f.after.world.sent + (length (x ∷ xs) + length (x ∷ xs)) + 2 + length (x ∷ xs)) (length (x ∷ xs)))))
           (way_out (length a.world.sent) (length a.master.members) i (length os))
       numbers =
           ap (λ z. length a.world.sent ∷ (length a.world.sent + 1 + i) ∷ (length a.world.sent + 1 + length a.master.members)
@@ -153,7 +153,7 @@ module _ {S C O : Type 0} (rules : Rules S C O) (silent : (s : S) (b : ℕ) → 
           ++ (z + (length (x ∷ xs) + length (x ∷ xs))) ∷ (z + (length (x ∷ xs) + length (x ∷ xs)) + 1)
           ∷ (numbers_from (z + (length (x ∷ xs) + length (x ∷ xs)) + 2) (length (x ∷ xs))
           ++ numbers_from (z + (length (x ∷ xs) + length (x ∷ xs)) + 2 + length (x ∷ xs)) (length (x ∷ xs)))))
-          (let z = f.last in let e : length f.behind.world.sent ≡ length a.world.sent + length a.master.members + 2 = omega (arith, z) in e)
+          (let z = f.last in let e : length f.after.world.sent ≡ length a.world.sent + length a.master.members + 2 = omega (arith, z) in e)
           ∙ ap (λ (l : List ℕ). way_out (length a.world.sent) (length a.master.members) i (length l)) (sym some)
 
   pub is_out : Out

@@ -1,6 +1,7 @@
 -- Answering.antt: the next command at the primary of a led ballot, if nodes cut their logs. What is
 -- said about logs is said about whole ones.
-use Rattle.std.specs.Prelude.{ℕ, ◌+◌, ◌*◌, ◌<◌, ◌≡◌, false, List, [], ◌∷◌, ◌++◌, length, map, slice_get, Some}
+use Rattle.std.specs.Prelude.{ℕ, ◌+◌, ◌*◌, ◌<◌, ◌≡◌, false, List, [], ◌∷◌, ◌++◌, length, map}
+use Rattle.std.specs.Prelude.{slice_get, Some}
 use Rattle.snapshots.specs.machine.Machine.{Rules, replay}
 use Rattle.snapshots.specs.lists.Lists.{In}
 use Rattle.snapshots.specs.ballot_base.declared.config.Config.{Config}

@@ -10,7 +10,7 @@ use Rattle.ballot_base.specs.declared.status.Role.TheVariants.{Backup, Fetching,
 use Rattle.whole.specs.Replica.{ReplicaState, is_active}
 use Rattle.whole.specs.Sending.{Outcome, nothing_done, message_to, message_to_followed}
 use Rattle.whole.specs.Applying.{outputs_to, applied_to}
-use Rattle.whole.specs.Serving.{least, raised, follows, leads, extended, commit_at, commit, on_append, on_held, on_commit, appends_behind, on_tick_active}
+use Rattle.whole.specs.Serving.{least, raised, follows, leads, extended, commit_at, commit, on_append, on_held, on_commit, appends_after, on_tick_active}
 use Rattle.whole.specs.Protocol.{ticked}
 use Rattle.whole.proofs.StepRows.{commit_at-goes, commit_at-stays}
 pub use Rattle.ballot_base.proofs.MessageRows.{raised_progress-member}
@@ -116,7 +116,7 @@ ticked-active O r Active active = refl
 pub on_tick_active-is : {S C : Type 0} (O : Type 0) (r : ReplicaState S C) →
     on_tick_active O r ≡ record {
       state = r;
-      effects = appends_behind O r.id r.joined r.log r.progress
+      effects = appends_after O r.id r.joined r.log r.progress
           ++ message_to_followed O r.id (Commit r.joined r.committed) r.progress;
     }
 unfolding on_tick_active

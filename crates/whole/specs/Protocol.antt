@@ -2,12 +2,14 @@
 use Rattle.std.specs.Prelude.{ℕ}
 use Rattle.ballot_base.specs.machine.Machine.{Rules}
 use Rattle.whole.specs.Messages.{Message, Body}
-use Rattle.whole.specs.Messages.Body.{NewBallot, Join, State, Install, Installed, Activate, Activated, Superseded, Append, Held, Commit}
+use Rattle.whole.specs.Messages.Body.{NewBallot, Join, State, Install, Installed, Activate}
+use Rattle.whole.specs.Messages.Body.{Activated, Superseded, Append, Held, Commit}
 use Rattle.ballot_base.specs.declared.status.Role.{Role}
 use Rattle.ballot_base.specs.declared.status.Role.TheVariants.{Backup, Fetching, Installing, Active}
 use Rattle.whole.specs.Sending.{Outcome, nothing_done}
 use Rattle.whole.specs.Serving.{proposed, on_append, on_held, on_commit, on_tick_active}
-use Rattle.whole.specs.Changing.{on_new_ballot, on_join, on_state, on_install, on_tick_fetching, on_tick_installing}
+use Rattle.whole.specs.Changing.{on_new_ballot, on_join, on_state, on_install}
+use Rattle.whole.specs.Changing.{on_tick_fetching, on_tick_installing}
 use Rattle.whole.specs.Activating.{on_installed, on_activated, on_superseded}
 use Rattle.whole.specs.Replica.{ReplicaState}
 

@@ -6,7 +6,8 @@ use Rattle.ballot_base.specs.declared.status.Progress.{Progress}
 use Rattle.ballot_base.specs.declared.status.Role.{Role}
 use Rattle.ballot_base.specs.declared.status.Role.TheVariants.{Backup, Active}
 use Rattle.std.specs.List.{list_any}
-pub use Rattle.ballot_base.specs.Replica.{is_active, is_backup, is_fetching, is_installing, others, progress_at}
+pub use Rattle.ballot_base.specs.Replica.{is_active, is_backup, is_fetching, is_installing}
+pub use Rattle.ballot_base.specs.Replica.{others, progress_at}
 
 -- what one node keeps: its log, and a machine that has applied some places. In a group the machine
 -- is the replay of the first `committed` places

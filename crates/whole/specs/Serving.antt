@@ -1,6 +1,7 @@
 -- Serving.antt: the rows of the protocol inside a ballot: Append, Held, Commit, proposals, ticks.
 -- Receivers are in rising order. A message that no row's condition covers changes nothing.
-use Rattle.std.specs.Prelude.{ℕ, Bool, List, [], ◌∷◌, ◌++◌, length, max, slice_get, Option, Some, None, ◌==◌, ◌&&◌, nat_lt, nat_le, if◌then◌else◌}
+use Rattle.std.specs.Prelude.{ℕ, Bool, List, [], ◌∷◌, ◌++◌, length, max, slice_get, Option, Some}
+use Rattle.std.specs.Prelude.{None, ◌==◌, ◌&&◌, nat_lt, nat_le, if◌then◌else◌}
 use Rattle.std.specs.List.{flat_map}
 use Rattle.ballot_base.specs.machine.Machine.{Rules}
 use Rattle.whole.specs.Messages.Body.{Append, Held, Commit}
@@ -85,9 +86,9 @@ append_at O id ballot reached None = []
 append_at O id ballot reached (Some command) =
     message_to O id (Append ballot reached.held command) reached.member ∷ []
 
-abbrev pub appends_behind : {C : Type 0} (O : Type 0) →
+abbrev pub appends_after : {C : Type 0} (O : Type 0) →
     ℕ → ℕ → List C → List Progress → List (Effect C O)
-appends_behind O id ballot log progress =
+appends_after O id ballot log progress =
     flat_map (λ reached. append_at O id ballot reached (slice_get log reached.held)) progress
 
 -- an active primary repeats what the other members lack, and what is committed
@@ -95,6 +96,6 @@ unfoldable pub on_tick_active : {S C : Type 0} (O : Type 0) → ReplicaState S C
 on_tick_active O r =
     record {
       state = r;
-      effects = appends_behind O r.id r.joined r.log r.progress
+      effects = appends_after O r.id r.joined r.log r.progress
           ++ message_to_followed O r.id (Commit r.joined r.committed) r.progress;
     }

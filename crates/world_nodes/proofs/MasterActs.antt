@@ -10,7 +10,7 @@ use Rattle.master.specs.ballot.Body.TheVariants.{NewBallot, Join, State, Install
 use Rattle.master.specs.ballot.Config.{Config}
 use Rattle.master.specs.ballot.Losses.{one_more}
 use Rattle.master.specs.ballot.Message.{Message}
-use Rattle.master.specs.agreement.MasterState.{AssignRefusal, MasterState, activating, assigning, is_granted, master_behind, refusal}
+use Rattle.master.specs.agreement.MasterState.{AssignRefusal, MasterState, activating, assigning, is_granted, master_after, refusal}
 use Rattle.master.specs.snapshots.Masters.{activated, assigned}
 use Rattle.byte_world.specs.broker_base.Command.{Command}
 use Rattle.byte_world.specs.world_base.declared.item.Item.TheVariants.{Peer}
@@ -56,7 +56,7 @@ does_by {h = h} b = record { behind = h; step = b.step; is = b.is; faithful = b.
 
 assigns_by : (g : Group) (config : Config) → refusal g.master config ≡ None → ByMaster g (group_giving config g)
 assigns_by g config e =
-    subst (λ (r : Option AssignRefusal). ByMaster g (with_master (behind_assign g config r) (master_behind g.master config r))) e
+    subst (λ (r : Option AssignRefusal). ByMaster g (with_master (behind_assign g config r) (master_after g.master config r))) e
     (record { step = master_assigns config; is = refl; faithful = tt })
 
 hears_by : (g : Group) (from ballot : ℕ) → In (0, record { from = from; body = Activate ballot }) g.sent → ByMaster g (group_answer from ballot g)
@@ -171,7 +171,7 @@ answers_where from ballot old new (inr is) none = absurd (counts (unheard (behin
 -- the ballot is given, and sent to its primary or not
 gives_unheard : (g : Group) (config : Config) → refusal g.master config ≡ None → ByMaster g (with_master g (assigning g.master config))
 gives_unheard g config e =
-    subst (λ (r : Option AssignRefusal). ByMaster g (with_master g (master_behind g.master config r))) e (record { step = assigns_unheard config; is = refl; faithful = tt })
+    subst (λ (r : Option AssignRefusal). ByMaster g (with_master g (master_after g.master config r))) e (record { step = assigns_unheard config; is = refl; faithful = tt })
 
 answers_lost : (g : Group) (from ballot : ℕ) → In (0, record { from = from; body = Activate ballot }) g.sent
     → ByMaster g (with_master g (activating g.master ballot g.master.waiting))

@@ -32,12 +32,12 @@ chosen_stays config past v b xs (c, has, all) =
 -- what is agreed begins what is agreed after the next moment
 pub agreed_only_grows : {S C O : Type 0} (config : Config) (past : List (Moment S C O)) (v : Moment S C O) (xs ys : List C) →
     IsAgreed config past xs → IsAgreed config (v ∷ past) ys → IsPrefixOf xs ys
-agreed_only_grows {S = S} {C = C} {O = O} config past v xs ys before behind = by_chosen before.chosen
+agreed_only_grows {S = S} {C = C} {O = O} config past v xs ys before after = by_chosen before.chosen
   where
     by_chosen : (xs ≡ []) ⊎ ((b : ℕ) × WasActive past b × IsChosen config past b xs) → IsPrefixOf xs ys
     by_chosen (inl none) = subst (λ (us : List C). IsPrefixOf us ys) (sym none) (record { rest = ys; is = refl })
-    by_chosen (inr (b, active, chosen)) = behind.longest b xs (active_stays past v b active) (chosen_stays config past v b xs chosen)
+    by_chosen (inr (b, active, chosen)) = after.longest b xs (active_stays past v b active) (chosen_stays config past v b xs chosen)
 
 -- in the terms of the laws
 pub agreed_grows : {S C O : Type 0} (rules : Rules S C O) → AgreedGrows rules
-agreed_grows rules config a past xs ys before behind = agreed_only_grows config past a xs ys before behind
+agreed_grows rules config a past xs ys before after = agreed_only_grows config past a xs ys before after

@@ -87,14 +87,14 @@ proposed_step {S = S} {C = C} {O = O} rules past m w rows n r c new given stands
     before : IsSoundNode w q.history n r
     before = s.sound.nodes n r stands
 
-    behind : IsSoundNode v h n new
-    behind = x.run.group.goes_on.sound.nodes n new (get_set w.nodes n r new stands)
+    after : IsSoundNode v h n new
+    after = x.run.group.goes_on.sound.nodes n new (get_set w.nodes n r new stands)
 
     leads : IsActive w q.history n r
     leads = before.active role
 
     still : IsActive v h n new
-    still = behind.active (ap (λ (y : ReplicaState S C). y.role) e ∙ kept.0 ∙ role)
+    still = after.active (ap (λ (y : ReplicaState S C). y.role) e ∙ kept.0 ∙ role)
 
     joined : new.joined ≡ r.joined
     joined = ap (λ (y : ReplicaState S C). y.joined) e ∙ kept.1
@@ -104,7 +104,7 @@ proposed_step {S = S} {C = C} {O = O} rules past m w rows n r c new given stands
     by_way later own (inr more) = subst (λ us. OwnLines rules.start_of h us) more own
     by_way later own (inl same) =
         own_anyway rules.start_of q.history h rows r.joined c leads.line still.line leads.lined (ap h.line (sym joined) ∙ still.lined)
-        (sym (active_log v h n new behind still) ∙ longer ∙ ap (λ (us : List C). us ++ c ∷ []) (active_log w q.history n r before leads)) q.own
+        (sym (active_log v h n new after still) ∙ longer ∙ ap (λ (us : List C). us ++ c ∷ []) (active_log w q.history n r before leads)) q.own
         (subst (λ us. OwnLines rules.start_of h us) same own)
 
 -- a step

@@ -12,7 +12,7 @@ use Rattle.agreement.specs.Inside.Extending.{Extends}
 use Rattle.agreement.specs.Inside.Ballots.Applied.{nothing, in_ballot}
 use Rattle.agreement.specs.Inside.Ballots.Told.{told_as_primary}
 use Rattle.agreement.specs.Inside.Keeps.{Keeps, LineAdds}
-use Rattle.agreement.specs.Inside.Keeps.LineAdds.{as_it_was, begins_behind}
+use Rattle.agreement.specs.Inside.Keeps.LineAdds.{as_it_was, begins_after}
 use Rattle.agreement.specs.Inside.Moves.{Moves, with_lines, lined_at}
 use Rattle.agreement.specs.Inside.Moves.LineGoesOn.{begins}
 use Rattle.agreement.specs.Inside.Sound.{IsInstalling, IsSoundNode, IsSound}
@@ -70,7 +70,7 @@ state_taken {S = S} {C = C} {O = O} rules w h n r xs s stands q long given thinn
     by_line b k (inr (other, e)) = as_it_was e
     by_line b k (inl (e, f)) =
         subst (λ x. LineAdds (λ x c. ⊥) h x k) (sym e) (subst (λ (y : Line C). LineAdds (λ x c. ⊥) h r.joined y) f
-        (begins_behind q.ballot q.before q.is_of.given q.unlined q.lined_before q.front))
+        (begins_after q.ballot q.before q.is_of.given q.unlined q.lined_before q.front))
 
     t : IsSoundNode w h n r
     t = s.nodes n r stands

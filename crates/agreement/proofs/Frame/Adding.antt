@@ -5,13 +5,13 @@ use Rattle.whole.specs.Sending.{Outcome}
 use Rattle.agreement.specs.World.{World}
 use Rattle.agreement.specs.Inside.Ballots.{Line, History}
 use Rattle.agreement.specs.Inside.Keeps.{KeepsAdding, LineAdds}
-use Rattle.agreement.specs.Inside.Keeps.LineAdds.{as_it_was, begins_behind, adds_one}
+use Rattle.agreement.specs.Inside.Keeps.LineAdds.{as_it_was, begins_after, adds_one}
 
 -- what may be added to a list
 line_less : {C : Type 0} (adds more : ℕ → C → Type 0) (h : History C) (b : ℕ) (k : Line C) → ((x : ℕ) (c : C) → adds x c → more x c) →
     LineAdds adds h b k → LineAdds more h b k
 line_less adds more h b k f (as_it_was e) = as_it_was e
-line_less adds more h b k f (begins_behind g p e none before front) = begins_behind g p e none before front
+line_less adds more h b k f (begins_after g p e none before front) = begins_after g p e none before front
 line_less adds more h b k f (adds_one l c e same a) = adds_one l c e same (f b c a)
 
 pub adds_less : {S C O : Type 0} (rules : Rules S C O) (w : World S C O) (h : History C) (n : ℕ) (adds more : ℕ → C → Type 0)

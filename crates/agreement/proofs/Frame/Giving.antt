@@ -58,7 +58,7 @@ pub left_more : {S C O : Type 0} (rules : Rules S C O) (w : World S C O) (h : Hi
     first < past → length l.base ≤ first → old.committed ≤ first → past ≤ new.committed →
     IsChosenIn (moved w n new given) (with_lines h line) b past → outputs given ≡ outputs (outputs_between rules l.list first past) →
     LeftIs rules (moved w n new given) (with_lines h line)
-left_more {S = S} {C = C} {O = O} rules w h line n old new given q s b first past g l active given_b primary lined rising low behind up chosen outs =
+left_more {S = S} {C = C} {O = O} rules w h line n old new given q s b first past g l active given_b primary lined rising low after up chosen outs =
     record {
       segments = s.left.segments ++ now ∷ [];
       left = λ agreed bounds. ap (λ us. w.left ++ us) (outs ∙ ap outputs (sym (agreed_outputs agreed (bounds b past l active lined chosen))))
@@ -125,7 +125,7 @@ left_more {S = S} {C = C} {O = O} rules w h line n old new given q s b first pas
         below_now (moved w n new given) (with_lines h line) (ballots_same h line s.ballots)
         (move_lines w h line n old new given q (within_of rules w h s) s.lines) within y
         (by_segment y (inl j)) b first past l active lined low chosen
-        (λ e. let z = s.left.applied y j g (ap h.given e ∙ given_b) n primary old q.stands in omega (arith, z, behind))
+        (λ e. let z = s.left.applied y j g (ap h.given e ∙ given_b) n primary old q.stands in omega (arith, z, after))
 
     above : (y : Segment) → In y s.left.segments → b < y.ballot → past ≤ y.first
     above y j =

@@ -15,7 +15,7 @@ use Rattle.agreement.specs.Giving.{GivesNext, given_in, gives_from}
 use Rattle.agreement.specs.Laws.{AnswersAtTheNextPlaces}
 use Rattle.agreement.specs.MasterState.{AssignRefusal, MasterState, refusal}
 use Rattle.agreement.specs.Past.Past.{went_on}
-use Rattle.agreement.specs.Steps.{MayHappen, world_behind}
+use Rattle.agreement.specs.Steps.{MayHappen, world_after}
 use Rattle.agreement.specs.Steps.MayHappen.{node_takes, node_stops, master_assigns, master_hears, assignment_lost, answer_lost}
 use Rattle.agreement.specs.World.{World, outputs}
 use Rattle.agreement.proofs.Agreed.PastAgrees.{nodes_agree}
@@ -116,7 +116,7 @@ group_step_gives {S = S} {C = C} {O = O} rules m w k v step n old new stood stan
         by_place (inr other) = still (sym (get_set_other w.nodes i n (halted rules r) other) ∙ there) [] refl
     by_step (master_assigns config) there = still (ap (λ (ns : List (ReplicaState S C)). slice_get ns n) (sym (by_refusal (refusal m config))) ∙ there) [] refl
       where
-        by_refusal : (o : Option AssignRefusal) → (world_behind m w config o).nodes ≡ w.nodes
+        by_refusal : (o : Option AssignRefusal) → (world_after m w config o).nodes ≡ w.nodes
         by_refusal None = refl
         by_refusal (Some why) = refl
     by_step (master_hears from b sent) there = still there [] refl

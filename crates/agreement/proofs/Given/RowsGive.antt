@@ -11,11 +11,11 @@ use Rattle.whole.specs.Role.{Role}
 use Rattle.whole.specs.Role.TheVariants.{Backup, Fetching, Installing, Active}
 use Rattle.whole.specs.Protocol.{ticked}
 use Rattle.whole.specs.Sending.{Outcome, message_to_followed}
-use Rattle.whole.specs.Serving.{appends_behind, follows, on_append, on_tick_active}
+use Rattle.whole.specs.Serving.{appends_after, follows, on_append, on_tick_active}
 use Rattle.agreement.specs.World.{outputs}
 use Rattle.agreement.proofs.Changing.NewBallots.{outputs_to_each}
 use Rattle.agreement.proofs.Effects.{outputs-append, outputs_of_messages}
-use Rattle.agreement.proofs.Serving.ActiveTicks.{silent_behind}
+use Rattle.agreement.proofs.Serving.ActiveTicks.{silent_after}
 use Rattle.agreement.proofs.Serving.Ticking.{dumb_installs}
 
 -- no output is given, and nothing applied
@@ -102,9 +102,9 @@ tick_gives O r Fetching = record { silent = outputs_to_each O r.id (Join r.joine
 tick_gives O r Installing = record { silent = dumb_installs O r r.lacking; same = refl }
 tick_gives {C = C} O r Active =
     record {
-      silent = outputs-append (appends_behind O r.id r.joined r.log r.progress) (message_to_followed O r.id (Commit r.joined r.committed) r.progress)
+      silent = outputs-append (appends_after O r.id r.joined r.log r.progress) (message_to_followed O r.id (Commit r.joined r.committed) r.progress)
           ∙ ap (λ us. us ++ outputs {C = C} (message_to_followed O r.id (Commit r.joined r.committed) r.progress))
-          (silent_behind O r.id r.joined r.log r.progress)
+          (silent_after O r.id r.joined r.log r.progress)
           ∙ outputs_of_messages r.id (Commit r.joined r.committed) r.progress;
       same = refl;
     }

@@ -64,9 +64,9 @@ parts_join log from mid to low high within =
     ∙ drop-append-le from (take mid log) (drop mid (take to log)) (omega (arith, long, low))
 
 -- a replica that applied its whole log, and then added a command
-pub added_behind : {S C O : Type 0} (rules : Rules S C O) (old x y : ReplicaState S C) (c : C) → old.committed ≤ length old.log →
+pub added_after : {S C O : Type 0} (rules : Rules S C O) (old x y : ReplicaState S C) (c : C) → old.committed ≤ length old.log →
     x.log ≡ old.log → x.committed ≡ length old.log → Applies rules old x → y.log ≡ old.log ++ c ∷ [] → Applies rules x y → Applies rules old y
-added_behind rules old x y c within log whole first more second =
+added_after rules old x y c within log whole first more second =
     let front : take x.committed x.log ≡ take x.committed y.log =
     ap (take x.committed) log ∙ sym (ap (take x.committed) more ∙ take-append-le x.committed old.log (c ∷ []) (omega (arith, whole))) in
     let low = first.up in let high = second.up in

@@ -15,7 +15,7 @@ use Rattle.whole.specs.Replica.{ReplicaState, is_installing, is_active, others, 
 use Rattle.whole.specs.Sending.{Outcome}
 use Rattle.whole.specs.Serving.{most_places, proposed, follows, leads, least, raised, commit, on_append, on_held, on_commit, on_tick_active}
 use Rattle.whole.proofs.StepRows.{proposed-adds, proposed-full, proposed-not_active}
-use Rattle.agreement.proofs.Machines.Applies.{Applies, applies_nothing, applies_to, commit_applies, added_applies, added_behind}
+use Rattle.agreement.proofs.Machines.Applies.{Applies, applies_nothing, applies_to, commit_applies, added_applies, added_after}
 use Rattle.whole.proofs.ChangeRows.{on_activated-stays, on_activated-adds}
 use Rattle.agreement.proofs.Starts.StaysActive.{added_keeps}
 use Rattle.agreement.proofs.Machines.ChangingApplies.{new_ballot_applies, join_applies, state_applies, install_applies, installed_applies, superseded_applies}
@@ -68,7 +68,7 @@ activated_applies {S = S} {C = C} {O = O} rules r b within =
         Applies rules r (on_activated rules r b).state
     by_condition (inl e) =
         subst (λ (o : Outcome S C O). Applies rules r o.state) (sym (on_activated-adds rules r b e))
-        (added_behind rules r active _ (rules.start_of b) within refl refl first (added_keeps rules active (rules.start_of b)).2
+        (added_after rules r active _ (rules.start_of b) within refl refl first (added_keeps rules active (rules.start_of b)).2
         (added_applies rules active (rules.start_of b)))
     by_condition (inr e) =
         subst (λ (o : Outcome S C O). Applies rules r o.state) (sym (on_activated-stays rules r b e)) (applies_nothing rules r r refl refl)

@@ -8,7 +8,7 @@ use Rattle.whole.specs.Config.{Config}
 use Rattle.agreement.specs.World.{can_open}
 use Rattle.whole.specs.lists.Lists.{In}
 use Rattle.whole.specs.lists.Lists.In.{here, there}
-use Rattle.agreement.specs.MasterState.{AssignRefusal, refusal, last_ballot, master_behind, MasterState, activated}
+use Rattle.agreement.specs.MasterState.{AssignRefusal, refusal, last_ballot, master_after, MasterState, activated}
 use Rattle.agreement.specs.Inside.Masters.{AreNodes, IsServing}
 use Rattle.agreement.specs.MasterState.AssignRefusal.{bad_members, ballots_spent}
 use Rattle.agreement.proofs.LawfulConfigs.{lawful_config, any_in}
@@ -55,7 +55,7 @@ not_refused m config e = by_members (is_lawful config.members config.primary) re
 
 -- an Assign keeps what the master has
 pub serving_assigned : (m : MasterState) (config : Config) (o : Option AssignRefusal) → refusal m config ≡ o →
-    IsServing m → IsServing (master_behind m config o)
+    IsServing m → IsServing (master_after m config o)
 serving_assigned m config (Some why) e s = s
 serving_assigned m config None e s =
     let z = not_refused m config e in

@@ -14,7 +14,7 @@ use Rattle.whole.specs.lists.Lists.{IsPrefixOf}
 use Rattle.agreement.specs.Inside.Ballots.{Line, History}
 use Rattle.agreement.specs.Inside.GroupSteps.{AddsBy}
 use Rattle.agreement.specs.Inside.Keeps.{NodeGoesOn, LineAdds}
-use Rattle.agreement.specs.Inside.Keeps.LineAdds.{as_it_was, begins_behind, adds_one}
+use Rattle.agreement.specs.Inside.Keeps.LineAdds.{as_it_was, begins_after, adds_one}
 use Rattle.agreement.specs.Proposals.{commands_of, IsOfBallot}
 use Rattle.agreement.specs.Inside.Own.{OwnLines}
 use Rattle.agreement.specs.Inside.Sound.{IsSound}
@@ -47,7 +47,7 @@ own_by_proposal {S = S} {C = C} {O = O} rules w v h p c rows g s None unlined =
   where
     by_line : (b : ℕ) (k : Line C) → g.history.line b ≡ Some k → LineAdds (λ b x. (b ≡ p) × (x ≡ c)) h b k → LineAdds (λ b x. ⊥) h b k
     by_line b k e (as_it_was f) = as_it_was f
-    by_line b k e (begins_behind u q f none before front) = begins_behind u q f none before front
+    by_line b k e (begins_after u q f none before front) = begins_after u q f none before front
     by_line b k e (adds_one l x f same (at, is)) = let z = ap g.history.line at in cc
 own_by_proposal {S = S} {C = C} {O = O} rules w v h p c rows g s (Some k) lined = by_line (g.added p k lined)
   where
@@ -59,17 +59,17 @@ own_by_proposal {S = S} {C = C} {O = O} rules w v h p c rows g s (Some k) lined 
       where
         by_added : (b : ℕ) (y : Line C) → g.history.line b ≡ Some y → LineAdds (λ b x. (b ≡ p) × (x ≡ c)) h b y → LineAdds (λ b x. ⊥) h b y
         by_added b y e (as_it_was z) = as_it_was z
-        by_added b y e (begins_behind u q z none before front) = begins_behind u q z none before front
+        by_added b y e (begins_after u q z none before front) = begins_after u q z none before front
         by_added b y e (adds_one l x z same (at, is)) = f b y at e
 
     by_line : LineAdds (λ b x. (b ≡ p) × (x ≡ c)) h p k → OwnGoesOn rules.start_of g.history rows ((p, c) ∷ [])
     by_line (as_it_was e) =
         plain (λ b y at f. as_it_was (ap h.line at ∙ e ∙ ap Some (one_line (g.history.line p) k y lined (ap g.history.line (sym at) ∙ f))))
-    by_line (begins_behind u q e none before front) =
+    by_line (begins_after u q e none before front) =
         plain (λ b y at f.
         let one = one_line (g.history.line p) k y lined (ap g.history.line (sym at) ∙ f) in
         subst (λ x. LineAdds (λ b x. ⊥) h x y) (sym at) (subst (λ (z : Line C). LineAdds (λ b x. ⊥) h p z) one
-        (begins_behind u q e none before front)))
+        (begins_after u q e none before front)))
     by_line (adds_one l x e same (at, is)) =
         record {
           later = rows ++ (p, c) ∷ [];

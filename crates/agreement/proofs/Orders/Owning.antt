@@ -7,7 +7,7 @@ use Rattle.whole.specs.lists.Lists.{In, IsPrefixOf}
 use Rattle.whole.specs.lists.Lists.In.{here, there}
 use Rattle.agreement.specs.Inside.Ballots.{Line, History}
 use Rattle.agreement.specs.Inside.Keeps.{LineAdds}
-use Rattle.agreement.specs.Inside.Keeps.LineAdds.{as_it_was, begins_behind, adds_one}
+use Rattle.agreement.specs.Inside.Keeps.LineAdds.{as_it_was, begins_after, adds_one}
 use Rattle.agreement.specs.Proposals.{commands_of, IsOfBallot}
 use Rattle.agreement.specs.Inside.Own.{OwnLines}
 use Rattle.whole.proofs.of_lists.Beginnings.{prefix_then}
@@ -39,7 +39,7 @@ own_starts {C = C} start_of adds h i rows starts more lines s =
     by_line : (names : C → Bool) (ballot : ℕ) → IsOfBallot start_of names ballot rows → (b : ℕ) (k : Line C) → LineAdds adds h b k →
         IsPrefixOf (filter names k.list) (filter names (commands_of rows)) × (b ≡ ballot → filter names k.list ≡ filter names (commands_of rows))
     by_line names ballot of b k (as_it_was e) = s.own names ballot of b k e
-    by_line names ballot of b k (begins_behind g p e none before front) =
+    by_line names ballot of b k (begins_after g p e none before front) =
         begins_own names rows b ballot k p front (s.own names ballot of g.previous p before).0
         (λ f row j named. let z = s.lined row j in let y = ap h.line (of.only row j named ∙ sym f) in let x = z.1 in cc)
     by_line names ballot of b k (adds_one l c e same a) =
@@ -98,7 +98,7 @@ own_proposed {C = C} start_of h i rows p c l k lined_l lined_k grown more lines 
               let a = ap (λ (u : Line C). length u.list) one in let d = ap (λ (u : Line C). length u.list) two in
               let g = ap length grown in let n = length-append l.list (c ∷ []) in omega (arith, a, d, g, n)),
         )
-    by_line names ballot of old b y f (begins_behind g u e none before begins) named =
+    by_line names ballot of old b y f (begins_after g u e none before begins) named =
         begins_own names (rows ++ (p, c) ∷ []) b ballot y u begins
         (prefix_then (s.own names ballot old g.previous u before).0 (front names))
         (λ q row j is. unlined row (of.only row j is ∙ sym q) (in_append rows ((p, c) ∷ []) j))

@@ -50,7 +50,7 @@ stands_at_once {S = S} {C = C} {O = O} rules w n r c new given stands runs (was_
     taken = record {
       primary = record { replica = r; stands = stands; active = active; joined = refl };
       runs = runs;
-      behind = new;
+      after = new;
       stands = get_set w.nodes n r new stands;
       log = longer;
     }

@@ -14,7 +14,7 @@ use Rattle.agreement.specs.Inside.Begun.{AreBegun, BeginsOrFollows, AreLong}
 use Rattle.agreement.specs.Inside.GroupSteps.{adds_of, AddsBy, GroupStep}
 use Rattle.agreement.specs.Inside.GroupSteps.GroupStep.{takes, stops, assigns, hears, assigns_unheard, hears_unanswered}
 use Rattle.agreement.specs.Inside.Keeps.{NodeGoesOn, LineAdds}
-use Rattle.agreement.specs.Inside.Keeps.LineAdds.{as_it_was, begins_behind, adds_one}
+use Rattle.agreement.specs.Inside.Keeps.LineAdds.{as_it_was, begins_after, adds_one}
 use Rattle.agreement.specs.MasterState.{MasterState}
 use Rattle.agreement.specs.Inside.Masters.{IsMaster}
 use Rattle.agreement.specs.Inside.OpeningHistory.{opening_history}
@@ -53,7 +53,7 @@ pub record StepGoesOn {S C O : Type 0} (rules : Rules S C O) (w : World S C O) (
 may_add : {C : Type 0} (adds more : ℕ → C → Type 0) (h : History C) (b : ℕ) (k : Line C) → LineAdds (λ x c. adds x c × more x c) h b k →
     LineAdds adds h b k
 may_add adds more h b k (as_it_was e) = as_it_was e
-may_add adds more h b k (begins_behind g p e unlined before front) = begins_behind g p e unlined before front
+may_add adds more h b k (begins_after g p e unlined before front) = begins_after g p e unlined before front
 may_add adds more h b k (adds_one l c e same a) = adds_one l c e same a.0
 
 -- after a move of a node that adds so

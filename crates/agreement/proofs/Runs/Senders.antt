@@ -17,7 +17,7 @@ use Rattle.whole.specs.Replica.{ReplicaState, is_active, is_fetching, is_install
 use Rattle.whole.specs.Role.{Role}
 use Rattle.whole.specs.Role.TheVariants.{Backup, Fetching, Installing, Active}
 use Rattle.whole.specs.Sending.{Outcome, message_to_each, message_to_followed}
-use Rattle.whole.specs.Serving.{append_at, appends_behind, follows, leads, commit_at, commit, most_places, added, proposed, on_append, on_held, on_commit, on_tick_active}
+use Rattle.whole.specs.Serving.{append_at, appends_after, follows, leads, commit_at, commit, most_places, added, proposed, on_append, on_held, on_commit, on_tick_active}
 use Rattle.whole.proofs.StepRows.{commit_at-stays, commit_at-goes}
 use Rattle.agreement.specs.World.{messages}
 use Rattle.whole.specs.lists.Lists.{In}
@@ -53,10 +53,10 @@ from_followed : {C : Type 0} (O : Type 0) (id : ℕ) (body : Body C) (progress :
 from_followed O id body [] = none
 from_followed O id body (reached ∷ progress) = says (from_followed O id body progress)
 
-from_behind : {C : Type 0} (O : Type 0) (id ballot : ℕ) (log : List C) (progress : List Progress) → AreFrom id (appends_behind O id ballot log progress)
-from_behind O id ballot log [] = none
-from_behind {C = C} O id ballot log (reached ∷ progress) =
-    from_append id (from_one (slice_get log reached.held)) (from_behind O id ballot log progress)
+from_after : {C : Type 0} (O : Type 0) (id ballot : ℕ) (log : List C) (progress : List Progress) → AreFrom id (appends_after O id ballot log progress)
+from_after O id ballot log [] = none
+from_after {C = C} O id ballot log (reached ∷ progress) =
+    from_append id (from_one (slice_get log reached.held)) (from_after O id ballot log progress)
   where
     from_one : (command : Option C) → AreFrom id (append_at O id ballot reached command)
     from_one None = none
@@ -214,7 +214,7 @@ from_ticked O r Backup = none
 from_ticked O r Fetching = from_each O r.id (Join r.joined r.previous) r.previous_members
 from_ticked O r Installing = from_installs O r r.lacking
 from_ticked O r Active =
-    from_append r.id (from_behind O r.id r.joined r.log r.progress) (from_followed O r.id (Commit r.joined r.committed) r.progress)
+    from_append r.id (from_after O r.id r.joined r.log r.progress) (from_followed O r.id (Commit r.joined r.committed) r.progress)
 
 -- a message that comes
 from_received : {S C O : Type 0} (rules : Rules S C O) (r : ReplicaState S C) (from : ℕ) (body : Body C) → AreFrom r.id (received rules r from body).effects

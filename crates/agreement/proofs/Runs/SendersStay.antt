@@ -13,8 +13,8 @@ use Rattle.agreement.specs.World.{World, messages, moved}
 use Rattle.whole.specs.lists.Lists.{In}
 use Rattle.whole.specs.lists.Lists.In.{here, there}
 use Rattle.whole.proofs.of_lists.Members.{in_append}
-use Rattle.agreement.specs.MasterState.{MasterState, MasterOutcome, AssignRefusal, activated, assigned, refusal, master_behind}
-use Rattle.agreement.specs.Steps.{MayHappen, tells_from_master, world_behind}
+use Rattle.agreement.specs.MasterState.{MasterState, MasterOutcome, AssignRefusal, activated, assigned, refusal, master_after}
+use Rattle.agreement.specs.Steps.{MayHappen, tells_from_master, world_after}
 use Rattle.agreement.specs.Steps.MayHappen.{node_takes, node_stops, master_assigns, master_hears, assignment_lost, answer_lost}
 use Rattle.agreement.specs.Inside.Ballots.{Given, History}
 use Rattle.agreement.specs.Inside.Extending.{Extends}
@@ -76,7 +76,7 @@ senders_stay rules m w k v h s (answer_lost from b sent) senders = senders
 senders_stay rules m w k v h s (assignment_lost config) senders = senders
 senders_stay {C = C} rules m w k v h s (master_assigns config) senders = by_refusal (refusal m config)
   where
-    by_refusal : (o : Option AssignRefusal) → AreSenders (world_behind m w config o)
+    by_refusal : (o : Option AssignRefusal) → AreSenders (world_after m w config o)
     by_refusal (Some why) = senders
     by_refusal None = master_senders w (assigned C m config) senders
 
@@ -90,7 +90,7 @@ same_nodes rules m w k v (answer_lost from b sent) = refl
 same_nodes rules m w k v (assignment_lost config) = refl
 same_nodes {S = S} {C = C} {O = O} rules m w k v (master_assigns config) = by_refusal (refusal m config)
   where
-    by_refusal : (o : Option AssignRefusal) → length (world_behind m w config o).nodes ≡ length w.nodes
+    by_refusal : (o : Option AssignRefusal) → length (world_after m w config o).nodes ≡ length w.nodes
     by_refusal (Some why) = refl
     by_refusal None = refl
 
@@ -112,12 +112,12 @@ active_then {C = C} rules m w k v (master_hears from b sent) = asked_by m (activ
 active_then {C = C} rules m w k v (answer_lost from b sent) = asked_by m (activated C m b from m.waiting).state w b from sent (active_or_waiting C m b from m.waiting refl)
 active_then {S = S} {C = C} {O = O} rules m w k v (master_assigns config) = by_refusal (refusal m config)
   where
-    by_refusal : (o : Option AssignRefusal) → ((master_behind m config o).active ≡ m.active) ⊎ IsAsked m w (master_behind m config o).active
+    by_refusal : (o : Option AssignRefusal) → ((master_after m config o).active ≡ m.active) ⊎ IsAsked m w (master_after m config o).active
     by_refusal (Some why) = inl refl
     by_refusal None = inl refl
 active_then {S = S} {C = C} {O = O} rules m w k v (assignment_lost config) = by_refusal (refusal m config)
   where
-    by_refusal : (o : Option AssignRefusal) → ((master_behind m config o).active ≡ m.active) ⊎ IsAsked m w (master_behind m config o).active
+    by_refusal : (o : Option AssignRefusal) → ((master_after m config o).active ≡ m.active) ⊎ IsAsked m w (master_after m config o).active
     by_refusal (Some why) = inl refl
     by_refusal None = inl refl
 

@@ -6,8 +6,8 @@ use Rattle.agreement.specs.Proposals.{proposal_of}
 use Rattle.agreement.specs.World.{World}
 use Rattle.whole.specs.lists.Lists.{In}
 use Rattle.agreement.specs.Inside.Chosen.{IsAgreedIn}
-use Rattle.agreement.specs.MasterState.{AssignRefusal, refusal, master_behind, MasterState}
-use Rattle.agreement.specs.Steps.{world_behind, MayHappen}
+use Rattle.agreement.specs.MasterState.{AssignRefusal, refusal, master_after, MasterState}
+use Rattle.agreement.specs.Steps.{world_after, MayHappen}
 use Rattle.agreement.specs.Inside.Masters.{IsServing, IsMaster}
 use Rattle.agreement.specs.Agreement.{Holds}
 use Rattle.agreement.specs.Steps.MayHappen.{node_takes, node_stops, master_assigns, master_hears, assignment_lost, answer_lost}
@@ -30,14 +30,14 @@ one_step rules m w k v (answer_lost from b sent) = inr (hears_unanswered from b 
 one_step {S = S} {C = C} {O = O} rules m w k v (master_assigns config) = by_refusal (refusal m config) refl
   where
     by_refusal : (o : Option AssignRefusal) → refusal m config ≡ o →
-        ((master_behind m config o ≡ m) × (world_behind m w config o ≡ w))
-        ⊎ ((g : GroupStep rules m w (master_behind m config o) (world_behind m w config o)) × (adds_of g ≡ []))
+        ((master_after m config o ≡ m) × (world_after m w config o ≡ w))
+        ⊎ ((g : GroupStep rules m w (master_after m config o) (world_after m w config o)) × (adds_of g ≡ []))
     by_refusal (Some why) e = inl (refl, refl)
     by_refusal None e = inr (assigns config (lawful_is config (not_refused m config e).0).0, refl)
 one_step {S = S} {C = C} {O = O} rules m w k v (assignment_lost config) = by_refusal (refusal m config) refl
   where
     by_refusal : (o : Option AssignRefusal) → refusal m config ≡ o →
-        ((master_behind m config o ≡ m) × (w ≡ w)) ⊎ ((g : GroupStep rules m w (master_behind m config o) w) × (adds_of g ≡ []))
+        ((master_after m config o ≡ m) × (w ≡ w)) ⊎ ((g : GroupStep rules m w (master_after m config o) w) × (adds_of g ≡ []))
     by_refusal (Some why) e = inl (refl, refl)
     by_refusal None e = inr (assigns_unheard config (lawful_is config (not_refused m config e).0).0, refl)
 

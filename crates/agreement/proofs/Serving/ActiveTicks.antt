@@ -7,7 +7,7 @@ use Rattle.whole.specs.Messages.Body.{Append, Commit}
 use Rattle.whole.specs.Progress.{Progress}
 use Rattle.whole.specs.Replica.{ReplicaState}
 use Rattle.whole.specs.Sending.{Outcome, message_to_followed}
-use Rattle.whole.specs.Serving.{append_at, appends_behind, on_tick_active}
+use Rattle.whole.specs.Serving.{append_at, appends_after, on_tick_active}
 use Rattle.whole.proofs.MessageRows.{on_tick_active-is}
 use Rattle.agreement.specs.World.{World, messages, outputs}
 use Rattle.whole.specs.lists.Lists.{In}
@@ -40,28 +40,28 @@ said_at O P id b reached (Some c) f to m here = f c refl
 said_at O P id b reached (Some c) f to m (there i) = elim i [ ]
 
 -- the places that are sent for the progress
-said_behind : {C : Type 0} (O : Type 0) (P : ℕ → Message C → Type 0) (id b : ℕ) (log : List C) (progress : List Progress) →
+said_after : {C : Type 0} (O : Type 0) (P : ℕ → Message C → Type 0) (id b : ℕ) (log : List C) (progress : List Progress) →
     ((reached : Progress) → In reached progress → (c : C) → slice_get log reached.held ≡ Some c →
     P reached.member (record { from = id; body = Append b reached.held c })) →
-    (to : ℕ) (m : Message C) → In (to, m) (messages (appends_behind O id b log progress)) → P to m
-said_behind O P id b log [] f to m i = elim i [ ]
-said_behind {C = C} O P id b log (reached ∷ progress) f to m i =
-    by_part (λ j. said_behind O P id b log progress (λ k y. f k (there y)) to m j)
-    (in_append (messages (append_at O id b reached (slice_get log reached.held))) (messages (appends_behind O id b log progress))
+    (to : ℕ) (m : Message C) → In (to, m) (messages (appends_after O id b log progress)) → P to m
+said_after O P id b log [] f to m i = elim i [ ]
+said_after {C = C} O P id b log (reached ∷ progress) f to m i =
+    by_part (λ j. said_after O P id b log progress (λ k y. f k (there y)) to m j)
+    (in_append (messages (append_at O id b reached (slice_get log reached.held))) (messages (appends_after O id b log progress))
     (subst (λ (us : List (ℕ × Message C)). In (to, m) us)
-    (messages-append (append_at O id b reached (slice_get log reached.held)) (appends_behind O id b log progress)) i))
+    (messages-append (append_at O id b reached (slice_get log reached.held)) (appends_after O id b log progress)) i))
   where
-    by_part : (In (to, m) (messages (appends_behind O id b log progress)) → P to m) →
-        In (to, m) (messages (append_at O id b reached (slice_get log reached.held))) ⊎ In (to, m) (messages (appends_behind O id b log progress)) → P to m
+    by_part : (In (to, m) (messages (appends_after O id b log progress)) → P to m) →
+        In (to, m) (messages (append_at O id b reached (slice_get log reached.held))) ⊎ In (to, m) (messages (appends_after O id b log progress)) → P to m
     by_part rest (inl j) = said_at O P id b reached (slice_get log reached.held) (f reached here) to m j
     by_part rest (inr j) = rest j
 
-pub silent_behind : {C : Type 0} (O : Type 0) (id b : ℕ) (log : List C) (progress : List Progress) → outputs (appends_behind O id b log progress) ≡ []
-silent_behind O id b log [] = refl
-silent_behind {C = C} O id b log (reached ∷ progress) =
-    outputs-append (append_at O id b reached (slice_get log reached.held)) (appends_behind O id b log progress)
-    ∙ ap (λ us. us ++ outputs (appends_behind O id b log progress)) (at_reached (slice_get log reached.held))
-    ∙ silent_behind O id b log progress
+pub silent_after : {C : Type 0} (O : Type 0) (id b : ℕ) (log : List C) (progress : List Progress) → outputs (appends_after O id b log progress) ≡ []
+silent_after O id b log [] = refl
+silent_after {C = C} O id b log (reached ∷ progress) =
+    outputs-append (append_at O id b reached (slice_get log reached.held)) (appends_after O id b log progress)
+    ∙ ap (λ us. us ++ outputs (appends_after O id b log progress)) (at_reached (slice_get log reached.held))
+    ∙ silent_after O id b log progress
   where
     at_reached : (o : Option C) → outputs (append_at O id b reached o) ≡ []
     at_reached None = refl
@@ -96,16 +96,16 @@ pub keeps_tick_active : {S C O : Type 0} (rules : Rules S C O) (w : World S C O)
     IsSound rules w h → slice_get w.nodes n ≡ Some r → IsActive w h n r → Keeps rules w h n (on_tick_active O r)
 keeps_tick_active {S = S} {C = C} {O = O} rules w h n r s stands a =
     subst (λ (o : Outcome S C O). Keeps rules w h n o) (sym (on_tick_active-is O r))
-    (speaking_keeps rules w h n r (appends_behind O r.id r.joined r.log r.progress ++ message_to_followed O r.id (Commit r.joined r.committed) r.progress)
+    (speaking_keeps rules w h n r (appends_after O r.id r.joined r.log r.progress ++ message_to_followed O r.id (Commit r.joined r.committed) r.progress)
     s stands
     (both (λ to m. IsSilent m.body)
-    (said_behind O (λ to m. IsSilent m.body) r.id r.joined r.log r.progress (λ reached i c e. tt))
+    (said_after O (λ to m. IsSilent m.body) r.id r.joined r.log r.progress (λ reached i c e. tt))
     (said_to_progress O (λ to m. IsSilent m.body) r.id (Commit r.joined r.committed) r.progress (λ reached i. tt)))
-    (outputs-append (appends_behind O r.id r.joined r.log r.progress) (message_to_followed O r.id (Commit r.joined r.committed) r.progress)
-    ∙ ap (λ us. us ++ outputs {C = C} (message_to_followed O r.id (Commit r.joined r.committed) r.progress)) (silent_behind O r.id r.joined r.log r.progress)
+    (outputs-append (appends_after O r.id r.joined r.log r.progress) (message_to_followed O r.id (Commit r.joined r.committed) r.progress)
+    ∙ ap (λ us. us ++ outputs {C = C} (message_to_followed O r.id (Commit r.joined r.committed) r.progress)) (silent_after O r.id r.joined r.log r.progress)
     ∙ outputs_of_messages r.id (Commit r.joined r.committed) r.progress)
     (both (λ to m. Says w h to m.from m.body)
-    (said_behind O (λ to m. Says w h to m.from m.body) r.id r.joined r.log r.progress
+    (said_after O (λ to m. Says w h to m.from m.body) r.id r.joined r.log r.progress
     (λ reached i c e. (
       a.leads.0,
       a.leads.1,
@@ -133,16 +133,16 @@ keeps_tick_active {S = S} {C = C} {O = O} rules w h n r s stands a =
     from_is = (s.nodes n r stands).id ∙ sym a.leads.2
 
     both : (P : ℕ → Message C → Type 0) →
-        ((to : ℕ) (m : Message C) → In (to, m) (messages (appends_behind O r.id r.joined r.log r.progress)) → P to m) →
+        ((to : ℕ) (m : Message C) → In (to, m) (messages (appends_after O r.id r.joined r.log r.progress)) → P to m) →
         ((to : ℕ) (m : Message C) → In (to, m) (messages (message_to_followed O r.id (Commit r.joined r.committed) r.progress)) → P to m) →
-        (to : ℕ) (m : Message C) → In (to, m) (messages (appends_behind O r.id r.joined r.log r.progress
+        (to : ℕ) (m : Message C) → In (to, m) (messages (appends_after O r.id r.joined r.log r.progress
         ++ message_to_followed O r.id (Commit r.joined r.committed) r.progress)) → P to m
-    both P f g to m i = by_part (in_append (messages (appends_behind O r.id r.joined r.log r.progress))
+    both P f g to m i = by_part (in_append (messages (appends_after O r.id r.joined r.log r.progress))
         (messages (message_to_followed O r.id (Commit r.joined r.committed) r.progress))
         (subst (λ (us : List (ℕ × Message C)). In (to, m) us)
-        (messages-append (appends_behind O r.id r.joined r.log r.progress) (message_to_followed O r.id (Commit r.joined r.committed) r.progress)) i))
+        (messages-append (appends_after O r.id r.joined r.log r.progress) (message_to_followed O r.id (Commit r.joined r.committed) r.progress)) i))
       where
-        by_part : In (to, m) (messages (appends_behind O r.id r.joined r.log r.progress))
+        by_part : In (to, m) (messages (appends_after O r.id r.joined r.log r.progress))
             ⊎ In (to, m) (messages (message_to_followed O r.id (Commit r.joined r.committed) r.progress)) → P to m
         by_part (inl j) = f to m j
         by_part (inr j) = g to m j

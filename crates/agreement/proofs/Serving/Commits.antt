@@ -77,7 +77,7 @@ ready_keeps {S = S} {C = C} {O = O} rules w h line n old r adds firsts s q dumb 
               (committed_node rules (moved w n new given) (with_lines h line) n r (q.node k new.machine given moves) q.role k (omega (arith, above)) within followed)
               (λ to m i. by_part to m (split to m (thinned_messages thinned (to, m) i)))
               (left_more rules w h line n old new given moves s r.joined r.committed k a.leads.0 a.line a.activated a.leads.1 a.leads.2 a.lined
-              above a.above q.behind (omega arith) chosen outs);
+              above a.above q.after (omega arith) chosen outs);
         }
       where
         new : ReplicaState S C

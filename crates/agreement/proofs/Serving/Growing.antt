@@ -33,7 +33,7 @@ pub grown_ready : {S C O : Type 0} (rules : Rules S C O) (w : World S C O) (h : 
 grown_ready {S = S} {C = C} {O = O} rules w h n old r c s stands q same_id same_joined same_held same_log up =
     record {
       role = q.role;
-      behind = up;
+      after = up;
       added = λ b k e. by_line b k (lined_cases r.joined (longer q.line c) h.line b k e);
       moves = λ k u above given quiet. list_moves w h n old (record r { log = r.log ++ c ∷ []; committed = k; machine = u }) given r.joined (longer q.line c) q.ballot stands
           (omega (arith, same_joined)) (omega (arith, up, above)) q.is_given q.primary

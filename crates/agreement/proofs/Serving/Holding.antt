@@ -37,7 +37,7 @@ raised_ready : {S C O : Type 0} (rules : Rules S C O) (w : World S C O) (h : His
 raised_ready {S = S} {C = C} {O = O} rules w h n r from held s stands role heard =
     record {
       role = role;
-      behind = omega arith;
+      after = omega arith;
       added = λ b k e. as_it_was e;
       moves = λ k u above given quiet. same_moves w h n r (record r { progress = raised from held r.progress; committed = k; machine = u }) given stands
           (omega arith) above

@@ -22,7 +22,7 @@ use Rattle.agreement.proofs.Frame.EqualLists.{prefix_of_same}
 pub record Ready {S C O : Type 0} (rules : Rules S C O) (w : World S C O) (h : History C) (line : ℕ → Option (Line C)) (n : ℕ) (old r : ReplicaState S C)
     (adds : ℕ → C → Type 0) : Type 0 where
   pub role : r.role ≡ Active
-  pub behind : old.committed ≤ r.committed
+  pub after : old.committed ≤ r.committed
   pub added : (b : ℕ) (k : Line C) → line b ≡ Some k → LineAdds adds h b k
   pub moves : (k : ℕ) (t : S) → r.committed ≤ k → (given : List (Effect C O)) →
       ((to : ℕ) (m : Message C) → In (to, m) (messages given) → (m.from ≡ n + 1) × IsSilent m.body) →

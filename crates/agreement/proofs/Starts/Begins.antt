@@ -14,7 +14,7 @@ use Rattle.agreement.specs.Inside.Begun.{AreBegun, BeginsOrFollows, AreLong}
 use Rattle.agreement.specs.Inside.GroupSteps.{AddsBy}
 use Rattle.agreement.specs.Steps.{MayTake}
 use Rattle.agreement.specs.Inside.Keeps.{NodeGoesOn, KeepsAdding, LineAdds}
-use Rattle.agreement.specs.Inside.Keeps.LineAdds.{as_it_was, begins_behind, adds_one}
+use Rattle.agreement.specs.Inside.Keeps.LineAdds.{as_it_was, begins_after, adds_one}
 use Rattle.agreement.specs.Replays.{IsReplay}
 use Rattle.agreement.specs.Inside.Sound.{IsSound}
 use Rattle.whole.proofs.of_lists.Beginnings.{prefix_get}
@@ -52,7 +52,7 @@ begun_lines {S = S} {C = C} rules w v h adds may s g begun b k e = by_line (g.ad
 
     by_line : LineAdds adds h b k → (b ≡ 1) ⊎ ((k.list ≡ k.base) ⊎ (slice_get k.list (length k.base) ≡ Some (rules.start_of b)))
     by_line (as_it_was f) = begun b k f
-    by_line (begins_behind u p given none before front) = by_still (g.sound.lines.still b k e) none
+    by_line (begins_after u p given none before front) = by_still (g.sound.lines.still b k e) none
     by_line (adds_one l c f same a) =
         let z = g.extends.lines b l f in
         let one : z.0 ≡ k = one_line (g.history.line b) z.0 k z.1 e in

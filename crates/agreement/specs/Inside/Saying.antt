@@ -1,7 +1,8 @@
 -- Saying.antt: what a message between nodes says, and when it is true.
 use Rattle.std.specs.Prelude.{ℕ, ◌+◌, ◌<◌, ◌≤◌, ◌≡◌, ◌⊎◌, List, length, slice_get, Some}
 use Rattle.whole.specs.Messages.{Body}
-use Rattle.whole.specs.Messages.Body.{NewBallot, Join, State, Install, Installed, Activate, Activated, Superseded, Append, Held, Commit}
+use Rattle.whole.specs.Messages.Body.{NewBallot, Join, State, Install, Installed, Activate}
+use Rattle.whole.specs.Messages.Body.{Activated, Superseded, Append, Held, Commit}
 use Rattle.whole.specs.Replica.{ReplicaState}
 use Rattle.agreement.specs.World.{World}
 use Rattle.whole.specs.lists.Lists.{In, IsPrefixOf}

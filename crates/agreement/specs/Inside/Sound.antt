@@ -1,5 +1,6 @@
 -- Sound.antt: what holds in every world that a group comes to, of its messages, nodes and outputs.
-use Rattle.std.specs.Prelude.{ℕ, ◌+◌, ◌<◌, ◌≤◌, ◌≡◌, ◌⊎◌, List, [], length, take, slice_get, Some, None}
+use Rattle.std.specs.Prelude.{ℕ, ◌+◌, ◌<◌, ◌≤◌, ◌≡◌, ◌⊎◌, List, [], length, take, slice_get}
+use Rattle.std.specs.Prelude.{Some, None}
 use Rattle.std.specs.List.{flat_map}
 use Rattle.whole.specs.machine.Machine.{Rules}
 use Rattle.whole.specs.Messages.{Message}
@@ -9,7 +10,8 @@ use Rattle.whole.specs.Replica.{ReplicaState}
 use Rattle.whole.specs.Applying.{outputs_between}
 use Rattle.agreement.specs.World.{World, outputs}
 use Rattle.whole.specs.lists.Lists.{In, IsPrefixOf}
-use Rattle.agreement.specs.Inside.Ballots.{Given, Line, History, Told, IsChosenIn, AreBallots, AreLines, IsPlaced, Applied}
+use Rattle.agreement.specs.Inside.Ballots.{Given, Line, History, Told, IsChosenIn, AreBallots}
+use Rattle.agreement.specs.Inside.Ballots.{AreLines, IsPlaced, Applied}
 use Rattle.agreement.specs.Leaving.{AreInOrder, Segment}
 use Rattle.agreement.specs.Inside.Saying.{IsOf, Says}
 

@@ -3,7 +3,8 @@
 use Rattle.std.specs.Prelude.{ℕ, ◌==◌, List, [], ◌∷◌, length, if◌then◌else◌}
 use Rattle.std.proofs.Common.{min, max}
 use Rattle.whole.specs.Messages.{Message, Body}
-use Rattle.whole.specs.Messages.Body.{NewBallot, Join, State, Install, Installed, Activate, Activated, Superseded, Append, Held, Commit}
+use Rattle.whole.specs.Messages.Body.{NewBallot, Join, State, Install, Installed, Activate}
+use Rattle.whole.specs.Messages.Body.{Activated, Superseded, Append, Held, Commit}
 use Rattle.agreement.specs.Inside.Ballots.{Given, Line}
 
 -- the length that a body acknowledges of a ballot's list

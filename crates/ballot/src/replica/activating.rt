@@ -1,6 +1,7 @@
 // What a replica does when its ballot becomes active.
 
-ghost use Rattle.std.specs.Prelude.{◌≡◌, ◌++◌, ◌&&◌, ◌==◌, nat_lt, nat_le, true, false, ◌-◌, ◌<◌, ◌≤◌, length, IfOk, OnOk, OnErr, MatchResult};
+ghost use Rattle.std.specs.Prelude.{◌≡◌, ◌++◌, ◌&&◌, ◌==◌, nat_lt, nat_le, true, false, ◌-◌, ◌<◌};
+ghost use Rattle.std.specs.Prelude.{◌≤◌, length, IfOk, OnOk, OnErr, MatchResult};
 ghost use Rattle.ballot_base.specs.Sends.{Sends};
 ghost use Rattle.ballot.specs.Inside.{Begins, Went};
 ghost use Rattle.ballot_base.specs.Activating.{on_activated};
@@ -55,7 +56,7 @@ impl<M: Machine> Replica<M> {
 
     // Removes the last place again, because memory ran out.
     fn take_back_start(&mut self)
-        requires behind { self.old.state.committed < places self.old.state.log }
+        requires after { self.old.state.committed < places self.old.state.log }
         ensures { self.new ≡ record {
           state = record self.old.state { log = popped self.old.state.log };
           losses = one_more self.old.losses;
@@ -89,7 +90,7 @@ impl<M: Machine> Replica<M> {
     // members. Returns the earlier progress. On an error the replica has stopped.
     fn become_active(&mut self, progress: Vec<Progress>) -> Result<Vec<Progress>, Halted>
         requires running { self.old.state.stopped ≡ false }
-        requires behind { self.old.state.committed < places self.old.state.log }
+        requires after { self.old.state.committed < places self.old.state.log }
         ensures earlier { IfOk result (λ waiting. waiting.items ≡ self.old.state.progress) }
         ensures state { OnOk result (self.new ≡ record self.old {
           state = record (applied_to M.rules self.old.state (places self.old.state.log - 1)) {
@@ -128,7 +129,7 @@ impl<M: Machine> Replica<M> {
         requires running { self.old.state.stopped ≡ false }
         requires some { 0 < length self.old.state.log.rest }
         requires applied { self.old.state.log.base ≤ committed }
-        requires behind { committed < places self.old.state.log }
+        requires after { committed < places self.old.state.log }
         ensures outcome { MatchResult result
             (λ _. Begins M.rules self.old self.new out.old.items out.new.items)
             (λ _. (out.new.items ≡ out.old.items) × (self.new ≡ record {

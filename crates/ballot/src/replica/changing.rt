@@ -1,9 +1,11 @@
 // What a replica does with the messages by which a log is transferred to a new ballot.
 
-ghost use Rattle.std.specs.Prelude.{◌≡◌, ◌≤◌, ◌<◌, ◌&&◌, ◌==◌, Some, true, false, nat_lt, nat_le, if◌then◌else◌};
+ghost use Rattle.std.specs.Prelude.{◌≡◌, ◌≤◌, ◌<◌, ◌&&◌, ◌==◌, Some, true, false, nat_lt};
+ghost use Rattle.std.specs.Prelude.{nat_le, if◌then◌else◌};
 ghost use Rattle.std.specs.Bool.{OnTrue, OnFalse};
 ghost use Rattle.ballot.specs.Inside.{Heard, Went};
-ghost use Rattle.ballot_base.specs.Changing.{on_new_ballot, on_join, on_state, on_install, waits_for, lacks};
+ghost use Rattle.ballot_base.specs.Changing.{on_new_ballot, on_join, on_state, on_install};
+ghost use Rattle.ballot_base.specs.Changing.{waits_for, lacks};
 ghost use Rattle.ballot_base.specs.Logs.{places};
 ghost use Rattle.ballot_base.specs.Losses.{one_more};
 ghost use Rattle.ballot_base.specs.Taking.{taken, with_snapshot};

@@ -5,14 +5,14 @@ ghost use Rattle.ballot_base.specs.Sends.{Sends};
 ghost use Rattle.ballot_base.specs.Losses.{Stepped, IsQuiet};
 ghost use Rattle.ballot_base.specs.Protocol.{replica_step, ticked};
 ghost use Rattle.ballot_base.specs.Protocol.Input.{Ticks};
-ghost use Rattle.ballot_base.specs.Serving.{appends_behind};
+ghost use Rattle.ballot_base.specs.Serving.{appends_after};
 ghost use Rattle.ballot_base.specs.Sending.{message_to_followed};
 ghost use Rattle.ballot_base.specs.Changing.{installs};
 
 use super::Replica;
 use ballot_base::machine::Machine;
 use ballot_base::{
-    Body, Effect, MASTER, Message, Role, counted, send, send_behind, send_commits, send_installs,
+    Body, Effect, MASTER, Message, Role, counted, send, send_after, send_commits, send_installs,
     send_joins,
 };
 
@@ -57,12 +57,12 @@ impl<M: Machine> Replica<M> {
     // Sends what the other members of an active primary may lack, and what is committed.
     fn tell(&self, out: &mut Vec<Effect<M::Command, M::Output>>) -> bool
         ensures { Sends out.old.items out.new.items
-            (appends_behind M.Output self.now.state.id self.now.state.joined self.now.state.log
+            (appends_after M.Output self.now.state.id self.now.state.joined self.now.state.log
             self.now.state.progress ++ message_to_followed M.Output self.now.state.id
             (Body.Commit self.now.state.joined self.now.state.committed) self.now.state.progress)
             result }
     {
-        let behind = send_behind::<M>(
+        let after = send_after::<M>(
             self.alloc,
             self.id,
             self.joined,
@@ -71,7 +71,7 @@ impl<M: Machine> Replica<M> {
             out,
         );
         let told = send_commits(self.id, self.joined, self.committed, &self.progress, out);
-        behind & told
+        after & told
     }
 
     /// Sends the log to the members that lack it; if there is none, the master may activate the

@@ -26,10 +26,10 @@ dropped_at : (clients : List (List ℕ)) (content : Content) (c f : List ℕ) �
 dropped_at [] content c f = refl
 dropped_at (d ∷ more) content c f = dropped_at more (without_client content d) c f ∙ by (bytes_eq d c) (list_any (λ e. bytes_eq e c) more)
   where
-    by : (here behind : Bool) → (if behind then None else if here then None else content c f) ≡ (if here || behind then None else content c f)
+    by : (here after : Bool) → (if after then None else if here then None else content c f) ≡ (if here || after then None else content c f)
     by true true = refl
     by true false = refl
-    by false behind = refl
+    by false after = refl
 
 -- ---- clean sessions
 

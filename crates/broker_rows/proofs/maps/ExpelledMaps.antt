@@ -12,9 +12,9 @@ use Rattle.broker_rows.specs.Touched.{written}
 use Rattle.broker_rows.specs.Owners.{owners_in, without_owner}
 use Rattle.broker_rows.specs.ExpelLaws.{ExpelRemovesTheOwner, ExpelDropsTheClient}
 use Rattle.broker_rows.proofs.LeavingSteps.{same_own}
-use Rattle.broker_rows.proofs.OneRow.{written_here, written_behind}
+use Rattle.broker_rows.proofs.OneRow.{written_here, written_after}
 use Rattle.broker_rows.proofs.OwnersRow.{on_is}
-use Rattle.broker_rows.proofs.maps.OwnersLeave.{here_leaves, behind_leaves}
+use Rattle.broker_rows.proofs.maps.OwnersLeave.{here_leaves, after_leaves}
 use Rattle.broker_rows.proofs.maps.OwnersStay.{owners_row}
 use Rattle.broker_rows.proofs.maps.SessionWritten.{session_written}
 use Rattle.broker_rows.proofs.maps.ContentAfter.{content_dropped}
@@ -47,11 +47,11 @@ here_expelled None y row rows on apart = sym (owners_row y row rows ∙ ap (λ c
 here_expelled (Some x) y row rows on apart = here_leaves x y row rows on (apart.0 x on)
 
 -- of one before it
-behind_expelled : (o : Option ConnectionName) (y : ConnectionName) (c : Client) (kept : ClientSession) (row : Client × ClientSession) (rows : Sessions) → session_in c rows ≡ Some kept → kept.connection ≡ o
+after_expelled : (o : Option ConnectionName) (y : ConnectionName) (c : Client) (kept : ClientSession) (row : Client × ClientSession) (rows : Sessions) → session_in c rows ≡ Some kept → kept.connection ≡ o
     → AreApart (row ∷ rows) → owners_in (written c None rows) y ≡ without_owner o (owners_in rows) y → owners_in (row ∷ written c None rows) y ≡ without_owner o (owners_in (row ∷ rows)) y
-behind_expelled None y c kept row rows found on apart more =
+after_expelled None y c kept row rows found on apart more =
     owners_row y row (written c None rows) ∙ ap (λ o. if any_connection (same_connection y) row.1.connection then Some row.0 else o) more ∙ sym (owners_row y row rows)
-behind_expelled (Some x) y c kept row rows found on apart more = behind_leaves x y row rows (written c None rows) (off_before x c kept row rows found on apart) more
+after_expelled (Some x) y c kept row rows found on apart more = after_leaves x y row rows (written c None rows) (off_before x c kept row rows found on apart) more
 
 owner_expelled : (c : Client) (kept : ClientSession) (rows : Sessions) (y : ConnectionName) → AreByClient rows → AreApart rows → session_in c rows ≡ Some kept
     → owners_in (written c None rows) y ≡ without_owner kept.connection (owners_in rows) y
@@ -67,7 +67,7 @@ owner_expelled c kept (row ∷ rows) y by_client apart found = by (same_client c
         ap (λ rest. owners_in rest y) (sym (written_here c None row rows same))
         ∙ here_expelled kept.connection y row rows (ap (λ (k : ClientSession). k.connection) is) apart
     by false other e later =
-        ap (λ rest. owners_in rest y) (sym (written_behind c None row rows other)) ∙ behind_expelled kept.connection y c kept row rows e refl apart (later e)
+        ap (λ rest. owners_in rest y) (sym (written_after c None row rows other)) ∙ after_expelled kept.connection y c kept row rows e refl apart (later e)
 
 pub expel_removes_the_owner : ExpelRemovesTheOwner
 expel_removes_the_owner state c kept sound found y = owner_expelled c kept state.sessions y sound.by_client sound.apart found

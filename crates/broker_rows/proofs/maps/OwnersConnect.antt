@@ -57,12 +57,12 @@ had_here y row rows apart =
     by false off = refl
 
 -- a row before the client's
-put_behind : (x y : ConnectionName) (c : Client) (row : Client × ClientSession) (rows rest : Sessions) (had : Option ConnectionName) →
+put_after : (x y : ConnectionName) (c : Client) (row : Client × ClientSession) (rows rest : Sessions) (had : Option ConnectionName) →
     any_connection (same_connection x) row.1.connection ≡ false →
     (any_connection (same_connection y) row.1.connection ≡ true → any_connection (same_connection y) had ≡ false) →
     owners_in rest y ≡ (if same_connection x y then Some c else if any_connection (same_connection y) had then None else owners_in rows y) →
     owners_in (row ∷ rest) y ≡ (if same_connection x y then Some c else if any_connection (same_connection y) had then None else owners_in (row ∷ rows) y)
-put_behind x y c row rows rest had off other more =
+put_after x y c row rows rest had off other more =
     owners_row y row rest
     ∙ ap (λ o. if any_connection (same_connection y) row.1.connection then Some row.0 else o) more
     ∙ by (any_connection (same_connection y) row.1.connection) refl
@@ -107,7 +107,7 @@ put_owns x c kept (row ∷ rows) y on nobodys by_client apart =
         ap (λ d. owners_in ((d, kept) ∷ rows) y) (sym (equal_is c row.0 e))
         ∙ put_here x y c kept rows on ∙ ap (λ o. if same_connection x y then Some c else o) (had_here y row rows apart.0)
     by Greater e more =
-        put_behind x y c row rows (put_session c kept rows) (connection_of (session_in c rows)) nobodys.0
+        put_after x y c row rows (put_session c kept rows) (connection_of (session_in c rows)) nobodys.0
         (λ here. not_of_session y c rows (apart.0 y (on_is y row.1.connection here))) more
 
 -- after an accepted Connect

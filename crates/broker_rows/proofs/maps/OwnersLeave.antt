@@ -16,7 +16,7 @@ use Rattle.broker_rows.specs.Served.{left_off}
 use Rattle.broker_rows.specs.ConnectLaws.{all_left_off}
 use Rattle.broker_rows.specs.Owners.{owners_in, without_owner}
 use Rattle.broker_rows.specs.OwnerLaws.{LeavingRemovesTheOwner, StartRemovesTheOwners}
-use Rattle.broker_rows.proofs.OneRow.{written_here, written_behind}
+use Rattle.broker_rows.proofs.OneRow.{written_here, written_after}
 use Rattle.broker_rows.proofs.OwnersRow.{connection_is, on_is, before_owner}
 use Rattle.broker_rows.proofs.maps.OwnersStay.{owners_row}
 
@@ -57,9 +57,9 @@ here_leaves x y row rows on nobodys =
     by false e = refl
 
 -- of a row before it
-pub behind_leaves : (x y : ConnectionName) (row : Client × ClientSession) (rows rest : Sessions) → any_connection (same_connection x) row.1.connection ≡ false →
+pub after_leaves : (x y : ConnectionName) (row : Client × ClientSession) (rows rest : Sessions) → any_connection (same_connection x) row.1.connection ≡ false →
     owners_in rest y ≡ without_owner (Some x) (owners_in rows) y → owners_in (row ∷ rest) y ≡ without_owner (Some x) (owners_in (row ∷ rows)) y
-behind_leaves x y row rows rest off more =
+after_leaves x y row rows rest off more =
     owners_row y row rest ∙ ap (λ o. if any_connection (same_connection y) row.1.connection then Some row.0 else o) more
     ∙ by (same_connection x y) refl
     ∙ ap (λ o. if same_connection x y then None else o) (sym (owners_row y row rows))
@@ -91,8 +91,8 @@ owner_leaves x owner o (row ∷ rows) y by_client apart found away =
         ∙ away_owns_none row.0 o rows y away
         ∙ here_leaves x y row rows (on_is x row.1.connection on) (apart.0 x (on_is x row.1.connection on)))
     by false off more e =
-        ap (λ rest. owners_in rest y) (sym (written_behind owner.0 o row rows (ap is_eq (less_turned row.0 owner.0 (before_owner row.0 x owner rows by_client.0 e)))))
-        ∙ behind_leaves x y row rows (written owner.0 o rows) off (more e)
+        ap (λ rest. owners_in rest y) (sym (written_after owner.0 o row rows (ap is_eq (less_turned row.0 owner.0 (before_owner row.0 x owner rows by_client.0 e)))))
+        ∙ after_leaves x y row rows (written owner.0 o rows) off (more e)
 
 -- of a served client
 pub leaving_removes_the_owner : LeavingRemovesTheOwner

@@ -12,7 +12,7 @@ use Rattle.broker_base.specs.StateLaws.{AreByClient}
 use Rattle.broker_base.proofs.ClientsInOrder.{same_is, equal_is}
 use Rattle.broker_base.proofs.SessionsStayByClient.{ComesBefore}
 use Rattle.broker_rows.specs.Touched.{written}
-use Rattle.broker_rows.proofs.OneRow.{written_here, written_behind}
+use Rattle.broker_rows.proofs.OneRow.{written_here, written_after}
 use Rattle.broker_rows.proofs.ConnectSteps.{no_session}
 
 -- whether two clients are one, either way round
@@ -41,10 +41,10 @@ at_own d o row rows c before own =
         ap (λ b. if b then Some kept else session_in c rows) e ∙ sym (ap (λ b. if b then Some kept else if b then Some row.1 else session_in c rows) e)
 
 -- after another's row
-behind_own : (d : Client) (o : Option ClientSession) (row : Client × ClientSession) (rows rest : Sessions) (c : Client) → same_client d row.0 ≡ false →
+after_own : (d : Client) (o : Option ClientSession) (row : Client × ClientSession) (rows rest : Sessions) (c : Client) → same_client d row.0 ≡ false →
     session_in c rest ≡ (if same_client d c then o else session_in c rows) →
     session_in c (row ∷ rest) ≡ (if same_client d c then o else session_in c (row ∷ rows))
-behind_own d o row rows rest c other more =
+after_own d o row rows rest c other more =
     ap (λ found. if same_client c row.0 then Some row.1 else found) more ∙ by (same_client c row.0) refl (same_client d c) refl
   where
     by : (b : Bool) → same_client c row.0 ≡ b → (mine : Bool) → same_client d c ≡ mine →
@@ -66,7 +66,7 @@ session_written d old o (row ∷ rows) c by_client found = by (same_client d row
         (session_in d rows ≡ Some old → session_in c (written d o rows) ≡ (if same_client d c then o else session_in c rows)) →
         session_in c (written d o (row ∷ rows)) ≡ (if same_client d c then o else session_in c (row ∷ rows))
     by true same e more = ap (session_in c) (sym (written_here d o row rows same)) ∙ at_own d o row rows c by_client.0 (same_is d row.0 same)
-    by false other e more = ap (session_in c) (sym (written_behind d o row rows other)) ∙ behind_own d o row rows (written d o rows) c other (more e)
+    by false other e more = ap (session_in c) (sym (written_after d o row rows other)) ∙ after_own d o row rows (written d o rows) c other (more e)
 
 -- if a row is inserted
 pub session_put : (d : Client) (kept : ClientSession) (rows : Sessions) (c : Client) → AreByClient rows →
@@ -80,4 +80,4 @@ session_put d kept (row ∷ rows) c by_client = by (by_bytes d row.0) refl (sess
         ≡ (if same_client d c then Some kept else session_in c (row ∷ rows))
     by Less e more = ap (λ b. if b then Some kept else session_in c (row ∷ rows)) (same_back c d)
     by Equal e more = at_own d (Some kept) row rows c by_client.0 (equal_is d row.0 e)
-    by Greater e more = behind_own d (Some kept) row rows (put_session d kept rows) c (ap is_eq e) more
+    by Greater e more = after_own d (Some kept) row rows (put_session d kept rows) c (ap is_eq e) more

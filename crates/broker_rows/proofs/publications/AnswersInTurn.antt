@@ -15,11 +15,11 @@ use Rattle.broker_base.specs.StateLaws.{AreByClient}
 use Rattle.subs.specs.Granted.{Row, row_of}
 use Rattle.broker_rows.specs.Published.{granted_rows, changed, received_on, delivered_on, copy_answered, answered_in_turn}
 use Rattle.broker_rows.proofs.publications.OneChanged.{changed_as, other_stays}
-use Rattle.broker_rows.proofs.publications.PublishLeft.{GrantedBehind, behind_rows}
+use Rattle.broker_rows.proofs.publications.PublishLeft.{GrantedAfter, after_rows}
 
 -- the granted rows rise
 abbrev pub AreRising : List Row → Type 0
-AreRising (row ∷ granted) = GrantedBehind row.0 granted × AreRising granted
+AreRising (row ∷ granted) = GrantedAfter row.0 granted × AreRising granted
 AreRising [] = Unit {0}
 
 -- as the sessions do
@@ -30,15 +30,15 @@ granted_rise topic (row ∷ rows) by_client = by (granted_qos topic row.1.state.
   where
     by : (o : Option QoS) → AreRising (granted_rows topic rows) → AreRising (row_of row.0 o ++ granted_rows topic rows)
     by None more = more
-    by (Some qos) more = (behind_rows row.0 topic rows by_client.0, more)
+    by (Some qos) more = (after_rows row.0 topic rows by_client.0, more)
 
 -- the answers of rows after one that is changed stay
-answers_behind : (w : ℕ) (p : Publication) (d : Client) (change : ClientSession → ClientSession) (granted : List Row) (rows : Sessions) → GrantedBehind d granted →
+answers_after : (w : ℕ) (p : Publication) (d : Client) (change : ClientSession → ClientSession) (granted : List Row) (rows : Sessions) → GrantedAfter d granted →
     flat_map (λ row. copy_answered w p row.1 (session_in row.0 (changed d change rows))) granted
     ≡ flat_map (λ row. copy_answered w p row.1 (session_in row.0 rows)) granted
-answers_behind w p d change [] rows behind = refl
-answers_behind w p d change (row ∷ granted) rows behind =
-    ap₂ (λ found more. copy_answered w p row.1 found ++ more) (other_stays d row.0 change rows (ap is_eq behind.0)) (answers_behind w p d change granted rows behind.1)
+answers_after w p d change [] rows after = refl
+answers_after w p d change (row ∷ granted) rows after =
+    ap₂ (λ found more. copy_answered w p row.1 found ++ more) (other_stays d row.0 change rows (ap is_eq after.0)) (answers_after w p d change granted rows after.1)
 
 -- in turn or from the first sessions, the answers are the same
 in_turn : (w : ℕ) (p : Publication) (granted : List Row) (rows : Sessions) → AreRising granted →
@@ -46,7 +46,7 @@ in_turn : (w : ℕ) (p : Publication) (granted : List Row) (rows : Sessions) →
 in_turn w p [] rows rise = refl
 in_turn w p (row ∷ granted) rows rise =
     ap (λ more. copy_answered w p row.1 (session_in row.0 rows) ++ more)
-    (in_turn w p granted (changed row.0 (delivered_on w p row.1) rows) rise.1 ∙ answers_behind w p row.0 (delivered_on w p row.1) granted rows rise.0)
+    (in_turn w p granted (changed row.0 (delivered_on w p row.1) rows) rise.1 ∙ answers_after w p row.0 (delivered_on w p row.1) granted rows rise.0)
 
 -- the publisher's identifier changes no answer
 noted_all : (w : ℕ) (p : Publication) (d : Client) (delivery : Delivery) (granted : List Row) (rows : Sessions) →

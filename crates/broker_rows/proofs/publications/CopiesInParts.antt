@@ -102,19 +102,19 @@ copies_take_room w limit copies queue = ap (λ n. limit - n) (copies_hold w copi
     apart limit n k = omega arith
 
 -- how many are queued of these
-queued_among : (before : List Publication) (p : Publication) (behind : List Publication) → is_answered p.qos ≡ true →
-    length (queued (before ++ p ∷ behind)) ≡ length (queued before) + suc (length (queued behind))
-queued_among before p behind answered =
-    ap length (filter-append (λ (q : Publication). is_answered q.qos) before (p ∷ behind))
-    ∙ length-append (queued before) (queued (p ∷ behind))
-    ∙ ap (λ b. length (queued before) + length (if b then p ∷ queued behind else queued behind)) answered
+queued_among : (before : List Publication) (p : Publication) (after : List Publication) → is_answered p.qos ≡ true →
+    length (queued (before ++ p ∷ after)) ≡ length (queued before) + suc (length (queued after))
+queued_among before p after answered =
+    ap length (filter-append (λ (q : Publication). is_answered q.qos) before (p ∷ after))
+    ∙ length-append (queued before) (queued (p ∷ after))
+    ∙ ap (λ b. length (queued before) + length (if b then p ∷ queued after else queued after)) answered
 
 -- so each finds some
 pub copies_find_room : CopiesFindRoom
-copies_find_room w limit before p behind queue enough answered =
-    let many = queued_among before p behind answered in
+copies_find_room w limit before p after queue enough answered =
+    let many = queued_among before p after answered in
     let left = copies_take_room w limit before queue in
-    by (room limit queue) (length (queued (before ++ p ∷ behind))) (length (queued before)) (length (queued behind)) (room limit (copies_left w before queue)) enough many left
+    by (room limit queue) (length (queued (before ++ p ∷ after))) (length (queued before)) (length (queued after)) (room limit (copies_left w before queue)) enough many left
   where
     by : (r n k m l : ℕ) → nat_lt r n ≡ false → n ≡ k + suc m → l ≡ r - k → nat_lt 0 l ≡ true
     by r n k m l enough many left = grind (arith, nat_tests)

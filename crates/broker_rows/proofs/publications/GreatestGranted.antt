@@ -66,8 +66,8 @@ reaches topic (s ∷ others) f q found is =
     ] refl found
 
 -- the subscription of a filter after the first, if filters are apart
-at_behind : (s : HeldFilter) (others : List HeldFilter) (f : List ℕ) (p : QoS) → qos_at s.0 others ≡ None → qos_at f others ≡ Some p → qos_at f (s ∷ others) ≡ Some p
-at_behind s others f p apart found =
+at_after : (s : HeldFilter) (others : List HeldFilter) (f : List ℕ) (p : QoS) → qos_at s.0 others ≡ None → qos_at f others ≡ Some p → qos_at f (s ∷ others) ≡ Some p
+at_after s others f p apart found =
     elim (bytes_eq f s.0) as (λ v. bytes_eq f s.0 ≡ v → cond v (Some s.1) (qos_at f others) ≡ Some p) [
       | true ↦ λ t.
           let none : qos_at f others ≡ None = ap (λ x. qos_at x others) ((bytes_decides f s.0).0 t) ∙ apart in
@@ -88,7 +88,7 @@ comes topic [] p apart is = absurd (cc)
 comes topic (s ∷ others) p apart is =
     let Goal : Type 0 = (f : List ℕ) × (qos_at f (s ∷ others) ≡ Some p) × (is_match f topic ≡ true) in
     let further : granted_qos topic others ≡ Some p → Goal =
-    λ e. let h = comes topic others p apart.1 e in (h.0, at_behind s others h.0 p (none_held s.0 others apart.0) h.1, h.2) in
+    λ e. let h = comes topic others p apart.1 e in (h.0, at_after s others h.0 p (none_held s.0 others apart.0) h.1, h.2) in
     elim (is_match s.0 topic) as (λ v. is_match s.0 topic ≡ v → cond v (Some (greater_qos s.1 (granted_qos topic others))) (granted_qos topic others) ≡ Some p → Goal) [
       | true ↦ λ t e.
           elim (greater_cases s.1 (granted_qos topic others)) as (λ _. Goal) [

@@ -10,7 +10,7 @@ use Rattle.broker_base.proofs.SessionsStayByClient.{ComesBefore}
 use Rattle.broker_rows.specs.Touched.{written}
 use Rattle.broker_rows.specs.Published.{changed}
 use Rattle.broker_rows.specs.PublishLaws.{ChangeIsOfOneRow}
-use Rattle.broker_rows.proofs.OneRow.{written_here, written_behind}
+use Rattle.broker_rows.proofs.OneRow.{written_here, written_after}
 use Rattle.broker_rows.proofs.ServedStep.{written_same}
 
 -- if none is found, none is removed
@@ -32,7 +32,7 @@ changed_next d change row rows = by (same_client d row.0) refl
         written d (option_map change (if b then Some row.1 else session_in d rows)) (row ∷ rows)
         ≡ (if b then (row.0, change row.1) ∷ rows else row ∷ changed d change rows)
     by true e = sym (written_here d (Some (change row.1)) row rows e)
-    by false e = sym (written_behind d (option_map change (session_in d rows)) row rows e)
+    by false e = sym (written_after d (option_map change (session_in d rows)) row rows e)
 
 -- a client before all rows has none to change
 pub changed_none : (d : Client) (change : ClientSession → ClientSession) (rows : Sessions) → ComesBefore d rows → changed d change rows ≡ rows
@@ -69,15 +69,15 @@ changed_as look d change c (row ∷ rows) same =
     here true = same row.1
     here false = refl
 
-    behind : (b : Bool) → look (session_in c (changed d change rows)) ≡ look (session_in c rows) →
+    after : (b : Bool) → look (session_in c (changed d change rows)) ≡ look (session_in c rows) →
         look (if b then Some row.1 else session_in c (changed d change rows)) ≡ look (if b then Some row.1 else session_in c rows)
-    behind true more = refl
-    behind false more = more
+    after true more = refl
+    after false more = more
 
     by : (mine : Bool) → look (session_in c (changed d change rows)) ≡ look (session_in c rows) →
         look (session_in c (if mine then (row.0, change row.1) ∷ rows else row ∷ changed d change rows)) ≡ look (session_in c (row ∷ rows))
     by true more = here (same_client c row.0)
-    by false more = behind (same_client c row.0) more
+    by false more = after (same_client c row.0) more
 
 -- if it is found, and if it is not
 pub change_is_of_one_row : ChangeIsOfOneRow

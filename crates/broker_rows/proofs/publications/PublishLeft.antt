@@ -39,38 +39,38 @@ changed_first d p row rows before = changed_next d (received_on p.delivery) row 
 -- ---- the granted rows
 
 -- the client comes before each granted one
-abbrev pub GrantedBehind : Client → List Row → Type 0
-GrantedBehind c (granted ∷ others) = (by_bytes c granted.0 ≡ Less) × GrantedBehind c others
-GrantedBehind c [] = Unit {0}
+abbrev pub GrantedAfter : Client → List Row → Type 0
+GrantedAfter c (granted ∷ others) = (by_bytes c granted.0 ≡ Less) × GrantedAfter c others
+GrantedAfter c [] = Unit {0}
 
 -- as it comes before each session
-pub behind_rows : (c : Client) (topic : List ℕ) (rows : Sessions) → ComesBefore c rows → GrantedBehind c (granted_rows topic rows)
-behind_rows c topic [] before = tt
-behind_rows c topic (row ∷ rows) before = by (granted_qos topic row.1.state.subscriptions) (behind_rows c topic rows before.1)
+pub after_rows : (c : Client) (topic : List ℕ) (rows : Sessions) → ComesBefore c rows → GrantedAfter c (granted_rows topic rows)
+after_rows c topic [] before = tt
+after_rows c topic (row ∷ rows) before = by (granted_qos topic row.1.state.subscriptions) (after_rows c topic rows before.1)
   where
-    by : (o : Option QoS) → GrantedBehind c (granted_rows topic rows) → GrantedBehind c (row_of row.0 o ++ granted_rows topic rows)
+    by : (o : Option QoS) → GrantedAfter c (granted_rows topic rows) → GrantedAfter c (row_of row.0 o ++ granted_rows topic rows)
     by None more = more
     by (Some qos) more = (before.0, more)
 
 -- then its row stays
-delivered_behind : (w : ℕ) (p : Publication) (c : Client) (kept : ClientSession) (granted : List Row) (rest : Sessions) → GrantedBehind c granted →
+delivered_after : (w : ℕ) (p : Publication) (c : Client) (kept : ClientSession) (granted : List Row) (rest : Sessions) → GrantedAfter c granted →
     all_delivered w p granted ((c, kept) ∷ rest) ≡ (c, kept) ∷ all_delivered w p granted rest
-delivered_behind w p c kept [] rest behind = refl
-delivered_behind w p c kept (row ∷ granted) rest behind =
+delivered_after w p c kept [] rest after = refl
+delivered_after w p c kept (row ∷ granted) rest after =
     ap (all_delivered w p granted)
     (changed_next row.0 (delivered_on w p row.1) (c, kept) rest
-    ∙ ap (λ o. if is_eq o then (c, delivered_on w p row.1 kept) ∷ rest else (c, kept) ∷ changed row.0 (delivered_on w p row.1) rest) (less_turned c row.0 behind.0))
-    ∙ delivered_behind w p c kept granted (changed row.0 (delivered_on w p row.1) rest) behind.1
+    ∙ ap (λ o. if is_eq o then (c, delivered_on w p row.1 kept) ∷ rest else (c, kept) ∷ changed row.0 (delivered_on w p row.1) rest) (less_turned c row.0 after.0))
+    ∙ delivered_after w p c kept granted (changed row.0 (delivered_on w p row.1) rest) after.1
 
 -- the first row gets what it is granted
-delivered_first : (w : ℕ) (p : Publication) (c : Client) (kept : ClientSession) (o : Option QoS) (granted : List Row) (rest : Sessions) → GrantedBehind c granted →
+delivered_first : (w : ℕ) (p : Publication) (c : Client) (kept : ClientSession) (o : Option QoS) (granted : List Row) (rest : Sessions) → GrantedAfter c granted →
     all_delivered w p (row_of c o ++ granted) ((c, kept) ∷ rest) ≡ (c, delivered_if w p o kept) ∷ all_delivered w p granted rest
-delivered_first w p c kept None granted rest behind = delivered_behind w p c kept granted rest behind
-delivered_first w p c kept (Some qos) granted rest behind =
+delivered_first w p c kept None granted rest after = delivered_after w p c kept granted rest after
+delivered_first w p c kept (Some qos) granted rest after =
     ap (all_delivered w p granted)
     (changed_next c (delivered_on w p qos) (c, kept) rest
     ∙ ap (λ b. if b then (c, delivered_on w p qos kept) ∷ rest else (c, kept) ∷ changed c (delivered_on w p qos) rest) (same_self c))
-    ∙ delivered_behind w p c (delivered_on w p qos kept) granted rest behind
+    ∙ delivered_after w p c (delivered_on w p qos kept) granted rest after
 
 -- ---- all rows
 
@@ -83,5 +83,5 @@ publish_left w x p d content [] by_client = refl
 publish_left w x p d content (row ∷ rows) by_client =
     ap₂ (λ o rest. keyed row.0 o rest) (published_is w x p d content row.0 row.1) (publish_left w x p d content rows by_client.1)
     ∙ sym (delivered_first w (publication_of p) row.0 (received_if (same_client d row.0) p.delivery row.1) (granted_qos p.topic row.1.state.subscriptions)
-    (granted_rows p.topic rows) (changed d (received_on p.delivery) rows) (behind_rows row.0 p.topic rows by_client.0))
+    (granted_rows p.topic rows) (changed d (received_on p.delivery) rows) (after_rows row.0 p.topic rows by_client.0))
     ∙ ap (λ rest. all_delivered w (publication_of p) (granted_rows p.topic (row ∷ rows)) rest) (sym (changed_first d p row rows by_client.0))

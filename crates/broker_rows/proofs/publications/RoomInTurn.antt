@@ -12,16 +12,16 @@ use Rattle.subs.specs.Granted.{Row}
 use Rattle.broker_rows.specs.Published.{granted_rows, changed, received_on, delivered_on, is_full_at}
 use Rattle.broker_rows.specs.PublishLaws.{HaveRoomInTurn, RoomLastsToItsTurn}
 use Rattle.broker_rows.proofs.publications.OneChanged.{changed_as, other_stays}
-use Rattle.broker_rows.proofs.publications.PublishLeft.{GrantedBehind}
+use Rattle.broker_rows.proofs.publications.PublishLeft.{GrantedAfter}
 use Rattle.broker_rows.proofs.publications.AnswersInTurn.{AreRising, granted_rise}
 
 -- the rows after one that is changed
-full_behind : (limits : Limits) (p : Publication) (d : Client) (change : ClientSession → ClientSession) (granted : List Row) (rows : Sessions) → GrantedBehind d granted →
+full_after : (limits : Limits) (p : Publication) (d : Client) (change : ClientSession → ClientSession) (granted : List Row) (rows : Sessions) → GrantedAfter d granted →
     list_any (λ row. is_full_at limits p row.1 (session_in row.0 (changed d change rows))) granted
     ≡ list_any (λ row. is_full_at limits p row.1 (session_in row.0 rows)) granted
-full_behind limits p d change [] rows behind = refl
-full_behind limits p d change (row ∷ granted) rows behind =
-    ap₂ (λ found more. is_full_at limits p row.1 found || more) (other_stays d row.0 change rows (ap is_eq behind.0)) (full_behind limits p d change granted rows behind.1)
+full_after limits p d change [] rows after = refl
+full_after limits p d change (row ∷ granted) rows after =
+    ap₂ (λ found more. is_full_at limits p row.1 found || more) (other_stays d row.0 change rows (ap is_eq after.0)) (full_after limits p d change granted rows after.1)
 
 -- each at its turn
 in_turn : (limits : Limits) (w : ℕ) (p : Publication) (granted : List Row) (rows : Sessions) → AreRising granted →
@@ -31,7 +31,7 @@ in_turn limits w p (row ∷ granted) rows rise none =
     let parts = or_parts (is_full_at limits p row.1 (session_in row.0 rows)) (list_any (λ other. is_full_at limits p other.1 (session_in other.0 rows)) granted) none in (
       parts.0,
       in_turn limits w p granted (changed row.0 (delivered_on w p row.1) rows) rise.1
-          (full_behind limits p row.0 (delivered_on w p row.1) granted rows rise.0 ∙ parts.1),
+          (full_after limits p row.0 (delivered_on w p row.1) granted rows rise.0 ∙ parts.1),
     )
 
 -- the publisher's identifier takes no room

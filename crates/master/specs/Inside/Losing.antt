@@ -15,7 +15,7 @@ use Rattle.snapshots.specs.World.{messages, outputs, moved}
 use Rattle.master.specs.declared.turning.Taken.{Taken}
 use Rattle.master.specs.declared.turning.Taken.TheVariants.{Received, Proposed, Ticked}
 use Rattle.master.specs.Group.{GroupState}
-use Rattle.master.specs.Exact.{behind}
+use Rattle.master.specs.Exact.{after}
 use Rattle.master.specs.Turns.{NodeTurn}
 use Rattle.master.specs.Turns.Turn.{by_cut}
 use Rattle.master.specs.Steps.{Freezes}
@@ -45,9 +45,9 @@ TookExactly rules old input new given =
 -- greatest number, the step was whole
 pub record TookIn {S C O : Type 0} (rules : Rules S C O) (old : CountedReplica S C)
     (input : Input C)
-    (new : CountedReplica S C) (before behind : List (Effect C O)) (whole : Bool) : Type 0 where
+    (new : CountedReplica S C) (before after : List (Effect C O)) (whole : Bool) : Type 0 where
   pub given : List (Effect C O)
-  pub appended : behind ≡ before ++ given
+  pub appended : after ≡ before ++ given
   pub loses : Loses rules old.state (replica_step rules old.state input) new.state given
   pub exact : whole ≡ true → TookExactly rules old input new given
   pub counted : (new.losses ≡ old.losses) ⊎ (new.losses ≡ one_more old.losses)
@@ -89,7 +89,7 @@ pub record TookTurn {S C O : Type 0} (rules : Rules S C O) (old : GroupState S C
 -- a group after a cut of one node's log, or one for which memory ran out, which was counted
 pub record TookCut {S C O : Type 0} (rules : Rules S C O) (old : GroupState S C O)
     (t : NodeTurn S C O) (new : GroupState S C O) : Type 0 where
-  pub way : ((new.moment ≡ behind old.moment (Some (by_cut t)))
+  pub way : ((new.moment ≡ after old.moment (Some (by_cut t)))
       × (new.losses ≡ old.losses)
       × Freezes rules (Some (by_cut t)))
       ⊎ (new ≡ record old { losses = one_more old.losses })

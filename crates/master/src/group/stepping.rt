@@ -1,6 +1,7 @@
 // What each event does to a group.
 
-ghost use Rattle.std.specs.Prelude.{◌≡◌, ◌<◌, ◌↔◌, true, false, None, Some, slice_get, OnOk, OnErr, IsErr};
+ghost use Rattle.std.specs.Prelude.{◌≡◌, ◌<◌, ◌↔◌, true, false, None, Some, slice_get, OnOk};
+ghost use Rattle.std.specs.Prelude.{OnErr, IsErr};
 ghost use Rattle.ballot.specs.Body.TheVariants.{Activate};
 ghost use Rattle.ballot.specs.Cutting.{can_cut};
 ghost use Rattle.ballot.specs.Replica.{ReplicaState};
@@ -23,7 +24,7 @@ use ballot::machine::{Machine, Memory};
 use ballot::{Body, Config, MOST_PLACES, Members};
 
 impl<M: Machine> Group<M> {
-    /// Lets an active primary take a command; [`Idle`] comes for any other node, and for a full log.
+    /// Lets an active primary take a command; [`Idle`] comes for any other node and for a full log.
     pub(super) fn propose(&mut self, node: u8, command: &M::Command) -> Result<(), Idle>
         ensures step { StepsBy M.rules self.old (Event.Propose node command.now) self.new }
         ensures idle { IsErr result ↔
@@ -126,8 +127,8 @@ impl<M: Machine> Group<M> {
     {
         let (before, _) = self.master.active();
         let activation = self.master.activate(ballot);
-        let (behind, _) = self.master.active();
-        turn_over(&mut self.told, &mut self.next, before, behind);
+        let (after, _) = self.master.active();
+        turn_over(&mut self.told, &mut self.next, before, after);
         let told = tell(&mut self.sent, from, answer_of(activation, ballot));
         self.losses = counted(self.losses, told, true);
     }

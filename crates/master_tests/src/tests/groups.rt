@@ -83,9 +83,9 @@ pub fn go_on(group: &mut Group<Tally>, first: usize) {
 pub fn agrees(group: &Group<Tally>, commands: &[TallyCommand]) -> bool {
     let (recorded, kept) = group.agreed();
     let front = commands.get(..recorded.len());
-    let behind = commands.get(recorded.len()..);
-    match (front, behind) {
-        (Some(front), Some(behind)) => front == recorded && behind == kept,
+    let after = commands.get(recorded.len()..);
+    match (front, after) {
+        (Some(front), Some(after)) => front == recorded && after == kept,
         _ => false,
     }
 }

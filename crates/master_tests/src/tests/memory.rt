@@ -88,8 +88,8 @@ fn is_answer(group: &Group<Tally>, place: u64, total: u64) -> bool {
     let (recorded, kept) = group.agreed();
     let most = (place as usize).saturating_add(1);
     let front = sum_of(recorded, most);
-    let behind = sum_of(kept, most.saturating_sub(recorded.len()));
-    place < group.agreed_len() && front.wrapping_add(behind) == total
+    let after = sum_of(kept, most.saturating_sub(recorded.len()));
+    place < group.agreed_len() && front.wrapping_add(after) == total
 }
 
 // Says whether all outputs that left are answers at places of the agreed list.

@@ -145,7 +145,7 @@ fn goes_over(group: &mut Group<Tally>, alloc: Global) -> bool {
 }
 
 // Says whether the output of place 2 leaves, and then that of place 0.
-fn leaves_behind(group: &mut Group<Tally>) -> bool {
+fn leaves_after(group: &mut Group<Tally>) -> bool {
     adds(group, 2, 3)
         && all_come(group, &[13, 14])
         && left_at(group, 0) == Some(2)
@@ -157,13 +157,13 @@ fn leaves_behind(group: &mut Group<Tally>) -> bool {
 
 /// Says whether both do so in turn.
 pub fn leaves_late(group: &mut Group<Tally>, alloc: Global) -> bool {
-    goes_over(group, alloc) && leaves_behind(group)
+    goes_over(group, alloc) && leaves_after(group)
 }
 
 // A primary whose ballot has ended receives late that place 0 is held: message 1. The next primary
 // has returned the output of place 2 by then.
 #[test]
-fn a_late_answer_leaves_behind_later_ones(rt: HostRuntime) {
+fn a_late_answer_leaves_after_later_ones(rt: HostRuntime) {
     let told = goes(rt.alloc(), 3, &[1, 2], Story::LeavesLate);
     assert!(rt; told == Some(true));
 }

@@ -1,5 +1,5 @@
 use Rattle.std.proofs.Common.{◌≡◌, ◌-◌, []}
-use Rattle.session_base.specs.Counted.{items_behind}
+use Rattle.session_base.specs.Counted.{items_after}
 use Rattle.broker_form.specs.Form.{row_at}
 use Rattle.broker_form.specs.Follows.{row_follows}
 use Rattle.broker.specs.Inside.{AreOwned}
@@ -7,6 +7,6 @@ use Rattle.broker.proofs.rows.read_rows.Given as goal
 
 abbrev pub invariant-loop : goal.invariant-loop
 invariant-loop l =
-    (items_behind row_follows (row_at l.window) (l.count - l.counter) l.rows.sessions.entries l.reader
-    ≡ items_behind row_follows (row_at l.window) l.count [] l.initial.reader)
+    (items_after row_follows (row_at l.window) (l.count - l.counter) l.rows.sessions.entries l.reader
+    ≡ items_after row_follows (row_at l.window) l.count [] l.initial.reader)
     × AreOwned l.rows

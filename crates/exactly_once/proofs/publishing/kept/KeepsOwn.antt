@@ -2,7 +2,7 @@
 use Rattle.std.proofs.Common.{ℕ, Bool, true, false, if◌then◌else◌, List, [], ◌∷◌, ◌++◌, map, filter, refl, ◌∙◌, subst, length}
 use Rattle.std.proofs.lemmas.Bool.{both_ways}
 use Rattle.client_base.specs.lists.Lists.{IsDistinct}
-use Rattle.client_base.proofs.of_lists.Identifiers.{distinct_behind}
+use Rattle.client_base.proofs.of_lists.Identifiers.{distinct_after}
 use Rattle.client_base.specs.declared.request.Request.{Request}
 use Rattle.client_base.specs.Keeper.{Keeper, ids_of_own, ids_in_use}
 use Rattle.client_base.specs.State.{id_of_request}
@@ -61,7 +61,7 @@ pub discarded_keeps : (keeper : Keeper) (b : Bool) → OwnInShape keeper → Own
 discarded_keeps keeper false s = s
 discarded_keeps keeper true s =
     record {
-      ids_apart = (distinct_behind (ids_of_own keeper.own) (map id_of_request keeper.requests) (s.ids_apart));
+      ids_apart = (distinct_after (ids_of_own keeper.own) (map id_of_request keeper.requests) (s.ids_apart));
       numbered = tt;
       releases_apart = tt;
       releases_are = λ j. refl;

@@ -1,5 +1,5 @@
 use Rattle.std.proofs.Common.{arith}
-use Rattle.packet.proofs.Behind.{is_found, is_read}
+use Rattle.packet.proofs.After.{is_found, is_read}
 use Rattle.packet.proofs.decoding.decode.Goals as goal
 
 pub returns-clause-found : goal.returns-clause-found

@@ -1,12 +1,12 @@
 use Rattle.std.proofs.Common.{length, ap, sym, ◌∙◌, arith}
-use Rattle.packet.proofs.Behind.{rest_shorter, verdict_whole}
+use Rattle.packet.proofs.After.{rest_shorter, verdict_whole}
 use Rattle.packet.proofs.decoding.front_packet.Goals as goal
 
 pub returns-clause-exact : goal.returns-clause-exact
 returns-clause-exact c =
     verdict_whole
     c.args.first
-    c.args.behind.now
+    c.args.more.now
     c.in_ok-len.rest.now
     c.new.result
     c.split_at.result.1.now
@@ -27,7 +27,7 @@ overflow_sub-result c =
       arith,
       ap length c.split_at.ensures.back,
       rest_shorter
-          c.args.behind.now
+          c.args.more.now
           c.in_ok-len.rest.now
           c.in_ok-len.len
           c.in_ok-len.len

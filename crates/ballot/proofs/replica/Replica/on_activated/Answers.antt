@@ -4,7 +4,7 @@ use Rattle.ballot_base.specs.Logs.{places}
 use Rattle.ballot_base.specs.Replica.{CountedReplica}
 use Rattle.ballot_base.proofs.ChangeRows.{on_activated-stays}
 use Rattle.ballot.proofs.MessagesTaken.{went_same}
-use Rattle.ballot.proofs.ActivationTaken.{activated_lost, activated_halted, become_active_is, activated_begun, begun_runs, start_behind, start_behind_active, start_behind_stopped}
+use Rattle.ballot.proofs.ActivationTaken.{activated_lost, activated_halted, become_active_is, activated_begun, begun_runs, start_after, start_after_active, start_after_stopped}
 use Rattle.ballot.proofs.replica.Replica.on_activated.Goals as goal
 
 pub returns-then-not-may_begin-clause-went : goal.returns-then-not-may_begin-clause-went
@@ -19,16 +19,16 @@ returns-in_default-clause-went g c =
     (ap (λ (z : CountedReplica _ _). z.state) (c.self-2.view_is ∙ c.in_default.ensures.err))
     (c.counted-self-inside.ensures ∙ ap (λ (z : CountedReplica _ _). one_more z.losses) (c.self-2.view_is ∙ c.in_default.ensures.err))
 
-pub become_active-requires-clause-behind : goal.become_active-requires-clause-behind
-become_active-requires-clause-behind g c =
+pub become_active-requires-clause-after : goal.become_active-requires-clause-after
+become_active-requires-clause-after g c =
     let within : c.args.self.now.state.committed ≤ places c.args.self.now.state.log = rw (← c.self.view_is) c.self.invariant.1 in
-    start_behind c.args.self.now c.add_start.new.self _ c.in-Ok.ensures.state within
+    start_after c.args.self.now c.add_start.new.self _ c.in-Ok.ensures.state within
 
-pub begin-requires-clause-behind : goal.begin-requires-clause-behind
-begin-requires-clause-behind g c =
+pub begin-requires-clause-after : goal.begin-requires-clause-after
+begin-requires-clause-after g c =
     let steps = g.M.Machine.rules in
     let within : c.args.self.now.state.committed ≤ places c.args.self.now.state.log = rw (← c.self.view_is) c.self.invariant.1 in
-    start_behind_active steps c.args.self.now c.become_active.new.self c.args.ballot c.self.inside.committed
+    start_after_active steps c.args.self.now c.become_active.new.self c.args.ballot c.self.inside.committed
     (become_active_is steps c.args.self.now c.add_start.new.self c.become_active.new.self c.args.ballot c.in-Ok.progress.items
     c.in-Ok.ensures.state c.in-Ok.ensures.progress c.in-Ok-become_active.ensures.state)
     (ap (λ (z : CountedReplica _ _). z.state.committed) c.self.view_is) within
@@ -38,8 +38,8 @@ take_back_start-requires g c =
     let steps = g.M.Machine.rules in
     let within : c.args.self.now.state.committed ≤ places c.args.self.now.state.log = rw (← c.self.view_is) c.self.invariant.1 in
     record {
-      behind = start_behind_stopped steps c.add_start.new.self c.become_active.new.self c.in-Err.ensures.stops
-          (start_behind c.args.self.now c.add_start.new.self _ c.in-Ok.ensures.state within);
+      after = start_after_stopped steps c.add_start.new.self c.become_active.new.self c.in-Err.ensures.stops
+          (start_after c.args.self.now c.add_start.new.self _ c.in-Ok.ensures.state within);
     }
 
 pub returns-in-Ok-become_active-clause-went : goal.returns-in-Ok-become_active-clause-went

@@ -18,8 +18,8 @@ invariant_of-self g c =
       group_answers rules _ _ c.args.from c.args.ballot c.self.inside.told c.self.inside.next c.turn_over.new.told c.turn_over.new.next c.self.invariant.1 sent
           c.activate-activation.ensures.state (world_is world)
           (turned c.self.inside.told c.self.inside.next c.turn_over.new.told c.turn_over.new.next m.active c.activate-activation.new.self.active
-          (λ e. c.turn_over.ensures.stays (c.active-before.ensures.ballot ∙ e ∙ sym c.active-behind.ensures.ballot))
-          (λ ne. c.turn_over.ensures.turns (λ e. ne (sym c.active-before.ensures.ballot ∙ e ∙ c.active-behind.ensures.ballot)))),
+          (λ e. c.turn_over.ensures.stays (c.active-before.ensures.ballot ∙ e ∙ sym c.active-after.ensures.ballot))
+          (λ ne. c.turn_over.ensures.turns (λ e. ne (sym c.active-before.ensures.ballot ∙ e ∙ c.active-after.ensures.ballot)))),
       counts_told c.tell-told.result _ c.self.inside.losses c.counted-self-inside.result c.self.inside.nodes.items (omega arith) c.counted-self-inside.ensures
           c.self.invariant.2,
     )

@@ -4,7 +4,7 @@ use Rattle.topics.specs.Text.{Levels, levels_of}
 use Rattle.subs_base.specs.packet.declared.qos.QoS.{QoS}
 use Rattle.subs_base.proofs.ContentAfter.{on_err}
 use Rattle.subs.specs.Inside.{shape_of}
-use Rattle.subs.specs.Walk.{greatest, Raises, GivesSome, found_at, found_behind}
+use Rattle.subs.specs.Walk.{greatest, Raises, GivesSome, found_at, found_after}
 use Rattle.subs.proofs.TextCut.{path}
 use Rattle.subs.proofs.NodeSets.{number_of, plus_child}
 use Rattle.subs.proofs.NodeAt.{held_is, child_is, bare_none, nothing_raised}
@@ -46,16 +46,16 @@ find_at-returns-in_default-topic-clause-some t c =
     (here_gives s c.args.at.number (subst (λ (g : List ℕ → Option QoS). GivesSome g) (sym held) h)))
     c.raise_all-in_default-topic.ensures.some
 
-pub find_at-returns-in_err-find_behind-clause-some : goal.find_at-returns-in_err-find_behind-clause-some
-find_at-returns-in_err-find_behind-clause-some t c =
+pub find_at-returns-in_err-find_after-clause-some : goal.find_at-returns-in_err-find_after-clause-some
+find_at-returns-in_err-find_after-clause-some t c =
     let s = shape_of c.args.self.now.slab in
     let named : s.child c.args.at.number c.split_level.result.0.now ≡ number_of c.child.result =
     child_is c.args.self.now.slab c.args.at.number c.in-Some.node.now (sym c.in-Some.ensures) c.split_level.result.0.now ∙ sym c.child.ensures in
-    anyhow c.from_residual-in_err-find_behind.result
+    anyhow c.from_residual-in_err-find_after.result
     (subst (λ (f : Levels). GivesSome (found_at s c.args.at.number f))
     (sym (path c.args.topic c.in-Some-topic.text c.split_level.result.0.now c.split_level.result.1 (record { some = c.in-Some-topic.is; cut = c.split_level.ensures })))
     (below_gives s c.args.at.number c.split_level.result.0.now (levels_of c.split_level.result.1)
-    (subst (λ (n : Option ℕ). GivesSome (found_behind s n (levels_of c.split_level.result.1))) (sym named) c.in_err-find_behind.ensures.some)))
+    (subst (λ (n : Option ℕ). GivesSome (found_after s n (levels_of c.split_level.result.1))) (sym named) c.in_err-find_after.ensures.some)))
 
 pub find_at-returns-clause-ok : goal.find_at-returns-clause-ok
 find_at-returns-clause-ok t c =
@@ -66,30 +66,30 @@ find_at-returns-clause-ok t c =
     child_is c.args.self.now.slab c.args.at.number c.in-Some.node.now there c.split_level.result.0.now ∙ sym c.child.ensures in
     let plus : s.child c.args.at.number (codes "+") ≡ number_of c.in-Some.node.now.plus =
     child_is c.args.self.now.slab c.args.at.number c.in-Some.node.now there (codes "+") ∙ sym (plus_child c.in-Some.node.now (codes "+") refl) in
-    then_ok c.find_behind-2.result
+    then_ok c.find_after-2.result
     (λ h.
-    subst (λ (f : Levels). Raises c.args.found.now c.find_behind-2.new.found (found_at s c.args.at.number f))
+    subst (λ (f : Levels). Raises c.args.found.now c.find_after-2.new.found (found_at s c.args.at.number f))
     (sym (path c.args.topic c.in-Some-topic.text c.split_level.result.0.now c.split_level.result.1 (record { some = c.in-Some-topic.is; cut = c.split_level.ensures })))
-    (both_raise c.args.found.now c.raise_all.new.found c.find_behind-2.new.found
+    (both_raise c.args.found.now c.raise_all.new.found c.find_after-2.new.found
     (s.held c.args.at.number true)
-    (λ client. greatest (found_behind s (s.child c.args.at.number c.split_level.result.0.now) (levels_of c.split_level.result.1) client) (found_behind s (s.child c.args.at.number (codes "+")) (levels_of c.split_level.result.1) client))
+    (λ client. greatest (found_after s (s.child c.args.at.number c.split_level.result.0.now) (levels_of c.split_level.result.1) client) (found_after s (s.child c.args.at.number (codes "+")) (levels_of c.split_level.result.1) client))
     (subst (λ (g : List ℕ → Option QoS). Raises c.args.found.now c.raise_all.new.found g) (sym held) c.in_ok-raise_all.ensures.ok)
-    (both_raise c.raise_all.new.found c.find_behind.new.found c.find_behind-2.new.found
-    (found_behind s (s.child c.args.at.number c.split_level.result.0.now) (levels_of c.split_level.result.1))
-    (found_behind s (s.child c.args.at.number (codes "+")) (levels_of c.split_level.result.1))
-    (subst (λ (n : Option ℕ). Raises c.raise_all.new.found c.find_behind.new.found (found_behind s n (levels_of c.split_level.result.1))) (sym named) c.in_ok-find_behind.ensures.ok)
-    (subst (λ (n : Option ℕ). Raises c.find_behind.new.found c.find_behind-2.new.found (found_behind s n (levels_of c.split_level.result.1))) (sym plus) h))))
-    c.find_behind-2.ensures.ok
+    (both_raise c.raise_all.new.found c.find_after.new.found c.find_after-2.new.found
+    (found_after s (s.child c.args.at.number c.split_level.result.0.now) (levels_of c.split_level.result.1))
+    (found_after s (s.child c.args.at.number (codes "+")) (levels_of c.split_level.result.1))
+    (subst (λ (n : Option ℕ). Raises c.raise_all.new.found c.find_after.new.found (found_after s n (levels_of c.split_level.result.1))) (sym named) c.in_ok-find_after.ensures.ok)
+    (subst (λ (n : Option ℕ). Raises c.find_after.new.found c.find_after-2.new.found (found_after s n (levels_of c.split_level.result.1))) (sym plus) h))))
+    c.find_after-2.ensures.ok
 
 pub find_at-returns-clause-some : goal.find_at-returns-clause-some
 find_at-returns-clause-some t c =
     let s = shape_of c.args.self.now.slab in
     let plus : s.child c.args.at.number (codes "+") ≡ number_of c.in-Some.node.now.plus =
     child_is c.args.self.now.slab c.args.at.number c.in-Some.node.now (sym c.in-Some.ensures) (codes "+") ∙ sym (plus_child c.in-Some.node.now (codes "+") refl) in
-    on_err c.find_behind-2.result
+    on_err c.find_after-2.result
     (λ h.
     subst (λ (f : Levels). GivesSome (found_at s c.args.at.number f))
     (sym (path c.args.topic c.in-Some-topic.text c.split_level.result.0.now c.split_level.result.1 (record { some = c.in-Some-topic.is; cut = c.split_level.ensures })))
     (plus_gives s c.args.at.number c.split_level.result.0.now (levels_of c.split_level.result.1)
-    (subst (λ (n : Option ℕ). GivesSome (found_behind s n (levels_of c.split_level.result.1))) (sym plus) h)))
-    c.find_behind-2.ensures.some
+    (subst (λ (n : Option ℕ). GivesSome (found_after s n (levels_of c.split_level.result.1))) (sym plus) h)))
+    c.find_after-2.ensures.some

@@ -6,5 +6,5 @@ use Rattle.subs.proofs.nodes.Nodes.+find_at.Given as goal
 abbrev pub decreases-find_at : goal.decreases-find_at
 decreases-find_at l = 2 * length (levels_of l.topic)
 
-abbrev pub decreases-find_behind : goal.decreases-find_behind
-decreases-find_behind l = 2 * length (levels_of l.behind) + 1
+abbrev pub decreases-find_after : goal.decreases-find_after
+decreases-find_after l = 2 * length (levels_of l.after) + 1

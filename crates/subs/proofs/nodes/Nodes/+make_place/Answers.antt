@@ -7,7 +7,7 @@ use Rattle.subs_base.proofs.ContentAfter.{on_err}
 use Rattle.subs.specs.Inside.{Asked, shape_of}
 use Rattle.subs.specs.Standing.{root_of, rows_of}
 use Rattle.subs.proofs.TextCut.{path, fewer}
-use Rattle.subs.proofs.ChildIsMade.{none_behind}
+use Rattle.subs.proofs.ChildIsMade.{none_after}
 use Rattle.subs.proofs.ContentOfTree.{anyhow}
 use Rattle.subs.proofs.nodes.Nodes.+make_place.Goals as goal
 
@@ -18,7 +18,7 @@ returns-in_err-child-clause-none t c =
     anyhow c.from_residual.result
     (λ way client leads.
     ap (λ (ls : Levels). rows_of c.args.self.now (way ++ ls) client) cut
-    ∙ none_behind (shape_of c.args.self.now.slab) (root_of c.args.self.now) way c.args.at.number c.split_level.result.0.now (levels_of c.split_level.result.1) client
+    ∙ none_after (shape_of c.args.self.now.slab) (root_of c.args.self.now) way c.args.at.number c.split_level.result.0.now (levels_of c.split_level.result.1) client
     leads other c.in_err-child.ensures.none)
 
 pub make_place-requires : goal.make_place-requires

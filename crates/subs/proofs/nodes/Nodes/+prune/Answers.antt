@@ -32,12 +32,12 @@ drop_empty-requires-clause-there t c =
     )
 
 pub returns-clause-ways : goal.returns-clause-ways
-returns-clause-ways t c way behind k there here =
+returns-clause-ways t c way after k there here =
     let level = c.split_level.result.0.now in
     let child = (shape_of c.args.self.now.slab).child in
     let root = root_of c.args.self.now in
     let on : (p : Levels) → led child root p ≡ Some c.args.at.number → led child root (p ++ level ∷ []) ≡ Some c.in-Some-child.child.number =
     λ p h. led_more child root p level c.args.at.number h ∙ sym c.in-Some-child.ensures in
-    c.drop_empty.ensures.ways way behind k
-    (c.prune.ensures.ways (way ++ behind) (level ∷ []) c.args.at.number (on (way ++ behind) there) there)
-    (c.prune.ensures.ways way (behind ++ level ∷ []) k (ap (led child root) (sym (append_assoc way behind (level ∷ []))) ∙ on (way ++ behind) there) here)
+    c.drop_empty.ensures.ways way after k
+    (c.prune.ensures.ways (way ++ after) (level ∷ []) c.args.at.number (on (way ++ after) there) there)
+    (c.prune.ensures.ways way (after ++ level ∷ []) k (ap (led child root) (sym (append_assoc way after (level ∷ []))) ∙ on (way ++ after) there) here)

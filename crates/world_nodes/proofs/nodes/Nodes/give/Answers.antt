@@ -1,5 +1,5 @@
 use Rattle.std.proofs.Common.{◌≡◌, ap, ◌∙◌, None}
-use Rattle.master.specs.agreement.MasterState.{assigning, master_behind, refusal}
+use Rattle.master.specs.agreement.MasterState.{assigning, master_after, refusal}
 use Rattle.master.specs.ballot.Config.{Config}
 use Rattle.byte_world.specs.broker_base.Command.{Command}
 use Rattle.master.proofs.Groups.{new_ballot_is}
@@ -15,7 +15,7 @@ returns-clause-step c =
     let given : c.in_ok-given.given ≡ c.args.config.now = c.in_ok-given.ensures in
     let none : refusal m c.in_ok-given.given ≡ None = ap (λ (z : Config). refusal m z) given ∙ granted in
     let state : c.assign.new.self ≡ assigning m c.args.config.now =
-    c.assign.ensures.state ∙ ap (λ r. master_behind m c.in_ok-given.given r) none ∙ ap (λ (z : Config). assigning m z) given in
+    c.assign.ensures.state ∙ ap (λ r. master_after m c.in_ok-given.given r) none ∙ ap (λ (z : Config). assigning m z) given in
     let body = new_ballot_is {C = Command} c.in-Ok.ballot m c.args.config.now c.in_ok-given.given c.in_ok-members.members c.in_ok-previous_members.previous_members c.active-previous.result.0
     given (c.in_ok-members.ensures ∙ c.as_slice.ensures) c.in-Ok.ensures.ok c.active-previous.ensures.ballot
     (c.in_ok-previous_members.ensures ∙ c.active-previous.ensures.members) in
@@ -35,7 +35,7 @@ returns-clause-acts c =
     let given : c.in_ok-given.given ≡ c.args.config.now = c.in_ok-given.ensures in
     let none : refusal m c.in_ok-given.given ≡ None = ap (λ (z : Config). refusal m z) given ∙ granted in
     let state : c.assign.new.self ≡ assigning m c.args.config.now =
-    c.assign.ensures.state ∙ ap (λ r. master_behind m c.in_ok-given.given r) none ∙ ap (λ (z : Config). assigning m z) given in
+    c.assign.ensures.state ∙ ap (λ r. master_after m c.in_ok-given.given r) none ∙ ap (λ (z : Config). assigning m z) given in
     let body = new_ballot_is {C = Command} c.in-Ok.ballot m c.args.config.now c.in_ok-given.given c.in_ok-members.members c.in_ok-previous_members.previous_members c.active-previous.result.0
     given (c.in_ok-members.ensures ∙ c.as_slice.ensures) c.in-Ok.ensures.ok c.active-previous.ensures.ballot
     (c.in_ok-previous_members.ensures ∙ c.active-previous.ensures.members) in
@@ -55,7 +55,7 @@ invariant_of-self-2 c =
     let given : c.in_ok-given.given ≡ c.args.config.now = c.in_ok-given.ensures in
     let none : refusal m c.in_ok-given.given ≡ None = ap (λ (z : Config). refusal m z) given ∙ granted in
     let state : c.assign.new.self ≡ assigning m c.args.config.now =
-    c.assign.ensures.state ∙ ap (λ r. master_behind m c.in_ok-given.given r) none ∙ ap (λ (z : Config). assigning m z) given in
+    c.assign.ensures.state ∙ ap (λ r. master_after m c.in_ok-given.given r) none ∙ ap (λ (z : Config). assigning m z) given in
     let body = new_ballot_is {C = Command} c.in-Ok.ballot m c.args.config.now c.in_ok-given.given c.in_ok-members.members c.in_ok-previous_members.previous_members c.active-previous.result.0
     given (c.in_ok-members.ensures ∙ c.as_slice.ensures) c.in-Ok.ensures.ok c.active-previous.ensures.ballot
     (c.in_ok-previous_members.ensures ∙ c.active-previous.ensures.members) in

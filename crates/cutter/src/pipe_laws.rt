@@ -1,0 +1,15 @@
+// The law of a pipe. The call does nothing; its contract is the law.
+
+ghost use Rattle.cutter.specs.Pipe.{PipeCarries, PipeGives, PipeGivesNext, PipeGrows};
+ghost use Rattle.cutter.specs.Pipe.{PipeHasNoFault, PipeOpens};
+
+/// Packets that are written into a pipe come out of the cutter at its other end in order, none
+/// lost, changed or twice, however the bytes in between are cut; and the cutter finds no fault.
+pub fn pipes_are_in_order()
+    ensures opens { PipeOpens }
+    ensures grows { PipeGrows }
+    ensures carries { PipeCarries }
+    ensures gives { PipeGives }
+    ensures next { PipeGivesNext }
+    ensures no_fault { PipeHasNoFault }
+{}
