@@ -97,8 +97,7 @@ AnswersAtTheNextPlaces {S} {C} {O} rules =
     slice_get b.world.nodes n ≡ Some new → GivesNext rules old new xs (given_in n step)
 
 -- so between two moments of a ballot that it leads a node outputs the answers at all places of the
--- agreed list, from where it had applied it to where it has applied it: none is left out, and none
--- comes twice
+-- agreed list that it applied between them: none is left out, and none comes twice
 abbrev pub AnswersWhileItLeads : {S C O : Type 0} → Rules S C O → Type 0
 AnswersWhileItLeads {S} {C} {O} rules =
     (config : Config) (a b : Moment S C O) (past later : List (Moment S C O)) (xs : List C) →

@@ -21,10 +21,10 @@ pub fn has_agreed<M: Machine>()
     ensures { HasAgreed M.rules }
 {}
 
-/// The nodes agree on it: what is applied anywhere begins it, each member of the active
-/// configuration holds it, of two logs installed in one ballot one begins the other, and some node
-/// holds it. What left is the machine's outputs at places of it, each place at most once, all that
-/// one ballot gave before all that a higher one gave, and in one ballot in rising order.
+/// The nodes agree on it: what is applied anywhere begins it, and each member of the active
+/// configuration holds it. Of two logs installed in one ballot one begins the other, and some node
+/// holds it. What left is the machine's outputs at places of it, each place at most once. All that
+/// one ballot gave left before all that a higher one gave, and in one ballot in rising order.
 pub fn nodes_agree<M: Machine>()
     ensures { NodesAgree M.rules }
 {}
@@ -46,8 +46,8 @@ pub fn keeps_the_order<M: Machine>()
     ensures { KeepsTheOrder M.rules }
 {}
 
-/// What a node takes in a step is at once at the end of its log, and the node is the active primary
-/// of the ballot in which it is counted; a proposal that is not taken changes no log.
+/// What a node takes in a step is at once at the end of its log. The node is the active primary of
+/// the ballot in which it is counted; a proposal that is not taken changes no log.
 pub fn taken_stand_at_once<M: Machine>()
     ensures { TakenStandAtOnce M.rules }
 {}
@@ -63,10 +63,9 @@ pub fn one_node_takes_a_ballot<M: Machine>()
     ensures { OneNodeTakesABallot M.rules }
 {}
 
-/// The outputs of a node in a step are the machine's answers at the next places of the agreed list,
-/// from where it had applied it to where it has applied it now, if it is the active primary, and
-/// otherwise nothing. A node that becomes the active primary outputs nothing for what its log had
-/// before.
+/// If a node is the active primary, its outputs in a step are the machine's answers at the next
+/// places of the agreed list: those that it applied in that step. Any other node outputs nothing. A
+/// node that becomes the active primary outputs nothing for what its log had before.
 pub fn answers_at_the_next_places<M: Machine>()
     ensures { AnswersAtTheNextPlaces M.rules }
 {}

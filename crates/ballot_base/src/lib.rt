@@ -1,5 +1,6 @@
-//! The messages between replicas, the effects of their calls, the parts of a replica that need no
-//! role, and the protocol's step as definitions that the replica above is proved to follow.
+//! The messages between replicas, the effects of their calls, and the parts of a replica that need
+//! no role. The protocol's step stands here as definitions that the replica above is proved to
+//! follow.
 #![tactic(auto)]
 
 mod applying;

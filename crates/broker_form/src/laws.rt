@@ -45,8 +45,8 @@ pub fn thawed_is_frozen()
     ensures { ThawedIsFrozen }
 {}
 
-/// Shows the bytes, in both forms, of a broker without sessions, of one with client `a` on
-/// connection 1 of ballot 1, and of one with something in every part.
+/// Shows the bytes of three brokers in both forms: without sessions, with client `a` on connection
+/// 1 of ballot 1, and with something in every part.
 pub fn rows_are_frozen()
     ensures fresh { FreshIsFrozen }
     ensures one { OneSessionIsFrozen }

@@ -4,9 +4,9 @@
 ghost use Rattle.broker_rows.specs.CopyLaws.{CopiesJoin, CopiesTakeRoom};
 ghost use Rattle.broker_rows.specs.CopyLaws.{CopiesFindRoom, SubscribesInTurn};
 
-/// Copies that come to a session in two parts leave and send what all of them do together, and each
-/// of QoS 1 or 2 takes one place of its room, so that each finds room if there is enough for all
-/// (MQTT 4.6).
+/// Copies that come to a session in two parts leave and send what all of them do together. Each of
+/// QoS 1 or 2 takes one place of its room, so each finds room if there is enough for all (MQTT
+/// 4.6).
 pub fn copies_in_parts()
     ensures joins { CopiesJoin }
     ensures room { CopiesTakeRoom }

@@ -21,9 +21,8 @@ ghost use Rattle.broker_rows.specs.IndexLaws.{
   IndexMadeAnew,
 };
 
-/// A session that is written with its own connection does not change the map of owners, and one
-/// that is written with its own subscriptions does not change the index. A publication changes
-/// neither.
+/// A session that is written with its own connection does not change the map of owners. One that is
+/// written with its own subscriptions does not change the index. A publication changes neither.
 pub fn maps_stay()
     ensures owners { WritingKeepsOwners }
     ensures content { WritingKeepsContent }

@@ -24,8 +24,8 @@ pub fn filter_has_last_granting()
     ensures { FilterHasLastGranting }
 {}
 
-/// A PUBLISH at QoS 2 is a repeat exactly if the last of the session's taken ones with its
-/// identifier, and of the PUBRELs with it, is a PUBLISH (MQTT 4.3.3).
+/// A PUBLISH at QoS 2 is a repeat exactly if the session took one with its identifier, and no
+/// PUBREL with it came after that (MQTT 4.3.3).
 pub fn repeat_is_unreleased()
     ensures { RepeatIsUnreleased }
 {}
@@ -83,7 +83,7 @@ pub fn answers_are_addressed()
 {}
 
 /// An entry starts only if its client has a connection and fewer entries than the window are in
-/// flight before it, and gets the least identifier that none of these has (MQTT 2.3.1, 4.6).
+/// flight before it. It gets the least identifier that none of these has (MQTT 2.3.1, 4.6).
 pub fn starts_where_it_may()
     ensures { StartsWhereItMay }
 {}

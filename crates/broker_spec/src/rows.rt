@@ -106,7 +106,7 @@ pub fn limits_are_met()
     ensures room { RoomIsLessWhatEarlierFiltersNeed }
 {}
 
-/// A publication is answered by its own QoS and identifier, and delivered at the lower of its QoS
+/// A publication is answered by its own QoS and identifier. It is delivered at the lower of its QoS
 /// and the granted one, to each client in turn (MQTT 3.3.5, 3.8.4).
 pub fn lower_qos_is_delivered()
     ensures lower { LowerQosIsDelivered }

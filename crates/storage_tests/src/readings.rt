@@ -38,8 +38,8 @@ pub fn live_connections_are_current()
         (c : Client) × (current_connection past c ≡ Some x) }
 {}
 
-/// Shows that PUBACK finishes only an entry of QoS 1, and PUBREC and PUBCOMP only one of QoS 2, in
-/// a list of commands as in a queue (MQTT 4.3.2, 4.3.3).
+/// Shows that PUBACK finishes only an entry of QoS 1, and PUBREC and PUBCOMP only one of QoS 2.
+/// This holds in a list of commands as in a queue (MQTT 4.3.2, 4.3.3).
 pub fn answers_fit_the_qos()
     ensures entries { EntriesFitTheirQoS }
     ensures others { AnswersOfAnotherQoSAreNothing }

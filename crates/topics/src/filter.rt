@@ -35,9 +35,9 @@ impl Model for Filter {
 }
 
 impl Filter {
-    /// Returns the Topic Filter of this text. In this order: `Text` if it contains U+0000, `Filter`
-    /// if it is empty, has more than 65,535 bytes or a wildcard out of its place, `TooDeep` if it
-    /// has more than 32 levels, `Memory`.
+    /// Returns the Topic Filter of this text. In this order: `Text` if it contains U+0000; `Filter`
+    /// if it is empty, has more than 65,535 bytes or a wildcard out of its place; `TooDeep` if it
+    /// has more than 32 levels; `Memory` if memory runs out.
     #[tactic(auto, using(crate::proofs::Faultless::is_filter_none))]
     pub fn new(alloc: Global, text: &str) -> Result<Filter, MalformedKind>
         ensures value { IfOk result (λ filter. filter ≡ text.now) }

@@ -6,11 +6,11 @@ ghost use Rattle.ways_out.specs.CutWaysLaws.{CutGroupsHaveWaysOut};
 
 use snapshots::machine::Machine;
 
-/// States that a group whose nodes cut their logs can always be led on: if the members of a new
-/// configuration and one member of the active one run, and a ballot and a place are left, the
-/// messages of `way_out` lead to the next ballot. It is active then, and all its members hold the
-/// whole log of that member followed by the ballot's start. This is the agreed list, and what was
-/// agreed before begins it.
+/// States that a group whose nodes cut their logs can always be led on: the messages of `way_out`
+/// lead to the next ballot. This needs that the members of a new configuration run, and one member
+/// of the active one, and that a ballot and a place are left. The ballot is active then, and all
+/// its members hold the whole log of that member followed by the ballot's start. This is the agreed
+/// list, and what was agreed before begins it.
 pub fn cut_groups_have_ways_out<M: Machine>()
     ensures { CutGroupsHaveWaysOut M.rules }
 {}

@@ -44,8 +44,8 @@ fn a_log_is_cut(rt: HostRuntime) {
     assert!(rt; goes(rt.alloc(), 1, &[1], 1, Story::IsCut));
 }
 
-/// Says whether a node that is no member counts a log as lost if its snapshot is no total, and
-/// changes nothing, but takes a log that it can read.
+/// Says whether a node that is no member takes a log that it can read, and counts one whose
+/// snapshot is no total as lost, which changes nothing.
 pub fn reads_snapshots(
     replica: &mut Replica<Tally>,
     out: &mut Vec<Effect<TallyCommand, u64>>,

@@ -145,7 +145,7 @@ fn seventeen_are_in_flight(rt: HostRuntime) {
 }
 
 // Sixteen entries are in flight at once in a broker that was read from form 1. A PUBACK frees its
-// identifier for the entry that waits, and the client that comes back is sent them in the order in
+// identifier for the entry that waits. The client that comes back is sent them in the order in
 // which they were sent first, with DUP 1.
 #[test]
 fn puback_frees_its_identifier(rt: HostRuntime) {
