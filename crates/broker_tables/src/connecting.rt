@@ -54,8 +54,7 @@ impl Tables {
             (state_in self.new
             ≡ (stepped self.old (commands.Connect connection client.now clean)).0) }
         ensures outputs { OnOk result
-            (out.new.items
-            ≡ out.old.items
+            (out.new.items ≡ out.old.items
             ++ (stepped self.old (commands.Connect connection client.now clean)).1) }
         ensures tied { OnOk result (IsTied self.new) }
     {
@@ -116,8 +115,7 @@ impl Tables {
             (state_in self.new
             ≡ (stepped self.old (commands.Connect connection client.now clean)).0) }
         ensures outputs { OnOk result
-            (out.new.items
-            ≡ out.old.items
+            (out.new.items ≡ out.old.items
             ++ (stepped self.old (commands.Connect connection client.now clean)).1) }
         ensures tied { OnOk result (IsTied self.new) }
     {
@@ -139,8 +137,7 @@ impl Tables {
     ) -> Result<(), Halted>
         ensures owners { OnOk result (TakesOver self.old connection client.now self.new) }
         ensures outputs { OnOk result
-            (out.new.items
-            ≡ out.old.items
+            (out.new.items ≡ out.old.items
             ++ (closed (connection_of (session_in client.now self.old.sessions.entries))
             ++ welcome connection present ∷ [])) }
         ensures others { HasOthersThanOwners self.old self.new }
@@ -176,8 +173,7 @@ impl Tables {
             (state_in self.new
             ≡ (stepped self.old (commands.Connect connection client.now clean)).0) }
         ensures outputs { OnOk result
-            (out.new.items
-            ≡ out.old.items
+            (out.new.items ≡ out.old.items
             ++ (stepped self.old (commands.Connect connection client.now clean)).1) }
         ensures tied { OnOk result (IsTied self.new) }
     {
@@ -198,13 +194,10 @@ impl Tables {
     ) -> Result<(), Halted>
         requires { IsSome (session_in client.now self.old.sessions.entries) }
         ensures sessions { OnOk result
-            (self.new.sessions.entries
-            ≡ changed client.now
+            (self.new.sessions.entries ≡ changed client.now
             (kept_resumed self.old.window (connection, false)) self.old.sessions.entries) }
         ensures sends { OnOk result
-            (out.new.items
-            ≡ out.old.items
-            ++ map (outputs.Send connection)
+            (out.new.items ≡ out.old.items ++ map (outputs.Send connection)
             (sent_to_resumed self.old.window (session_in client.now self.old.sessions.entries))) }
         ensures others { HasOthersOf self.old self.new }
     {
@@ -226,8 +219,7 @@ impl ClientRow {
     ) -> Result<(), Halted>
         ensures state { OnOk result (self.new ≡ kept_resumed window (connection, false) self.old) }
         ensures sends { OnOk result
-            (sent.new.items
-            ≡ sent.old.items ++ sent_to_resumed window (Some self.old)) }
+            (sent.new.items ≡ sent.old.items ++ sent_to_resumed window (Some self.old)) }
     {
         self.clean = false;
         self.connection = Some(connection);

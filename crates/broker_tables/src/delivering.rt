@@ -107,9 +107,7 @@ pub(crate) fn deliver(
     requires room { is_full_at usual_limits publication.now qos (Some row.old) ≡ false }
     ensures state { OnOk result (row.new ≡ delivered_on window publication.now qos row.old) }
     ensures outputs { OnOk result
-        (out.new.items
-        ≡ out.old.items
-        ++ sent_on row.old.connection
+        (out.new.items ≡ out.old.items ++ sent_on row.old.connection
         (copies_sent window (lowered publication.now qos ∷ []) row.old.state.queue)) }
 {
     let copy = copy_at(publication, qos)?;

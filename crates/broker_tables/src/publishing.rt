@@ -46,8 +46,7 @@ impl Tables {
             (state_in self.new
             ≡ (stepped self.old (commands.Packet connection (packets.Publish publish.now))).0) }
         ensures outputs { OnOk result
-            (out.new.items
-            ≡ out.old.items
+            (out.new.items ≡ out.old.items
             ++ (stepped self.old (commands.Packet connection (packets.Publish publish.now))).1) }
         ensures tied { OnOk result (IsTied self.new) }
     {
@@ -148,8 +147,7 @@ fn is_full_at(
     publication: &Publication,
     granted: &(ClientId, QoS),
 ) -> bool
-    ensures { result
-        ≡ is_full_at usual_limits publication.now granted.now.1
+    ensures { result ≡ is_full_at usual_limits publication.now granted.now.1
         (session_in granted.now.0 sessions.now.entries) }
 {
     let (client, qos) = granted;
@@ -165,9 +163,7 @@ fn is_any_full(
     publication: &Publication,
     granted: &[(ClientId, QoS)],
 ) -> bool
-    ensures { result
-        ≡ list_any
-        (λ row.
+    ensures { result ≡ list_any (λ row.
         is_full_at usual_limits publication.now row.1 (session_in row.0 sessions.now.entries))
         granted.now }
 {
@@ -197,8 +193,7 @@ fn deliver_all(
         (sessions.new.entries
         ≡ all_delivered window publication.now granted.now sessions.old.entries) }
     ensures outputs { OnOk result
-        (out.new.items
-        ≡ out.old.items
+        (out.new.items ≡ out.old.items
         ++ answered_in_turn window publication.now granted.now sessions.old.entries) }
 {
     for row in granted {
@@ -218,13 +213,10 @@ fn deliver_to(
     requires room { is_full_at usual_limits publication.now granted.now.1
         (session_in granted.now.0 sessions.old.entries) ≡ false }
     ensures state { OnOk result
-        (sessions.new.entries
-        ≡ changed granted.now.0
+        (sessions.new.entries ≡ changed granted.now.0
         (delivered_on window publication.now granted.now.1) sessions.old.entries) }
     ensures outputs { OnOk result
-        (out.new.items
-        ≡ out.old.items
-        ++ copy_answered window publication.now granted.now.1
+        (out.new.items ≡ out.old.items ++ copy_answered window publication.now granted.now.1
         (session_in granted.now.0 sessions.old.entries)) }
 {
     let (client, qos) = granted;

@@ -42,9 +42,7 @@ impl Tables {
             (state_in self.new
             ≡ (stepped self.old (commands.Packet connection (packets.Subscribe subscribe.now))).0) }
         ensures outputs { OnOk result
-            (out.new.items
-            ≡ out.old.items
-            ++ (stepped self.old
+            (out.new.items ≡ out.old.items ++ (stepped self.old
             (commands.Packet connection (packets.Subscribe subscribe.now))).1) }
         ensures tied { OnOk result (IsTied self.new) }
     {
@@ -125,8 +123,7 @@ fn grant(
 
 // Says whether the filter would be a subscription too many: an identical one is only replaced.
 fn is_one_too_many(session: &Session, subscription: &Subscription) -> bool
-    ensures { result
-        ≡ is_one_too_many usual_limits session.now.subscriptions subscription.now }
+    ensures { result ≡ is_one_too_many usual_limits session.now.subscriptions subscription.now }
 {
     !session.has_subscription(&subscription.filter)
         && session.subscription_count() >= MAX_SUBSCRIPTIONS
@@ -140,8 +137,7 @@ fn set_all(
     which: &[bool],
 ) -> Result<(), Halted>
     ensures { OnOk result
-        (content_of index.new
-        ≡ all_set client.now (map as_held (granted_of filters.now which.now))
+        (content_of index.new ≡ all_set client.now (map as_held (granted_of filters.now which.now))
         (content_of index.old)) }
 {
     for (subscription, granted) in filters.iter().zip(which) {

@@ -30,13 +30,10 @@ impl Tables {
         requires in_step { IsInStep self.old }
         requires served { owners_in self.old.sessions.entries connection ≡ Some client.now }
         ensures state { OnOk result
-            (state_in self.new
-            ≡ (stepped self.old
+            (state_in self.new ≡ (stepped self.old
             (commands.Packet connection (packets.Unsubscribe unsubscribe.now))).0) }
         ensures outputs { OnOk result
-            (out.new.items
-            ≡ out.old.items
-            ++ (stepped self.old
+            (out.new.items ≡ out.old.items ++ (stepped self.old
             (commands.Packet connection (packets.Unsubscribe unsubscribe.now))).1) }
         ensures tied { OnOk result (IsTied self.new) }
     {

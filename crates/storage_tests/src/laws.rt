@@ -23,6 +23,10 @@ fn laws_of_rows() {
     broker_form::broker_rows::taken_publication_steps();
     broker_form::broker_rows::room_lasts_to_its_turn();
     broker_form::broker_rows::change_is_of_one_row();
+}
+
+#[test]
+fn laws_of_maps() {
     broker_form::broker_rows::copies_in_parts();
     broker_form::broker_rows::subscribes_in_turn();
     broker_form::broker_rows::maps_stay();
