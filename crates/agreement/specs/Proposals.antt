@@ -23,6 +23,7 @@ proposal_by r (Receives message) = []
 proposal_by r (Proposes command) = (r.joined, command) ∷ []
 proposal_by r Ticks = []
 
+-- the proposal of a step, if it has one
 abbrev pub proposal_of : {S C O : Type 0} {rules : Rules S C O} {m : MasterState}
     {w : World S C O} {k : MasterState} {v : World S C O} → MayHappen rules m w k v → List (ℕ × C)
 proposal_of (node_takes n r input stands runs may loses) = proposal_by r input
@@ -44,6 +45,7 @@ abbrev pub taken_by : {S C : Type 0} → ReplicaState S C → ReplicaState S C �
 taken_by old new input =
     if nat_lt (length old.log) (length new.log) then proposal_by old input else []
 
+-- what is taken in a step
 abbrev pub taken_in : {S C O : Type 0} {rules : Rules S C O} {m : MasterState} {w : World S C O}
     {k : MasterState} {v : World S C O} → MayHappen rules m w k v → List (ℕ × C)
 taken_in (node_takes n r input {new = new} {given = given} stands runs may loses) =
@@ -72,6 +74,7 @@ takes_at n (master_hears from b sent) = []
 takes_at n (assignment_lost config) = []
 takes_at n (answer_lost from b sent) = []
 
+-- what the node at place n took in a past
 abbrev pub taken_at : {S C O : Type 0} {rules : Rules S C O} {config : Config}
     {past : List (Moment S C O)} → ℕ → Past rules config past → List (ℕ × C)
 taken_at n (began nodes lawful is) = []

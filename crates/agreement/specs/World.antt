@@ -23,21 +23,24 @@ can_open nodes config =
     && (is_lawful config.members config.primary
     && list_all (λ member. nat_le member nodes) config.members)
 
+-- the nodes as they open
 abbrev pub opening_nodes : {S C O : Type 0} → Rules S C O → ℕ → Config → List (ReplicaState S C)
 opening_nodes rules zero config = []
 opening_nodes rules (suc n) config =
     opening_nodes rules n config ++ opening rules (n + 1) config ∷ []
 
+-- the world in which nothing was sent
 abbrev pub opening_world : {S C O : Type 0} → Rules S C O → ℕ → Config → World S C O
 opening_world rules nodes config =
     record { nodes = opening_nodes rules nodes config; sent = []; left = [] }
 
--- the messages among effects, and the outputs
+-- the messages among effects, each with its receiver
 abbrev pub messages : {C O : Type 0} → List (Effect C O) → List (ℕ × Message C)
 messages [] = []
 messages (To receiver message ∷ effects) = (receiver, message) ∷ messages effects
 messages (Out place output ∷ effects) = messages effects
 
+-- the outputs, each with its place
 abbrev pub outputs : {C O : Type 0} → List (Effect C O) → List (ℕ × O)
 outputs [] = []
 outputs (To receiver message ∷ effects) = outputs effects

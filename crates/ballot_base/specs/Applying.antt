@@ -13,12 +13,12 @@ outputs_from rules s place (command ∷ commands) =
     map (Out place) (rules.gives s command)
     ++ outputs_from rules (rules.after s command) (place + 1) commands
 
--- the outputs of the places below `held` that are not yet applied, and the replica once they are
--- applied
+-- the outputs of the places below `held` that are not yet applied
 abbrev pub outputs_to : {S C O : Type 0} → Rules S C O → ReplicaState S C → ℕ → List (Effect C O)
 outputs_to rules r held =
     outputs_from rules r.machine r.committed (part r.log r.committed held)
 
+-- the replica with all places below `held` applied
 abbrev pub applied_to : {S C O : Type 0} → Rules S C O → ReplicaState S C → ℕ → ReplicaState S C
 applied_to rules r held =
     record r {

@@ -52,6 +52,7 @@ installs O r (member ∷ members) =
 abbrev pub waits_for : {S C : Type 0} → ReplicaState S C → ℕ → ℕ → Bool
 waits_for r ballot held = r.joined == ballot && (is_fetching r.role && nat_le r.committed held)
 
+-- a new primary that took a log sends it to the others; it takes none that cannot be read
 abbrev pub hands_on : {S C : Type 0} (O : Type 0) →
     ReplicaState S C → ℕ → Option (ReplicaState S C) → Outcome S C O
 hands_on O r ballot None = nothing_done O r
@@ -63,6 +64,7 @@ hands_on O r ballot (Some took) =
     } in
     record { state = new; effects = installs O new new.lacking }
 
+-- what State does
 unfoldable pub on_state : {S C O : Type 0} →
     Rules S C O → ReplicaState S C → ℕ → Log C → Outcome S C O
 on_state {O = O} rules r ballot log =
@@ -77,6 +79,7 @@ lacks r ballot held =
     (nat_lt r.joined ballot || (r.joined == ballot && nat_lt r.held_in ballot))
     && nat_le r.committed held
 
+-- a member that took the log says so; one that could not read it says nothing
 abbrev pub answers_installed : {S C : Type 0} (O : Type 0) →
     ReplicaState S C → ℕ → ℕ → ℕ → Option (ReplicaState S C) → Outcome S C O
 answers_installed O r from ballot held None = nothing_done O r
@@ -86,6 +89,7 @@ answers_installed O r from ballot held (Some took) =
       effects = message_to O r.id (Installed ballot held) from ∷ [];
     }
 
+-- what Install does
 unfoldable pub on_install : {S C O : Type 0} →
     Rules S C O → ReplicaState S C → ℕ → ℕ → Log C → Outcome S C O
 on_install {O = O} rules r from ballot log =
@@ -106,5 +110,6 @@ on_tick_fetching O r =
       effects = message_to_each O r.id (Join r.joined r.previous) r.previous_members;
     }
 
+-- and then sends the log to those that lack it
 abbrev pub on_tick_installing : {S C : Type 0} (O : Type 0) → ReplicaState S C → Outcome S C O
 on_tick_installing O r = record { state = r; effects = installs O r r.lacking }

@@ -24,9 +24,10 @@ command_at log place = if nat_lt place log.base then None else slice_get log.res
 abbrev pub part : {C : Type 0} → Log C → ℕ → ℕ → List C
 part log from to = drop (from - log.base) (take (to - log.base) log.rest)
 
--- with a command appended, and without its last one
+-- a log with a command appended
 abbrev pub pushed : {C : Type 0} → Log C → C → Log C
 pushed log command = record log { rest = log.rest ++ command ∷ [] }
 
+-- a log without its last command
 abbrev pub popped : {C : Type 0} → Log C → Log C
 popped log = record log { rest = take (length log.rest - 1) log.rest }

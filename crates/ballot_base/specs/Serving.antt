@@ -23,11 +23,11 @@ abbrev pub raised_progress : ℕ → ℕ → Progress → Progress
 raised_progress member held reached =
     if reached.member == member then record reached { held = max reached.held held } else reached
 
+-- the same in a list, for this member
 abbrev pub raised : ℕ → ℕ → List Progress → List Progress
 raised member held progress = map (raised_progress member held) progress
 
--- places below `held` that are not yet applied are applied, their outputs returned, and the other
--- members sent a Commit
+-- places below `held` are applied, their outputs returned, and the other members sent a Commit
 unfoldable pub commit_at : {S C O : Type 0} → Rules S C O → ReplicaState S C → ℕ → Outcome S C O
 commit_at {O = O} rules r held =
     if nat_lt r.committed held
@@ -60,10 +60,11 @@ proposed {O = O} rules r command =
     then added rules r command
     else nothing_done O r
 
--- whether a replica is a backup that holds the log of a ballot, or leads it as its active primary
+-- whether a replica is a backup that holds the log of a ballot
 abbrev pub follows : {S C : Type 0} → ReplicaState S C → ℕ → Bool
 follows r ballot = (r.joined == ballot && r.held_in == ballot) && is_backup r.role
 
+-- whether it is the active primary of the ballot
 abbrev pub leads : {S C : Type 0} → ReplicaState S C → ℕ → Bool
 leads r ballot = r.joined == ballot && is_active r.role
 
@@ -80,8 +81,7 @@ on_append O r from ballot place command =
     then record {
       state = record r { log = log };
       effects = message_to O r.id (Held ballot (places log)) from ∷ [];
-    }
-    else nothing_done O r
+    } else nothing_done O r
 
 -- Held(ballot, held)
 unfoldable pub on_held : {S C O : Type 0} →
@@ -104,6 +104,7 @@ append_at O id ballot reached None = []
 append_at O id ballot reached (Some command) =
     message_to O id (Append ballot reached.held command) reached.member ∷ []
 
+-- the command that each member lacks next, as messages
 abbrev pub appends_after : {C : Type 0} (O : Type 0) →
     ℕ → ℕ → Log C → List Progress → List (Effect C O)
 appends_after O id ballot log progress =

@@ -18,6 +18,7 @@ with_snapshot r log machine =
       machine = if nat_lt r.committed log.base then machine else r.machine;
     }
 
+-- a log is taken only if its snapshot is read
 abbrev pub read_into : {S C : Type 0} →
     ReplicaState S C → Log C → Option S → Option (ReplicaState S C)
 read_into r log None = None

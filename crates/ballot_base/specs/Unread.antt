@@ -14,6 +14,7 @@ abbrev pub stands_for_none : {S : Type 0} → Option S → Bool
 stands_for_none None = true
 stands_for_none (Some machine) = false
 
+-- the base is above this log's, and the snapshot does not thaw
 abbrev pub reads_none : {S C O : Type 0} → Rules S C O → ReplicaState S C → Log C → Bool
 reads_none rules r log =
     nat_lt r.log.base log.base && stands_for_none (rules.thawed log.snapshot)

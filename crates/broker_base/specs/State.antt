@@ -54,6 +54,7 @@ owner_in x [] = None
 
 -- ---- the state after a past
 
+-- the window, the sessions and what is retained
 abbrev pub state_of : Limits → Past → State
 state_of limits past =
     record {

@@ -42,12 +42,15 @@ FitsWindow window kept = length kept.state.queue.in_flight ≤ window
 
 -- ---- all sessions
 
+-- each session is sound
 abbrev pub AllSound : Sessions → Type 0
 AllSound rows = AllByRecursion (λ row. IsSoundSession row.1) rows
 
+-- each connected client's queue is quiet
 abbrev pub AllQuiet : ℕ → Sessions → Type 0
 AllQuiet window rows = AllByRecursion (λ row. HasQuietQueue window row.1) rows
 
+-- no more of a session is in flight than the window allows
 abbrev pub AllInWindow : ℕ → Sessions → Type 0
 AllInWindow window rows = AllByRecursion (λ row. FitsWindow window row.1) rows
 

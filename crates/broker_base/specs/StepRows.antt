@@ -55,6 +55,7 @@ StepsWidenTheWindow =
 -- ---- a state in which a connected client's queue is not quiet: one publication waits, and nothing
 -- is in flight
 
+-- the publication that waits
 abbrev pub waits_o : Publication
 waits_o =
     record { retain = false; qos = levels.AtLeastOnce; topic = codes "t/1"; payload = codes "o" }
@@ -75,6 +76,7 @@ serves_b queue =
       retained = [];
     }
 
+-- the state in which it waits
 abbrev pub o_waits : State
 o_waits = serves_b (record { in_flight = []; waiting = waits_o ∷ [] })
 
@@ -94,6 +96,7 @@ OthersStartNothing =
 abbrev pub o_started : State
 o_started = serves_b (record { in_flight = (1, waits_for.Puback waits_o) ∷ []; waiting = [] })
 
+-- PUBACK and PUBCOMP start what waits
 abbrev pub AnswersStartWhatWaits : Type 0
 AnswersStartWhatWaits =
     (step usual_limits 64 o_waits (gets 1 (packets.Puback 7))

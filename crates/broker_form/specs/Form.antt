@@ -18,11 +18,13 @@ use Rattle.broker_base.specs.State.{State}
 use Rattle.broker_form.specs.InRange.{as_publication}
 use Rattle.broker_form.specs.Follows.{row_follows, topic_follows}
 
+-- a number of eight bytes
 unfoldable pub wide_number_at : List ℕ → Result (ℕ × List ℕ) Stop
 wide_number_at bytes = do
   front ← front_at 8 bytes
   Ok (from_be_bytes w64 front.0, front.1)
 
+-- the ballot and the count of a connection, in their ranges
 unfoldable pub name_at : List ℕ → Result (Option ConnectionName × List ℕ) Stop
 name_at bytes = do
   ballot ← wide_number_at bytes
@@ -30,10 +32,12 @@ name_at bytes = do
   keep (is_connection_name (record { ballot = ballot.0; count = count.0 }))
   Ok (Some (record { ballot = ballot.0; count = count.0 }), count.1)
 
+-- whether there is a current connection, and which
 unfoldable pub connection_at : List ℕ → Result (Option ConnectionName × List ℕ) Stop
 connection_at bytes =
     flag_at bytes >>= (λ flag. if flag.0 then name_at flag.1 else Ok (None, flag.1))
 
+-- a Client Identifier, as the broker accepts it
 unfoldable pub client_at : List ℕ → Result (Client × List ℕ) Stop
 client_at bytes = do
   client ← text_at bytes
@@ -55,11 +59,13 @@ abbrev pub is_retainable : List ℕ × RetainedPublication → Bool
 is_retainable row =
     nat_lt 0 (length row.1.payload) && nat_le (body_length (as_publication row)) longest_body
 
+-- any other publication stops the reading
 abbrev pub retainable : List ℕ × RetainedPublication → Result (List ℕ × RetainedPublication) Stop
 retainable row = do
   keep (is_retainable row)
   Ok row
 
+-- a topic with what is retained of it
 unfoldable pub retained_at : List ℕ → Result ((List ℕ × RetainedPublication) × List ℕ) Stop
 retained_at bytes = do
   qos ← qos_at bytes
@@ -93,11 +99,13 @@ content_at window bytes = do
   ended retained.1
   Ok (record { window = window; sessions = sessions.0; retained = retained.0 })
 
+-- the head, then the content
 unfoldable pub broker_at : List ℕ → Result State Stop
 broker_at bytes = do
   head ← head_at bytes
   content_at head.0 head.1
 
+-- what was read, if the reading did not stop
 abbrev pub found : {A : Type 0} → Result A Stop → Option A
 found (Ok a) = Some a
 found (Err stop) = None

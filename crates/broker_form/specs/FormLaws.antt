@@ -17,6 +17,7 @@ IsUsualState state =
     IsBrokerState usual_limits state × IsWindowSize state.window
     × AllInWindow state.window state.sessions
 
+-- what is frozen is thawed
 abbrev pub FrozenIsThawed : Type 0
 FrozenIsThawed = (state : State) → IsUsualState state → thawed (frozen state) ≡ Some state
 
@@ -26,6 +27,7 @@ FrozenBeforeIsThawed =
     (state : State) → IsUsualState state → state.window ≡ 16
     → thawed (frozen_before state) ≡ Some state
 
+-- what is thawed is a state of this broker
 abbrev pub ThawedIsInRange : Type 0
 ThawedIsInRange = (bytes : List ℕ) → AreBytes bytes → IfOk (broker_at bytes) IsUsualState
 

@@ -23,6 +23,7 @@ session_of_a window connection = record {
   retained = [];
 }
 
+-- its bytes, after those of the head
 abbrev pub content_of_a : List ℕ
 content_of_a =
     0 ∷ 1 ∷ 0 ∷ 1 ∷ 0x61 ∷ 0 ∷ 1 ∷ 0 ∷ 0 ∷ 0 ∷ 0 ∷ 0 ∷ 0 ∷ 0 ∷ 1 ∷ 0 ∷ 0 ∷ 0 ∷ 0 ∷ 0 ∷ 0 ∷ 0 ∷ 1
@@ -32,6 +33,7 @@ content_of_a =
 abbrev pub FreshIsFrozen : Type 0
 FreshIsFrozen = frozen (empty_state 64) ≡ 0x02 ∷ 0x40 ∷ no_content
 
+-- it is frozen to form 2
 abbrev pub OneSessionIsFrozen : Type 0
 OneSessionIsFrozen =
     frozen (session_of_a 64 (Some (record { ballot = 1; count = 1 }))) ≡ 0x02 ∷ 0x40 ∷ content_of_a

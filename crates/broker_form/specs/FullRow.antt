@@ -38,9 +38,11 @@ topics_by_hand =
     ∷ 0 ∷ 0 ∷ 3 ∷ 0x74 ∷ 0x2F ∷ 0x31 ∷ 0 ∷ 0 ∷ 0 ∷ 1 ∷ 0x78
     ∷ 2 ∷ 0 ∷ 3 ∷ 0x74 ∷ 0x2F ∷ 0x32 ∷ 0 ∷ 0 ∷ 0 ∷ 2 ∷ 0x79 ∷ 0x7A ∷ []
 
+-- the bytes after the head
 abbrev pub full_content : List ℕ
 full_content = client_by_hand ++ full_session_by_hand ++ topics_by_hand
 
+-- the state is frozen to them in both forms
 abbrev pub FullIsFrozen : Type 0
 FullIsFrozen =
     (frozen (full_state 64) ≡ 0x02 ∷ 0x40 ∷ full_content)

@@ -21,11 +21,13 @@ abbrev pub as_publication : List ℕ × RetainedPublication → Publication
 as_publication row =
     record { retain = true; qos = row.1.qos; topic = row.0; payload = row.1.payload }
 
+-- the payload has a byte, and its PUBLISH can be sent
 abbrev pub IsRetained : List ℕ × RetainedPublication → Type 0
 IsRetained row = (1 ≤ length row.1.payload) × CanBeSent (as_publication row)
 
 -- ---- one session
 
+-- the connection, if there is one, has a name in its range
 abbrev pub IsNamed : Option ConnectionName → Type 0
 IsNamed (Some x) = IsConnectionName x
 IsNamed None = Unit {0}

@@ -21,6 +21,7 @@ use Rattle.broker_rows.specs.Published.{granted_rows, changed, received_on}
 use Rattle.broker_rows.specs.Published.{all_delivered, answered_in_turn}
 use Rattle.broker_rows.specs.ConnectLaws.{all_left_off}
 
+-- the third client
 abbrev pub c : Client
 c = codes "c"
 
@@ -40,9 +41,11 @@ row client clean connection held received queue = (
 abbrev pub of_b : List HeldFilter
 of_b = (codes "t/#", levels.AtLeastOnce) ∷ []
 
+-- the subscriptions of c
 abbrev pub of_c : List HeldFilter
 of_c = (codes "t/1", levels.ExactlyOnce) ∷ []
 
+-- their sessions: a and c are connected, b is away
 abbrev pub three : Sessions
 three =
     row a true (Some (nth 1)) [] [] empty_queue
@@ -51,9 +54,11 @@ three =
 
 -- ---- a publishes o at QoS 2 on t/1, with the identifier 7
 
+-- the publication at a QoS
 abbrev pub o_at : QoS → Publication
 o_at qos = record { retain = false; qos = qos; topic = codes "t/1"; payload = codes "o" }
 
+-- its delivery, with the identifier 7
 abbrev pub seventh : Delivery
 seventh = deliveries.ExactlyOnce false 7
 
@@ -73,6 +78,7 @@ EachGetsItsCopy =
     (record { in_flight = (1, waits_for.Pubrec (o_at levels.ExactlyOnce)) ∷ []; waiting = [] })
     ∷ []
 
+-- only c is sent it at once
 abbrev pub OneIsAnswered : Type 0
 OneIsAnswered =
     answered_in_turn 16 (o_at levels.ExactlyOnce) (granted_rows (codes "t/1") three)

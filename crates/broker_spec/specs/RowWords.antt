@@ -22,10 +22,11 @@ use Rattle.broker_spec.specs.declared.command.Output.TheVariants.{Send}
 abbrev pub Gives : Limits → List Command → List Command → List (List Output) → Type 0
 Gives limits earlier next answers = answers_from limits (past_of limits earlier) next ≡ answers
 
--- two clients
+-- the first client
 abbrev pub a : Client
 a = codes "a"
 
+-- the second one
 abbrev pub b : Client
 b = codes "b"
 
@@ -55,12 +56,13 @@ publish delivery retain payload =
     packets.Publish
     (record { topic = codes "t/1"; delivery = delivery; retain = retain; payload = payload })
 
--- a SUBSCRIBE to the filter t/#, and its SUBACK
+-- a SUBSCRIBE to the filter t/#
 abbrev pub subscribe : ℕ → QoS → Packet
 subscribe id qos =
     packets.Subscribe
     (record { id = id; filters = record { filter = codes "t/#"; qos = qos } ∷ [] })
 
+-- a SUBACK that grants this QoS
 abbrev pub suback : ℕ → QoS → Packet
 suback id qos = packets.Suback (record { id = id; codes = answers.Granted qos ∷ [] })
 

@@ -27,8 +27,7 @@ connect_clean n c = commands.Connect (nth n) c true
 abbrev pub Began : List Command → Option ℕ → Type 0
 Began commands start = session_start (past_of usual_limits commands) a ≡ start
 
--- A session that is not clean stays when its connection is lost, and another Connect finds it; a
--- clean Connect begins one at its own place, which ends with its connection, also at a Start.
+-- a session that is not clean outlives its connection; a clean Connect begins one at its own place
 abbrev pub SessionsBegin : Type 0
 SessionsBegin =
     Began [] None × Began (connect 1 a ∷ []) (Some 0)
@@ -49,6 +48,7 @@ Ends earlier next ended =
     ends_session (place_of usual_limits (past_of usual_limits earlier) next)
     (past_of usual_limits earlier) a ≡ ended
 
+-- a session ends at a clean Connect, and where a clean one loses its connection
 abbrev pub SessionsEnd : Type 0
 SessionsEnd =
     Ends [] (connect 1 a) false × Ends (connect 1 a ∷ []) (connect 2 a) false
@@ -69,8 +69,7 @@ PlacesStandInSessions =
 -- ---- entries
 
 -- b subscribes at place 1; a publishes x at QoS 1 at place 3 and y, retained, at QoS 2 at place 4;
--- b subscribes again at place 5, answers x, answers y in two steps, and does not answer the copy of
--- the retained one
+-- b subscribes again at place 5, answers x and y, and does not answer the retained copy
 abbrev pub three_entries : List Command
 three_entries =
     subscribed_at levels.ExactlyOnce
@@ -79,9 +78,11 @@ three_entries =
     ∷ gets 1 (subscribe 2 levels.ExactlyOnce)
     ∷ gets 1 (packets.Puback 1) ∷ gets 1 (packets.Pubrec 2) ∷ gets 1 (packets.Pubcomp 2) ∷ []
 
+-- the entries of b after these commands
 abbrev pub entries_of_b : List Entry
 entries_of_b = entries_of usual_limits (past_of usual_limits three_entries) b
 
+-- where they come from, start, are released and finish
 abbrev pub EntriesHaveTheirPlaces : Type 0
 EntriesHaveTheirPlaces =
     (map origin_of entries_of_b

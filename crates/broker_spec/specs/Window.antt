@@ -5,6 +5,7 @@ use Rattle.std.specs.Prelude.{ℕ, ◌==◌, ◌||◌, Bool, IsTrue, if◌then�
 abbrev pub is_window_size : ℕ → Bool
 is_window_size n = (n == 16) || (n == 64)
 
+-- the number is one of these
 abbrev pub IsWindowSize : ℕ → Type 0
 IsWindowSize n = IsTrue (is_window_size n)
 

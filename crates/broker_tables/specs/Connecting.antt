@@ -16,6 +16,7 @@ abbrev pub goes_on : Bool → Option ClientSession → Bool
 goes_on clean (Some kept) = not clean && not kept.clean
 goes_on clean None = false
 
+-- the same, by the state
 abbrev pub goes_on_in : State → Client → Bool → Bool
 goes_on_in state c clean = goes_on clean (session_in c state.sessions)
 

@@ -20,6 +20,7 @@ pub record Core : Type 0 where
 abbrev pub nothing_read : Stream
 nothing_read = record { held = []; failed = false }
 
+-- a new client: it never was connected, has read nothing, and has nothing to write
 abbrev pub new_core : List ℕ → ℕ → Core
 new_core client keep_alive =
     record { state = new_client client keep_alive; unread = nothing_read; out = [] }

@@ -68,9 +68,11 @@ on_pubrel id state =
 
 -- ---- its own publications
 
+-- whether PUBACK with this identifier ends the publication
 abbrev pub awaits_puback : ℕ → KeptPublication → Bool
 awaits_puback id kept = (id == kept.id) && is_acknowledged kept.publication.qos
 
+-- whether PUBREC with this identifier releases it
 abbrev pub awaits_pubrec : ℕ → KeptPublication → Bool
 awaits_pubrec id kept = (id == kept.id) && not (is_acknowledged kept.publication.qos)
 
@@ -98,14 +100,17 @@ on_pubcomp id state = going_on (record state { released = without_id id state.re
 
 -- ---- requests: only an answer of its own kind ends one
 
+-- whether SUBACK with this identifier answers the request
 abbrev pub is_subscribe : ℕ → Request → Bool
 is_subscribe id (requests.Subscribes other) = id == other
 is_subscribe id (requests.Unsubscribes other) = false
 
+-- whether UNSUBACK with this identifier answers it
 abbrev pub is_unsubscribe : ℕ → Request → Bool
 is_unsubscribe id (requests.Subscribes other) = false
 is_unsubscribe id (requests.Unsubscribes other) = id == other
 
+-- the requests that are answered end, and nothing is written
 abbrev pub answered : (Request → Bool) → ClientState → Turn
 answered test state =
     going_on (record state { requests = filter (λ request. not (test request)) state.requests }) []

@@ -25,6 +25,7 @@ connects keep_alive c =
 abbrev pub opens : List ℕ → Written
 opens = connects 0
 
+-- a connection of a client, on which nothing but a CONNECT was written
 abbrev pub new_connection : {Name : Type 0} → List ℕ → Name → Connection Name
 new_connection c x =
     record {
@@ -36,6 +37,7 @@ new_connection c x =
       accepted = [];
     }
 
+-- a client that opens a connection with a keep alive: what it kept stays, requests are given up
 abbrev pub opened : {Name : Type 0} → ℕ → Name → Keeper → Side Name
 opened keep_alive x keeper =
     record {
@@ -45,11 +47,14 @@ opened keep_alive x keeper =
           { written = connects keep_alive keeper.client ∷ [] };
     }
 
+-- what a disconnecting client writes: DISCONNECT if it is online
 abbrev pub disconnects : Keeper → List Written
 disconnects keeper = if keeper.is_online then plain packets.Disconnect ∷ [] else []
 
 -- ---- publishing and asking
 
+-- its own publications after one more: at QoS 0 it is done at once, and else sent if the client is
+-- online
 abbrev pub adds_own : Publication → Keeper → Keeper
 adds_own p keeper =
     record keeper {
@@ -61,15 +66,18 @@ adds_own p keeper =
           else Own.Done (next_number keeper) p) ∷ [];
     }
 
+-- what is written for a publication: its PUBLISH if the client is online
 abbrev pub written_for : Publication → Keeper → List Written
 written_for p keeper =
     if keeper.is_online
     then publishes false (next_number keeper) (least_free (ids_in_use keeper)) p ∷ []
     else []
 
+-- one request more waits for its answer
 abbrev pub asks : Request → Keeper → Keeper
 asks request keeper = record keeper { requests = keeper.requests ++ request ∷ [] }
 
+-- the SUBSCRIBE to one filter, with the least free identifier
 abbrev pub subscribe_of : List ℕ → QoS → Keeper → Packet
 subscribe_of filter qos keeper =
     packets.Subscribe (record {
@@ -77,6 +85,7 @@ subscribe_of filter qos keeper =
       filters = record { filter = filter; qos = qos } ∷ [];
     })
 
+-- the UNSUBSCRIBE from one filter, with the least free identifier
 abbrev pub unsubscribe_of : List ℕ → Keeper → Packet
 unsubscribe_of filter keeper =
     packets.Unsubscribe (record { id = least_free (ids_in_use keeper); filters = filter ∷ [] })
@@ -84,6 +93,7 @@ unsubscribe_of filter keeper =
 -- ---- the step: a call that is not refused, or a packet, on the connection that was opened last;
 -- one that it opens gets the fresh name
 
+-- what a call does that is not refused
 abbrev pub keeper_goes : {Name : Type 0} → Name → Call → Side Name → Side Name
 keeper_goes fresh Call.Opens side = opened 0 fresh side.keeper
 keeper_goes fresh (Call.Publishes p) side =

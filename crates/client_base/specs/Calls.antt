@@ -81,6 +81,7 @@ on_later (packets.Unsuback id) state = answered (is_unsubscribe id) state
 on_later packets.Pingresp state = going_on state []
 on_later _ state = ending errors.Protocol state
 
+-- a packet of the server, by how far the connection has come
 abbrev pub received : Packet → Stage → ClientState → Turn
 received packet stages.Closed state = refused errors.NotActive state
 received packet stages.Opened state = on_first packet state

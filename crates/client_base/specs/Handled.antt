@@ -32,18 +32,22 @@ confirmed present side =
       };
     }
 
+-- a client without its connection: requests are given up, all else is kept
 abbrev pub lost : Keeper → Keeper
 lost keeper = record keeper { requests = []; is_open = false; is_online = false }
 
 -- ---- each packet; one that only a client sends, a second CONNACK, or another first packet ends
 -- the connection
 
+-- whether SUBACK with this identifier leaves the request
 abbrev pub not_subscribes : ℕ → Request → Bool
 not_subscribes i request = not (is_subscribe i request)
 
+-- whether UNSUBACK with this identifier leaves it
 abbrev pub not_unsubscribes : ℕ → Request → Bool
 not_unsubscribes i request = not (is_unsubscribe i request)
 
+-- a packet to a client that is online
 abbrev pub handled_online : {Name : Type 0} → Packet → Side Name → Side Name
 handled_online (packets.Publish p) side = takes_in p.delivery (publication_of p) side
 handled_online (packets.Puback i) side =
@@ -72,10 +76,12 @@ handled_online (packets.Unsuback i) side =
 handled_online packets.Pingresp side = side
 handled_online _ side = record side { keeper = lost side.keeper }
 
+-- the first packet on a connection, which has to be CONNACK 0
 abbrev pub handled_first : {Name : Type 0} → Packet → Side Name → Side Name
 handled_first (packets.Connack (connacks.Accepted present)) side = confirmed present side
 handled_first _ side = record side { keeper = lost side.keeper }
 
+-- a packet is handled and counted
 abbrev pub handled : {Name : Type 0} → Packet → Side Name → Side Name
 handled packet side =
     let counted = record side

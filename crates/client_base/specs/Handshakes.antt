@@ -10,26 +10,31 @@ use Rattle.session_base.specs.lists.Lists.{has_id}
 use Rattle.client_base.specs.Keeper.{Own, Side}
 use Rattle.client_base.specs.Written.{plain, writing}
 
+-- a publication at PUBACK: one of QoS 1 with this identifier is done
 abbrev pub at_puback : ℕ → Own → Own
 at_puback i (Own.Sent k p id) =
     if (i == id) && is_acknowledged p.qos then Own.Done k p else Own.Sent k p id
 at_puback i o = o
 
+-- at PUBREC: one of QoS 2 with this identifier is released
 abbrev pub at_pubrec : ℕ → Own → Own
 at_pubrec i (Own.Sent k p id) =
     if (i == id) && not (is_acknowledged p.qos) then Own.Released k p id else Own.Sent k p id
 at_pubrec i o = o
 
+-- at PUBCOMP: a released one with this identifier is done
 abbrev pub at_pubcomp : ℕ → Own → Own
 at_pubcomp i (Own.Released k p id) = if i == id then Own.Done k p else Own.Released k p id
 at_pubcomp i o = o
 
+-- whether a publication of QoS 2 with this identifier waits for PUBREC
 abbrev pub is_sent_with : ℕ → List Own → Bool
 is_sent_with i (Own.Sent k p id ∷ own) =
     ((i == id) && not (is_acknowledged p.qos)) || is_sent_with i own
 is_sent_with i (_ ∷ own) = is_sent_with i own
 is_sent_with i [] = false
 
+-- PUBREC is answered by PUBREL, the first time and again
 abbrev pub releasing : {Name : Type 0} → ℕ → Side Name → Side Name
 releasing i side =
     if is_sent_with i side.keeper.own
@@ -43,6 +48,8 @@ releasing i side =
     else if has_id i side.keeper.releases then writing (plain (packets.Pubrel i) ∷ []) side
     else side
 
+-- a publication of the server: at QoS 1 and 2 it is answered, and a repeat at QoS 2 is not accepted
+-- again
 abbrev pub takes_in : {Name : Type 0} → Delivery → Publication → Side Name → Side Name
 takes_in deliveries.AtMostOnce p side = side
 takes_in (deliveries.AtLeastOnce dup id) p side = writing (plain (packets.Puback id) ∷ []) side

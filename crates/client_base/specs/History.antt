@@ -8,16 +8,19 @@ use Rattle.client_base.specs.Keeper.{Own, Written, Connection, Keeper}
 
 -- ---- what is kept of all that was published
 
+-- those that were sent and are not acknowledged yet
 abbrev pub sent_of : List Own → List KeptPublication
 sent_of (Own.Sent k p id ∷ own) = record { id = id; publication = p } ∷ sent_of own
 sent_of (_ ∷ own) = sent_of own
 sent_of [] = []
 
+-- those that were not sent yet
 abbrev pub unsent_of : List Own → List KeptPublication
 unsent_of (Own.Unsent k p id ∷ own) = record { id = id; publication = p } ∷ unsent_of own
 unsent_of (_ ∷ own) = unsent_of own
 unsent_of [] = []
 
+-- the identifiers of those that are released
 abbrev pub released_of : List Own → List ℕ
 released_of (Own.Released k p id ∷ own) = id ∷ released_of own
 released_of (_ ∷ own) = released_of own
@@ -31,6 +34,7 @@ IsSentFirst [] = Unit {0}
 
 -- ---- what corresponds to what
 
+-- a client without history keeps what the one with history says is kept
 pub record StandsFor (keeper : Keeper) (state : ClientState) : Type 0 where
   pub client : state.client ≡ keeper.client
   pub released : state.released ≡ keeper.releases

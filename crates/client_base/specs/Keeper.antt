@@ -44,6 +44,7 @@ pub record Keeper : Type 0 where
   pub is_online : Bool  -- whether a CONNACK 0 came on the open connection
   pub was_served : Bool  -- whether a CONNACK 0 came before
 
+-- a client that published nothing and never was connected
 abbrev pub new_keeper : List ℕ → Keeper
 new_keeper c =
     record {
@@ -58,6 +59,7 @@ new_keeper c =
       was_served = false;
     }
 
+-- the identifiers of its publications that are not done
 abbrev pub ids_of_own : List Own → List ℕ
 ids_of_own (Own.Unsent k p id ∷ own) = id ∷ ids_of_own own
 ids_of_own (Own.Sent k p id ∷ own) = id ∷ ids_of_own own

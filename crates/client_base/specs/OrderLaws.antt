@@ -6,6 +6,7 @@ use Rattle.client_base.specs.Steps.{Call}
 use Rattle.client_base.specs.Called.{keeper_goes}
 use Rattle.client_base.specs.History.{IsSentFirst}
 
+-- the number of a publication, in the order of publishing
 abbrev pub number_in : Own → ℕ
 number_in (Own.Unsent k p id) = k
 number_in (Own.Sent k p id) = k

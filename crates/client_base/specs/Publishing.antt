@@ -25,9 +25,11 @@ has_free_id state = nat_lt (next_id state) 65536
 abbrev pub window : ℕ
 window = 64
 
+-- the PUBLISH of a publication, with the next identifier
 abbrev pub publish_packet : Publication → ClientState → Packet
 publish_packet p state = packets.Publish (publish_of false (next_id state) p)
 
+-- whether the packet is too large to be spelled
 abbrev pub is_over_limit : Packet → Bool
 is_over_limit packet = nat_lt longest_body (length (body packet))
 

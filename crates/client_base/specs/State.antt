@@ -42,11 +42,13 @@ new_client client keep_alive =
       accepted = [];
     }
 
+-- whether there is a connection
 abbrev pub is_open : Stage → Bool
 is_open stages.Closed = false
 is_open stages.Opened = true
 is_open stages.Online = true
 
+-- whether the server has accepted it
 abbrev pub is_online : Stage → Bool
 is_online stages.Closed = false
 is_online stages.Opened = false
@@ -58,10 +60,12 @@ kept_count state = length state.released + length state.sent + length state.unse
 
 -- ---- identifiers (MQTT 2.3.1)
 
+-- the identifier of a request
 abbrev pub id_of_request : Request → ℕ
 id_of_request (requests.Subscribes id) = id
 id_of_request (requests.Unsubscribes id) = id
 
+-- the identifiers of kept publications
 abbrev pub ids_of_kept : List KeptPublication → List ℕ
 ids_of_kept = map (λ kept. kept.id)
 

@@ -28,12 +28,14 @@ abbrev pub asked : Request → Packet → ClientState → Turn
 asked request packet state =
     going_on (record state { requests = state.requests ++ request ∷ [] }) (packet ∷ [])
 
+-- a SUBSCRIBE to one filter
 abbrev pub subscribed : List ℕ → QoS → ClientState → Turn
 subscribed filter qos state =
     asked (requests.Subscribes (next_id state))
     (packets.Subscribe
     (record { id = next_id state; filters = record { filter = filter; qos = qos } ∷ [] })) state
 
+-- an UNSUBSCRIBE from one filter
 abbrev pub unsubscribed : List ℕ → ClientState → Turn
 unsubscribed filter state =
     asked (requests.Unsubscribes (next_id state))
@@ -49,6 +51,7 @@ disconnected stages.Online state = going_on (lost state) (packets.Disconnect ∷
 
 -- ---- the step
 
+-- what a client is called for, or meets
 pub data Call : Type 0 where
   Opens : Call
   Publishes : (publication : Publication) → Call
@@ -58,10 +61,12 @@ pub data Call : Type 0 where
   Loses : Call
   Disconnects : Call
 
+-- what a call does, unless it is refused for a cause
 abbrev pub unless_refused : Option ClientError → Turn → ClientState → Turn
 unless_refused (Some cause) turn state = refused cause state
 unless_refused None turn state = turn
 
+-- what each call does to a client
 abbrev pub keeper_step : Call → ClientState → Turn
 keeper_step Call.Opens state = opened state
 keeper_step (Call.Publishes p) state =

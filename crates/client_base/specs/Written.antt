@@ -7,18 +7,22 @@ use Rattle.session_base.specs.declared.publication.Publication.{Publication}
 use Rattle.session_base.specs.Publication.{publish_of}
 use Rattle.client_base.specs.Keeper.{Own, Written, Connection, Keeper, Side}
 
+-- a packet that carries no publication of the client's own
 abbrev pub plain : Packet → Written
 plain packet = record { packet = packet; number = None }
 
+-- the PUBLISH of a publication, by its number and identifier
 abbrev pub publishes : Bool → ℕ → ℕ → Publication → Written
 publishes dup number id p =
     record { packet = packets.Publish (publish_of dup id p); number = Some number }
 
+-- PUBLISH with DUP 1 for each that was sent and is not acknowledged
 abbrev pub sent_again : List Own → List Written
 sent_again (Own.Sent k p id ∷ own) = publishes true k id p ∷ sent_again own
 sent_again (_ ∷ own) = sent_again own
 sent_again [] = []
 
+-- PUBLISH with DUP 0 for each that was not sent yet
 abbrev pub sent_first : List Own → List Written
 sent_first (Own.Unsent k p id ∷ own) = publishes false k id p ∷ sent_first own
 sent_first (_ ∷ own) = sent_first own
@@ -31,6 +35,7 @@ resent keeper =
     map (λ id. plain (packets.Pubrel id)) keeper.releases
     ++ sent_again keeper.own ++ sent_first keeper.own
 
+-- all publications once those that were not sent yet are sent
 abbrev pub sent_all : List Own → List Own
 sent_all (Own.Unsent k p id ∷ own) = Own.Sent k p id ∷ sent_all own
 sent_all (o ∷ own) = o ∷ sent_all own
@@ -40,6 +45,7 @@ sent_all [] = []
 abbrev pub writes : {Name : Type 0} → List Written → Connection Name → Connection Name
 writes more connection = record connection { written = connection.written ++ more }
 
+-- the same for a client with its connection
 abbrev pub writing : {Name : Type 0} → List Written → Side Name → Side Name
 writing more side = record side { connection = writes more side.connection }
 

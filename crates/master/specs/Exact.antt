@@ -69,9 +69,11 @@ after a (Some (by_cut t)) =
 after a (Some (by_master o)) = record { master = o.state; world = tells_from_master a.world o }
 after a (Some unheeded) = a
 
+-- the moment after an event
 abbrev pub group_step : {S C O : Type 0} → Rules S C O → Event C → Moment S C O → Moment S C O
 group_step rules event a = after a (turn rules a event)
 
+-- the moment after events
 abbrev pub group_run : {S C O : Type 0} →
     Rules S C O → List (Event C) → Moment S C O → Moment S C O
 group_run rules [] a = a

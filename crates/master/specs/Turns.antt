@@ -17,6 +17,7 @@ abbrev pub unless_stopped : {S C : Type 0} → Option (ReplicaState S C) → Opt
 unless_stopped None = None
 unless_stopped (Some r) = if r.stopped then None else Some r
 
+-- the node of a number, from 1
 abbrev pub running : {S C : Type 0} → List (ReplicaState S C) → ℕ → Option (ReplicaState S C)
 running nodes zero = None
 running nodes (suc n) = unless_stopped (slice_get nodes n)
@@ -41,6 +42,7 @@ can_take r (Proposes command) = is_active r.role && nat_lt (places r.log) most_p
 can_take r (Receives message) = true
 can_take r Ticks = true
 
+-- the turn of a node that takes an input, unless it refuses
 abbrev pub taking : {S C O : Type 0} →
     Rules S C O → ℕ → Option (ReplicaState S C) → Input C → Option (Turn S C O)
 taking rules n None input = None
@@ -49,6 +51,7 @@ taking rules n (Some r) input =
     then Some (by_node (record { place = n; before = r; outcome = replica_step rules r input }))
     else None
 
+-- the turn of a node that stops for good
 abbrev pub stopping : {S C O : Type 0} →
     Rules S C O → ℕ → Option (ReplicaState S C) → Option (Turn S C O)
 stopping rules n None = None
@@ -64,6 +67,7 @@ abbrev pub cut_turn : {S C O : Type 0} → Rules S C O → ℕ → ReplicaState 
 cut_turn rules n r =
     record { place = n; before = r; outcome = record { state = cut rules r; effects = [] } }
 
+-- the cut of a node's log, if the node runs
 abbrev pub cutting : {S C O : Type 0} →
     Rules S C O → ℕ → Option (ReplicaState S C) → Option (Turn S C O)
 cutting rules n None = None

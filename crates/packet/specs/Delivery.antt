@@ -10,6 +10,7 @@ use Rattle.packet.specs.declared.qos.QoS.TheVariants as levels
 use Rattle.packet.specs.declared.delivery.Delivery.{Delivery}
 use Rattle.packet.specs.declared.delivery.Delivery.TheVariants as deliveries
 
+-- the QoS of a delivery
 abbrev pub delivery_qos : Delivery → QoS
 delivery_qos deliveries.AtMostOnce = levels.AtMostOnce
 delivery_qos (deliveries.AtLeastOnce dup id) = levels.AtLeastOnce

@@ -11,6 +11,7 @@ abbrev pub decode_number : DecodeFault → Option ℕ
 decode_number (faults.Malformed kind) = Some (number_of kind)
 decode_number (faults.Refused code) = None
 
+-- a packet that cannot be encoded has the number of its fault
 abbrev pub encode_number : EncodeFault → ℕ
 encode_number encode_faults.TooLarge = 4
 encode_number encode_faults.Memory = 12

@@ -23,6 +23,7 @@ subscribe s = number s.id ++ flat_map subscription s.filters
 abbrev pub FitsSubscription : Subscription → Type 0
 FitsSubscription s = IsTrue (is_filter s.filter)
 
+-- the identifier and each filter are in their ranges
 abbrev pub FitsSubscribe : Subscribe → Type 0
 FitsSubscribe s = IsId s.id × All FitsSubscription s.filters
 

@@ -23,6 +23,7 @@ pub data After : List Put → RetainedTopics → Type 0 where
       → is_refused content p.topic p.payload ≡ false
       → After (puts ++ p ∷ []) (after_put content p.topic p.qos p.payload)
 
+-- whether a publication is on this topic
 abbrev pub is_on : List ℕ → Put → Bool
 is_on topic p = is_at (slice_cmp nat_cmp topic) p.topic
 
@@ -35,6 +36,7 @@ abbrev pub kept_of_payload : QoS → List ℕ → Option RetainedPublication
 kept_of_payload qos [] = None
 kept_of_payload qos (byte ∷ payload) = Some (record { qos = qos; payload = byte ∷ payload })
 
+-- the same if there is a publication
 abbrev pub kept_of : Option Put → Option RetainedPublication
 kept_of (Some p) = kept_of_payload p.qos p.payload
 kept_of None = None

@@ -14,6 +14,7 @@ use Rattle.retained.specs.declared.retained_publication.RetainedPublication.{Ret
 abbrev pub RetainedTopics : Type 0
 RetainedTopics = List (List ℕ × RetainedPublication)
 
+-- the topics are in rising order, each once
 abbrev pub IsRising : RetainedTopics → Type 0
 IsRising content = IsStrictlySortedBy (slice_cmp nat_cmp) (keys_of content)
 
@@ -35,6 +36,7 @@ after_put content topic qos [] = without_topic content topic
 after_put content topic qos (byte ∷ payload) =
     with_topic content topic (record { qos = qos; payload = byte ∷ payload })
 
+-- whether a payload has no bytes
 abbrev pub is_empty : List ℕ → Bool
 is_empty payload = length payload == 0
 

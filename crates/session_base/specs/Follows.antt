@@ -15,6 +15,7 @@ abbrev pub is_over : Option ℕ → ℕ → Bool
 is_over (Some last) id = nat_lt last id
 is_over None id = true
 
+-- an identifier above all of those read before
 abbrev pub is_above : List ℕ → ℕ → Bool
 is_above front id = is_over (last_of front) id
 

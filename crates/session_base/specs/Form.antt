@@ -30,11 +30,13 @@ flag_at bytes = do
   keep (nat_lt byte.0 2)
   Ok (byte.0 == 1, byte.1)
 
+-- a number of four bytes
 unfoldable pub long_number_at : List ℕ → Result (ℕ × List ℕ) Stop
 long_number_at bytes = do
   front ← front_at 4 bytes
   Ok (from_be_bytes w32 front.0, front.1)
 
+-- a QoS in one byte
 unfoldable pub qos_at : List ℕ → Result (QoS × List ℕ) Stop
 qos_at bytes = do
   byte ← byte_at bytes
@@ -52,6 +54,7 @@ sized p = do
   keep (nat_le (body_length p) longest_body)
   Ok p
 
+-- a publication: RETAIN, QoS, topic, and the payload with its length before it
 unfoldable pub publication_at : List ℕ → Result (Publication × List ℕ) Stop
 publication_at bytes = do
   retain ← flag_at bytes
@@ -62,6 +65,7 @@ publication_at bytes = do
   p ← sized (record { retain = retain.0; qos = qos.0; topic = topic.0; payload = payload.0 })
   Ok (p, payload.1)
 
+-- a filter with its QoS
 unfoldable pub held_at : List ℕ → Result (HeldFilter × List ℕ) Stop
 held_at bytes = do
   filter ← filter_at bytes
@@ -82,12 +86,14 @@ sent_at acknowledged bytes = do
   keep (if acknowledged then is_acknowledged p.0.qos else not (is_acknowledged p.0.qos))
   Ok (if acknowledged then waits_for.Puback p.0 else waits_for.Pubrec p.0, p.1)
 
+-- what an entry waits for, by a byte of 0 to 2
 unfoldable pub awaits_at : List ℕ → Result (Awaits × List ℕ) Stop
 awaits_at bytes = do
   state ← byte_at bytes
   keep (nat_lt state.0 3)
   if state.0 == 2 then Ok (waits_for.Pubcomp, state.1) else sent_at (state.0 == 0) state.1
 
+-- an entry in flight: its identifier, and what it waits for
 unfoldable pub flight_at : List ℕ → Result (Flight × List ℕ) Stop
 flight_at bytes = do
   id ← id_at bytes

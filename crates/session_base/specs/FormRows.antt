@@ -13,6 +13,7 @@ abbrev pub at_least_once : Publication
 at_least_once =
     record { retain = false; qos = levels.AtLeastOnce; topic = codes "t/1"; payload = codes "x" }
 
+-- one of QoS 2
 abbrev pub exactly_once : Publication
 exactly_once =
     record { retain = false; qos = levels.ExactlyOnce; topic = codes "t/1"; payload = codes "y" }
@@ -22,10 +23,12 @@ abbrev pub retained_copy : Publication
 retained_copy =
     record { retain = true; qos = levels.AtLeastOnce; topic = codes "t/2"; payload = codes "z" }
 
+-- a publication without a payload
 abbrev pub without_payload : Publication
 without_payload =
     record { retain = false; qos = levels.ExactlyOnce; topic = codes "t/1"; payload = [] }
 
+-- three entries in flight, and two that wait
 abbrev pub full_queue : Queue
 full_queue = record {
   in_flight =
@@ -34,6 +37,7 @@ full_queue = record {
   waiting = retained_copy ∷ without_payload ∷ [];
 }
 
+-- a session with something in each part
 abbrev pub full_session : SessionState
 full_session = record {
   subscriptions = (codes "t/#", levels.AtMostOnce) ∷ (codes "t/1", levels.ExactlyOnce) ∷ [];
@@ -60,8 +64,10 @@ waiting_by_hand =
     ∷ 1 ∷ 1 ∷ 0 ∷ 3 ∷ 0x74 ∷ 0x2F ∷ 0x32 ∷ 0 ∷ 0 ∷ 0 ∷ 1 ∷ 0x7A
     ∷ 0 ∷ 2 ∷ 0 ∷ 3 ∷ 0x74 ∷ 0x2F ∷ 0x31 ∷ 0 ∷ 0 ∷ 0 ∷ 0 ∷ []
 
+-- the bytes of all three parts
 abbrev pub full_session_by_hand : List ℕ
 full_session_by_hand = filters_by_hand ++ flights_by_hand ++ waiting_by_hand
 
+-- the session is frozen to these bytes
 abbrev pub FullSessionIsFrozen : Type 0
 FullSessionIsFrozen = state_bytes full_session ≡ full_session_by_hand

@@ -27,6 +27,7 @@ IsInFlight (id, waits_for.Puback p) = IsId id × (p.qos ≡ levels.AtLeastOnce) 
 IsInFlight (id, waits_for.Pubrec p) = IsId id × (p.qos ≡ levels.ExactlyOnce) × CanBeSent p
 IsInFlight (id, waits_for.Pubcomp) = IsId id
 
+-- a subscription: a filter that is lawful
 abbrev pub IsHeld : HeldFilter → Type 0
 IsHeld held = IsTrue (is_filter held.0)
 

@@ -19,6 +19,7 @@ pub record Queue : Type 0 where
   pub in_flight : List Flight
   pub waiting : List Publication
 
+-- nothing is in flight, and nothing waits
 abbrev pub empty_queue : Queue
 empty_queue = record { in_flight = []; waiting = [] }
 
@@ -28,25 +29,30 @@ awaited p = if is_acknowledged p.qos then waits_for.Puback p else waits_for.Pubr
 
 -- ---- the client's answers
 
+-- whether an entry waits for PUBACK
 abbrev pub is_puback : Awaits → Bool
 is_puback (waits_for.Puback p) = true
 is_puback _ = false
 
+-- whether it waits for PUBREC
 abbrev pub is_pubrec : Awaits → Bool
 is_pubrec (waits_for.Pubrec p) = true
 is_pubrec _ = false
 
+-- whether it waits for PUBCOMP
 abbrev pub is_pubcomp : Awaits → Bool
 is_pubcomp waits_for.Pubcomp = true
 is_pubcomp _ = false
 
--- whether this entry has the identifier and waits for PUBACK, PUBREC or PUBCOMP
+-- whether this entry has the identifier and waits for PUBACK
 abbrev pub awaits_puback : ℕ → Flight → Bool
 awaits_puback id flight = (id == flight.0) && is_puback flight.1
 
+-- the same for PUBREC
 abbrev pub awaits_pubrec : ℕ → Flight → Bool
 awaits_pubrec id flight = (id == flight.0) && is_pubrec flight.1
 
+-- the same for PUBCOMP
 abbrev pub awaits_pubcomp : ℕ → Flight → Bool
 awaits_pubcomp id flight = (id == flight.0) && is_pubcomp flight.1
 

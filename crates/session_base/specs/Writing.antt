@@ -36,6 +36,7 @@ awaits_bytes (waits_for.Puback p) = 0 ∷ publication_bytes p
 awaits_bytes (waits_for.Pubrec p) = 1 ∷ publication_bytes p
 awaits_bytes waits_for.Pubcomp = 2 ∷ []
 
+-- an entry in flight: its identifier, and what it waits for
 abbrev pub flight_bytes : Flight → List ℕ
 flight_bytes flight = number flight.0 ++ awaits_bytes flight.1
 

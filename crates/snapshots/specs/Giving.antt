@@ -21,6 +21,7 @@ given_by_node n (takes i r input {new = new} {given = given} stands runs may los
 given_by_node n (stops i r stands) = []
 given_by_node n (cuts i r stands runs below reads) = []
 
+-- the outputs of that node in a step of the group
 abbrev pub given_in : {S C O : Type 0} {rules : Rules S C O} {m : MasterState} {w : World S C O}
     {k : MasterState} {v : World S C O} → ℕ → MayHappen rules m w k v → List (ℕ × O)
 given_in n (node_goes goes) = given_by_node n goes

@@ -59,6 +59,7 @@ pub record IsCutRight {S C O : Type 0} (rules : Rules S C O) (archive : List C)
   pub snapshot : 0 < r.log.base →
       rules.thawed r.log.snapshot ≡ Some (replay rules (take r.log.base archive))
 
+-- this holds for each log of a group
 abbrev pub LogsAreCutRight : {S C O : Type 0} → Rules S C O → Type 0
 LogsAreCutRight {S} {C} {O} rules =
     (config : Config) (a : Moment S C O) (past : List (Moment S C O)) →
@@ -80,6 +81,7 @@ pub record IsSentRight {S C O : Type 0} (rules : Rules S C O) (archive : List C)
   pub snapshot : 0 < log.base
       → rules.thawed log.snapshot ≡ Some (replay rules (take log.base archive))
 
+-- and for each log that was sent
 abbrev pub SentLogsAreRight : {S C O : Type 0} → Rules S C O → Type 0
 SentLogsAreRight {S} {C} {O} rules =
     (config : Config) (a : Moment S C O) (past : List (Moment S C O)) →

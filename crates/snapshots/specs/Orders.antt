@@ -44,6 +44,7 @@ pub record StandsAtOnce {S C O : Type 0} {rules : Rules S C O} {m : MasterState}
   pub refused : taken_in step ≡ [] → (row : ℕ × C) → In row (proposal_of step) → (n : ℕ) →
       log_of (slice_get (whole_world v).nodes n) ≡ log_of (slice_get (whole_world w).nodes n)
 
+-- what a step takes is at the end of a log at once
 abbrev pub TakenStandAtOnce : {S C O : Type 0} → Rules S C O → Type 0
 TakenStandAtOnce {S} {C} {O} rules =
     (config : Config) (a b : Moment S C O) (past : List (Moment S C O)) →

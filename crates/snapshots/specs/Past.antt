@@ -24,10 +24,12 @@ opening_nodes rules zero config = []
 opening_nodes rules (suc n) config =
     opening_nodes rules n config ++ opening rules (n + 1) config ∷ []
 
+-- the world as it opens: nothing was sent
 abbrev pub opening_world : {S C O : Type 0} → Rules S C O → ℕ → Config → World S C O
 opening_world rules nodes config =
     record { nodes = opening_nodes rules nodes config; sent = []; left = []; archive = [] }
 
+-- the group as it opens
 abbrev pub opening_moment : {S C O : Type 0} → Rules S C O → ℕ → Config → Moment S C O
 opening_moment rules nodes config =
     record { master = opening_master config; world = opening_world rules nodes config }

@@ -34,6 +34,7 @@ proposed_to (takes n r input stands runs may loses) = proposal_by r input
 proposed_to (stops n r stands) = []
 proposed_to (cuts n r stands runs below reads) = []
 
+-- what a node takes in a step of its own
 abbrev pub taken_as : {S C O : Type 0} {rules : Rules S C O} {w v : World S C O} →
     NodeGoes rules w v → List (ℕ × C)
 taken_as (takes n r input {new = new} {given = given} stands runs may loses) = taken_by r new input
@@ -57,6 +58,7 @@ proposal_of (master_hears from b sent) = []
 proposal_of (assignment_lost config) = []
 proposal_of (answer_lost from b sent) = []
 
+-- what is taken in a step of the group
 abbrev pub taken_in : {S C O : Type 0} {rules : Rules S C O} {m : MasterState} {w : World S C O}
     {k : MasterState} {v : World S C O} → MayHappen rules m w k v → List (ℕ × C)
 taken_in (node_goes goes) = taken_as goes
@@ -65,6 +67,7 @@ taken_in (master_hears from b sent) = []
 taken_in (assignment_lost config) = []
 taken_in (answer_lost from b sent) = []
 
+-- what the node at place n takes in it
 abbrev pub takes_at : {S C O : Type 0} {rules : Rules S C O} {m : MasterState} {w : World S C O}
     {k : MasterState} {v : World S C O} → ℕ → MayHappen rules m w k v → List (ℕ × C)
 takes_at n (node_goes goes) = taken_by_node n goes
@@ -79,11 +82,13 @@ abbrev pub proposals_of : {S C O : Type 0} {rules : Rules S C O} {config : Confi
 proposals_of (began nodes lawful is) = []
 proposals_of (went_on came step) = proposals_of came ++ proposal_of step
 
+-- what was taken in a past, in order
 abbrev pub taken_of : {S C O : Type 0} {rules : Rules S C O} {config : Config}
     {past : List (Moment S C O)} → Past rules config past → List (ℕ × C)
 taken_of (began nodes lawful is) = []
 taken_of (went_on came step) = taken_of came ++ taken_in step
 
+-- what the node at place n took in a past
 abbrev pub taken_at : {S C O : Type 0} {rules : Rules S C O} {config : Config}
     {past : List (Moment S C O)} → ℕ → Past rules config past → List (ℕ × C)
 taken_at n (began nodes lawful is) = []

@@ -59,6 +59,7 @@ whole_body archive (Append b place command) = bodies.Append b place command
 whole_body archive (Held b held) = bodies.Held b held
 whole_body archive (Commit b held) = bodies.Commit b held
 
+-- the message on whole logs
 abbrev pub whole_message : {C : Type 0} → List C → Message C → WholeMessage C
 whole_message archive m = record { from = m.from; body = whole_body archive m.body }
 
@@ -67,6 +68,7 @@ abbrev pub whole_effect : {C O : Type 0} → List C → Effect C O → WholeEffe
 whole_effect archive (To receiver m) = effects.To receiver (whole_message archive m)
 whole_effect archive (Out place output) = effects.Out place output
 
+-- the effects on whole logs
 abbrev pub whole_effects : {C O : Type 0} → List C → List (Effect C O) → List (WholeEffect C O)
 whole_effects archive es = map (whole_effect archive) es
 

@@ -28,6 +28,7 @@ pub record World (S C O : Type 0) : Type 0 where
 abbrev pub whole_letter : {C : Type 0} → List C → ℕ × Message C → ℕ × WholeMessage C
 whole_letter archive letter = (letter.0, whole_message archive letter.1)
 
+-- all nodes and messages on whole logs
 abbrev pub whole_world : {S C O : Type 0} → World S C O → WholeWorld S C O
 whole_world w =
     record {
@@ -36,12 +37,13 @@ whole_world w =
       left = w.left;
     }
 
--- the messages among effects, and the outputs
+-- the messages among effects, each with its receiver
 abbrev pub messages : {C O : Type 0} → List (Effect C O) → List (ℕ × Message C)
 messages [] = []
 messages (To receiver message ∷ effects) = (receiver, message) ∷ messages effects
 messages (Out place output ∷ effects) = messages effects
 
+-- the outputs, each with its place
 abbrev pub outputs : {C O : Type 0} → List (Effect C O) → List (ℕ × O)
 outputs [] = []
 outputs (To receiver message ∷ effects) = outputs effects

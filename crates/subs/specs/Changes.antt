@@ -4,14 +4,16 @@ use Rattle.std.specs.Prelude.{Option, None, if◌then◌else◌}
 use Rattle.subs_base.specs.packet.declared.qos.QoS.{QoS}
 use Rattle.subs.specs.Shape.{Shape}
 
+-- whether two sides are the same
 abbrev pub same_side : Bool → Bool → Bool
 same_side true side = side
 same_side false side = not side
 
--- a node's rows, and its children
+-- a node's rows: on each of its two sides, by client
 abbrev pub NodeRows : Type 0
 NodeRows = Bool → List ℕ → Option QoS
 
+-- the child after each level
 abbrev pub NodeChildren : Type 0
 NodeChildren = List ℕ → Option ℕ
 

@@ -43,6 +43,7 @@ Asked = Levels → List ℕ → Option QoS
 abbrev pub nothing : Asked
 nothing filter client = None
 
+-- whether two lists of levels are equal
 abbrev pub same_levels : Levels → Levels → Bool
 same_levels [] [] = true
 same_levels [] (level ∷ rest) = false

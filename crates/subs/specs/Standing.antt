@@ -8,9 +8,11 @@ use Rattle.subs.specs.Shape.{Shape, rows}
 use Rattle.subs.specs.Ways.{led, IsTree}
 use Rattle.subs.specs.Inside.{shape_of}
 
+-- the shape of nodes
 abbrev pub shape : Nodes → Shape
 shape nodes = shape_of nodes.slab
 
+-- the number of the root, if there are nodes
 abbrev pub root_of : Nodes → Option ℕ
 root_of nodes = option_map (λ id. id.number) nodes.root
 

@@ -51,6 +51,7 @@ abbrev pub found_named : Shape → ℕ → Levels → List ℕ → Option QoS
 found_named shape at [] client = None
 found_named shape at (level ∷ rest) client = found_below shape at level rest client
 
+-- what a client is granted of a topic, from a node on
 abbrev pub found_from : Shape → ℕ → List ℕ → List ℕ → Option QoS
 found_from shape at topic client =
     if starts_with 36 topic then found_named shape at (levels topic) client

@@ -31,10 +31,12 @@ MatchesRest (part ∷ filter) [] = IsAll part filter
 MatchesRest (part ∷ filter) (level ∷ topic) =
     IsAll part filter ⊎ (((part ≡ codes "+") ⊎ (part ≡ level)) × MatchesRest filter topic)
 
+-- whether a text begins with this byte
 abbrev pub starts_with : ℕ → List ℕ → Bool
 starts_with byte [] = false
 starts_with byte (first ∷ _) = first == byte
 
+-- whether a filter begins with `#` or `+`, which are 35 and 43
 abbrev pub starts_with_wildcard : List ℕ → Bool
 starts_with_wildcard filter = starts_with 35 filter || starts_with 43 filter
 

@@ -63,6 +63,7 @@ abbrev pub may_stand : List ℕ → Bool → Bool
 may_stand level last =
     has_no_wildcard level || bytes_eq level (codes "+") || (bytes_eq level (codes "#") && last)
 
+-- whether no level comes after
 abbrev pub is_last : Levels → Bool
 is_last [] = true
 is_last (_ ∷ _) = false

@@ -17,12 +17,12 @@ abbrev pub outputs_between : {S C O : Type 0} → Rules S C O → List C → ℕ
 outputs_between rules log from to =
     outputs_from rules (replay rules (take from log)) from (drop from (take to log))
 
--- the outputs of the places below `held` that are not yet applied, and the replica once they are
--- applied
+-- the outputs of the places below `held` that are not yet applied
 abbrev pub outputs_to : {S C O : Type 0} → Rules S C O → ReplicaState S C → ℕ → List (Effect C O)
 outputs_to rules r held =
     outputs_from rules r.machine r.committed (drop r.committed (take held r.log))
 
+-- the replica with all places below `held` applied
 abbrev pub applied_to : {S C O : Type 0} → Rules S C O → ReplicaState S C → ℕ → ReplicaState S C
 applied_to rules r held =
     record r {

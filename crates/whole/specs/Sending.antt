@@ -15,13 +15,15 @@ pub record Outcome (S C O : Type 0) : Type 0 where
 abbrev pub nothing_done : {S C : Type 0} (O : Type 0) → ReplicaState S C → Outcome S C O
 nothing_done O r = record { state = r; effects = [] }
 
--- a message of this replica to a node, to several, and to each node whose progress it keeps
+-- a message of this replica to a node
 abbrev pub message_to : {C : Type 0} (O : Type 0) → ℕ → Body C → ℕ → Effect C O
 message_to O id body receiver = To receiver (record { from = id; body = body })
 
+-- the same message to several nodes
 abbrev pub message_to_each : {C : Type 0} (O : Type 0) → ℕ → Body C → List ℕ → List (Effect C O)
 message_to_each O id body receivers = map (message_to O id body) receivers
 
+-- to each node whose progress is kept
 abbrev pub message_to_followed : {C : Type 0} (O : Type 0) →
     ℕ → Body C → List Progress → List (Effect C O)
 message_to_followed O id body progress =

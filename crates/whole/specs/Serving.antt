@@ -42,10 +42,11 @@ proposed {O = O} rules r command =
     then added rules r command
     else nothing_done O r
 
--- whether a replica is a backup that holds the log of a ballot, or leads it as its active primary
+-- whether a replica is a backup that holds the log of a ballot
 abbrev pub follows : {S C : Type 0} → ReplicaState S C → ℕ → Bool
 follows r ballot = (r.joined == ballot && r.held_in == ballot) && is_backup r.role
 
+-- whether it is the active primary of the ballot
 abbrev pub leads : {S C : Type 0} → ReplicaState S C → ℕ → Bool
 leads r ballot = r.joined == ballot && is_active r.role
 
@@ -86,6 +87,7 @@ append_at O id ballot reached None = []
 append_at O id ballot reached (Some command) =
     message_to O id (Append ballot reached.held command) reached.member ∷ []
 
+-- the command that each member lacks next, as messages
 abbrev pub appends_after : {C : Type 0} (O : Type 0) →
     ℕ → ℕ → List C → List Progress → List (Effect C O)
 appends_after O id ballot log progress =

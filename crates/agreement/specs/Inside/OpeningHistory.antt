@@ -7,6 +7,7 @@ use Rattle.agreement.specs.Inside.Ballots.{Given, Line, History}
 abbrev pub first_ballot : Config → Given
 first_ballot config = record { members = config.members; primary = config.primary; previous = 0 }
 
+-- the list of ballot 1 is empty
 abbrev pub first_line : (C : Type 0) → Line C
 first_line C = record { base = []; list = [] }
 

@@ -20,12 +20,15 @@ abbrev pub Leads : {S C O : Type 0} → World S C O → History C → ℕ → Re
 Leads {S} {C} w h n r =
     (g : Given) × (h.given r.joined ≡ Some g) × (g.primary ≡ n + 1) × (r.members ≡ g.members)
 
+-- a new primary that waits for a log: its ballot has no list yet
 abbrev pub IsFetching : {S C O : Type 0} → World S C O → History C → ℕ → ReplicaState S C → Type 0
 IsFetching w h n r =
     Leads w h n r × (r.held_in < r.joined) × (h.line r.joined ≡ None)
     × ((g : Given) × IsOf h r.joined g × (r.previous ≡ g.previous)
     × ((old : Given) × (h.given g.previous ≡ Some old) × (r.previous_members ≡ old.members)))
 
+-- a new primary that sends its log: this is its ballot's list, and those that do not lack it hold
+-- it
 pub record IsInstalling {S C O : Type 0} (w : World S C O) (h : History C) (n : ℕ)
     (r : ReplicaState S C) :
     Type 0 where
@@ -38,6 +41,8 @@ pub record IsInstalling {S C O : Type 0} (w : World S C O) (h : History C) (n : 
   pub noted : (m : ℕ) → In m r.members → (In m r.lacking ⊎ Told w h m r.joined (length line.base))
   pub lacks : (m : ℕ) → In m r.lacking → In m r.members × (m ≡ n + 1 → ⊥)
 
+-- an active primary: its ballot is activated, and each other member has acknowledged what its
+-- progress says
 pub record IsActive {S C O : Type 0} (w : World S C O) (h : History C) (n : ℕ)
     (r : ReplicaState S C) :
     Type 0 where
