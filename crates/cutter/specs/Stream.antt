@@ -4,7 +4,7 @@ use Rattle.std.specs.Prelude.{None, Result, Ok, Err}
 use Rattle.packet.specs.topics.declared.malformed.MalformedKind.TheVariants as kinds
 use Rattle.packet.specs.Stop.TheVariants as stops
 use Rattle.packet.specs.Spelling.{Spells, IsPacket}
-use Rattle.packet.specs.Verdict.{verdict, MayWantMemory}
+use Rattle.packet.specs.Verdict.{verdict, MayNeedMemory}
 use Rattle.packet.specs.declared.packet.Packet.{Packet}
 use Rattle.packet.specs.declared.error.DecodeFault.{DecodeFault}
 use Rattle.packet.specs.declared.error.DecodeFault.TheVariants as faults
@@ -48,5 +48,5 @@ Takes old (Ok None) new =
 Takes old (Err (errors.Decode fault)) new =
     (old.failed ≡ false) × IsFault fault old.held × (new ≡ record old { failed = true })
 Takes old (Err errors.Memory) new =
-    (old.failed ≡ false) × (new ≡ old) × MayWantMemory old.held
+    (old.failed ≡ false) × (new ≡ old) × MayNeedMemory old.held
 Takes old (Err errors.Failed) new = (old.failed ≡ true) × (new ≡ old)

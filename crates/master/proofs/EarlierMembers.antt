@@ -29,7 +29,7 @@ use Rattle.snapshots.specs.agreement.World.{World as WholeWorld}
 use Rattle.snapshots.specs.whole.Messages.Body.{NewBallot as whole_new_ballot}
 use Rattle.snapshots.proofs.of_agreement.Agreed.PastKnown.{past_known}
 use Rattle.snapshots.specs.Past.{Moment, Past, whole_moment}
-use Rattle.snapshots.specs.World.{whole_letter}
+use Rattle.snapshots.specs.World.{whole_sent}
 use Rattle.snapshots.proofs.PastsKept.{past_stands}
 use Rattle.snapshots.proofs.Views.{in_whole}
 use Rattle.master.specs.Copying.{has_numbers_alone}
@@ -78,7 +78,7 @@ names_some {S = S} {C = C} {O = O} rules config a past came to message sent = by
     by_body : (from : ℕ) (body : Body C) → In (to, record { from = from; body = body }) a.world.sent → NamesSome body
     by_body from (NewBallot b members p old) i =
         let q = past_stands rules config a past came in
-        whole_some rules config (whole_moment a) q.earlier q.kept.came to from b p members old (in_whole (whole_letter a.world.archive) i)
+        whole_some rules config (whole_moment a) q.earlier q.kept.came to from b p members old (in_whole (whole_sent a.world.archive) i)
     by_body from (Join b p) i = tt
     by_body from (State b log) i = tt
     by_body from (Install b log) i = tt

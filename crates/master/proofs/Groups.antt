@@ -43,9 +43,9 @@ use Rattle.master.specs.Turns.{cut_turn}
 use Rattle.master.specs.Turns.Turn.{by_cut}
 use Rattle.master.specs.Steps.{Freezes}
 use Rattle.ballot.specs.Cutting.{can_cut}
-use Rattle.master.proofs.Happening.{MayGo, IsDeed, cut_may, master_may, deed_lost, node_may}
+use Rattle.master.proofs.Happening.{MayGo, IsMasterTurn, cut_may, master_may, master_turn_lost, node_may}
 use Rattle.master.proofs.Happening.IsTurn.{it_takes, it_stops}
-use Rattle.master.proofs.Happening.IsDeed.{it_gives, it_answers}
+use Rattle.master.proofs.Happening.IsMasterTurn.{it_gives, it_answers}
 
 -- a message more
 pub most_told_more : {C : Type 0} (m b : ℕ) (sent more : List (ℕ × Message C)) →
@@ -139,8 +139,8 @@ pub group_gives : {S C O : Type 0} (rules : Rules S C O) (a v : Moment S C O) (c
     next'.ballot ≡ a.master.given + 1 → ((m : ℕ) → get_or next'.held m 0 ≡ 0) → IsGroup rules v told next'
 group_gives {S = S} {C = C} {O = O} rules a v config told next next' g granted master world ballot none = by_world world
   where
-    deed : IsDeed a (assigned C a.master config)
-    deed = it_gives config granted refl
+    acts : IsMasterTurn a (assigned C a.master config)
+    acts = it_gives config granted refl
 
     waits : (b : ℕ) (c : Config) → v.master.waiting ≡ Some (b, c) → next'.ballot ≡ b
     waits b c e =
@@ -171,10 +171,10 @@ group_gives {S = S} {C = C} {O = O} rules a v config told next next' g granted m
 
     by_world : (v.world ≡ tells_from_master a.world (assigned C a.master config)) ⊎ (v.world ≡ a.world) → IsGroup rules v told next'
     by_world (inl e) =
-        made (tells_from_master a.world (assigned C a.master config)) (master_may rules a (assigned C a.master config) deed) e
+        made (tells_from_master a.world (assigned C a.master config)) (master_may rules a (assigned C a.master config) acts) e
         (counted_still a.world.sent _ told (λ m b. new_ballot_silent C config.primary 0 (a.master.given + 1) a.master.active config.members a.master.members m b) g.counted)
         (counted_still a.world.sent _ next' (λ m b. new_ballot_silent C config.primary 0 (a.master.given + 1) a.master.active config.members a.master.members m b) empty)
-    by_world (inr e) = made a.world (deed_lost rules a (assigned C a.master config) deed) e g.counted empty
+    by_world (inr e) = made a.world (master_turn_lost rules a (assigned C a.master config) acts) e g.counted empty
 
 -- which ballot is active and which one waits after an Activate
 pub record Stays (m k : MasterState) : Type 0 where
@@ -207,8 +207,8 @@ pub group_answers : {S C O : Type 0} (rules : Rules S C O) (a v : Moment S C O) 
     IsGroup rules v told' next'
 group_answers {S = S} {C = C} {O = O} rules a v from b told next told' next' g sent master world way = by_world world
   where
-    deed : IsDeed a (activated C a.master b from a.master.waiting)
-    deed = it_answers from b sent refl
+    acts : IsMasterTurn a (activated C a.master b from a.master.waiting)
+    acts = it_answers from b sent refl
 
     turns : Stays a.master v.master ⊎ Turns a.master v.master
     turns = subst (λ (k : MasterState). Stays a.master k ⊎ Turns a.master k) (sym master) (stays_or_turns a.master b a.master.waiting refl)
@@ -263,9 +263,9 @@ group_answers {S = S} {C = C} {O = O} rules a v from b told next told' next' g s
 
     by_world : (v.world ≡ tells_from_master a.world (activated C a.master b from a.master.waiting)) ⊎ (v.world ≡ a.world) → IsGroup rules v told' next'
     by_world (inl e) =
-        made (tells_from_master a.world (activated C a.master b from a.master.waiting)) (master_may rules a (activated C a.master b from a.master.waiting) deed) e
+        made (tells_from_master a.world (activated C a.master b from a.master.waiting)) (master_may rules a (activated C a.master b from a.master.waiting) acts) e
         (λ t h. counted_still a.world.sent _ t (λ m x. answer_silent C 0 b _ m x) h)
-    by_world (inr e) = made a.world (deed_lost rules a (activated C a.master b from a.master.waiting) deed) e (λ t h. h)
+    by_world (inr e) = made a.world (master_turn_lost rules a (activated C a.master b from a.master.waiting) acts) e (λ t h. h)
 
 -- one message more is received
 pub counted_next : {C : Type 0} (sent : List (ℕ × Message C)) (i : ℕ) (x : ℕ × Message C) (t u : ToldIn) → i < length sent → x ≡ get_or sent i x →

@@ -265,12 +265,12 @@ node_may {S = S} {C = C} {O = O} rules m w t new given (it_stops stands runs is)
     by_loss (inr (inr (e, f))) = stops e f
 
 -- what the turn of the master is: a ballot that is given, or an answer
-pub data IsDeed {S C O : Type 0} (a : Moment S C O) (o : MasterOutcome C) : Type 0 where
-  it_gives : (config : Config) → refusal a.master config ≡ None → o ≡ assigned C a.master config → IsDeed a o
-  it_answers : (from b : ℕ) → In (0, record { from = from; body = Activate b }) a.world.sent → o ≡ activated C a.master b from a.master.waiting → IsDeed a o
+pub data IsMasterTurn {S C O : Type 0} (a : Moment S C O) (o : MasterOutcome C) : Type 0 where
+  it_gives : (config : Config) → refusal a.master config ≡ None → o ≡ assigned C a.master config → IsMasterTurn a o
+  it_answers : (from b : ℕ) → In (0, record { from = from; body = Activate b }) a.world.sent → o ≡ activated C a.master b from a.master.waiting → IsMasterTurn a o
 
 hears_is : {S C O : Type 0} (rules : Rules S C O) (a : Moment S C O) (from : ℕ) (body : Body C) (o : MasterOutcome C) →
-    In (0, record { from = from; body = body }) a.world.sent → hears rules a.master from body ≡ by_master o → IsDeed a o
+    In (0, record { from = from; body = body }) a.world.sent → hears rules a.master from body ≡ by_master o → IsMasterTurn a o
 hears_is rules a from (NewBallot b members x old) o i e = cc
 hears_is rules a from (Join b x) o i e = cc
 hears_is rules a from (State b log) o i e = cc
@@ -283,10 +283,10 @@ hears_is rules a from (Append b place command) o i e = cc
 hears_is rules a from (Held b held) o i e = cc
 hears_is rules a from (Commit b held) o i e = cc
 
-no_deed : {S C O : Type 0} (rules : Rules S C O) (n : ℕ) (r : Option (ReplicaState S C)) (input : Input C) (o : MasterOutcome C) →
+no_master_turn : {S C O : Type 0} (rules : Rules S C O) (n : ℕ) (r : Option (ReplicaState S C)) (input : Input C) (o : MasterOutcome C) →
     taking rules n r input ≡ Some (by_master o) → ⊥
-no_deed rules n None input o e = cc
-no_deed {S = S} {C = C} {O = O} rules n (Some r) input o e = by_room (can_take r input) e
+no_master_turn rules n None input o e = cc
+no_master_turn {S = S} {C = C} {O = O} rules n (Some r) input o e = by_room (can_take r input) e
   where
     by_room : (b : Bool) → cond b (Some (by_node (record { place = n; before = r; outcome = replica_step rules r input }))) None ≡ Some (by_master o) → ⊥
     by_room true f = cc
@@ -298,39 +298,39 @@ no_stop rules n None o e = cc
 no_stop rules n (Some r) o e = cc
 
 -- a turn of the master, whatever the event
-pub deed_is : {S C O : Type 0} (rules : Rules S C O) (a : Moment S C O) (e : Event C) (o : MasterOutcome C) →
-    turn rules a e ≡ Some (by_master o) → IsDeed a o
-deed_is rules a (Propose node command) o is = absurd (no_deed rules (node - 1) (running a.world.nodes node) (Proposes command) o is)
-deed_is {S = S} {C = C} {O = O} rules a (Assign config) o is = by_refusal (refusal a.master config) refl is
+pub master_turn_is : {S C O : Type 0} (rules : Rules S C O) (a : Moment S C O) (e : Event C) (o : MasterOutcome C) →
+    turn rules a e ≡ Some (by_master o) → IsMasterTurn a o
+master_turn_is rules a (Propose node command) o is = absurd (no_master_turn rules (node - 1) (running a.world.nodes node) (Proposes command) o is)
+master_turn_is {S = S} {C = C} {O = O} rules a (Assign config) o is = by_refusal (refusal a.master config) refl is
   where
-    by_refusal : (why : Option AssignRefusal) → refusal a.master config ≡ why → gives rules a.master config why ≡ Some (by_master o) → IsDeed a o
+    by_refusal : (why : Option AssignRefusal) → refusal a.master config ≡ why → gives rules a.master config why ≡ Some (by_master o) → IsMasterTurn a o
     by_refusal (Some why) e f = cc
     by_refusal None e f = let same : assigned C a.master config ≡ o = cc in it_gives config e (sym same)
-deed_is {S = S} {C = C} {O = O} rules a (Deliver k) o is = by_message (slice_get a.world.sent k) refl is
+master_turn_is {S = S} {C = C} {O = O} rules a (Deliver k) o is = by_message (slice_get a.world.sent k) refl is
   where
     by_receiver : (receiver : ℕ) (m : Message C) → slice_get a.world.sent k ≡ Some (receiver, m) → comes_to rules a receiver m ≡ Some (by_master o) →
-        IsDeed a o
+        IsMasterTurn a o
     by_receiver zero m e f =
         let g : hears rules a.master m.from m.body ≡ by_master o = cc in hears_is rules a m.from m.body o (in_at a.world.sent k (0, m) e) g
-    by_receiver (suc n) m e f = absurd (no_deed rules (suc n - 1) (running a.world.nodes (suc n)) (Receives m) o f)
+    by_receiver (suc n) m e f = absurd (no_master_turn rules (suc n - 1) (running a.world.nodes (suc n)) (Receives m) o f)
 
-    by_message : (x : Option (ℕ × Message C)) → slice_get a.world.sent k ≡ x → comes rules a x ≡ Some (by_master o) → IsDeed a o
+    by_message : (x : Option (ℕ × Message C)) → slice_get a.world.sent k ≡ x → comes rules a x ≡ Some (by_master o) → IsMasterTurn a o
     by_message None e f = cc
     by_message (Some (receiver, m)) e f = by_receiver receiver m e f
-deed_is rules a (Tick node) o is = absurd (no_deed rules (node - 1) (running a.world.nodes node) Ticks o is)
-deed_is {S = S} {C = C} {O = O} rules a (Cut node) o is = absurd (no_deed_there (running a.world.nodes node) is)
+master_turn_is rules a (Tick node) o is = absurd (no_master_turn rules (node - 1) (running a.world.nodes node) Ticks o is)
+master_turn_is {S = S} {C = C} {O = O} rules a (Cut node) o is = absurd (no_master_turn_there (running a.world.nodes node) is)
   where
     by_need : (r : ReplicaState S C) (b : Bool) → cond b (Some (by_cut (cut_turn rules (node - 1) r))) None ≡ Some (by_master o) → ⊥
     by_need r true f = cc
     by_need r false f = cc
 
-    no_deed_there : (x : Option (ReplicaState S C)) → cutting rules (node - 1) x ≡ Some (by_master o) → ⊥
-    no_deed_there None f = cc
-    no_deed_there (Some r) f = by_need r (can_cut r) f
-deed_is rules a (Crash node) o is = absurd (no_stop rules (node - 1) (running a.world.nodes node) o is)
+    no_master_turn_there : (x : Option (ReplicaState S C)) → cutting rules (node - 1) x ≡ Some (by_master o) → ⊥
+    no_master_turn_there None f = cc
+    no_master_turn_there (Some r) f = by_need r (can_cut r) f
+master_turn_is rules a (Crash node) o is = absurd (no_stop rules (node - 1) (running a.world.nodes node) o is)
 
 -- such a turn may happen
-pub master_may : {S C O : Type 0} (rules : Rules S C O) (a : Moment S C O) (o : MasterOutcome C) → IsDeed a o →
+pub master_may : {S C O : Type 0} (rules : Rules S C O) (a : Moment S C O) (o : MasterOutcome C) → IsMasterTurn a o →
     MayHappen rules a.master a.world o.state (tells_from_master a.world o)
 master_may {S = S} {C = C} {O = O} rules a o (it_gives config granted is) =
     subst (λ (x : MasterOutcome C). MayHappen rules a.master a.world x.state (tells_from_master a.world x)) (sym is)
@@ -340,12 +340,12 @@ master_may {S = S} {C = C} {O = O} rules a o (it_answers from b sent is) =
     subst (λ (x : MasterOutcome C). MayHappen rules a.master a.world x.state (tells_from_master a.world x)) (sym is) (master_hears from b sent)
 
 -- it may happen too if its message is lost
-pub deed_lost : {S C O : Type 0} (rules : Rules S C O) (a : Moment S C O) (o : MasterOutcome C) → IsDeed a o →
+pub master_turn_lost : {S C O : Type 0} (rules : Rules S C O) (a : Moment S C O) (o : MasterOutcome C) → IsMasterTurn a o →
     MayHappen rules a.master a.world o.state a.world
-deed_lost {S = S} {C = C} {O = O} rules a o (it_gives config granted is) =
+master_turn_lost {S = S} {C = C} {O = O} rules a o (it_gives config granted is) =
     subst (λ (x : MasterOutcome C). MayHappen rules a.master a.world x.state a.world) (sym is)
     (subst (λ (why : Option AssignRefusal). MayHappen rules a.master a.world (master_after a.master config why) a.world) granted (assignment_lost config))
-deed_lost {S = S} {C = C} {O = O} rules a o (it_answers from b sent is) =
+master_turn_lost {S = S} {C = C} {O = O} rules a o (it_answers from b sent is) =
     subst (λ (x : MasterOutcome C). MayHappen rules a.master a.world x.state a.world) (sym is) (answer_lost from b sent)
 
 -- what an event does with losses may happen
@@ -353,7 +353,7 @@ happens_may : {S C O : Type 0} (rules : Rules S C O) {a b : Moment S C O} {e : E
 happens_may rules {a = a} nothing_happens = nothing_may rules a
 happens_may rules {a = a} {e = e} (node_goes t {new = new} {given = given} is loses) =
     node_may rules a.master a.world t new given (turn_is rules a e t is) loses
-happens_may rules {a = a} {e = e} (master_goes o is) = deed_lost rules a o (deed_is rules a e o is)
+happens_may rules {a = a} {e = e} (master_goes o is) = master_turn_lost rules a o (master_turn_is rules a e o is)
 
 -- and what it comes to
 exactly_may : {S C O : Type 0} (rules : Rules S C O) (a : Moment S C O) (e : Event C) (t : Option (Turn S C O)) → turn rules a e ≡ t →
@@ -362,7 +362,7 @@ exactly_may rules a e None is f = nothing_may rules a
 exactly_may rules a e (Some (by_node t)) is f =
     node_may rules a.master a.world t t.outcome.state t.outcome.effects (turn_is rules a e t is) (inl (refl, Thinned-same t.outcome.effects))
 exactly_may rules a e (Some (by_cut t)) is f = cut_may rules a.master a.world t (cut_is rules a e t is) f
-exactly_may rules a e (Some (by_master o)) is f = master_may rules a o (deed_is rules a e o is)
+exactly_may rules a e (Some (by_master o)) is f = master_may rules a o (master_turn_is rules a e o is)
 exactly_may rules a e (Some unheeded) is f = nothing_may rules a
 
 -- so each step of a group may happen

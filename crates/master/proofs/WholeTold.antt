@@ -7,7 +7,7 @@ use Rattle.ballot.specs.Body.TheVariants.{NewBallot, Join, State, Install, Insta
 use Rattle.ballot.specs.Message.{Message}
 use Rattle.snapshots.specs.agreement.Inside.ToldLengths.{most_told as whole_most, told_by as whole_by}
 use Rattle.snapshots.specs.Whole.{whole_body}
-use Rattle.snapshots.specs.World.{whole_letter}
+use Rattle.snapshots.specs.World.{whole_sent}
 use Rattle.master.specs.Inside.{HasCounted, ToldIn}
 use Rattle.master.specs.ToldLengths.{most_told, told_by}
 
@@ -26,12 +26,12 @@ told_by_whole b archive (Held x held) = refl
 told_by_whole b archive (Commit x held) = refl
 
 pub most_told_whole : {C : Type 0} (m b : ℕ) (archive : List C) (sent : List (ℕ × Message C)) →
-    most_told m b sent ≡ whole_most m b (map (whole_letter archive) sent)
+    most_told m b sent ≡ whole_most m b (map (whole_sent archive) sent)
 most_told_whole m b archive [] = refl
 most_told_whole {C = C} m b archive (x ∷ sent) =
     ap₂ max (ap (λ k. cond (x.1.from == m) k 0) (told_by_whole b archive x.1.body)) (most_told_whole m b archive sent)
 
 -- so the counters count what is acknowledged on whole logs
 pub counted_whole : {C : Type 0} (archive : List C) (sent : List (ℕ × Message C)) (t : ToldIn) → HasCounted sent t →
-    (m : ℕ) → m < 16 → get_or t.held m 0 ≡ whole_most m t.ballot (map (whole_letter archive) sent)
+    (m : ℕ) → m < 16 → get_or t.held m 0 ≡ whole_most m t.ballot (map (whole_sent archive) sent)
 counted_whole archive sent t counted m low = counted m low ∙ most_told_whole m t.ballot archive sent

@@ -86,8 +86,8 @@ asks_memory (first ∷ bytes) = do
   Ok (asks_in_body header (take len.0 len.1))
 
 -- memory may run out for the packet at the front
-abbrev pub MayWantMemory : List ℕ → Type 0
-MayWantMemory bytes = asks_memory bytes ≡ Ok true
+abbrev pub MayNeedMemory : List ℕ → Type 0
+MayNeedMemory bytes = asks_memory bytes ≡ Ok true
 
 -- the answer of `decode` is the verdict, except that memory may run out
 abbrev pub Decodes : List ℕ → Result Step DecodeFault → Type 0

@@ -2,7 +2,7 @@
 
 ghost use Rattle.std.specs.Prelude.{◌≡◌, ◌+◌, ◌≤◌, ◌++◌, length, min, vec_len, vec_capacity};
 ghost use Rattle.std.specs.Prelude.{IfOk, IsOk};
-ghost use Rattle.packet_base.specs.Outcome.{Gives, WantsMemory};
+ghost use Rattle.packet_base.specs.Outcome.{Gives, IsOutOfMemory};
 ghost use Rattle.packet.specs.Connect.{connect, connect_of, FitsConnect};
 
 use crate::client_id::{ClientId, has_client_length};
@@ -36,7 +36,7 @@ impl Connect {
     #[tactic(auto, unfolding(crate::specs::Connect::connect_of), using(crate::proofs::Clients::client_checked))]
     pub(crate) fn read(alloc: Global, body: &mut Reader) -> Result<Connect, Stop>
         ensures exact { Gives (λ x. x) result (connect_of body.old) }
-        ensures memory { WantsMemory result → IsOk (connect_of body.old) }
+        ensures memory { IsOutOfMemory result → IsOk (connect_of body.old) }
     {
         if !body.skip(&PROTOCOL) {
             return Err(Stop::Malformed(MalformedKind::Protocol));

@@ -1,9 +1,9 @@
 // Reading the packet at the front of a slice.
 
 ghost use Rattle.std.specs.Prelude.{◌≤◌, length, drop, ◌∷◌, IfOk, IsErrOf};
-ghost use Rattle.packet_base.specs.Outcome.{Gives, WantsMemory};
+ghost use Rattle.packet_base.specs.Outcome.{Gives, IsOutOfMemory};
 ghost use Rattle.packet.specs.Verdict.{verdict, Decodes, IsWithin, IsSpelledSo};
-ghost use Rattle.packet.specs.Verdict.{ReadsWhatIsSpelled, MayWantMemory};
+ghost use Rattle.packet.specs.Verdict.{ReadsWhatIsSpelled, MayNeedMemory};
 
 use crate::error::DecodeFault;
 use crate::packet::{MAX_REMAINING, Packet};
@@ -38,7 +38,7 @@ pub fn decode(alloc: Global, bytes: &[u8]) -> Result<Step, DecodeFault>
 
     // Memory runs out only if it is needed.
     ensures memory { IsErrOf result (DecodeFault.Malformed MalformedKind.Memory)
-        → MayWantMemory bytes.now }
+        → MayNeedMemory bytes.now }
 {
     front_step(alloc, bytes)
 }
@@ -49,7 +49,7 @@ fn front_step(alloc: Global, bytes: &[u8]) -> Result<Step, DecodeFault>
     ensures exact { Decodes bytes.now result }
     ensures within { IfOk result (IsWithin bytes.now) }
     ensures memory { IsErrOf result (DecodeFault.Malformed MalformedKind.Memory)
-        → MayWantMemory bytes.now }
+        → MayNeedMemory bytes.now }
 {
     match bytes {
         [] => Ok(Step::More),
@@ -67,7 +67,7 @@ fn front_step(alloc: Global, bytes: &[u8]) -> Result<Step, DecodeFault>
 fn front_packet(alloc: Global, first: u8, more: &[u8]) -> Result<(Packet, usize), Stop>
     ensures exact { Gives (λ x. (x.0, drop x.1 more.now)) result (verdict (first ∷ more.now)) }
     ensures within { IfOk result (λ x. x.1 ≤ length more.now) }
-    ensures memory { WantsMemory result → MayWantMemory (first ∷ more.now) }
+    ensures memory { IsOutOfMemory result → MayNeedMemory (first ∷ more.now) }
 {
     let header = Header::of(first)?;
     let (len, rest) = take_length(more)?;

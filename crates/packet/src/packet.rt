@@ -14,7 +14,7 @@ ghost use Rattle.std.specs.Prelude.{
   true,
   IfOk,
 };
-ghost use Rattle.packet_base.specs.Outcome.{Gives, TakesNoMemory, WantsMemory};
+ghost use Rattle.packet_base.specs.Outcome.{Gives, TakesNoMemory, IsOutOfMemory};
 ghost use Rattle.packet_base.specs.Spelling.{IsId};
 ghost use Rattle.packet.specs.Spelling.{header, body, Fits, IsListed, IsTooLarge};
 ghost use Rattle.packet.specs.Verdict.{body_of, empty_of, asks_in_body};
@@ -139,7 +139,7 @@ impl Packet {
     /// Reads the body of a packet whose first byte says this. The first fault that is met stops it.
     pub(crate) fn read(alloc: Global, header: Header, body: &mut Reader) -> Result<Packet, Stop>
         ensures exact { Gives (λ x. x) result (body_of header body.old) }
-        ensures memory { WantsMemory result → asks_in_body header body.old ≡ true }
+        ensures memory { IsOutOfMemory result → asks_in_body header body.old ≡ true }
     {
         Ok(match header {
             Header::Connect => Packet::Connect(Connect::read(alloc, body)?),

@@ -11,7 +11,7 @@ ghost use Rattle.std.specs.Prelude.{
   vec_capacity,
   IsOk,
 };
-ghost use Rattle.packet_base.specs.Outcome.{Gives, WantsMemory};
+ghost use Rattle.packet_base.specs.Outcome.{Gives, IsOutOfMemory};
 ghost use Rattle.packet_base.specs.TopicFields.{topic_at};
 ghost use Rattle.packet.specs.Publish.{publish, publish_of, FitsPublish};
 
@@ -46,7 +46,7 @@ impl Publish {
         body: &mut Reader,
     ) -> Result<Publish, Stop>
         ensures exact { Gives (λ x. x) result (publish_of flags retain body.old) }
-        ensures memory { WantsMemory result → IsOk (topic_at body.old) }
+        ensures memory { IsOutOfMemory result → IsOk (topic_at body.old) }
     {
         let topic = body.topic(alloc)?;
         let delivery = Delivery::read(flags, body)?;

@@ -11,7 +11,7 @@ ghost use Rattle.std.specs.Prelude.{
   vec_capacity,
   true,
 };
-ghost use Rattle.packet_base.specs.Outcome.{Gives, WantsMemory};
+ghost use Rattle.packet_base.specs.Outcome.{Gives, IsOutOfMemory};
 ghost use Rattle.packet_base.specs.Lists.{begins_list};
 ghost use Rattle.packet.specs.Suback.{
   granted_number,
@@ -97,7 +97,7 @@ impl Suback {
     #[tactic(auto, unfolding(crate::specs::Suback::suback_of))]
     pub(crate) fn read(alloc: Global, body: &mut Reader) -> Result<Suback, Stop>
         ensures exact { Gives (λ x. x) result (suback_of body.old) }
-        ensures memory { WantsMemory result → begins_list body.old ≡ true }
+        ensures memory { IsOutOfMemory result → begins_list body.old ≡ true }
     {
         let id = body.id()?;
         let codes = PacketList::read(alloc, body)?;

@@ -11,7 +11,7 @@ ghost use Rattle.std.specs.Prelude.{
   vec_capacity,
   true,
 };
-ghost use Rattle.packet_base.specs.Outcome.{Gives, WantsMemory};
+ghost use Rattle.packet_base.specs.Outcome.{Gives, IsOutOfMemory};
 ghost use Rattle.packet_base.specs.Lists.{begins_list};
 ghost use Rattle.packet.specs.Subscribe.{
   subscription,
@@ -92,7 +92,7 @@ impl Subscribe {
     #[tactic(auto, unfolding(crate::specs::Subscribe::subscribe_of))]
     pub(crate) fn read(alloc: Global, body: &mut Reader) -> Result<Subscribe, Stop>
         ensures exact { Gives (λ x. x) result (subscribe_of body.old) }
-        ensures memory { WantsMemory result → begins_list body.old ≡ true }
+        ensures memory { IsOutOfMemory result → begins_list body.old ≡ true }
     {
         let id = body.id()?;
         let filters = PacketList::read(alloc, body)?;

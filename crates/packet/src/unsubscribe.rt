@@ -11,7 +11,7 @@ ghost use Rattle.std.specs.Prelude.{
   vec_capacity,
   true,
 };
-ghost use Rattle.packet_base.specs.Outcome.{Gives, WantsMemory};
+ghost use Rattle.packet_base.specs.Outcome.{Gives, IsOutOfMemory};
 ghost use Rattle.packet_base.specs.Lists.{begins_list};
 ghost use Rattle.packet.specs.Unsubscribe.{unsubscribe, unsubscribe_of, FitsUnsubscribe};
 
@@ -34,7 +34,7 @@ impl Unsubscribe {
     #[tactic(auto, unfolding(crate::specs::Unsubscribe::unsubscribe_of))]
     pub(crate) fn read(alloc: Global, body: &mut Reader) -> Result<Unsubscribe, Stop>
         ensures exact { Gives (λ x. x) result (unsubscribe_of body.old) }
-        ensures memory { WantsMemory result → begins_list body.old ≡ true }
+        ensures memory { IsOutOfMemory result → begins_list body.old ≡ true }
     {
         let id = body.id()?;
         let filters = PacketList::read(alloc, body)?;

@@ -24,8 +24,8 @@ Reads view (Ok x) rest read = read ≡ Ok (view x, rest)
 Reads view (Err stop) rest read = StopsBy stop read
 
 -- memory ran out
-abbrev pub WantsMemory : {X : Type 0} → Result X Stop → Type 0
-WantsMemory result = result ≡ Err (stops.Malformed kinds.Memory)
+abbrev pub IsOutOfMemory : {X : Type 0} → Result X Stop → Type 0
+IsOutOfMemory result = result ≡ Err (stops.Malformed kinds.Memory)
 
 -- no memory is needed, so it does not run out
 abbrev pub TakesNoMemory : {X : Type 0} → Result X Stop → Type 0

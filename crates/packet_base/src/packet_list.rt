@@ -14,7 +14,7 @@ ghost use Rattle.std.specs.Prelude.{
 };
 ghost use Rattle.std.specs.List.{AllZip, All, flat_map};
 ghost use Rattle.std.specs.Cmp.Lexicographic.{pointwise, lists_per, lists_equiv};
-ghost use Rattle.packet_base.specs.Outcome.{Gives, WantsMemory};
+ghost use Rattle.packet_base.specs.Outcome.{Gives, IsOutOfMemory};
 ghost use Rattle.packet_base.specs.Reading.{byte_at};
 ghost use Rattle.packet_base.specs.Lists.{items_at, list_of};
 
@@ -61,7 +61,7 @@ impl<T: Item> PacketList<T> {
     /// 3.8.3, 3.9.3, 3.10.3).
     pub fn read(alloc: Global, body: &mut Reader) -> Result<PacketList<T>, Stop>
         ensures exact { Gives (λ x. x) result (list_of T.item_at body.old) }
-        ensures memory { WantsMemory result → IsOk (byte_at body.old) }
+        ensures memory { IsOutOfMemory result → IsOk (byte_at body.old) }
     {
         let items = read_items(alloc, body)?;
         if items.is_empty() {
@@ -104,7 +104,7 @@ impl<T: Item> PacketList<T> {
 // Reads items to the end of the body.
 fn read_items<T: Item>(alloc: Global, body: &mut Reader) -> Result<Vec<T>, Stop>
     ensures exact { Gives (λ x. x.items) result (items_at T.item_at body.old) }
-    ensures memory { WantsMemory result → IsOk (byte_at body.old) }
+    ensures memory { IsOutOfMemory result → IsOk (byte_at body.old) }
 {
     let mut items = Vec::new(alloc);
     // Each takes at least one byte, so there are no more items than bytes.

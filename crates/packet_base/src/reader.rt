@@ -5,7 +5,7 @@ ghost use Rattle.std.specs.List.{starts_with};
 ghost use Rattle.packet_base.specs.Reading.{byte_at, front_at, number_at, id_at, text_at, text_of};
 ghost use Rattle.packet_base.specs.Reading.{ended, is_text};
 ghost use Rattle.packet_base.specs.TopicFields.{topic_at, filter_at};
-ghost use Rattle.packet_base.specs.Outcome.{Gives, Reads, TakesNoMemory, WantsMemory};
+ghost use Rattle.packet_base.specs.Outcome.{Gives, Reads, TakesNoMemory, IsOutOfMemory};
 ghost use Rattle.packet_base.specs.Inside.{name_of, pattern_of};
 
 use crate::packet_id::PacketId;
@@ -134,7 +134,7 @@ impl<'a> Reader<'a> {
         ensures exact { Reads (λ x. x) result self.new (topic_at self.old) }
 
         // Memory may run out only for a text without a fault.
-        ensures memory { WantsMemory result → IsOk (topic_at self.old) }
+        ensures memory { IsOutOfMemory result → IsOk (topic_at self.old) }
     {
         let len = self.number()?;
         let bytes = self.front(usize::from(len))?;
@@ -148,7 +148,7 @@ impl<'a> Reader<'a> {
         ensures exact { Reads (λ x. x) result self.new (filter_at self.old) }
 
         // Memory may run out only for a text without a fault.
-        ensures memory { WantsMemory result → IsOk (filter_at self.old) }
+        ensures memory { IsOutOfMemory result → IsOk (filter_at self.old) }
     {
         let len = self.number()?;
         let bytes = self.front(usize::from(len))?;
@@ -194,7 +194,7 @@ fn checked_text(bytes: &[u8]) -> Result<&str, Stop>
 #[tactic(auto, using(crate::proofs::Texts::name_tests))]
 fn topic_name(alloc: Global, bytes: &[u8]) -> Result<TopicName, Stop>
     ensures exact { Gives (λ x. x) result (name_of bytes.now) }
-    ensures memory { WantsMemory result → IsOk (name_of bytes.now) }
+    ensures memory { IsOutOfMemory result → IsOk (name_of bytes.now) }
 {
     let Ok(text) = std::str::from_utf8(bytes) else {
         return Err(Stop::Malformed(MalformedKind::Text));
@@ -206,7 +206,7 @@ fn topic_name(alloc: Global, bytes: &[u8]) -> Result<TopicName, Stop>
 #[tactic(auto, using(crate::proofs::Texts::pattern_tests))]
 fn topic_filter(alloc: Global, bytes: &[u8]) -> Result<Filter, Stop>
     ensures exact { Gives (λ x. x) result (pattern_of bytes.now) }
-    ensures memory { WantsMemory result → IsOk (pattern_of bytes.now) }
+    ensures memory { IsOutOfMemory result → IsOk (pattern_of bytes.now) }
 {
     let Ok(text) = std::str::from_utf8(bytes) else {
         return Err(Stop::Malformed(MalformedKind::Text));

@@ -24,7 +24,7 @@ use Rattle.agreement.specs.ballot_base.declared.message.Body.TheVariants.{NewBal
 use Rattle.agreement.specs.ballot_base.Replica.{ReplicaState}
 use Rattle.agreement.specs.ballot_base.Cutting.{cut}
 use Rattle.agreement.specs.ballot_base.Losses.{halted}
-use Rattle.snapshots.specs.World.{World, NodeGoes, moved, recorded, whole_letter, whole_world}
+use Rattle.snapshots.specs.World.{World, NodeGoes, moved, recorded, whole_sent, whole_world}
 use Rattle.snapshots.specs.World.NodeGoes.{takes, stops, cuts}
 use Rattle.snapshots.specs.Giving.{given_by_node}
 use Rattle.snapshots.specs.Proposals.{proposed_to, taken_as, taken_by_node}
@@ -95,8 +95,8 @@ cuts_on {S = S} {C = C} {O = O} rules config m w earlier n r k stands runs faith
     kept = record {
       came = past.0;
       nodes = λ i x e. by_place i x e (cases_eq i n);
-      letters = λ to x i. subst (λ (u : Moment S C O). Carries rules (u ∷ earlier) rec x.body) (sym same)
-          (carries_longer rules (moment m w ∷ earlier) w.archive rec x.body longer (k.letters to x (subst (λ us. In (to, x) us) (append-nil w.sent) i)));
+      each_sent = λ to x i. subst (λ (u : Moment S C O). Carries rules (u ∷ earlier) rec x.body) (sym same)
+          (carries_longer rules (moment m w ∷ earlier) w.archive rec x.body longer (k.each_sent to x (subst (λ us. In (to, x) us) (append-nil w.sent) i)));
       begins = λ us agreed. (recorded_by us (subst (λ (u : Moment S C O). IsAgreed config (u ∷ earlier) us) same agreed)).begins;
     };
     adds = past.1;
@@ -149,18 +149,18 @@ cuts_on {S = S} {C = C} {O = O} rules config m w earlier n r k stands runs faith
         (map_alike_at (whole rec) (whole w.archive) w.nodes (λ i x e. longer_record w.archive rec x longer (k.nodes i x e).0.within)) cut_view
         ∙ set_there (map (whole w.archive) w.nodes) n (whole w.archive r) there_now
 
-    letters : map (whole_letter rec) (w.sent ++ []) ≡ map (whole_letter w.archive) w.sent
-    letters =
-        ap (map (whole_letter rec)) (append-nil w.sent)
-        ∙ map_alike (whole_letter rec) (whole_letter w.archive) w.sent
+    each_sent : map (whole_sent rec) (w.sent ++ []) ≡ map (whole_sent w.archive) w.sent
+    each_sent =
+        ap (map (whole_sent rec)) (append-nil w.sent)
+        ∙ map_alike (whole_sent rec) (whole_sent w.archive) w.sent
         (λ x i. ap (λ body. let y : WholeMessage C = record { from = x.1.from; body = body } in (x.0, y))
-        (body_stays w.archive rec x.1.body longer (carries_within rules (moment m w ∷ earlier) w.archive x.1.body (k.letters x.0 x.1 i))))
+        (body_stays w.archive rec x.1.body longer (carries_within rules (moment m w ∷ earlier) w.archive x.1.body (k.each_sent x.0 x.1 i))))
 
     same : moment m v ≡ moment m w
     same =
-        ap (λ ns. let u : Moment S C O = record { master = m; world = record { nodes = ns; sent = map (whole_letter rec) (w.sent ++ []); left = w.left ++ [] } } in u) nodes
-        ∙ ap (λ us. let u : Moment S C O = record { master = m; world = record { nodes = map (whole w.archive) w.nodes; sent = us; left = w.left ++ [] } } in u) letters
-        ∙ ap (λ us. let u : Moment S C O = record { master = m; world = record { nodes = map (whole w.archive) w.nodes; sent = map (whole_letter w.archive) w.sent; left = us } } in u)
+        ap (λ ns. let u : Moment S C O = record { master = m; world = record { nodes = ns; sent = map (whole_sent rec) (w.sent ++ []); left = w.left ++ [] } } in u) nodes
+        ∙ ap (λ us. let u : Moment S C O = record { master = m; world = record { nodes = map (whole w.archive) w.nodes; sent = us; left = w.left ++ [] } } in u) each_sent
+        ∙ ap (λ us. let u : Moment S C O = record { master = m; world = record { nodes = map (whole w.archive) w.nodes; sent = map (whole_sent w.archive) w.sent; left = us } } in u)
         (append-nil w.left)
 
     ran : r.machine ≡ replay rules (take r.committed rec)

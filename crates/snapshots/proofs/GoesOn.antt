@@ -116,7 +116,7 @@ done {S = S} {C = C} {O = O} rules config m w earlier n r input new given k stan
     by_body from (State b log) may is thin = by_row (cases_Bool (r.joined == b && (is_fetching r.role && nat_le r.committed (places log))))
       where
         said : Carries rules (moment m w ∷ earlier) w.archive (State b log)
-        said = k.letters (n + 1) (record { from = from; body = State b log }) may
+        said = k.each_sent (n + 1) (record { from = from; body = State b log }) may
 
         by_row : ((r.joined == b && (is_fetching r.role && nat_le r.committed (places log))) ≡ true)
             ⊎ ((r.joined == b && (is_fetching r.role && nat_le r.committed (places log))) ≡ false) →
@@ -135,7 +135,7 @@ done {S = S} {C = C} {O = O} rules config m w earlier n r input new given k stan
         by_row (cases_Bool ((nat_lt r.joined b || (r.joined == b && nat_lt r.held_in b)) && nat_le r.committed (places log))) (cases_Bool (r.joined == b && r.held_in == b))
       where
         said : Carries rules (moment m w ∷ earlier) w.archive (Install b log)
-        said = k.letters (n + 1) (record { from = from; body = Install b log }) may
+        said = k.each_sent (n + 1) (record { from = from; body = Install b log }) may
 
         by_row : (((nat_lt r.joined b || (r.joined == b && nat_lt r.held_in b)) && nat_le r.committed (places log)) ≡ true)
             ⊎ (((nat_lt r.joined b || (r.joined == b && nat_lt r.held_in b)) && nat_le r.committed (places log)) ≡ false) →

@@ -55,7 +55,7 @@ pub record Kept {S C O : Type 0} (rules : Rules S C O) (config : Config) (m : Ma
     (earlier : List (Moment S C O)) : Type 0 where
   pub came : Past rules config (moment m w ∷ earlier)
   pub nodes : (n : ℕ) (r : ReplicaState S C) → slice_get w.nodes n ≡ Some r → IsSnapshot rules w.archive r.log × (r.log.base ≤ r.committed)
-  pub letters : (to : ℕ) (x : Message C) → In (to, x) w.sent → Carries rules (moment m w ∷ earlier) w.archive x.body
+  pub each_sent : (to : ℕ) (x : Message C) → In (to, x) w.sent → Carries rules (moment m w ∷ earlier) w.archive x.body
   pub begins : (xs : List C) → IsAgreed config (moment m w ∷ earlier) xs → IsPrefixOf w.archive xs
 
 -- .. and of the past on whole logs, over an earlier one, what it has more
@@ -122,7 +122,7 @@ kept_moved {S = S} {C = C} {O = O} rules config m w earlier more n r new given d
       kept = record {
         came = came;
         nodes = λ i x e. by_place i x e (cases_eq i n);
-        letters = λ to x i. by_age to x (in_append w.sent (messages given) i);
+        each_sent = λ to x i. by_age to x (in_append w.sent (messages given) i);
         begins = λ ys agreed. let xs = has_agreed rules config (moment m w) earlier k.came in
             prefix_then (k.begins xs.0 xs.1) (grows_in config (moment m w ∷ earlier) (moment m (moved w n new given) ∷ more) xs.0 ys (λ c i. there (inc c i)) xs.1 agreed);
       };
@@ -150,7 +150,7 @@ kept_moved {S = S} {C = C} {O = O} rules config m w earlier more n r new given d
     by_age : (to : ℕ) (x : Message C) → In (to, x) w.sent ⊎ In (to, x) (messages given) →
         Carries rules (moment m (moved w n new given) ∷ more) w.archive x.body
     by_age to x (inl before) =
-        carries_in rules (moment m w ∷ earlier) (moment m (moved w n new given) ∷ more) w.archive x.body (λ c i. there (inc c i)) (k.letters to x before)
+        carries_in rules (moment m w ∷ earlier) (moment m (moved w n new given) ∷ more) w.archive x.body (λ c i. there (inc c i)) (k.each_sent to x before)
     by_age to x (inr now) = own_carries rules (moment m (moved w n new given) ∷ more) w.archive new x.body snap was (own to x now)
 
 -- fewer messages

@@ -22,7 +22,7 @@ use Rattle.agreement.specs.ballot_base.declared.message.Body.{Body}
 use Rattle.agreement.specs.ballot_base.declared.message.Message.{Message}
 use Rattle.agreement.specs.ballot_base.declared.message.Body.TheVariants.{NewBallot, Join, State, Install, Installed, Activate, Activated, Superseded, Append, Held, Commit}
 use Rattle.snapshots.specs.Whole.{whole, whole_body}
-use Rattle.snapshots.specs.World.{World, whole_letter, whole_world}
+use Rattle.snapshots.specs.World.{World, whole_sent, whole_world}
 use Rattle.snapshots.proofs.Adds.{Adds, SaysNothing, StepAdds, adds_one, nothing_added}
 use Rattle.snapshots.proofs.Kept.{Carries, IsSnapshot, Kept, KeptWith, carries_in}
 use Rattle.snapshots.proofs.MoreMoments.{grows_in}
@@ -70,7 +70,7 @@ opens_kept {S = S} {C = C} {O = O} rules nodes config can =
     record {
       came = began nodes can (ap (λ ns. let x : Moment S C O = record { master = opening_master config; world = record { nodes = ns; sent = []; left = [] } } in x) (nodes_whole rules nodes config));
       nodes = λ n r e. at r (opens_empty rules nodes config r (in_at (opening_nodes rules nodes config) n r e));
-      letters = λ to x i. elim i [ ];
+      each_sent = λ to x i. elim i [ ];
       begins = λ xs agreed. record { rest = xs; is = refl };
     }
   where
@@ -117,7 +117,7 @@ master_kept {S = S} {C = C} {O = O} rules config m k w earlier receiver body q p
       kept = record {
         came = past.0;
         nodes = q.nodes;
-        letters = λ to x i. by_age to x (in_append w.sent ((receiver, record { from = 0; body = body }) ∷ []) i);
+        each_sent = λ to x i. by_age to x (in_append w.sent ((receiver, record { from = 0; body = body }) ∷ []) i);
         begins = λ ys agreed. let xs = has_agreed rules config (moment m w) earlier q.came in
             prefix_then (q.begins xs.0 xs.1) (grows_in config (moment m w ∷ earlier) (moment k v ∷ moment m w ∷ earlier) xs.0 ys (λ c i. there i) xs.1 agreed);
       };
@@ -128,7 +128,7 @@ master_kept {S = S} {C = C} {O = O} rules config m k w earlier receiver body q p
         × Adds q.came came (nothing_added C O)
     past = subst (λ us. let x : Moment S C O = record { master = k; world = record (whole_world w) { sent = us } } in
         (came : Past rules config (x ∷ moment m w ∷ earlier)) × Adds q.came came (nothing_added C O))
-        (sym (map-append (whole_letter w.archive) w.sent ((receiver, record { from = 0; body = body }) ∷ [])))
+        (sym (map-append (whole_sent w.archive) w.sent ((receiver, record { from = 0; body = body }) ∷ [])))
         (went_on q.came step.0, adds_one q.came (nothing_added C O) step)
 
     v : World S C O
@@ -140,7 +140,7 @@ master_kept {S = S} {C = C} {O = O} rules config m k w earlier receiver body q p
 
     by_age : (to : ℕ) (x : Message C) → In (to, x) w.sent ⊎ In {X = ℕ × Message C} (to, x) ((receiver, record { from = 0; body = body }) ∷ []) →
         Carries rules (moment k v ∷ moment m w ∷ earlier) w.archive x.body
-    by_age to x (inl i) = carries_in rules (moment m w ∷ earlier) (moment k v ∷ moment m w ∷ earlier) w.archive x.body (λ c j. there j) (q.letters to x i)
+    by_age to x (inl i) = carries_in rules (moment m w ∷ earlier) (moment k v ∷ moment m w ∷ earlier) w.archive x.body (λ c j. there j) (q.each_sent to x i)
     by_age to x (inr i) = new to x i
 
 -- .. or it was lost
@@ -152,7 +152,7 @@ master_unheard {S = S} {C = C} {O = O} rules config m k w earlier q step =
       kept = record {
         came = went_on q.came step.0;
         nodes = q.nodes;
-        letters = λ to x i. carries_in rules (moment m w ∷ earlier) (moment k w ∷ moment m w ∷ earlier) w.archive x.body (λ c j. there j) (q.letters to x i);
+        each_sent = λ to x i. carries_in rules (moment m w ∷ earlier) (moment k w ∷ moment m w ∷ earlier) w.archive x.body (λ c j. there j) (q.each_sent to x i);
         begins = λ ys agreed. let xs = has_agreed rules config (moment m w) earlier q.came in
             prefix_then (q.begins xs.0 xs.1) (grows_in config (moment m w ∷ earlier) (moment k w ∷ moment m w ∷ earlier) xs.0 ys (λ c i. there i) xs.1 agreed);
       };

@@ -39,13 +39,13 @@ logs_are_cut_right rules config a past came n r stands =
 pub sent_logs_are_right : {S C O : Type 0} (rules : Rules S C O) → SentLogsAreRight rules
 sent_logs_are_right rules config a past came to message sent log is =
     let q = past_stands rules config a past came in
-    let z = carried_log rules (whole_moment a ∷ q.earlier) a.world.archive message.body log (q.kept.letters to message sent) is in
+    let z = carried_log rules (whole_moment a ∷ q.earlier) a.world.archive message.body log (q.kept.each_sent to message sent) is in
     record { recorded = z.within; bytes = z.bytes; snapshot = z.read }
 
 pub snapshots_are_read : {S C O : Type 0} (rules : Rules S C O) → SnapshotsAreRead rules
 snapshots_are_read rules config a past came to message sent r =
     let q = past_stands rules config a past came in
-    carried_is_read rules (whole_moment a ∷ q.earlier) a.world.archive r message.body (q.kept.letters to message sent)
+    carried_is_read rules (whole_moment a ∷ q.earlier) a.world.archive r message.body (q.kept.each_sent to message sent)
 
 pub one_primary_a_ballot : {S C O : Type 0} (rules : Rules S C O) → OnePrimaryABallot rules
 one_primary_a_ballot rules config a past came c d m n ballot i j p r =

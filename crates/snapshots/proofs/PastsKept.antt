@@ -19,7 +19,7 @@ use Rattle.snapshots.specs.Proposals.{proposal_of, proposals_of, taken_at, taken
 use Rattle.snapshots.specs.Steps.{MayHappen, tells_from_master, world_after}
 use Rattle.snapshots.specs.Steps.MayHappen.{node_goes, master_assigns, master_hears, assignment_lost, answer_lost}
 use Rattle.snapshots.specs.Whole.{whole_body}
-use Rattle.snapshots.specs.World.{World, whole_letter, whole_world}
+use Rattle.snapshots.specs.World.{World, whole_sent, whole_world}
 use Rattle.snapshots.proofs.Continues.{Covers, covers_first, covers_more}
 use Rattle.snapshots.proofs.Adds.{Added, AddsBy, SaysNothing, StepAdds, nothing_added}
 use Rattle.snapshots.proofs.CutsGoOn.{node_goes_on}
@@ -73,7 +73,7 @@ step_goes_on {S = S} {C = C} {O = O} rules config m k w v earlier q (master_hear
     (subst (λ (body : WholeBody C). StepAdds rules m (whole_world w) (activating m b m.waiting)
     (record (whole_world w) { sent = (whole_world w).sent ++ (from, record { from = 0; body = body }) ∷ [] }) (nothing_added C O))
     (sym (answer_whole w.archive b (is_granted m b m.waiting)))
-    (happens.master_hears from b (in_whole (whole_letter w.archive) sent), record { proposes = refl; takes = refl; takes_at = λ n. refl; gives = λ n. refl })))
+    (happens.master_hears from b (in_whole (whole_sent w.archive) sent), record { proposes = refl; takes = refl; takes_at = λ n. refl; gives = λ n. refl })))
 step_goes_on {C = C} {O = O} rules config m k w v earlier q (assignment_lost c) =
     on_by_one rules config (master_after m c (refusal m c)) w (moment m w ∷ earlier) q.came (nothing_added C O)
     (master_unheard rules config m (master_after m c (refusal m c)) w earlier q
@@ -81,7 +81,7 @@ step_goes_on {C = C} {O = O} rules config m k w v earlier q (assignment_lost c) 
 step_goes_on {C = C} {O = O} rules config m k w v earlier q (answer_lost from b sent) =
     on_by_one rules config (activating m b m.waiting) w (moment m w ∷ earlier) q.came (nothing_added C O)
     (master_unheard rules config m (activating m b m.waiting) w earlier q
-    (happens.answer_lost from b (in_whole (whole_letter w.archive) sent), record { proposes = refl; takes = refl; takes_at = λ n. refl; gives = λ n. refl }))
+    (happens.answer_lost from b (in_whole (whole_sent w.archive) sent), record { proposes = refl; takes = refl; takes_at = λ n. refl; gives = λ n. refl }))
 
 -- a past on whole logs that a past of a group that cuts its logs corresponds to
 pub record StandsFor {S C O : Type 0} (rules : Rules S C O) (config : Config) (a : Moment S C O) (past : List (Moment S C O)) : Type 0 where

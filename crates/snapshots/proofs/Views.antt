@@ -18,7 +18,7 @@ use Rattle.snapshots.specs.Matches.{Matches}
 use Rattle.agreement.specs.ballot_base.declared.message.Effect.{Effect}
 use Rattle.agreement.specs.ballot_base.Sending.{Outcome}
 use Rattle.agreement.specs.ballot_base.Losses.{Thinned, Loses}
-use Rattle.snapshots.specs.World.{messages, outputs, World, MayTake, moved, whole_letter, whole_world}
+use Rattle.snapshots.specs.World.{messages, outputs, World, MayTake, moved, whole_sent, whole_world}
 use Rattle.agreement.specs.ballot_base.declared.message.Effect.TheVariants.{To, Out}
 use Rattle.agreement.specs.ballot_base.Losses.Thinned.{none, keeps, loses}
 use Rattle.agreement.specs.ballot_base.Replica.{ReplicaState}
@@ -48,9 +48,9 @@ whole_loses rules archive old o p new given m (inr (inl (e, none_given))) = inr 
 whole_loses rules archive old o p new given m (inr (inr (e, none_given))) = inr (inr (ap (whole archive) e, ap (whole_effects archive) none_given))
 
 -- the messages and outputs
-messages_whole : {C O : Type 0} (archive : List C) (es : List (Effect C O)) → map (whole_letter archive) (messages es) ≡ whole_messages (whole_effects archive es)
+messages_whole : {C O : Type 0} (archive : List C) (es : List (Effect C O)) → map (whole_sent archive) (messages es) ≡ whole_messages (whole_effects archive es)
 messages_whole archive [] = refl
-messages_whole archive (To to m ∷ es) = ap (λ us. whole_letter archive (to, m) ∷ us) (messages_whole archive es)
+messages_whole archive (To to m ∷ es) = ap (λ us. whole_sent archive (to, m) ∷ us) (messages_whole archive es)
 messages_whole archive (Out place o ∷ es) = messages_whole archive es
 
 pub outputs_whole : {C O : Type 0} (archive : List C) (es : List (Effect C O)) → outputs es ≡ whole_outputs (whole_effects archive es)
@@ -67,10 +67,10 @@ map_set g (y ∷ xs) (suc n) x = ap (λ us. g y ∷ us) (map_set g xs n x)
 pub moved_whole : {S C O : Type 0} (w : World S C O) (n : ℕ) (new : ReplicaState S C) (given : List (Effect C O)) →
     whole_world (moved w n new given) ≡ whole_moved (whole_world w) n (whole w.archive new) (whole_effects w.archive given)
 moved_whole {S = S} {C = C} {O = O} w n new given =
-    ap (λ ns. let x : WholeWorld S C O = record { nodes = ns; sent = map (whole_letter w.archive) (w.sent ++ messages given); left = w.left ++ outputs given } in x)
+    ap (λ ns. let x : WholeWorld S C O = record { nodes = ns; sent = map (whole_sent w.archive) (w.sent ++ messages given); left = w.left ++ outputs given } in x)
     (map_set (whole w.archive) w.nodes n new)
     ∙ ap₂ (λ us vs. let x : WholeWorld S C O = record { nodes = set (map (whole w.archive) w.nodes) n (whole w.archive new); sent = us; left = w.left ++ vs } in x)
-    (map-append (whole_letter w.archive) w.sent (messages given) ∙ ap (λ us. map (whole_letter w.archive) w.sent ++ us) (messages_whole w.archive given))
+    (map-append (whole_sent w.archive) w.sent (messages given) ∙ ap (λ us. map (whole_sent w.archive) w.sent ++ us) (messages_whole w.archive given))
     (outputs_whole w.archive given)
 
 -- what was found and what was sent
@@ -84,7 +84,7 @@ in_whole g here = here
 in_whole g (there i) = there (in_whole g i)
 
 pub may_take_whole : {S C O : Type 0} (w : World S C O) (n : ℕ) (input : Input C) → MayTake w n input → WholeMayTake (whole_world w) n (whole_input w.archive input)
-may_take_whole w n (Receives m) i = in_whole (whole_letter w.archive) i
+may_take_whole w n (Receives m) i = in_whole (whole_sent w.archive) i
 may_take_whole w n (Proposes c) i = i
 may_take_whole w n Ticks i = i
 

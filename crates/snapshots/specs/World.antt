@@ -24,16 +24,16 @@ pub record World (S C O : Type 0) : Type 0 where
   -- the places below all bases
   pub archive : List C
 
--- the world on whole logs that corresponds to it
-abbrev pub whole_letter : {C : Type 0} → List C → ℕ × Message C → ℕ × WholeMessage C
-whole_letter archive letter = (letter.0, whole_message archive letter.1)
+-- a sent message on whole logs, with its receiver
+abbrev pub whole_sent : {C : Type 0} → List C → ℕ × Message C → ℕ × WholeMessage C
+whole_sent archive sent = (sent.0, whole_message archive sent.1)
 
 -- all nodes and messages on whole logs
 abbrev pub whole_world : {S C O : Type 0} → World S C O → WholeWorld S C O
 whole_world w =
     record {
       nodes = map (whole w.archive) w.nodes;
-      sent = map (whole_letter w.archive) w.sent;
+      sent = map (whole_sent w.archive) w.sent;
       left = w.left;
     }
 

@@ -33,7 +33,7 @@ use Rattle.snapshots.specs.Past.Past.{went_on}
 use Rattle.snapshots.specs.Steps.{MayHappen}
 use Rattle.snapshots.specs.Steps.MayHappen.{node_goes}
 use Rattle.snapshots.specs.Whole.{whole, whole_body, whole_effects, whole_message}
-use Rattle.snapshots.specs.World.{messages, whole_letter}
+use Rattle.snapshots.specs.World.{messages, whole_sent}
 use Rattle.snapshots.specs.World.NodeGoes.{takes}
 use Rattle.snapshots.proofs.PastsAgree.{agreed_grows}
 use Rattle.snapshots.proofs.PastsKept.{StandsFor, past_stands}
@@ -160,8 +160,8 @@ module _ {S C O : Type 0} (rules : Rules S C O) (config : Config) (a : Moment S 
   first_like =
       record {
         master = refl;
-        sent = map-append (whole_letter a.world.archive) a.world.sent (messages o.effects)
-            ∙ ap (λ (us : List (ℕ × WholeMessage C)). map (whole_letter a.world.archive) a.world.sent ++ us) (messages_whole a.world.archive o.effects ∙ ap whole_messages same.effects);
+        sent = map-append (whole_sent a.world.archive) a.world.sent (messages o.effects)
+            ∙ ap (λ (us : List (ℕ × WholeMessage C)). map (whole_sent a.world.archive) a.world.sent ++ us) (messages_whole a.world.archive o.effects ∙ ap whole_messages same.effects);
         nodes = λ i s e. by i s e (cases_eq i place);
       }
     where
@@ -191,7 +191,7 @@ module _ {S C O : Type 0} (rules : Rules S C O) (config : Config) (a : Moment S 
   first_came = whole_went_on q.kept.came (node_takes place W (whole_proposes c) there_now runs tt (inl (refl, whole_thinned_same ow.effects)))
 
   as_many : length (whole_moment a).world.sent ≡ length a.world.sent
-  as_many = length-map a.world.sent (whole_letter a.world.archive)
+  as_many = length-map a.world.sent (whole_sent a.world.archive)
 
   -- ---- with others
 
@@ -215,10 +215,10 @@ module _ {S C O : Type 0} (rules : Rules S C O) (config : Config) (a : Moment S 
       came_last = subst (λ k. slice_get h.before.world.sent (k + 2 * length front + 1) ≡ Some (place + 1, answer)) as_many h.comes
 
       pub comes : slice_get w.end.world.sent (length a.world.sent + 2 * length front + 1) ≡ Some (place + 1, record { from = last; body = Held ballot (length log + 1) })
-      comes = by (get_back (whole_letter w.end.world.archive) w.end.world.sent (length a.world.sent + 2 * length front + 1) (place + 1, answer)
+      comes = by (get_back (whole_sent w.end.world.archive) w.end.world.sent (length a.world.sent + 2 * length front + 1) (place + 1, answer)
           (ap (λ l. slice_get l (length a.world.sent + 2 * length front + 1)) w.like.sent ∙ came_last))
         where
-          by : (y : ℕ × Message C) × (slice_get w.end.world.sent (length a.world.sent + 2 * length front + 1) ≡ Some y) × (whole_letter w.end.world.archive y ≡ (place + 1, answer)) →
+          by : (y : ℕ × Message C) × (slice_get w.end.world.sent (length a.world.sent + 2 * length front + 1) ≡ Some y) × (whole_sent w.end.world.archive y ≡ (place + 1, answer)) →
               slice_get w.end.world.sent (length a.world.sent + 2 * length front + 1) ≡ Some (place + 1, record { from = last; body = Held ballot (length log + 1) })
           by ((to, m), at, is) =
               at ∙ ap₂ (λ (i : ℕ) (y : Message C). Some (let z : ℕ × Message C = (i, y) in z)) (ap (λ (y : ℕ × WholeMessage C). y.0) is)
@@ -263,7 +263,7 @@ module _ {S C O : Type 0} (rules : Rules S C O) (config : Config) (a : Moment S 
             delivered = w.delivered;
             archive = w.archive;
             master = w.like.master ∙ h.master;
-            sent = sym (length-map w.end.world.sent (whole_letter w.end.world.archive)) ∙ ap length w.like.sent ∙ h.sent ∙ ap (λ k. k + 2 * (length front + 1)) as_many;
+            sent = sym (length-map w.end.world.sent (whole_sent w.end.world.archive)) ∙ ap length w.like.sent ∙ h.sent ∙ ap (λ k. k + 2 * (length front + 1)) as_many;
             comes = comes;
             primary = last_answers;
             each = λ m i. node_still rules ballot (Follows ballot (log ++ c ∷ [])) m h.before w.end w.like (follows_still rules ballot ballot (log ++ c ∷ []) m) (h.each m i);

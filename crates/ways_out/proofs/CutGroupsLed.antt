@@ -21,7 +21,7 @@ use Rattle.snapshots.specs.Past.Past.{went_on}
 use Rattle.snapshots.specs.Steps.{MayHappen, world_after}
 use Rattle.snapshots.specs.Steps.MayHappen.{master_assigns}
 use Rattle.snapshots.specs.Whole.{whole}
-use Rattle.snapshots.specs.World.{whole_letter}
+use Rattle.snapshots.specs.World.{whole_sent}
 use Rattle.snapshots.proofs.Continues.{agreed_back}
 use Rattle.snapshots.proofs.PastsAgree.{agreed_grows}
 use Rattle.snapshots.proofs.PastsKept.{StandsFor, past_stands}
@@ -60,7 +60,7 @@ assign_like : {S C O : Type 0} (rules : Rules S C O) (ballot : ℕ) (a : Moment 
 assign_like rules ballot a new =
     record {
       master = refl;
-      sent = map-append (whole_letter a.world.archive) a.world.sent _;
+      sent = map-append (whole_sent a.world.archive) a.world.sent _;
       nodes = λ n p e. let z = get_back (whole a.world.archive) a.world.nodes n p e in record { replica = z.0; stands = z.1; like = inl z.2 };
     }
 
@@ -107,7 +107,7 @@ module _ {S C O : Type 0} (rules : Rules S C O) (silent : StartsGiveNothing rule
   numbers = way_out (length a.world.sent) (length a.master.members) place (length new.members - 1)
 
   as_many : length (whole_moment a).world.sent ≡ length a.world.sent
-  as_many = length-map a.world.sent (whole_letter a.world.archive)
+  as_many = length-map a.world.sent (whole_sent a.world.archive)
 
   came_so : WholeDelivered rules ballot (whole_assigned new (whole_moment a)) numbers out.last
   came_so = subst (λ (k : ℕ). WholeDelivered rules ballot (whole_assigned new (whole_moment a)) (way_out k (length a.master.members) place (length new.members - 1)) out.last) as_many out.delivered
@@ -168,7 +168,7 @@ module _ {S C O : Type 0} (rules : Rules S C O) (silent : StartsGiveNothing rule
             last = w.end;
             delivered = w.delivered;
             archive = w.archive;
-            sent = ap (λ k. k + 1) (sym (length-map w.end.world.sent (whole_letter w.end.world.archive)) ∙ ap length w.like.sent) ∙ out.sent
+            sent = ap (λ k. k + 1) (sym (length-map w.end.world.sent (whole_sent w.end.world.archive)) ∙ ap length w.like.sent) ∙ out.sent
                 ∙ ap (λ k. k + length a.master.members + 5 * length new.members) as_many;
             events = subst (λ (k : ℕ). length (way_out k (length a.master.members) place (length new.members - 1)) + 1 ≡ 4 * length new.members + 2) as_many out.events;
             led = led_by w;

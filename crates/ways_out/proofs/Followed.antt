@@ -41,7 +41,7 @@ use Rattle.snapshots.specs.Past.Past.{went_on}
 use Rattle.snapshots.specs.Steps.MayHappen.{node_goes, master_hears}
 use Rattle.snapshots.specs.Steps.{MayHappen}
 use Rattle.snapshots.specs.Whole.{whole, whole_body, whole_effects, whole_message}
-use Rattle.snapshots.specs.World.{World, messages, outputs, whole_letter}
+use Rattle.snapshots.specs.World.{World, messages, outputs, whole_sent}
 use Rattle.snapshots.specs.World.NodeGoes.{takes}
 use Rattle.snapshots.proofs.PastsAgree.{agreed_grows, has_agreed}
 use Rattle.snapshots.proofs.PastsKept.{StandsFor, past_stands}
@@ -63,9 +63,9 @@ pub whole_thinned_same : {C O : Type 0} (xs : List (WholeEffect C O)) → WholeT
 whole_thinned_same [] = whole_none
 whole_thinned_same (x ∷ xs) = whole_keeps (whole_thinned_same xs)
 
-pub messages_whole : {C O : Type 0} (archive : List C) (es : List (Effect C O)) → map (whole_letter archive) (messages es) ≡ whole_messages (whole_effects archive es)
+pub messages_whole : {C O : Type 0} (archive : List C) (es : List (Effect C O)) → map (whole_sent archive) (messages es) ≡ whole_messages (whole_effects archive es)
 messages_whole archive [] = refl
-messages_whole archive (To to m ∷ es) = ap (λ us. whole_letter archive (to, m) ∷ us) (messages_whole archive es)
+messages_whole archive (To to m ∷ es) = ap (λ us. whole_sent archive (to, m) ∷ us) (messages_whole archive es)
 messages_whole archive (Out place o ∷ es) = messages_whole archive es
 
 pub get_back : {X Y : Type 0} (g : X → Y) (xs : List X) (n : ℕ) (y : Y) → slice_get (map g xs) n ≡ Some y → (x : X) × (slice_get xs n ≡ Some x) × (g x ≡ y)
@@ -106,7 +106,7 @@ pub record NodeLike {S C O : Type 0} (rules : Rules S C O) (ballot : ℕ) (w : W
 
 pub record MomentLike {S C O : Type 0} (rules : Rules S C O) (ballot : ℕ) (a : WholeMoment S C O) (b : Moment S C O) : Type 0 where
   pub master : b.master ≡ a.master
-  pub sent : map (whole_letter b.world.archive) b.world.sent ≡ a.world.sent
+  pub sent : map (whole_sent b.world.archive) b.world.sent ≡ a.world.sent
   pub nodes : (n : ℕ) (p : WholeState S C) → slice_get a.world.nodes n ≡ Some p → NodeLike rules ballot b.world n p
 
 -- a past continues
@@ -148,20 +148,20 @@ module _ {S C O : Type 0} (rules : Rules S C O) (config : Config) (ballot : ℕ)
   abbrev pub r : ReplicaState S C
   r = node.replica
 
-  abbrev pub letter : (y : ℕ × Message C) × (slice_get b.world.sent k ≡ Some y) × (whole_letter b.world.archive y ≡ (n + 1, x))
-  letter = get_back (whole_letter b.world.archive) b.world.sent k (n + 1, x) (ap (λ l. slice_get l k) like.sent ∙ sent)
+  abbrev pub original : (y : ℕ × Message C) × (slice_get b.world.sent k ≡ Some y) × (whole_sent b.world.archive y ≡ (n + 1, x))
+  original = get_back (whole_sent b.world.archive) b.world.sent k (n + 1, x) (ap (λ l. slice_get l k) like.sent ∙ sent)
 
   abbrev pub m : Message C
-  m = letter.0.1
+  m = original.0.1
 
-  receiver : letter.0.0 ≡ n + 1
-  receiver = ap (λ (y : ℕ × WholeMessage C). y.0) letter.2
+  receiver : original.0.0 ≡ n + 1
+  receiver = ap (λ (y : ℕ × WholeMessage C). y.0) original.2
 
   pub is_x : whole_message b.world.archive m ≡ x
-  is_x = ap (λ (y : ℕ × WholeMessage C). y.1) letter.2
+  is_x = ap (λ (y : ℕ × WholeMessage C). y.1) original.2
 
   pub stood : slice_get b.world.sent k ≡ Some (n + 1, m)
-  stood = letter.1 ∙ ap (λ i. Some (let y : ℕ × Message C = (i, m) in y)) receiver
+  stood = original.1 ∙ ap (λ i. Some (let y : ℕ × Message C = (i, m) in y)) receiver
 
   may : In (n + 1, m) b.world.sent
   may = in_at b.world.sent k (n + 1, m) stood
@@ -216,7 +216,7 @@ module _ {S C O : Type 0} (rules : Rules S C O) (config : Config) (ballot : ℕ)
   like_now =
       record {
         master = like.master;
-        sent = map-append (whole_letter b.world.archive) b.world.sent (messages given.effects)
+        sent = map-append (whole_sent b.world.archive) b.world.sent (messages given.effects)
             ∙ ap₂ (λ (us vs : List (ℕ × WholeMessage C)). us ++ vs) like.sent (messages_whole b.world.archive given.effects ∙ ap whole_messages all.effects);
         nodes = λ i s e. by i s e (cases_eq i n);
       }
@@ -250,9 +250,9 @@ module _ {S C O : Type 0} (rules : Rules S C O) (config : Config) (ballot : ℕ)
     (came : WholePast rules config (a ∷ earlier)) (b : Moment S C O) (goes : Goes rules config past b) (like : MomentLike rules ballot a b)
     (k from asked : ℕ) (sent : slice_get a.world.sent k ≡ Some (0, record { from = from; body = bodies.Activate asked })) where
   asks : slice_get b.world.sent k ≡ Some (0, record { from = from; body = Activate asked })
-  asks = by (get_back (whole_letter b.world.archive) b.world.sent k (0, record { from = from; body = bodies.Activate asked }) (ap (λ l. slice_get l k) like.sent ∙ sent))
+  asks = by (get_back (whole_sent b.world.archive) b.world.sent k (0, record { from = from; body = bodies.Activate asked }) (ap (λ l. slice_get l k) like.sent ∙ sent))
     where
-      by : (y : ℕ × Message C) × (slice_get b.world.sent k ≡ Some y) × (whole_letter b.world.archive y ≡ (0, record { from = from; body = bodies.Activate asked })) →
+      by : (y : ℕ × Message C) × (slice_get b.world.sent k ≡ Some y) × (whole_sent b.world.archive y ≡ (0, record { from = from; body = bodies.Activate asked })) →
           slice_get b.world.sent k ≡ Some (0, record { from = from; body = Activate asked })
       by ((to, m), at, is) =
           at ∙ ap₂ (λ (i : ℕ) (y : Message C). Some (let z : ℕ × Message C = (i, y) in z)) (ap (λ (y : ℕ × WholeMessage C). y.0) is)
@@ -266,7 +266,7 @@ module _ {S C O : Type 0} (rules : Rules S C O) (config : Config) (ballot : ℕ)
   like_then_heard =
       record {
         master = ap (λ (s : MasterState). activating s asked s.waiting) like.master;
-        sent = map-append (whole_letter b.world.archive) b.world.sent _
+        sent = map-append (whole_sent b.world.archive) b.world.sent _
             ∙ ap₂ (λ (us vs : List (ℕ × WholeMessage C)). us ++ vs) like.sent
             (ap (λ (y : WholeBody C). let z : ℕ × WholeMessage C = (from, record { from = 0; body = y }) in z ∷ [])
             (answer (is_granted b.master asked b.master.waiting) ∙ ap (λ (s : MasterState). cond (is_granted s asked s.waiting) (let y : WholeBody C = bodies.Activated asked in y) (bodies.Superseded asked)) like.master));

@@ -284,8 +284,8 @@ module _ {S C O : Type 0} (rules : Rules S C O) (config : Config) (m : MasterSta
       AreLike {O = O} rules ballot (whole_received rules W from (whole_body w.archive body)) (wholly w.archive (received rules r from body))
   message_like from (NewBallot b members a old) may ballot after = plainly ballot from (NewBallot b members a old) tt
   message_like from (Join b a) may ballot after = plainly ballot from (Join b a) tt
-  message_like from (State b log) may ballot after = state_like from b log may (k.letters (n + 1) (record { from = from; body = State b log }) may).0 ballot after
-  message_like from (Install b log) may ballot after = install_like from b log may (k.letters (n + 1) (record { from = from; body = Install b log }) may).0 ballot after
+  message_like from (State b log) may ballot after = state_like from b log may (k.each_sent (n + 1) (record { from = from; body = State b log }) may).0 ballot after
+  message_like from (Install b log) may ballot after = install_like from b log may (k.each_sent (n + 1) (record { from = from; body = Install b log }) may).0 ballot after
   message_like from (Installed b h) may ballot after = plainly ballot from (Installed b h) tt
   message_like from (Activate b) may ballot after = plainly ballot from (Activate b) tt
   message_like from (Activated b) may ballot after = plainly ballot from (Activated b) tt
