@@ -55,7 +55,7 @@ impl Item for Filter {
     ghost use Rattle.std.specs.Prelude.{IsTrue};
     ghost use Rattle.topics.specs.Text.{is_filter};
     ghost use Rattle.packet_base.specs.Spelling.{text};
-    ghost use Rattle.packet_base.specs.Reading.{filter_at};
+    ghost use Rattle.packet_base.specs.TopicFields.{filter_at};
 
     ghost spelled = { text };
 
