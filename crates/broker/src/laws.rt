@@ -4,8 +4,8 @@ ghost use Rattle.broker.specs.Standing.{BeginsEmpty, GoesOnStanding};
 ghost use Rattle.broker.specs.Standing.{GoesOnFromFormOne, UsualIsWide};
 
 /// Shows that after every list of commands the state is the one that the list means with the first
-/// window, and so are the answers to each command. The first window is 64 in a fresh broker; one
-/// that is read from form 1 continues with 16.
+/// window. So are the answers to each command. The first window is 64 in a fresh broker; one that
+/// is read from form 1 continues with 16.
 pub fn broker_stands_for()
     ensures fresh { BeginsEmpty }
     ensures more { GoesOnStanding }

@@ -52,8 +52,8 @@ pub fn list_stands_for()
 
 /// A step keeps the sessions ordered by the bytes of their clients, each connection in at most one
 /// session, and each session in its form: filters and identifiers distinct, released entries first,
-/// a clean one connected. In each connected client's queue nothing waits or the window is full, and
-/// no more is in flight than the window allows, if that does not shrink.
+/// a clean one connected. In each connected client's queue nothing waits or the window is full. No
+/// more is in flight than the window allows, if that does not shrink.
 pub fn states_stay_sound()
     ensures step { StaysSound }
     ensures quiet { StaysQuiet }

@@ -33,8 +33,8 @@ pub fn frozen_is_thawed()
     ensures before { FrozenBeforeIsThawed }
 {}
 
-/// A broker that was thawed is sound, within its limits and in its ranges, and no more of a session
-/// is in flight than its window allows.
+/// A broker that was thawed is sound, within its limits and in its ranges. No more of a session is
+/// in flight than its window allows.
 pub fn thawed_is_in_range()
     ensures { ThawedIsInRange }
 {}

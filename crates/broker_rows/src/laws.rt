@@ -5,8 +5,8 @@ ghost use Rattle.broker_rows.specs.CommandLaws.{OwnerIsFoundByMap};
 ghost use Rattle.broker_rows.specs.PublicationLaws.{GrantedRowsMatch, RoomIsOfGrantedRows};
 ghost use Rattle.broker_rows.specs.PublicationLaws.{AnswersAreOfGrantedRows};
 
-/// A command on a client's current connection writes that client's row or removes it, and no other,
-/// unless it is a PUBLISH that is taken (MQTT 3.1.4).
+/// A command on a client's current connection writes that client's row or removes it (MQTT 3.1.4).
+/// It touches no other, unless it is a PUBLISH that is taken.
 pub fn one_row_is_written()
     ensures { OneRowIsWritten }
 {}

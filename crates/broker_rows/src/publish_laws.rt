@@ -9,7 +9,7 @@ pub fn refused_publication_steps()
     ensures { RefusedStep }
 {}
 
-/// Any other is taken: it is retained, its publisher's session notes its identifier, and each
+/// Any other is taken: it is retained, and its publisher's session notes its identifier. Each
 /// granted session, one after another, gets its copy and sends what that starts (MQTT 3.3.4, 3.3.5,
 /// 4.3).
 pub fn taken_publication_steps()

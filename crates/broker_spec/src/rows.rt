@@ -113,7 +113,7 @@ pub fn lower_qos_is_delivered()
     ensures order { CopiesComeByClient }
 {}
 
-/// The last publication with RETAIN 1 is retained at its own QoS, and is sent at the lower of that
+/// The last publication with RETAIN 1 is retained at its own QoS. It is sent at the lower of that
 /// and the QoS that is asked for (MQTT 3.3.1.3).
 pub fn last_publication_is_retained()
     ensures qos { RetainedAtTheLowerQos }
@@ -126,8 +126,8 @@ pub fn exactly_once_is_sent_again()
     ensures { ExactlyOnceIsSentAgain }
 {}
 
-/// A session begins at an accepted Connect that finds none, or is clean, or finds a clean one, and
-/// a clean one ends with its connection (MQTT 3.1.2.4).
+/// A session begins at an accepted Connect that finds none, or is clean, or finds a clean one. A
+/// clean one ends with its connection (MQTT 3.1.2.4).
 pub fn sessions_begin_and_end()
     ensures begin { SessionsBegin }
     ensures end { SessionsEnd }

@@ -24,11 +24,11 @@ use std::alloc::AllocError;
 const WINDOW: usize = 64;
 
 impl ClientCore {
-    /// Publishes. At QoS 1 and 2 the publication is kept until its handshake has ended, and sent at
-    /// once if the client is online, otherwise after the next CONNACK. In this order: `WindowFull`
-    /// comes exactly if at QoS 1 or 2 sixty-four publications are kept or no identifier is free.
-    /// `NotActive` comes if the client is offline at QoS 0, `TooLarge` if the packet would be over
-    /// the size limit. A refusal changes nothing.
+    /// Publishes. At QoS 1 and 2 the publication is kept until its handshake has ended. It is sent
+    /// at once if the client is online, otherwise after the next CONNACK. In this order:
+    /// `WindowFull` comes exactly if at QoS 1 or 2 sixty-four publications are kept or no
+    /// identifier is free. `NotActive` comes if the client is offline at QoS 0, `TooLarge` if the
+    /// packet would be over the size limit. A refusal changes nothing.
     pub fn publish(
         &mut self,
         topic: TopicName,

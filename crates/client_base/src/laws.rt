@@ -22,8 +22,8 @@ pub fn history_is_followed()
     fill_takes_what_waits();
 }
 
-/// Whatever a client is asked for and the server sends, no identifier is in flight twice, and none
-/// is a publication's and a request's at once (MQTT 2.3.1).
+/// No identifier is in flight twice, and none is a publication's and a request's at once, whatever
+/// a client is asked for and the server sends (MQTT 2.3.1).
 pub fn identifiers_are_distinct()
     ensures distinct { IdentifiersAreDistinct }
     ensures apart { RequestsAreApart }

@@ -6,8 +6,8 @@ use Rattle.ballot.specs.Config.{Config}
 use Rattle.snapshots.specs.Agreeing.{Agrees, Holds, LeftInOrder}
 use Rattle.snapshots.specs.Past.{IsAgreed, Moment, Past}
 
--- the past has continued up to a moment in which the nodes agree on the list that is agreed there,
--- the outputs that left are its answers in order, and what was agreed before is a prefix of it. A
+-- the past has continued up to a moment in which the nodes agree on the list that is agreed there.
+-- The outputs that left are its answers in order, and what was agreed before is a prefix of it. A
 -- log is meant as a whole one, by the record of places, which is a prefix of the agreed list, too
 pub record AgreesAfter {S C O : Type 0} (rules : Rules S C O) (config : Config)
     (past : List (Moment S C O)) (a : Moment S C O) : Type 0 where

@@ -3,8 +3,8 @@
 ghost use Rattle.session_base.specs.FormLaws.{FrozenIsRead, ReadHasForm, ReadIsFrozen};
 ghost use Rattle.session_base.specs.FormRows.{FullSessionIsFrozen};
 
-/// The bytes to which a session is frozen are read as that session, whatever bytes follow, if no
-/// more of it is in flight than the window allows.
+/// The bytes to which a session is frozen are read as that session, whatever bytes follow. No more
+/// of it may be in flight than the window allows.
 pub fn frozen_is_read()
     ensures { FrozenIsRead }
 {}

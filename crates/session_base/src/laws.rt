@@ -53,7 +53,7 @@ pub fn answers_fit_the_qos()
 {}
 
 /// Each filter of a session occurs once, in the order of their first granting, and received
-/// identifiers in rising order, whatever is granted, given up, received or released.
+/// identifiers rise. This stays so whatever is granted, given up, received or released.
 pub fn sessions_keep_their_form()
     ensures filters { FiltersStayApart }
     ensures order { FiltersKeepTheirOrder }

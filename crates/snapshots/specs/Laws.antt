@@ -25,8 +25,8 @@ HasAgreed {S} {C} {O} rules =
     (config : Config) (a : Moment S C O) (past : List (Moment S C O)) →
     Past rules config (a ∷ past) → (xs : List C) × IsAgreed config (map whole_moment (a ∷ past)) xs
 
--- the nodes agree on it, one of them, a member of the active ballot, holds it, what left is its
--- answers in order, and the record of places begins it
+-- the nodes agree on it, and a member of the active ballot holds it; what left is its answers in
+-- order, and the record of places begins it
 abbrev pub NodesAgree : {S C O : Type 0} → Rules S C O → Type 0
 NodesAgree {S} {C} {O} rules =
     (config : Config) (a : Moment S C O) (past : List (Moment S C O)) (xs : List C) →
@@ -48,8 +48,8 @@ MachinesReplay {S} {C} {O} rules =
     (config : Config) (a : Moment S C O) (past : List (Moment S C O)) →
     Past rules config (a ∷ past) → AreReplays rules (whole_world a.world)
 
--- the base of each log lies within the record and within what is applied, and a snapshot is the
--- frozen replay of the places below it, and thaws to that
+-- the base of each log lies within the record and within what is applied; a snapshot is the frozen
+-- replay of the places below it, and thaws to that
 pub record IsCutRight {S C O : Type 0} (rules : Rules S C O) (archive : List C)
     (r : ReplicaState S C) : Type 0 where
   pub recorded : r.log.base ≤ length archive

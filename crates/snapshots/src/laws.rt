@@ -46,8 +46,8 @@ pub fn machines_replay<M: Machine>()
     ensures { MachinesReplay M.rules }
 {}
 
-/// What a node has cut is in the record and was applied by it, and its snapshot is the frozen
-/// replay of these places, and thaws to it.
+/// What a node has cut is in the record and was applied by it. Its snapshot is the frozen replay of
+/// these places, and thaws to it.
 pub fn logs_are_cut_right<M: Machine>()
     ensures { LogsAreCutRight M.rules }
 {}

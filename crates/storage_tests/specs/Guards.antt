@@ -40,8 +40,8 @@ AnswersOfAnotherQoSAreNothing =
     ∷ sends 3 (publish (deliveries.AtLeastOnce true 1) false (codes "x"))
     ∷ sends 3 (publish (deliveries.ExactlyOnce true 2) false (codes "y")) ∷ []) ∷ [])
 
--- An Expel of a client that never came, of a text that is no identifier, or of one that begins with
--- a client's own or is the beginning of it, is nothing: b continues as it was.
+-- An Expel is nothing for a client that never came, for a text that is no identifier, and for one
+-- that begins a client's own or begins with it: b continues as it was.
 abbrev pub ExpelsOfNobodyAreNothing : Type 0
 ExpelsOfNobodyAreNothing =
     Gives usual_limits (subscribed_at levels.ExactlyOnce ++ connect 4 (codes "bc")

@@ -62,8 +62,8 @@ fn counts(index: &TreeIndex) -> (usize, usize) {
     (index.nodes.slab.len(), index.nodes.slab.capacity())
 }
 
-/// Returns how many nodes all filters have, whether that stays so once they were dropped, set,
-/// cleared and set again, and whether only the root was left in between.
+/// Returns how many nodes all filters have, and whether that stays so once they were dropped, set,
+/// cleared and set again. Says too whether only the root was left in between.
 fn nodes_in_turn(alloc: Global) -> Option<(usize, bool, bool)> {
     let mut index = TreeIndex::new(alloc);
     let client = ClientId::new(alloc, "a").ok()?;

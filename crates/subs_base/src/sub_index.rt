@@ -42,8 +42,8 @@ pub trait SubIndex: Drop {
         ensures { content self.new ≡ without_client (content self.old) client.now };
 
     /// Appends a row for each client with a filter that matches the topic, with the greatest QoS of
-    /// these filters, in the order of the clients' bytes (MQTT 3.3.5). If memory runs out the rows
-    /// stay as they were. If no filter matches it takes none.
+    /// these filters (MQTT 3.3.5). The rows are in the order of the clients' bytes. If memory runs
+    /// out the rows stay as they were. If no filter matches it takes none.
     fn granted(&self, topic: &TopicName, rows: &mut Vec<(ClientId, QoS)>) -> Result<(), AllocError>
         ensures ok { OnOk result
             (AppendsGranted (content self.now) topic.now rows.old.items rows.new.items) }

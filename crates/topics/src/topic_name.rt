@@ -32,9 +32,9 @@ impl Model for TopicName {
 }
 
 impl TopicName {
-    /// Returns the Topic Name of this text. In this order: `Text` if it contains U+0000, `Topic` if
-    /// it is empty, has more than 65,535 bytes or a wildcard, `TooDeep` if it has more than 32
-    /// levels, `Memory`.
+    /// Returns the Topic Name of this text. In this order: `Text` if it contains U+0000; `Topic` if
+    /// it is empty, has more than 65,535 bytes or a wildcard; `TooDeep` if it has more than 32
+    /// levels; `Memory` if memory runs out.
     #[tactic(auto, using(crate::proofs::Faultless::is_topic_none))]
     pub fn new(alloc: Global, text: &str) -> Result<TopicName, MalformedKind>
         ensures value { IfOk result (λ name. name ≡ text.now) }
