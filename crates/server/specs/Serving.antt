@@ -1,5 +1,5 @@
 -- What a lane reports of a connection.
-use Rattle.std.specs.Prelude.{◌≡◌, ℕ, ◌+◌, ◌*◌, List, [], ◌∷◌, ◌++◌, None}
+use Rattle.std.specs.Prelude.{ℕ, ◌+◌, ◌*◌, List, [], ◌∷◌, ◌++◌, None}
 use Rattle.post.specs.node.declared.Item.{Item}
 use Rattle.post.specs.node.declared.Item.TheVariants.{Tick, Cut}
 use Rattle.post.specs.node.declared.Port.{Port}

@@ -1,6 +1,6 @@
 use mir.Syntax.{of_param}
 use denote.Exit.{unseen}
-use denote.Param.Send.{IsSend, Quiet-if, sendable}
+use denote.Param.Send.{Quiet-if, sendable}
 use Rattle.server.proofs.listening.serve_by.Goals as goal
 
 pub scoped-requires : goal.scoped-requires
