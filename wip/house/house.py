@@ -377,9 +377,6 @@ def mend(line, old, new):
 
 # Types, functions and modules by the field's terms: the crates in whose files they are renamed, and the words. A module goes with its file.
 WORDS = [
-    (("streams", "server", "server_tests", "server_clients", "server_bench", "connection_tests", "jobs"),
-     {"pen": "token", "Pens": "WriteTokens", "late": "blocked", "door": "table", "seat": "context", "place": "listener", "ear": "reporter", "desk": "slot"}, {}),
-    (("post", "server", "jobs"), {"tray": "outbox", "TrayKept": "OutboxKept", "bell": "waker", "peers": "cluster", "letter": "queued", "letters": "queued", "Letters": "Queued"}, {}),
     (("node_moves", "node_group", "byte_world", "headline", "world_nodes", "escaping_nodes", "world"), {"deed": "node_call", "deeds": "node_calls"}, {}),
 ]
 

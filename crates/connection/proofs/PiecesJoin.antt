@@ -9,7 +9,7 @@ use Rattle.world_base.specs.declared.item.Item.{Item}
 use Rattle.world_base.specs.declared.item.Item.TheVariants.{Opened, Bytes, Ended}
 use Rattle.connection.specs.declared.ending.Ending.{Ending}
 use Rattle.connection.specs.declared.ending.Ending.TheVariants as endings
-use Rattle.connection.specs.Hearing.{Came, Hears, Rises, joined, pieces_told}
+use Rattle.connection.specs.Hearing.{Came, Hears, Rises, joined, pieces_reported}
 use Rattle.connection.specs.Hearing.Rises.{opens, comes}
 use Rattle.connection.specs.Inside.{HearsOn, HearsPiece, HearsPieces, HearsSome}
 
@@ -41,17 +41,17 @@ pub pieces_join :
     → HearsPieces port b c second lost y z
     → HearsPieces port a c (first ++ second) lost x z
 pieces_join port a b c first second lost x y z h k =
-    let told =
-    k.told
-    ∙ ap (λ l. l ++ pieces_told port second) h.told
-    ∙ append_assoc a (pieces_told port first) (pieces_told port second)
+    let reported =
+    k.reported
+    ∙ ap (λ l. l ++ pieces_reported port second) h.reported
+    ∙ append_assoc a (pieces_reported port first) (pieces_reported port second)
     ∙ ap (λ l. a ++ l) (sym (map-append (λ (piece : Came). Bytes port piece.bytes piece.now) first second)) in
     let first_gave : Consumes x y (joined first) = rw append-nil at h.gave in
     let both = consumes_join x y z (joined first) (joined second ++ lost) first_gave k.gave in
     let bytes =
     sym (append_assoc (joined first) (joined second) lost)
     ∙ ap (λ l. l ++ lost) (sym (flat_map-append (λ (piece : Came). piece.bytes) first second)) in
-    record { told = told; gave = subst (λ l. Consumes x z l) bytes both }
+    record { reported = reported; gave = subst (λ l. Consumes x z l) bytes both }
 
 -- a piece that was reported after others
 pub one_more :
@@ -73,7 +73,7 @@ pub ends_behind :
     → HearsOn port opened a c ending x z
 ends_behind port opened last a b c ending x y z some (same, (lost, gave, ends)) =
     let none : HearsPieces port b c [] lost y z =
-    record { told = same ∙ sym (append-nil b); gave = gave } in
+    record { reported = same ∙ sym (append-nil b); gave = gave } in
     let joins = pieces_join port a b c some.pieces [] lost x y z some.hears none in
     record {
       pieces = some.pieces ++ [];
@@ -88,7 +88,7 @@ ends_behind port opened last a b c ending x y z some (same, (lost, gave, ends)) 
 pub none_yet : (port : Port) (opened : ℕ) (a : List Item) (x : Option (List ℕ)) → HearsSome port opened opened a a x x
 none_yet port opened a x = record {
   pieces = [];
-  hears = record { told = sym (append-nil a); gave = gives_none x };
+  hears = record { reported = sym (append-nil a); gave = gives_none x };
   times = opens;
 }
 
@@ -111,10 +111,10 @@ pub framed :
     → b ≡ a ++ Opened port opened ∷ [] → HearsOn port opened b c ending x y → d ≡ c ++ Ended port ∷ []
     → Hears port a d ending x y
 framed port opened a b c d ending x y first h last =
-    let middle = pieces_told port h.pieces in
-    let told =
+    let middle = pieces_reported port h.pieces in
+    let reported =
     last
-    ∙ ap (λ l. l ++ Ended port ∷ []) h.hears.told
+    ∙ ap (λ l. l ++ Ended port ∷ []) h.hears.reported
     ∙ append_assoc b middle (Ended port ∷ [])
     ∙ ap (λ l. l ++ (middle ++ Ended port ∷ [])) first
     ∙ append_assoc a (Opened port opened ∷ []) (middle ++ Ended port ∷ []) in
@@ -122,7 +122,7 @@ framed port opened a b c d ending x y first h last =
       opened = opened;
       pieces = h.pieces;
       lost = h.lost;
-      told = told;
+      reported = reported;
       gave = h.hears.gave;
       ends = h.ends;
       last = h.last;

@@ -23,12 +23,12 @@ pub data Rises (opened : ℕ) : List Came → ℕ → Type 0 where
       → Rises opened pieces last → last ≤ piece.now → Rises opened (pieces ++ piece ∷ []) piece.now
 
 -- the items of these pieces, in order
-abbrev pub pieces_told : Port → List Came → List Item
-pieces_told port pieces = map (λ (piece : Came). Bytes port piece.bytes piece.now) pieces
+abbrev pub pieces_reported : Port → List Came → List Item
+pieces_reported port pieces = map (λ (piece : Came). Bytes port piece.bytes piece.now) pieces
 
 -- the whole report of a connection that was opened at a time, and on which these pieces came
-abbrev pub told_of : Port → ℕ → List Came → List Item
-told_of port opened pieces = Opened port opened ∷ (pieces_told port pieces ++ Ended port ∷ [])
+abbrev pub report_of : Port → ℕ → List Came → List Item
+report_of port opened pieces = Opened port opened ∷ (pieces_reported port pieces ++ Ended port ∷ [])
 
 -- the bytes of all pieces, in order
 abbrev pub joined : List Came → List ℕ
@@ -59,12 +59,13 @@ faults_after _ faults = faults
 
 -- What was reported after the earlier reports is a whole connection, its pieces are what the device
 -- gave, and their times do not fall.
-pub record Hears (port : Port) (old new : List Item) (ending : Ending) (before behind : Option (List ℕ))
+pub record Hears
+    (port : Port) (old new : List Item) (ending : Ending) (before behind : Option (List ℕ))
     : Type 0 where
   pub opened : ℕ
   pub pieces : List Came
   pub lost : List ℕ
-  pub told : new ≡ old ++ told_of port opened pieces
+  pub reported : new ≡ old ++ report_of port opened pieces
   pub gave : Consumes before behind (joined pieces ++ lost)
   pub ends : EndsSo ending pieces lost behind
   pub last : ℕ

@@ -4,14 +4,14 @@ use Rattle.std.specs.Io.KnownBytes.{Consumes}
 use Rattle.world_base.specs.declared.Port.{Port}
 use Rattle.world_base.specs.declared.item.Item.{Item}
 use Rattle.connection.specs.declared.ending.Ending.{Ending}
-use Rattle.connection.specs.Hearing.{Came, EndsSo, Rises, faults_after, joined, pieces_told}
+use Rattle.connection.specs.Hearing.{Came, EndsSo, Rises, faults_after, joined, pieces_reported}
 
 -- these pieces were reported, and what was read is these and what was lost
 pub record HearsPieces
     (port : Port) (old new : List Item) (pieces : List Came) (lost : List ℕ)
     (before behind : Option (List ℕ))
     : Type 0 where
-  pub told : new ≡ old ++ pieces_told port pieces
+  pub reported : new ≡ old ++ pieces_reported port pieces
   pub gave : Consumes before behind (joined pieces ++ lost)
 
 -- pieces were reported, for a connection opened at a time, and then it ended so
@@ -44,7 +44,9 @@ HearsPiece port last old new (Ok now) before behind =
     × HearsPieces port old new (record { bytes = bytes; now = now } ∷ []) [] before behind)
 HearsPiece port last old new (Err ending) before behind =
     (new ≡ old)
-    × ((lost : List ℕ) × Consumes before behind lost × ((pieces : List Came) → EndsSo ending pieces lost behind))
+    × ((lost : List ℕ)
+    × Consumes before behind lost
+    × ((pieces : List Came) → EndsSo ending pieces lost behind))
 
 -- the count of the device's failed calls after one piece
 abbrev pub faults_so_far : Result ℕ Ending → ℕ → ℕ

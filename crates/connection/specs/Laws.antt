@@ -8,5 +8,6 @@ use Rattle.connection.specs.Writing.{Writes}
 -- written, followed by what is left.
 abbrev pub NothingIsLeftOut : {T : Type 0} → (T → List ℕ → Handed → T → Type 0) → Type 0
 NothingIsLeftOut {T = T} hands =
-    (first : T) (start : Option (List ℕ)) (now : T) (handed : List ℕ) (contents : Option (List ℕ)) (left : List ℕ)
+    (first : T) (start : Option (List ℕ)) (now : T)
+    (handed : List ℕ) (contents : Option (List ℕ)) (left : List ℕ)
     → Lives hands first start now handed contents left → Writes start contents handed left

@@ -7,7 +7,8 @@ use Rattle.connection.specs.Writing.{Flows}
 
 -- What a tap and a device lead to: the tap now, all that was handed over by it, the device's bytes
 -- now, and what is left.
-pub data Lives {T : Type 0} (hands : T → List ℕ → Handed → T → Type 0) (first : T) (start : Option (List ℕ))
+pub data Lives {T : Type 0}
+    (hands : T → List ℕ → Handed → T → Type 0) (first : T) (start : Option (List ℕ))
     : T → List ℕ → Option (List ℕ) → List ℕ → Type 0 where
   begins : Lives hands first start first [] start []
   goes_on : {before : T} {handed left : List ℕ} {old : Option (List ℕ)}

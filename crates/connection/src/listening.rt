@@ -25,8 +25,8 @@ pub fn listen<R: Wait + Clock, H: Hearer, D: Read>(
     ensures hears { Hears port (H.heard hearer.old) (H.heard hearer.new)
         result (D.remaining device.old.device) (D.remaining device.new.device) }
 
-    // The hearer was asked whether the connection may be read. It was not read exactly if the answer
-    // was no.
+    // The hearer was asked whether the connection may be read. It was not read exactly if the
+    // answer was no.
     ensures let_in { WasLet H.lets (was_let_in result) }
 
     // A fault is reported exactly if one more call of the device failed.

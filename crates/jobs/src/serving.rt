@@ -15,7 +15,7 @@ use std::thread::Threads;
 use std::time::Clock;
 
 /// How many files a node may have open at once besides its listener: its connections, one that is
-/// refused, and one by which its door is closed.
+/// refused, and one by which its listener is closed.
 const FILES: usize = CONNECTIONS as usize + 2;
 
 /// Serves clients as a file's table of nodes says, if as many files can be open at once as its
@@ -89,10 +89,14 @@ where
     E: Write,
 {
     let nodes = read.nodes.as_slice();
-    let places = listen_all(rt, nodes, faults)?;
-    serve_while(rt, rt.alloc(), places.as_slice(), &read.config, |peers| {
-        obey(rt, peers, nodes, input, output)
-    })??;
+    let listeners = listen_all(rt, nodes, faults)?;
+    serve_while(
+        rt,
+        rt.alloc(),
+        listeners.as_slice(),
+        &read.config,
+        |peers| { obey(rt, peers, nodes, input, output) },
+    )??;
     writeln!(output, "bye").ok().ok_or(Fault::Output)
 }
 
@@ -102,14 +106,14 @@ where
     R: AllocGlobal + Net<Listener = TcpListener, Stream = TcpStream>,
     E: Write,
 {
-    let mut places = Vec::new(rt.alloc());
+    let mut listeners = Vec::new(rt.alloc());
     for node in nodes {
-        places.push(Listener::new(rt.alloc(), node.id, listen(rt, node)?)?)?;
+        listeners.push(Listener::new(rt.alloc(), node.id, listen(rt, node)?)?)?;
     }
-    for (node, place) in nodes.iter().zip(&places) {
-        tell(place, node.id, faults);
+    for (node, listener) in nodes.iter().zip(&listeners) {
+        tell(listener, node.id, faults);
     }
-    Ok(places)
+    Ok(listeners)
 }
 
 fn listen<R>(rt: &R, node: &ListeningNode) -> Result<TcpListener, Fault>
@@ -128,8 +132,8 @@ where
 
 // Prints where a node listens, and whether other machines may reach it. Clients are served also if
 // nothing can be printed.
-fn tell<E: Write>(place: &Listener, id: u8, faults: &mut E) {
-    if let Ok(address) = place.address() {
+fn tell<E: Write>(listener: &Listener, id: u8, faults: &mut E) {
+    if let Ok(address) = listener.address() {
         let _ = writeln!(faults, "node {id} listens on {address}");
         if !address.ip().is_loopback() {
             let _ = writeln!(

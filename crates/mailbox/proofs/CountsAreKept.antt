@@ -45,13 +45,13 @@ module _ {T : Type 0} where
       → ReceiverKept queue room new name counts
   kept_hearing queue room old new name counts w kept same is =
       let taken : (view new).taken ≡ (view old).taken = ap (λ (v : View T). v.taken) is in
-      let told : (view new).told ≡ w.told = ap (λ (v : View T). v.told) is in
+      let bounds : (view new).bounds ≡ w.bounds = ap (λ (v : View T). v.bounds) is in
       record {
         of_queue = same.0 ∙ kept.of_queue;
         at_rest = same.2 ∙ kept.at_rest;
         named = kept.named;
         has_room = kept.has_room;
-        role = is ∙ ap (λ v. heard v w) kept.role ∙ (λ i. taker_view (length counts) (sym taken i) (sym told i));
+        role = is ∙ ap (λ v. heard v w) kept.role ∙ (λ i. taker_view (length counts) (sym taken i) (sym bounds i));
         counted = λ lane within. kept.counted lane within ∙ ap (λ l. length (items_of lane l)) (sym taken);
       }
 
@@ -63,10 +63,10 @@ module _ {T : Type 0} where
       → count ≡ slice_index_or counts at count
       → ReceiverKept queue room new name (slice_set counts at (count + 1))
   kept_on queue room old new name counts x at count kept same took at_is count_is =
-      let step : view new ≡ taker_view (length counts) ((view old).taken ++ x ∷ []) (view old).told =
+      let step : view new ≡ taker_view (length counts) ((view old).taken ++ x ∷ []) (view old).bounds =
       took.0 ∙ ap (λ (v : View T). record v { taken = v.taken ++ x ∷ [] }) kept.role in
       let taken : (view new).taken ≡ (view old).taken ++ x ∷ [] = ap (λ (v : View T). v.taken) step in
-      let told : (view new).told ≡ (view old).told = ap (λ (v : View T). v.told) step in
+      let bounds : (view new).bounds ≡ (view old).bounds = ap (λ (v : View T). v.bounds) step in
       let lanes = ap (λ (v : View T). v.lanes) kept.role in
       let place : at < length counts = omega (arith, at_is, lanes, took.1) in
       let value : count ≡ slice_index counts x.0 =
@@ -80,7 +80,7 @@ module _ {T : Type 0} where
         at_rest = same.2 ∙ kept.at_rest;
         named = kept.named;
         has_room = kept.has_room;
-        role = step ∙ (λ i. taker_view (sizes i) (sym taken i) (sym told i));
+        role = step ∙ (λ i. taker_view (sizes i) (sym taken i) (sym bounds i));
         counted = λ lane within.
             rw (counts', taken)
             (counts_follow counts (view old).taken x lane kept.counted

@@ -6,6 +6,6 @@ mod LanesSettle
 mod MeetingKeepsTheRule
 mod PassesKeepTheRule
 mod Rights
-mod Seats
+mod PassNumbers
 mod StepsKeepTheRule
 mod TellingKeepsTheRule

@@ -7,12 +7,12 @@ use lib.ListN.{get_elem?}
 use Rattle.crossbeam_queue.specs.Fifo.{Forks, Merges, Learns}
 use Rattle.crossbeam_queue.proofs.Lists.{at_set}
 use Rattle.mailbox.specs.declared.view.View.{View}
-use Rattle.mailbox.specs.Delivery.{items_of, FitsLane, FitsReceiver, FitsTold, Delivers, Moment}
+use Rattle.mailbox.specs.Delivery.{items_of, FitsLane, FitsReceiver, FitsBounds, Delivers, Moment}
 use Rattle.mailbox.specs.Inside.{nobody, joined, Learned, receiver_part, lane_part}
 use Rattle.mailbox.proofs.ItemsOfALane.{items_of-append}
 use Rattle.mailbox.proofs.EachView.{Each, each_set, each_snoc}
 use Rattle.mailbox.proofs.Rights.{rights_set, rights_split}
-use Rattle.mailbox.proofs.Seats.{seated, seated-same, seated-other, not_false}
+use Rattle.mailbox.proofs.PassNumbers.{repassed, repassed-same, repassed-other, not_false}
 
 module _ {T : Type 0} where
   pub parts : (port : ℕ) (v : View T)
@@ -22,15 +22,15 @@ module _ {T : Type 0} where
   parts port v sends gets items views h at =
       let lane = (h.fits port v at).0 sends in
       let known = (h.fits port v at).1 gets in
-      let told = (h.fits port v at).2 in
+      let bounds = (h.fits port v at).2 in
       let vs : List (View T) = slice_set views port (receiver_part v) in
-      let seat = seated v.lane (length vs) h.seat in
-      let F : ℕ → View T → Type 0 = λ j u. FitsLane seat h.sent h.taken h.made j u × FitsReceiver h.reader h.taken h.made j u × FitsTold h.sent h.taken h.most u in
+      let pass_of = repassed v.lane (length vs) h.pass_of in
+      let F : ℕ → View T → Type 0 = λ j u. FitsLane pass_of h.sent h.taken h.made j u × FitsReceiver h.reader h.taken h.made j u × FitsBounds h.sent h.taken h.most u in
       let size : length (items_of v.lane v.taken) ≡ length (items_of v.lane h.taken) = ap (λ l. length (items_of v.lane l)) known.1 in
       record {
         reader = h.reader;
         made = h.made;
-        seat = seat;
+        pass_of = pass_of;
         sent = h.sent;
         taken = h.taken;
         most = h.most;
@@ -46,19 +46,19 @@ module _ {T : Type 0} where
             (λ j u apart e. (
               (λ p.
                   let theirs = (h.fits j u e).0 p in
-                  let other : u.lane ≢ v.lane = λ same. apart (theirs.0 ∙ ap h.seat same ∙ sym lane.0) in
-                  (theirs.0 ∙ sym (seated-other v.lane (length vs) h.seat u.lane other), theirs.1, theirs.2, theirs.3)),
+                  let other : u.lane ≢ v.lane = λ same. apart (theirs.0 ∙ ap h.pass_of same ∙ sym lane.0) in
+                  (theirs.0 ∙ sym (repassed-other v.lane (length vs) h.pass_of u.lane other), theirs.1, theirs.2, theirs.3)),
               (h.fits j u e).1,
               (h.fits j u e).2,
             ))) (
               (λ _. (
-                sym (seated-same v.lane (length vs) h.seat v.lane refl),
+                sym (repassed-same v.lane (length vs) h.pass_of v.lane refl),
                 lane.1,
                 omega (arith, size),
                 lane.3,
               )),
               (λ p. absurd (not_false p)),
-              (told.0, told.1, told.2, h.finite),
+              (bounds.0, bounds.1, bounds.2, h.finite),
             );
       }
 
@@ -75,23 +75,23 @@ module _ {T : Type 0} where
       (at_set views port other both w there) in
       let lane = (h.fits other w was).0 sends in
       let known = (h.fits port v at).1 gets in
-      let seat = seated w.lane port h.seat in
-      let F : ℕ → View T → Type 0 = λ j u. FitsLane seat h.sent h.taken h.made j u × FitsReceiver h.reader h.taken h.made j u × FitsTold h.sent h.taken h.most u in
+      let pass_of = repassed w.lane port h.pass_of in
+      let F : ℕ → View T → Type 0 = λ j u. FitsLane pass_of h.sent h.taken h.made j u × FitsReceiver h.reader h.taken h.made j u × FitsBounds h.sent h.taken h.most u in
       let G : ℕ → View T → Type 0 = λ j u. j ≢ other → F j u in
       let now : Each G vs = each_set G views port both
-      (λ _. ((λ _. (sym (seated-same w.lane port h.seat w.lane refl), lane.1, lane.2, lane.3)), (λ _. known), (h.fits port v at).2))
+      (λ _. ((λ _. (sym (repassed-same w.lane port h.pass_of w.lane refl), lane.1, lane.2, lane.3)), (λ _. known), (h.fits port v at).2))
       (λ j u _ e away. (
         (λ p.
             let theirs = (h.fits j u e).0 p in
-            let elsewhere : u.lane ≢ w.lane = λ same. away (theirs.0 ∙ ap h.seat same ∙ sym lane.0) in
-            (theirs.0 ∙ sym (seated-other w.lane port h.seat u.lane elsewhere), theirs.1, theirs.2, theirs.3)),
+            let elsewhere : u.lane ≢ w.lane = λ same. away (theirs.0 ∙ ap h.pass_of same ∙ sym lane.0) in
+            (theirs.0 ∙ sym (repassed-other w.lane port h.pass_of u.lane elsewhere), theirs.1, theirs.2, theirs.3)),
         (h.fits j u e).1,
         (h.fits j u e).2,
       )) in
       record {
         reader = h.reader;
         made = h.made;
-        seat = seat;
+        pass_of = pass_of;
         sent = h.sent;
         taken = h.taken;
         most = h.most;

@@ -5,11 +5,11 @@ use mathlib.Core.Option.{some, some-ne-none}
 use lib.ListN.{get_elem?}
 use Rattle.crossbeam_queue.specs.Fifo.{Forks}
 use Rattle.mailbox.specs.declared.view.View.{View}
-use Rattle.mailbox.specs.Delivery.{nothing, receiver_view, FitsLane, FitsReceiver, FitsTold, Delivers}
+use Rattle.mailbox.specs.Delivery.{nothing, receiver_view, FitsLane, FitsReceiver, FitsBounds, Delivers}
 use Rattle.mailbox.specs.Inside.{dealing, dealt, nobody, sealed}
 use Rattle.mailbox.proofs.EachView.{each_set, each_snoc}
 use Rattle.mailbox.proofs.Rights.{rights_set, rights_snoc, rights_split}
-use Rattle.mailbox.proofs.Seats.{seated, seated-same, seated-other, not_false}
+use Rattle.mailbox.proofs.PassNumbers.{repassed, repassed-same, repassed-other, not_false}
 
 module _ {T : Type 0} where
   -- an inbox that was not used yet
@@ -17,7 +17,7 @@ module _ {T : Type 0} where
   begins = record {
     reader = 0;
     made = 0;
-    seat = λ _. 0;
+    pass_of = λ _. 0;
     sent = λ _. [];
     taken = [];
     most = 2 ^ 64;
@@ -28,7 +28,7 @@ module _ {T : Type 0} where
     finite = omega arith;
     fits =
         each_snoc
-        (λ j u. FitsLane {T = T} (λ _. 0) (λ _. []) [] 0 j u × FitsReceiver {T = T} 0 [] 0 j u × FitsTold {T = T} (λ _. []) [] (2 ^ 64) u)
+        (λ j u. FitsLane {T = T} (λ _. 0) (λ _. []) [] 0 j u × FitsReceiver {T = T} 0 [] 0 j u × FitsBounds {T = T} (λ _. []) [] (2 ^ 64) u)
         []
         (receiver_view 0 [] (2 ^ 64) (2 ^ 64) nothing)
         (λ j u e. absurd (some-ne-none u (sym e)))
@@ -44,11 +44,11 @@ module _ {T : Type 0} where
       let left : View T = dealing v in
       let right : View T = dealt v in
       let vs : List (View T) = slice_set views port left in
-      let seat = seated h.made (length vs) h.seat in
-      let F : ℕ → View T → Type 0 = λ j u. FitsLane seat h.sent h.taken (h.made + 1) j u × FitsReceiver h.reader h.taken (h.made + 1) j u × FitsTold h.sent h.taken h.most u in
-      let still : (j : ℕ) (u : View T) → get_elem? views j ≡ some u → FitsLane seat h.sent h.taken (h.made + 1) j u = λ j u e p.
+      let pass_of = repassed h.made (length vs) h.pass_of in
+      let F : ℕ → View T → Type 0 = λ j u. FitsLane pass_of h.sent h.taken (h.made + 1) j u × FitsReceiver h.reader h.taken (h.made + 1) j u × FitsBounds h.sent h.taken h.most u in
+      let still : (j : ℕ) (u : View T) → get_elem? views j ≡ some u → FitsLane pass_of h.sent h.taken (h.made + 1) j u = λ j u e p.
       let lane = (h.fits j u e).0 p in (
-        lane.0 ∙ sym (seated-other h.made (length vs) h.seat u.lane (λ same. omega (arith, same, lane.3))),
+        lane.0 ∙ sym (repassed-other h.made (length vs) h.pass_of u.lane (λ same. omega (arith, same, lane.3))),
         lane.1,
         lane.2,
         omega (arith, lane.3),
@@ -56,7 +56,7 @@ module _ {T : Type 0} where
       record {
         reader = h.reader;
         made = h.made + 1;
-        seat = seat;
+        pass_of = pass_of;
         sent = h.sent;
         taken = h.taken;
         most = h.most;
@@ -75,7 +75,7 @@ module _ {T : Type 0} where
               (h.fits j u e).2,
             ))) (
               (λ _. (
-                sym (seated-same h.made (length vs) h.seat v.lanes known.2),
+                sym (repassed-same h.made (length vs) h.pass_of v.lanes known.2),
                 sym (h.unmade v.lanes (omega (arith, known.2))),
                 omega arith,
                 omega (arith, known.2),
@@ -89,12 +89,12 @@ module _ {T : Type 0} where
   lends port v sends gets items views h at =
       let known = (h.fits port v at).0 sends in
       let vs : List (View T) = slice_set views port nobody in
-      let seat = seated v.lane (length vs) h.seat in
-      let F : ℕ → View T → Type 0 = λ j u. FitsLane seat h.sent h.taken h.made j u × FitsReceiver h.reader h.taken h.made j u × FitsTold h.sent h.taken h.most u in
+      let pass_of = repassed v.lane (length vs) h.pass_of in
+      let F : ℕ → View T → Type 0 = λ j u. FitsLane pass_of h.sent h.taken h.made j u × FitsReceiver h.reader h.taken h.made j u × FitsBounds h.sent h.taken h.most u in
       record {
         reader = h.reader;
         made = h.made;
-        seat = seat;
+        pass_of = pass_of;
         sent = h.sent;
         taken = h.taken;
         most = h.most;
@@ -110,12 +110,12 @@ module _ {T : Type 0} where
             (λ j u apart e. (
               (λ p.
                   let lane = (h.fits j u e).0 p in
-                  let other : u.lane ≢ v.lane = λ same. apart (lane.0 ∙ ap h.seat same ∙ sym known.0) in
-                  (lane.0 ∙ sym (seated-other v.lane (length vs) h.seat u.lane other), lane.1, lane.2, lane.3)),
+                  let other : u.lane ≢ v.lane = λ same. apart (lane.0 ∙ ap h.pass_of same ∙ sym known.0) in
+                  (lane.0 ∙ sym (repassed-other v.lane (length vs) h.pass_of u.lane other), lane.1, lane.2, lane.3)),
               (h.fits j u e).1,
               (h.fits j u e).2,
             ))) (
-              (λ _. (sym (seated-same v.lane (length vs) h.seat v.lane refl), known.1, known.2, known.3)),
+              (λ _. (sym (repassed-same v.lane (length vs) h.pass_of v.lane refl), known.1, known.2, known.3)),
               (λ p. absurd (not_false (sym gets ∙ p))),
               (h.fits port v at).2,
             );
@@ -126,11 +126,11 @@ module _ {T : Type 0} where
   seals port v items views h at =
       let mine = h.fits port v at in
       let less : h.most - v.may ≤ h.most = omega arith in
-      let F : ℕ → View T → Type 0 = λ j u. FitsLane h.seat h.sent h.taken h.made j u × FitsReceiver h.reader h.taken h.made j u × FitsTold h.sent h.taken (h.most - v.may) u in
+      let F : ℕ → View T → Type 0 = λ j u. FitsLane h.pass_of h.sent h.taken h.made j u × FitsReceiver h.reader h.taken h.made j u × FitsBounds h.sent h.taken (h.most - v.may) u in
       record {
         reader = h.reader;
         made = h.made;
-        seat = h.seat;
+        pass_of = h.pass_of;
         sent = h.sent;
         taken = h.taken;
         most = h.most - v.may;

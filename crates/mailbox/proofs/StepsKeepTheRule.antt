@@ -4,7 +4,7 @@ use Rattle.std.proofs.Common.{sym, ◌∙◌, ap, subst, inl, inr, ⊎_elim, app
 use native.Mathlib.Decide.{ℕ_discrete}
 use Rattle.crossbeam_queue.specs.Fifo.{Pushes, Pops}
 use Rattle.mailbox.specs.declared.view.View.{View}
-use Rattle.mailbox.specs.Delivery.{items_of, FitsLane, FitsReceiver, FitsTold, Delivers}
+use Rattle.mailbox.specs.Delivery.{items_of, FitsLane, FitsReceiver, FitsBounds, Delivers}
 use Rattle.mailbox.specs.Inside.{Sent, Took}
 use Rattle.mailbox.proofs.ItemsOfALane.{items_of-append, items_of-same, items_of-other}
 use Rattle.mailbox.proofs.EachView.{each_set}
@@ -39,12 +39,12 @@ module _ {T : Type 0} where
   others_sent sent x lane other =
       rw (items_of-other lane x [] other) (sym (append-nil (sent lane)))
 
-  -- what was told stays so when a lane sends more
+  -- bounds stay true when a lane sends more
   told_when_sent : (sent : ℕ → List T) (taken : List (ℕ × T)) (most : ℕ) (x : ℕ × T) (u : View T)
-      → FitsTold sent taken most u
-      → FitsTold (λ k. sent k ++ items_of k (x ∷ [])) taken most u
+      → FitsBounds sent taken most u
+      → FitsBounds (λ k. sent k ++ items_of k (x ∷ [])) taken most u
   told_when_sent sent taken most x u so = (
-    omega (arith, so.0, length-append (sent u.told.lane) (items_of u.told.lane (x ∷ []))),
+    omega (arith, so.0, length-append (sent u.bounds.lane) (items_of u.bounds.lane (x ∷ []))),
     so.1,
     so.2,
     so.3,
@@ -52,8 +52,8 @@ module _ {T : Type 0} where
 
   -- the same when one item more is taken
   told_when_taken : (sent : ℕ → List T) (taken : List (ℕ × T)) (most : ℕ) (x : ℕ × T) (u : View T)
-      → FitsTold sent taken most u
-      → FitsTold sent (taken ++ x ∷ []) most u
+      → FitsBounds sent taken most u
+      → FitsBounds sent (taken ++ x ∷ []) most u
   told_when_taken sent taken most x u so =
       (so.0, omega (arith, so.1, length-append taken (x ∷ [])), so.2, so.3)
 
@@ -69,12 +69,12 @@ module _ {T : Type 0} where
       let sent = λ (k : ℕ). h.sent k ++ items_of k (x ∷ []) in
       let sent_here : h.sent v.lane ≡ h.sent x.0 = ap h.sent (sym mine) in
       let short' : length (h.sent x.0) < 2 ^ 55 = subst (λ (l : List T). length l < 2 ^ 55) (known.1 ∙ sent_here) short in
-      let F : ℕ → View T → Type 0 = λ j u. FitsLane h.seat sent h.taken h.made j u × FitsReceiver h.reader h.taken h.made j u × FitsTold sent h.taken h.most u in (
+      let F : ℕ → View T → Type 0 = λ j u. FitsLane h.pass_of sent h.taken h.made j u × FitsReceiver h.reader h.taken h.made j u × FitsBounds sent h.taken h.most u in (
         w,
         record {
           reader = h.reader;
           made = h.made;
-          seat = h.seat;
+          pass_of = h.pass_of;
           sent = sent;
           taken = h.taken;
           most = h.most;
@@ -101,7 +101,7 @@ module _ {T : Type 0} where
               (λ j u apart e. (
                 (λ p.
                     let theirs = (h.fits j u e).0 p in
-                    let other : x.0 ≢ u.lane = λ same. apart (theirs.0 ∙ ap h.seat (sym same ∙ mine) ∙ sym known.0) in
+                    let other : x.0 ≢ u.lane = λ same. apart (theirs.0 ∙ ap h.pass_of (sym same ∙ mine) ∙ sym known.0) in
                     (theirs.0, theirs.1 ∙ others_sent h.sent x u.lane other, theirs.2, theirs.3)),
                 (h.fits j u e).1,
                 told_when_sent h.sent h.taken h.most x u (h.fits j u e).2,
@@ -143,12 +143,12 @@ module _ {T : Type 0} where
       let known = (h.fits port v at).1 gets in
       let w : View T = record v { taken = v.taken ++ x ∷ [] } in
       let taken = h.taken ++ x ∷ [] in
-      let F : ℕ → View T → Type 0 = λ j u. FitsLane h.seat h.sent taken h.made j u × FitsReceiver h.reader taken h.made j u × FitsTold h.sent taken h.most u in (
+      let F : ℕ → View T → Type 0 = λ j u. FitsLane h.pass_of h.sent taken h.made j u × FitsReceiver h.reader taken h.made j u × FitsBounds h.sent taken h.most u in (
         w,
         record {
           reader = h.reader;
           made = h.made;
-          seat = h.seat;
+          pass_of = h.pass_of;
           sent = h.sent;
           taken = taken;
           most = h.most;

@@ -8,30 +8,30 @@ use mathlib.Core.Option.{some}
 use lib.ListN.{get_elem?}
 use Rattle.crossbeam_queue.specs.Fifo.{Forks, Merges, Held}
 use Rattle.crossbeam_queue.proofs.Lists.{at_set}
-use Rattle.mailbox.specs.declared.view.Told.{Told}
+use Rattle.mailbox.specs.declared.view.Bounds.{Bounds}
 use Rattle.mailbox.specs.declared.view.View.{View}
-use Rattle.mailbox.specs.Delivery.{items_of, FitsLane, FitsReceiver, FitsTold, Delivers, Moment}
+use Rattle.mailbox.specs.Delivery.{items_of, FitsLane, FitsReceiver, FitsBounds, Delivers, Moment}
 use Rattle.mailbox.specs.declared.inbox.TheConstants.{INBOX_ITEMS}
-use Rattle.mailbox.specs.Ends.{HasArrived, IsFullAsTold, Receipted, Sender, Taker}
+use Rattle.mailbox.specs.Ends.{HasArrived, IsFullByReceipt, Receipted, Sender, Taker}
 use Rattle.mailbox.specs.Inside.{ended, heard, lane_tells, nobody, receiver_tells}
 use Rattle.mailbox.proofs.EachView.{each_set, each_snoc}
 use Rattle.mailbox.proofs.Rights.{rights_has, rights_set, rights_snoc, rights_split}
-use Rattle.mailbox.proofs.Seats.{not_false}
+use Rattle.mailbox.proofs.PassNumbers.{not_false}
 
 module _ {T : Type 0} where
-  -- a pass of its own that knows nothing but what it was told
-  tells : (port : ℕ) (v : View T) (told : Told)
+  -- a pass of its own that knows nothing but these bounds
+  tells : (port : ℕ) (v : View T) (bounds : Bounds)
       → ((items : List (ℕ × T)) (views : List (View T)) (h : Delivers items views)
       → get_elem? views port ≡ some v
-      → FitsTold h.sent h.taken h.most (record (nobody {T = T}) { told = told }))
-      → Forks Delivers port v v (record nobody { told = told })
-  tells port v told so items views h at =
-      let new : View T = record nobody { told = told } in
-      let F : ℕ → View T → Type 0 = λ j u. FitsLane h.seat h.sent h.taken h.made j u × FitsReceiver h.reader h.taken h.made j u × FitsTold h.sent h.taken h.most u in
+      → FitsBounds h.sent h.taken h.most (record (nobody {T = T}) { bounds = bounds }))
+      → Forks Delivers port v v (record nobody { bounds = bounds })
+  tells port v bounds so items views h at =
+      let new : View T = record nobody { bounds = bounds } in
+      let F : ℕ → View T → Type 0 = λ j u. FitsLane h.pass_of h.sent h.taken h.made j u × FitsReceiver h.reader h.taken h.made j u × FitsBounds h.sent h.taken h.most u in
       record {
         reader = h.reader;
         made = h.made;
-        seat = h.seat;
+        pass_of = h.pass_of;
         sent = h.sent;
         taken = h.taken;
         most = h.most;
@@ -48,12 +48,12 @@ module _ {T : Type 0} where
 
   pub lane_tells_so : (port : ℕ) (v : View T) → v.sends ≡ true → Forks Delivers port v v (lane_tells v)
   lane_tells_so port v sends =
-      tells port v (lane_tells v).told (λ items views h at.
+      tells port v (lane_tells v).bounds (λ items views h at.
       let same = ap length ((h.fits port v at).0 sends).1 in (omega (arith, same), omega arith, h.finite, h.finite))
 
   pub receiver_tells_so : (port : ℕ) (v : View T) → v.gets ≡ true → Forks Delivers port v v (receiver_tells v)
   receiver_tells_so port v gets =
-      tells port v (receiver_tells v).told (λ items views h at.
+      tells port v (receiver_tells v).bounds (λ items views h at.
       let same = ap length ((h.fits port v at).1 gets).1 in
       (omega arith, omega (arith, same), (h.fits port v at).2.3, h.finite))
 
@@ -62,11 +62,11 @@ module _ {T : Type 0} where
   ends port v sends items views h at =
       let mine = (h.fits port v at).2 in
       let same = ap length ((h.fits port v at).0 sends).1 in
-      let F : ℕ → View T → Type 0 = λ j u. FitsLane h.seat h.sent h.taken h.made j u × FitsReceiver h.reader h.taken h.made j u × FitsTold h.sent h.taken (h.most - v.may) u in
+      let F : ℕ → View T → Type 0 = λ j u. FitsLane h.pass_of h.sent h.taken h.made j u × FitsReceiver h.reader h.taken h.made j u × FitsBounds h.sent h.taken (h.most - v.may) u in
       record {
         reader = h.reader;
         made = h.made;
-        seat = h.seat;
+        pass_of = h.pass_of;
         sent = h.sent;
         taken = h.taken;
         most = h.most - v.may;
@@ -99,12 +99,12 @@ module _ {T : Type 0} where
       ⊎_elim (λ (x : (other ≡ port) × (both ≡ w)). absurd (apart x.0)) (λ (x : (other ≢ port) × (get_elem? views other ≡ some w)). x.1)
       (at_set views port other both w there) in
       let mine = h.fits port v at in
-      let told = (h.fits other w was).2 in
-      let F : ℕ → View T → Type 0 = λ j u. FitsLane h.seat h.sent h.taken h.made j u × FitsReceiver h.reader h.taken h.made j u × FitsTold h.sent h.taken h.most u in
+      let bounds = (h.fits other w was).2 in
+      let F : ℕ → View T → Type 0 = λ j u. FitsLane h.pass_of h.sent h.taken h.made j u × FitsReceiver h.reader h.taken h.made j u × FitsBounds h.sent h.taken h.most u in
       record {
         reader = h.reader;
         made = h.made;
-        seat = h.seat;
+        pass_of = h.pass_of;
         sent = h.sent;
         taken = h.taken;
         most = h.most;
@@ -117,20 +117,20 @@ module _ {T : Type 0} where
             each_set F (slice_set views port both) other nobody
             ((λ p. absurd (not_false p)), (λ p. absurd (not_false p)), (omega arith, omega arith, h.finite, h.finite))
             (λ j u away e.
-            each_set F views port both (mine.0, mine.1, (told.0, told.1, told.2, mine.2.3)) (λ k x other' f. h.fits k x f) j u e);
+            each_set F views port both (mine.0, mine.1, (bounds.0, bounds.1, bounds.2, mine.2.3)) (λ k x other' f. h.fits k x f) j u e);
       }
 
-  -- if the inbox holds nothing, all is taken that the receiver was told to be sent
-  arrived : (v : View T) → v.gets ≡ true → Held 0 (Moment v) → v.told.sent ≤ length (items_of v.told.lane v.taken)
+  -- if the inbox holds nothing, all is taken that the receiver knows to be sent
+  arrived : (v : View T) → v.gets ≡ true → Held 0 (Moment v) → v.bounds.sent ≤ length (items_of v.bounds.lane v.taken)
   arrived v gets (items, size, moment) =
       let h = moment.holds in
       let known = (h.fits moment.port v moment.knows).1 gets in
-      let told = (h.fits moment.port v moment.knows).2.0 in
-      let all = ap length (h.whole v.told.lane) in
+      let bounds = (h.fits moment.port v moment.knows).2.0 in
+      let all = ap length (h.whole v.bounds.lane) in
       let none : items ≡ [] = nil_from_length items size in
-      let here : length (items_of v.told.lane (h.taken ++ items)) ≡ length (items_of v.told.lane v.taken) =
-      ap (λ l. length (items_of v.told.lane (h.taken ++ l))) none ∙ ap (λ l. length (items_of v.told.lane l)) (append-nil h.taken ∙ sym known.1) in
-      omega (arith, told, all, here)
+      let here : length (items_of v.bounds.lane (h.taken ++ items)) ≡ length (items_of v.bounds.lane v.taken) =
+      ap (λ l. length (items_of v.bounds.lane (h.taken ++ l))) none ∙ ap (λ l. length (items_of v.bounds.lane l)) (append-nil h.taken ∙ sym known.1) in
+      omega (arith, bounds, all, here)
 
   -- the same, for the receiver and the receipt that it got
   pub has_arrived :
@@ -138,22 +138,22 @@ module _ {T : Type 0} where
       → heard' ≡ heard v w
       → v.gets ≡ true
       → v.taken ≡ receiver.taken
-      → w.told ≡ receipt.told
+      → w.bounds ≡ receipt.bounds
       → Held 0 (Moment heard')
       → IfNone result (HasArrived receipt receiver.taken)
-  has_arrived (Some x) v w heard' receiver receipt is gets taken told empty = tt
-  has_arrived None v w heard' receiver receipt is gets taken told empty =
+  has_arrived (Some x) v w heard' receiver receipt is gets taken bounds empty = tt
+  has_arrived None v w heard' receiver receipt is gets taken bounds empty =
       let here = arrived heard' (ap (λ (u : View T). u.gets) is ∙ gets) empty in
-      subst (λ (y : Told × List (ℕ × T)). y.0.sent ≤ length (items_of y.0.lane y.1))
-      (λ i. (told i, taken i))
-      (subst (λ (u : View T). u.told.sent ≤ length (items_of u.told.lane u.taken)) is here)
+      subst (λ (y : Bounds × List (ℕ × T)). y.0.sent ≤ length (items_of y.0.lane y.1))
+      (λ i. (bounds i, taken i))
+      (subst (λ (u : View T). u.bounds.sent ≤ length (items_of u.bounds.lane u.taken)) is here)
 
-  -- if the inbox is full, the lane was told that at least this many items will ever be sent
-  pub full : (v : View T) (size : ℕ) → Held size (Moment v) → v.told.taken + size + v.may ≤ v.told.most
+  -- if the inbox is full, the lane knows that at least this many items will ever be sent
+  pub full : (v : View T) (size : ℕ) → Held size (Moment v) → v.bounds.taken + size + v.may ≤ v.bounds.most
   full v size (items, is, moment) =
       let h = moment.holds in
-      let told = (h.fits moment.port v moment.knows).2 in
-      omega (arith, h.within, is, told.1, told.2, rights_has moment.views moment.port v moment.knows)
+      let bounds = (h.fits moment.port v moment.knows).2 in
+      omega (arith, h.within, is, bounds.1, bounds.2, rights_has moment.views moment.port v moment.knows)
 
   -- the same, for the lane and the receipt that it got
   pub is_full :
@@ -162,15 +162,15 @@ module _ {T : Type 0} where
       → size ≡ INBOX_ITEMS
       → v.may ≡ 2 ^ 55 - length v.sent
       → v.sent ≡ lane.sent
-      → w.told ≡ receipt.told
+      → w.bounds ≡ receipt.bounds
       → Held size (Moment heard')
-      → IsFullAsTold lane receipt
-  is_full v w heard' size lane receipt is room may sent told held =
+      → IsFullByReceipt lane receipt
+  is_full v w heard' size lane receipt is room may sent bounds held =
       let here = full heard' size held in
-      let taken = ap (λ (u : View T). u.told.taken) is in
-      let most = ap (λ (u : View T). u.told.most) is in
+      let taken = ap (λ (u : View T). u.bounds.taken) is in
+      let most = ap (λ (u : View T). u.bounds.most) is in
       let rights' = ap (λ (u : View T). u.may) is in
-      let taken' = ap (λ (t : Told). t.taken) told in
-      let most' = ap (λ (t : Told). t.most) told in
+      let taken' = ap (λ (t : Bounds). t.taken) bounds in
+      let most' = ap (λ (t : Bounds). t.most) bounds in
       let size' = ap (λ (l : List T). length l) sent in
       omega (arith, here, taken, most, rights', taken', most', room, may, size')

@@ -3,7 +3,7 @@
 use Rattle.std.specs.Prelude.{◌≡◌, ◌==◌, ℕ, ◌+◌, ◌*◌, ◌^◌, ◌<◌, ◌≤◌, true, false, List, [], ◌∷◌, ◌++◌, length, if◌then◌else◌}
 use mathlib.Core.Option.{some}
 use lib.ListN.{get_elem?}
-use Rattle.mailbox.specs.declared.view.Told.{Told}
+use Rattle.mailbox.specs.declared.view.Bounds.{Bounds}
 use Rattle.mailbox.specs.declared.view.View.{View}
 
 -- the items of one lane, in order
@@ -12,13 +12,13 @@ items_of lane [] = []
 items_of lane (x ∷ xs) = if x.0 == lane then x.1 ∷ items_of lane xs else items_of lane xs
 
 -- what is known without a receipt: only that no inbox ever gets more than 2^64 items
-abbrev pub nothing : Told
+abbrev pub nothing : Bounds
 nothing = record { lane = 0; sent = 0; taken = 0; most = 2 ^ 64 }
 
 -- what a lane knows: its number, what it sent, how many of these it knows to be taken, how many
--- more it may send, and what receipts told it
-abbrev pub lane_view : {T : Type 0} → ℕ → List T → ℕ → ℕ → Told → View T
-lane_view lane sent met may told = record {
+-- more it may send, and what receipts say
+abbrev pub lane_view : {T : Type 0} → ℕ → List T → ℕ → ℕ → Bounds → View T
+lane_view lane sent met may bounds = record {
   sends = true;
   lane = lane;
   sent = sent;
@@ -28,13 +28,13 @@ lane_view lane sent met may told = record {
   taken = [];
   may = may;
   all = 2 ^ 64;
-  told = told;
+  bounds = bounds;
 }
 
 -- what the receiver knows: how many lanes there are, what it took, how many items the lanes that it
--- has not made yet may send, how many all lanes may send, and what receipts told it
-abbrev pub receiver_view : {T : Type 0} → ℕ → List (ℕ × T) → ℕ → ℕ → Told → View T
-receiver_view lanes taken may all told = record {
+-- has not made yet may send, how many all lanes may send, and what receipts say
+abbrev pub receiver_view : {T : Type 0} → ℕ → List (ℕ × T) → ℕ → ℕ → Bounds → View T
+receiver_view lanes taken may all bounds = record {
   sends = false;
   lane = 0;
   sent = [];
@@ -44,12 +44,12 @@ receiver_view lanes taken may all told = record {
   taken = taken;
   may = may;
   all = all;
-  told = told;
+  bounds = bounds;
 }
 
 -- the same once it has made all its lanes, each of which may send 2^55 items
-abbrev pub taker_view : {T : Type 0} → ℕ → List (ℕ × T) → Told → View T
-taker_view lanes taken told = receiver_view lanes taken 0 (lanes * 2 ^ 55) told
+abbrev pub taker_view : {T : Type 0} → ℕ → List (ℕ × T) → Bounds → View T
+taker_view lanes taken bounds = receiver_view lanes taken 0 (lanes * 2 ^ 55) bounds
 
 -- how many items may still be sent
 abbrev pub rights : {T : Type 0} → List (View T) → ℕ
@@ -59,9 +59,9 @@ rights (v ∷ views) = v.may + rights views
 module _ {T : Type 0} where
   -- what a lane's pass knows is true, and no other pass is this lane's
   abbrev pub FitsLane : (ℕ → ℕ) → (ℕ → List T) → List (ℕ × T) → ℕ → ℕ → View T → Type 0
-  FitsLane seat sent taken made port v =
+  FitsLane pass_of sent taken made port v =
       v.sends ≡ true
-      → (port ≡ seat v.lane)
+      → (port ≡ pass_of v.lane)
       × (v.sent ≡ sent v.lane)
       × (v.met ≤ length (items_of v.lane taken))
       × (v.lane < made)
@@ -71,19 +71,19 @@ module _ {T : Type 0} where
   FitsReceiver reader taken made port v =
       v.gets ≡ true → (port ≡ reader) × (v.taken ≡ taken) × (v.lanes ≡ made)
 
-  -- what receipts told a pass is true, and the greatest number of items that it knows is right
-  abbrev pub FitsTold : (ℕ → List T) → List (ℕ × T) → ℕ → View T → Type 0
-  FitsTold sent taken most v =
-      (v.told.sent ≤ length (sent v.told.lane))
-      × (v.told.taken ≤ length taken)
-      × (most ≤ v.told.most)
+  -- what receipts say to a pass is true, and the greatest number of items that it knows is right
+  abbrev pub FitsBounds : (ℕ → List T) → List (ℕ × T) → ℕ → View T → Type 0
+  FitsBounds sent taken most v =
+      (v.bounds.sent ≤ length (sent v.bounds.lane))
+      × (v.bounds.taken ≤ length taken)
+      × (most ≤ v.bounds.most)
       × (most ≤ v.all)
 
 -- the rule, over what the inbox holds and what each pass knows
 pub record Delivers {T : Type 0} (items : List (ℕ × T)) (views : List (View T)) : Type 0 where
   pub reader : ℕ
   pub made : ℕ
-  pub seat : ℕ → ℕ
+  pub pass_of : ℕ → ℕ
   pub sent : ℕ → List T
   pub taken : List (ℕ × T)
   pub most : ℕ
@@ -95,9 +95,9 @@ pub record Delivers {T : Type 0} (items : List (ℕ × T)) (views : List (View T
   pub fits :
       (port : ℕ) (v : View T)
       → get_elem? views port ≡ some v
-      → FitsLane seat sent taken made port v
+      → FitsLane pass_of sent taken made port v
       × FitsReceiver reader taken made port v
-      × FitsTold sent taken most v
+      × FitsBounds sent taken most v
 
 -- a moment at which the inbox held these items and one of its passes knew this
 pub record Moment {T : Type 0} (v : View T) (items : List (ℕ × T)) : Type 0 where

@@ -3,7 +3,7 @@ use Rattle.std.specs.Prelude.{◌≡◌, ℕ, zero, suc, ◌+◌, ◌-◌, ◌�
 use Rattle.crossbeam_queue.specs.Fifo.{Held}
 use Rattle.mailbox.specs.declared.inbox.TheConstants.{INBOX_ITEMS}
 use Rattle.mailbox.specs.declared.lane.TheConstants.{MOST_SENT}
-use Rattle.mailbox.specs.declared.view.Told.{Told}
+use Rattle.mailbox.specs.declared.view.Bounds.{Bounds}
 use Rattle.mailbox.specs.Delivery.{items_of, lane_view, taker_view, Moment}
 
 -- a lane: the number of its inbox, its own, and how many of its items it knows to be taken
@@ -25,7 +25,7 @@ pub record Taker (T : Type 0) : Type 0 where
 pub record Receipted : Type 0 where
   pub inbox : ℕ
   -- history: no field keeps it
-  pub told : Told
+  pub bounds : Bounds
 
 module _ {T : Type 0} where
   -- the lanes 0, 1, .. of a new inbox, in order, on which nothing was sent
@@ -38,13 +38,14 @@ module _ {T : Type 0} where
   -- as it can
   abbrev pub WasFull : Sender T → Receipted → Type 0
   WasFull s receipt =
-      Held INBOX_ITEMS (Moment (lane_view s.lane s.sent s.met (MOST_SENT - length s.sent) receipt.told))
+      Held INBOX_ITEMS
+      (Moment (lane_view s.lane s.sent s.met (MOST_SENT - length s.sent) receipt.bounds))
 
   -- as far as the receipt says, there may be no room: what was taken, what the inbox can hold and
   -- what this lane may still send do not exceed what all lanes will ever send
-  abbrev pub IsFullAsTold : Sender T → Receipted → Type 0
-  IsFullAsTold s receipt =
-      receipt.told.taken + INBOX_ITEMS + (MOST_SENT - length s.sent) ≤ receipt.told.most
+  abbrev pub IsFullByReceipt : Sender T → Receipted → Type 0
+  IsFullByReceipt s receipt =
+      receipt.bounds.taken + INBOX_ITEMS + (MOST_SENT - length s.sent) ≤ receipt.bounds.most
 
   -- the lane has sent as much as it ever may
   abbrev pub IsSpent : Sender T → Type 0
@@ -52,11 +53,11 @@ module _ {T : Type 0} where
 
   -- at one moment, at which everything that the receipt says was true, the inbox held nothing
   abbrev pub WasEmpty : Taker T → Receipted → Type 0
-  WasEmpty r receipt = Held 0 (Moment (taker_view r.lanes r.taken receipt.told))
+  WasEmpty r receipt = Held 0 (Moment (taker_view r.lanes r.taken receipt.bounds))
 
   -- every item that was sent, as far as the receipt says, is among these items that were taken
   abbrev pub HasArrived : Receipted → List (ℕ × T) → Type 0
-  HasArrived receipt taken = receipt.told.sent ≤ length (items_of receipt.told.lane taken)
+  HasArrived receipt taken = receipt.bounds.sent ≤ length (items_of receipt.bounds.lane taken)
 
   -- a lane as it was made
   abbrev pub as_made : Sender T → Sender T

@@ -16,7 +16,7 @@ module _ {T : Type 0} where
     taken = [];
     may = 0;
     all = 2 ^ 64;
-    told = nothing;
+    bounds = nothing;
   }
 
   -- a push: the lane sent one item more
@@ -44,25 +44,33 @@ module _ {T : Type 0} where
 
   -- a lane says what it has sent
   abbrev pub lane_tells : View T → View T
-  lane_tells v = record nobody { told = record nothing { lane = v.lane; sent = length v.sent } }
+  lane_tells v = record nobody { bounds = record nothing { lane = v.lane; sent = length v.sent } }
 
   -- the receiver says what it has taken, and how many items there will ever be
   abbrev pub receiver_tells : View T → View T
-  receiver_tells v = record nobody { told = record nothing { taken = length v.taken; most = v.all } }
+  receiver_tells v = record nobody {
+    bounds = record nothing { taken = length v.taken; most = v.all };
+  }
 
-  -- a lane that sends no more says that, in addition to what receipts told it
+  -- a lane that sends no more says that, in addition to what receipts say
   abbrev pub ended : View T → View T
   ended v = record nobody {
-    told = record v.told { lane = v.lane; sent = length v.sent; most = v.told.most - v.may };
+    bounds = record v.bounds { lane = v.lane; sent = length v.sent; most = v.bounds.most - v.may };
   }
 
   -- what a receipt says is added
   abbrev pub heard : View T → View T → View T
-  heard v w = record v { told = w.told }
+  heard v w = record v { bounds = w.bounds }
 
   -- the receiver's view with a lane's added
   abbrev pub joined : View T → View T → View T
-  joined v w = record v { sends = w.sends; lane = w.lane; sent = w.sent; met = w.met; may = v.may + w.may }
+  joined v w = record v {
+    sends = w.sends;
+    lane = w.lane;
+    sent = w.sent;
+    met = w.met;
+    may = v.may + w.may;
+  }
 
   -- what was taken of the lane is a prefix of what it sent, and no less than it knew
   pub record Learned (v : View T) : Type 0 where
@@ -73,8 +81,8 @@ module _ {T : Type 0} where
 
   -- the receiver's part of a view that both share
   abbrev pub receiver_part : View T → View T
-  receiver_part v = receiver_view v.lanes v.taken 0 v.all v.told
+  receiver_part v = receiver_view v.lanes v.taken 0 v.all v.bounds
 
   -- the lane's part, which knows now how much of it was taken
   abbrev pub lane_part : View T → View T
-  lane_part v = lane_view v.lane v.sent (length (items_of v.lane v.taken)) v.may v.told
+  lane_part v = lane_view v.lane v.sent (length (items_of v.lane v.taken)) v.may v.bounds

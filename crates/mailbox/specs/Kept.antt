@@ -18,7 +18,8 @@ pub record LaneKept {T : Type 0}
   pub has_room : room ≡ INBOX_ITEMS
   pub role :
       view pass
-      ≡ lane_view lane (view pass).sent (view pass).met (2 ^ 55 - length (view pass).sent) (view pass).told
+      ≡ lane_view lane (view pass).sent (view pass).met
+      (2 ^ 55 - length (view pass).sent) (view pass).bounds
   pub few : length (view pass).sent ≤ 2 ^ 55
   pub counted : count ≡ length (view pass).sent
 
@@ -30,7 +31,7 @@ pub record ReceiverKept {T : Type 0}
   pub at_rest : pass.me.1 ≡ []
   pub named : queue ≡ name
   pub has_room : room ≡ INBOX_ITEMS
-  pub role : view pass ≡ taker_view (length counts) (view pass).taken (view pass).told
+  pub role : view pass ≡ taker_view (length counts) (view pass).taken (view pass).bounds
   pub counted :
       (lane : ℕ)
       → lane < length counts
@@ -40,7 +41,7 @@ pub record ReceiverKept {T : Type 0}
 pub record ReceiptKept {T : Type 0} (pass : Pass (ℕ × T) (View T)) (name : TableId) : Type 0 where
   pub of_queue : pass.table_id ≡ name
   pub at_rest : pass.me.1 ≡ []
-  pub role : view pass ≡ record nobody { told = (view pass).told }
+  pub role : view pass ≡ record nobody { bounds = (view pass).bounds }
 
 -- what a dealer keeps: its pass, for the inbox that its number names, has made this many lanes
 pub record DealerKept {T : Type 0}

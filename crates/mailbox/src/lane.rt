@@ -1,7 +1,7 @@
 // One sender's end of an inbox.
 
 ghost use Rattle.std.specs.Prelude.{◌≡◌, ◌⊎◌, ◌-◌, ◌^◌, ◌++◌, ◌∷◌, [], length, OnOk, OnErr, IfErr};
-ghost use Rattle.mailbox.specs.Ends.{Sender, WasFull, IsFullAsTold, IsSpent};
+ghost use Rattle.mailbox.specs.Ends.{Sender, WasFull, IsFullByReceipt, IsSpent};
 ghost use Rattle.mailbox.specs.Delivery.{nothing};
 
 use crate::moves::{Ends, Hears, Knowledge, LaneTells, Queue, Sends};
@@ -76,7 +76,7 @@ impl<T: Drop, J: Naming> Lane<T, J> {
     pub fn receipt(&mut self) -> Receipt<T, J>
         ensures tells { result ≡ record {
           inbox = self.old.inbox;
-          told = record nothing { lane = self.old.lane; sent = length self.old.sent };
+          bounds = record nothing { lane = self.old.lane; sent = length self.old.sent };
         } }
         ensures same { self.new ≡ self.old }
     {
@@ -92,10 +92,10 @@ impl<T: Drop, J: Naming> Lane<T, J> {
     pub fn end(self, receipt: Receipt<T, J>) -> Receipt<T, J>
         requires { receipt.inbox ≡ self.inbox }
         ensures { result ≡ record receipt {
-          told = record receipt.told {
+          bounds = record receipt.bounds {
             lane = self.lane;
             sent = length self.sent;
-            most = receipt.told.most - (2 ^ 55 - length self.sent);
+            most = receipt.bounds.most - (2 ^ 55 - length self.sent);
           };
         } }
     {
@@ -125,7 +125,7 @@ impl<T: Drop, J: Naming> Lane<T, J> {
 
         // What comes back is the item, and then nothing was sent.
         ensures full { OnErr result (WasFull self.old receipt ⊎ IsSpent self.old) }
-        ensures room { OnErr result (IsFullAsTold self.old receipt ⊎ IsSpent self.old) }
+        ensures room { OnErr result (IsFullByReceipt self.old receipt ⊎ IsSpent self.old) }
         ensures back { IfErr result (λ x. x ≡ item) }
         ensures same { OnErr result (self.new ≡ self.old) }
     {

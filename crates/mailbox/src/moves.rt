@@ -7,9 +7,9 @@ use crossbeam_queue::protocol::{Join, Lesson, Outcome, Protocol, Split};
 use crossbeam_queue::{Pass, RuledArrayQueue};
 
 /// What an inbox holds is what its lanes sent and its receiver did not take yet.
-pub struct Mail;
+pub struct DeliveryRule;
 
-impl<T> Protocol<(u8, T), View<T>> for Mail {
+impl<T> Protocol<(u8, T), View<T>> for DeliveryRule {
     ghost use Rattle.std.specs.Prelude.{◌^◌, []};
     ghost use Rattle.mailbox.specs.Delivery.{Delivers, nothing, receiver_view};
 
@@ -18,8 +18,10 @@ impl<T> Protocol<(u8, T), View<T>> for Mail {
     ghost first = { receiver_view 0 [] (2 ^ 64) (2 ^ 64) nothing };
 }
 
-pub type Queue<T> = RuledArrayQueue<(u8, T), View<T>, Mail>;
+/// The queue of an inbox, under its rule.
+pub type Queue<T> = RuledArrayQueue<(u8, T), View<T>, DeliveryRule>;
 
+/// What a pass of that queue knows.
 pub type Knowledge<T> = Pass<(u8, T), View<T>>;
 
 /// A lane's push.

@@ -104,7 +104,7 @@ impl<T: Drop, J: Naming> Receiver<T, J> {
     pub fn receipt(&mut self) -> Receipt<T, J>
         ensures tells { result ≡ record {
           inbox = self.old.inbox;
-          told = record nothing {
+          bounds = record nothing {
             taken = length self.old.taken;
             most = self.old.lanes * 2 ^ 55;
           };

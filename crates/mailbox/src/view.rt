@@ -2,9 +2,9 @@
 
 use std::collections::LinkedList;
 
-/// What may be known about an inbox anywhere. It stays true whatever happens. It exists only in
-/// proofs: no value of it is made.
-pub struct Told {
+/// Bounds of what was sent and taken, which may be known anywhere. They stay true whatever happens.
+/// They exist only in proofs: no value of this is made.
+pub struct Bounds {
     /// A lane.
     pub lane: u8,
     /// How many items that lane has sent, at least.
@@ -36,6 +36,6 @@ pub struct View<T> {
     pub may: u64,
     /// How many items all lanes together will ever have sent, at most, as the receiver knows.
     pub all: u64,
-    /// What the last receipt told it.
-    pub told: Told,
+    /// What the last receipt says.
+    pub bounds: Bounds,
 }

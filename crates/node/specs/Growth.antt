@@ -48,7 +48,9 @@ bytes_since_cut taken = fold (λ bytes (one : ℕ × Item). grown bytes one.1) 0
 
 -- there are commands that a cut drops
 abbrev pub can_drop : CoreState → Bool
-can_drop core = not core.replica.state.stopped && nat_lt core.replica.state.log.base core.replica.state.committed
+can_drop core =
+    not core.replica.state.stopped
+    && nat_lt core.replica.state.log.base core.replica.state.committed
 
 -- Whether the log of a node that took these items is to be cut because of its size: there are
 -- commands to drop, and what was taken since the last cut counts more than 16 MiB and more than the

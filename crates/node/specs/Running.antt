@@ -24,7 +24,7 @@ pub record Permit : Type 0 where
 
 -- the taking that a gate was asked for is the next of a node
 abbrev pub IsNext : Permit → Seen → Type 0
-IsNext leave seen = IfSome leave.taking (λ taking. taking ≡ next_turn seen.turns)
+IsNext permit seen = IfSome permit.taking (λ taking. taking ≡ next_turn seen.turns)
 
 -- a gate was asked for the taking of this number of the node of this number, and answered this
 pub record WasAsked {G : Type 0}
@@ -34,17 +34,17 @@ pub record WasAsked {G : Type 0}
   pub answered : answers gate node taking answer
 
 -- a gate was informed that the node of this number has done its taking of this number
-pub record WasTold {G : Type 0} (hears : G → ℕ → ℕ → Type 0) (node taking : ℕ) : Type 0 where
+pub record WasInformed {G : Type 0} (hears : G → ℕ → ℕ → Type 0) (node taking : ℕ) : Type 0 where
   pub gate : G
   pub heard : hears gate node taking
 
 -- these are all lanes of a node's inbox, in the order of their numbers
 pub record AreItsLanes (node : Running) (lanes : List (Sender Item)) : Type 0 where
   pub all : length lanes ≡ node.lanes
-  pub named : (place : ℕ) (other : Sender Item) → place < length lanes →
-      (slice_index_or lanes place other).inbox ≡ node.number
-  pub placed : (place : ℕ) (other : Sender Item) → place < length lanes →
-      (slice_index_or lanes place other).lane ≡ place
+  pub named : (index : ℕ) (other : Sender Item) → index < length lanes →
+      (slice_index_or lanes index other).inbox ≡ node.number
+  pub placed : (index : ℕ) (other : Sender Item) → index < length lanes →
+      (slice_index_or lanes index other).lane ≡ index
 
 -- The report is of a node that was the replay of what it took, from this first state on. What it
 -- took from each lane followed by what is left over is, in order, all that the lane sent. The

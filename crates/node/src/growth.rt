@@ -84,7 +84,8 @@ fn add_packet(bytes: u64, packet: &Packet) -> u64
 
 // Adds the bytes of the filters that a client subscribes to.
 fn add_subscribe(bytes: u64, subscribe: &Subscribe) -> u64
-    ensures { result ≡ counted (bytes + sum_by (λ (wish : _). length wish.filter) subscribe.now.filters) }
+    ensures { result
+        ≡ counted (bytes + sum_by (λ (wish : _). length wish.filter) subscribe.now.filters) }
 {
     let wishes = subscribe.filters.as_slice();
     let mut bytes = bytes;
@@ -96,7 +97,8 @@ fn add_subscribe(bytes: u64, subscribe: &Subscribe) -> u64
 
 // Adds the bytes of the filters that a client unsubscribes from.
 fn add_unsubscribe(bytes: u64, unsubscribe: &Unsubscribe) -> u64
-    ensures { result ≡ counted (bytes + sum_by (λ (filter : _). length filter) unsubscribe.now.filters) }
+    ensures { result
+        ≡ counted (bytes + sum_by (λ (filter : _). length filter) unsubscribe.now.filters) }
 {
     let filters = unsubscribe.filters.as_slice();
     let mut bytes = bytes;

@@ -90,7 +90,7 @@ impl<J: NodeNaming> NodeState<J> {
     pub fn receipt(&mut self) -> Receipt<Item, J>
         ensures tells { result ≡ record {
           inbox = self.old.taker.inbox;
-          told = record nothing {
+          bounds = record nothing {
             taken = length self.old.taker.taken;
             most = self.old.taker.lanes * 2 ^ 55;
           };

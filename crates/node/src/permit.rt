@@ -30,17 +30,17 @@ impl<'n> Model for Permit<'n> {
 
     ghost Value = { Permit };
 
-    ghost view = { λ leave. record {
-      taking = leave.taking;
-      most = leave.most;
-      is_open = leave.is_open;
+    ghost view = { λ permit. record {
+      taking = permit.taking;
+      most = permit.most;
+      is_open = permit.is_open;
     } };
 
-    ghost invariant = { λ leave. IfSome leave.taking (λ _. leave.most ≡ 1) };
+    ghost invariant = { λ permit. IfSome permit.taking (λ _. permit.most ≡ 1) };
 }
 
 impl<'n> Permit<'n> {
-    // Returns a permit without a gate.
+    /// Returns a permit without a gate.
     pub(crate) fn free() -> Permit<'n>
         ensures { result ≡ record { taking = None; most = 16; is_open = true } }
     {
@@ -52,7 +52,7 @@ impl<'n> Permit<'n> {
         }
     }
 
-    // Returns a permit for the taking of this number, which keeps other turns from beginning.
+    /// Returns a permit for the taking of this number, which keeps other turns from beginning.
     pub(crate) fn after(taking: u64, is_open: bool, turn: MutexGuard<'n, ()>) -> Permit<'n>
         ensures { result ≡ record { taking = Some taking; most = 1; is_open = is_open } }
     {

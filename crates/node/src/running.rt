@@ -2,7 +2,7 @@
 
 ghost use Rattle.std.specs.Prelude.{◌≡◌, ◌↔◌, All, IfOk, IfSome, IsSomeAnd, IsTrue, is_some, map, true};
 ghost use Rattle.mailbox.specs.Ends.{ArrivesWhole, unmet};
-ghost use Rattle.node.specs.Running.{AreItsLanes, ReportsOn, WasAsked, WasTold};
+ghost use Rattle.node.specs.Running.{AreItsLanes, ReportsOn, WasAsked, WasInformed};
 
 use crate::naming::NodeNaming;
 use crate::node_state::NodeState;
@@ -191,11 +191,11 @@ impl<'g, J: NodeNaming, S: Stated<J>, G: Gate> Node<'g, J, S, G> {
     }
 
     /// Ends a turn: informs the gate that the taking is done.
-    pub fn done<R: Wait>(&self, rt: &R, leave: Permit<'_>)
-        ensures { self.now.is_gated ≡ true → IfSome leave.entry.taking (λ taking.
-            WasTold G.hears self.now.number taking) }
+    pub fn done<R: Wait>(&self, rt: &R, permit: Permit<'_>)
+        ensures { self.now.is_gated ≡ true → IfSome permit.entry.taking (λ taking.
+            WasInformed G.hears self.now.number taking) }
     {
-        if let (Some(gate), Some(taking)) = (self.gate, leave.taking()) {
+        if let (Some(gate), Some(taking)) = (self.gate, permit.taking()) {
             gate.answered(rt, self.number, taking);
         }
     }

@@ -12,7 +12,7 @@ pub trait Gate {
     // this.
     ghost answers: { Self → ℕ → ℕ → Bool → Type 0 };
 
-    // It was told that the node of this number has done its taking of this number.
+    // It was informed that the node of this number has done its taking of this number.
     ghost hears: { Self → ℕ → ℕ → Type 0 };
 
     /// Says whether the node of this number may do its taking of this number, from 1. If not, it is

@@ -4,6 +4,6 @@ mod HighestFound
 mod MasterIsReachable
 mod NoneAmong
 mod OpenBytes
-mod TrayKept
+mod OutboxKept
 pub use Rattle.master.proofs.of_lists as of_lists
 pub use Rattle.node.proofs as of_node

@@ -11,7 +11,8 @@ pub record Taken : Type 0 where
 -- how many of these bytes may be in places after the first `places`
 abbrev pub bytes_behind : ℕ → List Taken → ℕ
 bytes_behind places [] = 0
-bytes_behind places (taken ∷ others) = (if nat_lt places taken.places then taken.bytes else 0) + bytes_behind places others
+bytes_behind places (taken ∷ others) =
+    (if nat_lt places taken.places then taken.bytes else 0) + bytes_behind places others
 
 -- how many places a log has, and how many of them are agreed; none before a node is served
 abbrev pub held_of : Option Status → ℕ
@@ -29,7 +30,9 @@ pub data Counts : List Taken → Taking → Type 0 where
   admits : {all : List Taken} {taking : Taking} (bytes : ℕ) → Counts all taking
       → Counts all (record taking { entering = taking.entering + bytes })
   takes : {all : List Taken} {taking : Taking} (bytes : ℕ) → Counts all taking
-      → Counts (record { bytes = min bytes taking.entering; places = held_of taking.status } ∷ all) (took bytes taking)
+      → Counts
+      (record { bytes = min bytes taking.entering; places = held_of taking.status } ∷ all)
+      (took bytes taking)
   shows : {all : List Taken} {taking : Taking} (status : Status) → Counts all taking
       → held_of taking.status ≤ status.held → committed_of taking.status ≤ status.committed
       → Counts all (shown status taking)

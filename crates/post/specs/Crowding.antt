@@ -47,5 +47,10 @@ is_agreed mark status = nat_le (min mark status.held) status.committed
 abbrev pub shown : Status → Taking → Taking
 shown status taking =
     if is_agreed taking.mark status
-    then record taking { status = Some status; mark = status.held; earlier = taking.later; later = 0 }
+    then record taking {
+      status = Some status;
+      mark = status.held;
+      earlier = taking.later;
+      later = 0;
+    }
     else record taking { status = Some status }

@@ -13,7 +13,8 @@ abbrev pub LaterCountsSuffice : Type 0
 LaterCountsSuffice =
     (ballot held earlier fewer member : ℕ) (progress : List Progress) →
     covers (Held ballot held) (Held earlier fewer) ≡ true →
-    (ballot ≡ earlier) × (raised member held (raised member fewer progress) ≡ raised member held progress)
+    (ballot ≡ earlier)
+    × (raised member held (raised member fewer progress) ≡ raised member held progress)
 
 -- A Commit that replaces an earlier one is of the same ballot, and a backup applies as many places
 -- by the later one as by both.

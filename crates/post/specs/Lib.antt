@@ -4,7 +4,7 @@ pub mod Counting
 pub mod Crowding
 pub mod Given
 pub mod Laws
-pub mod Letters
+pub mod Queued
 pub mod Mastering
 pub mod Numbers
 pub mod Primaries

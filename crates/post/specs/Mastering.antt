@@ -10,7 +10,7 @@ use Rattle.node.specs.declared.Body.{Body}
 use Rattle.node.specs.declared.Body.TheVariants.{Activate, Activated, Superseded}
 use Rattle.node.specs.declared.Config.{Config}
 use Rattle.node.specs.Effect.TheVariants.{To}
-use Rattle.post.specs.Carrying.{Letter}
+use Rattle.post.specs.Carrying.{Addressed}
 use Rattle.post.specs.Given.{WasGiven}
 
 -- what the master sends to a primary about its ballot
@@ -29,20 +29,21 @@ master_after master (Some outcome) = outcome.state
 master_after master None = master
 
 -- the message about an outcome, with its receiver; 0 is the master's own number
-abbrev pub letter_of : MasterOutcome Command → Letter
-letter_of outcome = record {
+abbrev pub message_of : MasterOutcome Command → Addressed
+message_of outcome = record {
   receiver = outcome.receiver;
   message = record { from = 0; body = outcome.body };
 }
 
-abbrev pub letter_if : Option (MasterOutcome Command) → Option Letter
-letter_if (Some outcome) = Some (letter_of outcome)
-letter_if None = None
+abbrev pub message_if : Option (MasterOutcome Command) → Option Addressed
+message_if (Some outcome) = Some (message_of outcome)
+message_if None = None
 
 -- what it answers, and why: an order that it does not refuse, or an Activate that a step of a node
 -- gave for it
 pub data Answers (master : MasterState) : MasterOutcome Command → Type 0 where
-  to_order : (config : Config) → refusal master config ≡ None → Answers master (assigned Command master config)
+  to_order : (config : Config)
+      → refusal master config ≡ None → Answers master (assigned Command master config)
   to_node : (asked : Message Command) (ballot : ℕ)
       → WasGiven (To 0 asked) → asked.body ≡ Activate ballot
       → Answers master (activated Command master ballot asked.from master.waiting)
@@ -60,4 +61,4 @@ pub record WasAnswered (receiver : ℕ) (message : Message Command) : Type 0 whe
   pub reachable : IsReachable master
   pub outcome : MasterOutcome Command
   pub answers : Answers master outcome
-  pub is : record { receiver = receiver; message = message } ≡ letter_of outcome
+  pub is : record { receiver = receiver; message = message } ≡ message_of outcome

@@ -27,7 +27,8 @@ NoneServes = Each (λ shown. serves shown ≡ false)
 -- of two nodes the one that serves in the higher ballot, the first if both have the same
 abbrev pub higher : Option Shown → Shown → Option Shown
 higher None shown = if serves shown then Some shown else None
-higher (Some best) shown = if serves shown && nat_lt best.status.ballot shown.status.ballot then Some shown else Some best
+higher (Some best) shown =
+    if serves shown && nat_lt best.status.ballot shown.status.ballot then Some shown else Some best
 
 -- the same for one node after another
 abbrev pub highest_from : Option Shown → List Shown → Option Shown

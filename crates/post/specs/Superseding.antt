@@ -38,4 +38,5 @@ supersedes_one item None = false
 
 -- what still waits when an item is queued: everything, except the newest if the item supersedes it
 abbrev pub still_waiting : Item → List Item → List Item
-still_waiting item items = if supersedes_one item (newest items) then take (length items - 1) items else items
+still_waiting item items =
+    if supersedes_one item (newest items) then take (length items - 1) items else items

@@ -3,7 +3,7 @@ use Rattle.std.specs.Prelude.{ℕ, ◌+◌, ◌≤◌, Bool, false, ◌||◌, no
 use Rattle.node.specs.Lists.{Each}
 use Rattle.node.specs.declared.Item.{Item}
 use Rattle.node.specs.declared.Item.TheVariants.{Peer}
-use Rattle.post.specs.Letters.{IsLeft}
+use Rattle.post.specs.Queued.{IsQueued}
 
 -- the number of the node, and the items that were queued for it and not yet taken, the oldest first
 pub record Waiting : Type 0 where
@@ -28,5 +28,5 @@ has_room item items = not (is_of_node item) || nat_lt (length items) 524288
 -- What may wait for the node of a number: what was queued for it, and at most 524,288 messages of
 -- other nodes.
 pub record Waits (number : ℕ) (items : List Item) : Type 0 where
-  pub left : Each (IsLeft number) items
+  pub queued : Each (IsQueued number) items
   pub bounded : of_nodes items ≤ 524288

@@ -2,10 +2,10 @@
 
 ghost use Rattle.std.specs.Prelude.{◌≡◌, [], ◌∷◌};
 ghost use Rattle.node.specs.Lists.{Each};
-ghost use Rattle.post.specs.Carrying.{CarriesAll, letters_of};
-ghost use Rattle.post.specs.Letters.{WasGiven};
+ghost use Rattle.post.specs.Carrying.{CarriesAll, messages_of};
+ghost use Rattle.post.specs.Queued.{WasGiven};
 
-use crate::parcel::Parcel;
+use crate::outgoing::Outgoing;
 use node::{Command, Effect, Output};
 use std::marker::Model;
 use std::sync::Wait;
@@ -53,14 +53,14 @@ pub trait Carrier {
     ghost carries: { Self → ℕ → Message Command → Self → Type 0 };
 
     /// Carries a message that a step of a node gave to the node that it is for.
-    fn carry<R: Wait>(&mut self, rt: &R, parcel: Parcel)
-        ensures { carries self.old parcel.receiver parcel.message self.new };
+    fn carry<R: Wait>(&mut self, rt: &R, outgoing: Outgoing)
+        ensures { carries self.old outgoing.receiver outgoing.message self.new };
 }
 
 /// Carries all that steps of a node gave for others, in order, each message once. Outputs are for
 /// no other node.
 pub fn carry_all<C: Carrier, R: Wait>(rt: &R, carrier: &mut C, given: Given)
-    ensures { CarriesAll C.carries carrier.old (letters_of given) carrier.new }
+    ensures { CarriesAll C.carries carrier.old (messages_of given) carrier.new }
 {
     let Given { effects } = given;
     carry_each(rt, carrier, effects);
@@ -69,7 +69,7 @@ pub fn carry_all<C: Carrier, R: Wait>(rt: &R, carrier: &mut C, given: Given)
 // Carries what each of these effects has for another node.
 fn carry_each<C: Carrier, R: Wait>(rt: &R, carrier: &mut C, effects: Vec<Effect<Command, Output>>)
     requires { Each WasGiven effects.items }
-    ensures { CarriesAll C.carries carrier.old (letters_of effects.items) carrier.new }
+    ensures { CarriesAll C.carries carrier.old (messages_of effects.items) carrier.new }
 {
     for effect in effects {
         carry_one(rt, carrier, effect);
@@ -79,10 +79,10 @@ fn carry_each<C: Carrier, R: Wait>(rt: &R, carrier: &mut C, effects: Vec<Effect<
 // Carries what one effect has for another node.
 fn carry_one<C: Carrier, R: Wait>(rt: &R, carrier: &mut C, effect: Effect<Command, Output>)
     requires { WasGiven effect }
-    ensures { CarriesAll C.carries carrier.old (letters_of (effect ∷ [])) carrier.new }
+    ensures { CarriesAll C.carries carrier.old (messages_of (effect ∷ [])) carrier.new }
 {
     match effect {
-        Effect::To(receiver, message) => carrier.carry(rt, Parcel::new(receiver, message)),
+        Effect::To(receiver, message) => carrier.carry(rt, Outgoing::new(receiver, message)),
         Effect::Out(_, _) => {}
     }
 }

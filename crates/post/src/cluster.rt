@@ -9,7 +9,7 @@ use crate::carrier::{Carrier, Given, carry_all};
 use crate::choosing::{Shown, primary_of};
 use crate::messaging_master::{Answer, MASTER, MessagingMaster};
 use crate::order_error::OrderError;
-use crate::parcel::Parcel;
+use crate::outgoing::Outgoing;
 use crate::peer::Peer;
 use master::AssignError;
 use node::packet::ClientId;
@@ -44,14 +44,14 @@ impl Model for Cluster {
 
     ghost Value = { List ℕ };
 
-    ghost view = { λ peers. numbers_of peers.nodes.items };
+    ghost view = { λ cluster. numbers_of cluster.nodes.items };
 }
 
 impl Cluster {
     /// Returns the nodes of these numbers, and a master whose ballot 1 has this configuration.
     /// `BadMembers` comes if no ballot may have it; the other error is that memory ran out.
     pub fn new(alloc: Global, numbers: &[u8], config: &Config) -> Result<Cluster, OpeningError>
-        ensures ok { IfOk result (λ peers. peers ≡ numbers.now) }
+        ensures ok { IfOk result (λ cluster. cluster ≡ numbers.now) }
         ensures lawful { IsOk result → is_lawful config.now.members config.now.primary ≡ true }
         ensures bad { IsErrOf result OpeningError.BadMembers →
             is_lawful config.now.members config.now.primary ≡ false }
@@ -94,7 +94,7 @@ impl Cluster {
         let Some(status) = self.status(rt, number) else {
             return Ok(false);
         };
-        if status.stopped || !node.leave_crash(rt)? {
+        if status.stopped || !node.queue_crash(rt)? {
             return Ok(false);
         }
         await_stop(rt, node);
@@ -112,7 +112,7 @@ impl Cluster {
         let Some(node) = self.node(number) else {
             return Ok(false);
         };
-        node.leave_expel(rt, client)?;
+        node.queue_expel(rt, client)?;
         Ok(true)
     }
 
@@ -166,7 +166,7 @@ impl Cluster {
     /// has is lost. A message of a node wakes nobody: the caller has it taken, or calls
     /// [`Cluster::wake_urgent`], once it has released the node's lock.
     pub fn hand_on<R: Wait>(&self, rt: &R, given: Given) {
-        carry_all(rt, &mut Round { peers: self }, given);
+        carry_all(rt, &mut Round { cluster: self }, given);
     }
 
     /// Wakes the own thread of each node for which something urgent waits.
@@ -177,37 +177,37 @@ impl Cluster {
     }
 
     // Queues a message that a step of a node gave for a node.
-    fn leave<R: Wait>(&self, rt: &R, parcel: Parcel)
-        requires { parcel.receiver ≡ 0 → ⊥ }
+    fn queue<R: Wait>(&self, rt: &R, outgoing: Outgoing)
+        requires { outgoing.receiver ≡ 0 → ⊥ }
     {
-        match self.node(parcel.receiver()) {
-            Some(node) => node.leave_parcel(rt, parcel),
-            None => parcel.lose(self),
+        match self.node(outgoing.receiver()) {
+            Some(node) => node.queue_outgoing(rt, outgoing),
+            None => outgoing.lose(self),
         }
     }
 
     // Lets the master answer a message that a step of a node gave for it.
-    fn ask_master<R: Wait>(&self, rt: &R, parcel: Parcel)
-        requires { parcel.receiver ≡ 0 }
+    fn ask_master<R: Wait>(&self, rt: &R, outgoing: Outgoing)
+        requires { outgoing.receiver ≡ 0 }
     {
-        match self.answer(rt, parcel) {
-            Some(answer) => self.leave_answer(rt, answer),
+        match self.answer(rt, outgoing) {
+            Some(answer) => self.queue_answer(rt, answer),
             None => {}
         }
     }
 
     // Returns the master's answer to a message that a step of a node gave for it.
-    fn answer<R: Wait>(&self, rt: &R, parcel: Parcel) -> Option<Answer>
-        requires { parcel.receiver ≡ 0 }
+    fn answer<R: Wait>(&self, rt: &R, outgoing: Outgoing) -> Option<Answer>
+        requires { outgoing.receiver ≡ 0 }
     {
         let mut master = self.master.lock(rt);
-        parcel.ask(&mut master)
+        outgoing.ask(&mut master)
     }
 
     // Queues an answer of the master for its receiver.
-    fn leave_answer<R: Wait>(&self, rt: &R, answer: Answer) {
+    fn queue_answer<R: Wait>(&self, rt: &R, answer: Answer) {
         match self.node(answer.receiver()) {
-            Some(node) => node.leave_answer(rt, answer),
+            Some(node) => node.queue_answer(rt, answer),
             None => answer.lose(self),
         }
     }
@@ -237,19 +237,19 @@ fn peers_of(alloc: Global, numbers: &[u8]) -> Result<Vec<Peer>, Memory>
 /// The nodes and the master, as receivers of messages.
 #[derive(Drop)]
 struct Round<'a> {
-    peers: &'a Cluster,
+    cluster: &'a Cluster,
 }
 
 impl<'a> Carrier for Round<'a> {
     // No clause is about what is behind a lock.
     ghost carries = { λ _ _ _ _. Unit {0} };
 
-    fn carry<R: Wait>(&mut self, rt: &R, parcel: Parcel) {
-        let peers = self.peers;
-        if parcel.receiver() == MASTER {
-            peers.ask_master(rt, parcel);
+    fn carry<R: Wait>(&mut self, rt: &R, outgoing: Outgoing) {
+        let cluster = self.cluster;
+        if outgoing.receiver() == MASTER {
+            cluster.ask_master(rt, outgoing);
         } else {
-            peers.leave(rt, parcel);
+            cluster.queue(rt, outgoing);
         }
     }
 }

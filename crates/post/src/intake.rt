@@ -53,7 +53,8 @@ impl Model for Intake {
 impl Intake {
     /// Returns the intake of a node that is not yet served.
     pub(crate) fn new() -> Intake
-        ensures { result ≡ record { status = None; entering = 0; mark = 0; earlier = 0; later = 0 } }
+        ensures { result
+            ≡ record { status = None; entering = 0; mark = 0; earlier = 0; later = 0 } }
     {
         Intake {
             status: None,

@@ -1,6 +1,6 @@
 //! Messages between the nodes of one program and their master: messages that steps of nodes gave,
-//! messages of the master, and orders. Each node has a tray in which they wait for it, and a bell
-//! that wakes the thread that takes them.
+//! messages of the master, and orders. Each node has an outbox in which they wait for it, and a
+//! waker for the thread that takes them.
 #![tactic(auto)]
 
 mod carrier;
@@ -11,7 +11,7 @@ mod laws;
 mod messaging_master;
 mod order_error;
 mod outbox;
-mod parcel;
+mod outgoing;
 mod peer;
 mod superseding;
 mod waker;
@@ -23,5 +23,5 @@ pub use laws::{later_commits_suffice, later_counts_suffice, open_bytes_are_count
 pub use node;
 pub use node::{mailbox, packet};
 pub use order_error::OrderError;
-pub use parcel::Parcel;
+pub use outgoing::Outgoing;
 pub use peer::Peer;

@@ -8,8 +8,8 @@ ghost use Rattle.master.specs.lists.Lists.{has_id};
 ghost use Rattle.master.specs.snapshots.Masters.{assigned};
 ghost use Rattle.node.specs.Command.{Command};
 ghost use Rattle.node.specs.Effect.TheVariants.{To};
-ghost use Rattle.post.specs.Letters.{WasAnswered, WasGiven};
-ghost use Rattle.post.specs.Mastering.{answer_to, body_of, letter_if, letter_of, master_after};
+ghost use Rattle.post.specs.Queued.{WasAnswered, WasGiven};
+ghost use Rattle.post.specs.Mastering.{answer_to, body_of, master_after, message_if, message_of};
 
 use crate::cluster::Cluster;
 use crate::order_error::OrderError;
@@ -23,17 +23,18 @@ use std::marker::Model;
 pub(crate) const MASTER: u8 = 0;
 
 /// A message of the master with the number of its receiver. Only a [`MessagingMaster`] makes one.
-/// It cannot be dropped: it ends in a tray of its receiver, or is lost if no node has that number.
+/// It cannot be dropped: it ends in an outbox of its receiver, or is lost if no node has that
+/// number.
 pub(crate) struct Answer {
     receiver: u8,
     message: Message<Command>,
 }
 
 impl Model for Answer {
-    ghost use Rattle.post.specs.Carrying.{Letter};
-    ghost use Rattle.post.specs.Letters.{WasAnswered};
+    ghost use Rattle.post.specs.Carrying.{Addressed};
+    ghost use Rattle.post.specs.Queued.{WasAnswered};
 
-    ghost Value = { Letter };
+    ghost Value = { Addressed };
 
     ghost view = { λ answer. record { receiver = answer.receiver; message = answer.message } };
 
@@ -49,28 +50,28 @@ impl Answer {
     }
 
     /// Loses the answer, because no node has the number of its receiver.
-    pub(crate) fn lose(self, peers: &Cluster)
-        requires { has_id self.receiver peers.now ≡ false }
+    pub(crate) fn lose(self, cluster: &Cluster)
+        requires { has_id self.receiver cluster.now ≡ false }
     {
-        let _ = peers;
+        let _ = cluster;
         let Answer {
             receiver: _receiver,
             message: _message,
         } = self;
     }
 
-    /// Loses the answer, because a tray is not of its receiver.
-    pub(crate) fn lose_at(self, tray: &Outbox)
-        requires { tray.now.number ≡ self.receiver → ⊥ }
+    /// Loses the answer, because an outbox is not of its receiver.
+    pub(crate) fn lose_at(self, outbox: &Outbox)
+        requires { outbox.now.number ≡ self.receiver → ⊥ }
     {
-        let _ = tray;
+        let _ = outbox;
         let Answer {
             receiver: _receiver,
             message: _message,
         } = self;
     }
 
-    /// Returns the message, for a tray.
+    /// Returns the message, for an outbox.
     pub(crate) fn into_message(self) -> Message<Command>
         ensures is { result ≡ self.message }
         ensures answered { WasAnswered self.receiver result }
@@ -124,7 +125,7 @@ impl MessagingMaster {
         config: Config,
     ) -> Result<(u64, Answer), OrderError>
         ensures ballot { IfOk result (λ r. r.0 ≡ self.old.given + 1) }
-        ensures answer { IfOk result (λ r. r.1 ≡ letter_of (assigned Command self.old config)) }
+        ensures answer { IfOk result (λ r. r.1 ≡ message_of (assigned Command self.old config)) }
         ensures state { OnOk result (self.new ≡ (assigned Command self.old config).state) }
         ensures taken { OnOk result (refusal self.old config ≡ None) }
         ensures bad { IsErrOf result (OrderError.Refused AssignError.BadMembers)
@@ -156,7 +157,7 @@ impl MessagingMaster {
     /// Answers a message of a node, if it asks for a ballot to become the active one.
     pub(crate) fn answer(&mut self, asked: Message<Command>) -> Option<Answer>
         requires { WasGiven (To 0 asked) }
-        ensures answer { result ≡ letter_if (answer_to self.old asked.from asked.body) }
+        ensures answer { result ≡ message_if (answer_to self.old asked.from asked.body) }
         ensures state { self.new
             ≡ master_after self.old (answer_to self.old asked.from asked.body) }
     {

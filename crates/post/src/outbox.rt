@@ -8,8 +8,8 @@ ghost use Rattle.node.specs.Command.{Command};
 ghost use Rattle.node.specs.Lists.{Each};
 ghost use Rattle.node.specs.declared.Item.TheVariants.{Peer};
 ghost use Rattle.master.specs.snapshots.Masters.{assigned};
-ghost use Rattle.post.specs.Letters.{IsLeft, IsPosted};
-ghost use Rattle.post.specs.Mastering.{letter_of};
+ghost use Rattle.post.specs.Queued.{IsPosted, IsQueued};
+ghost use Rattle.post.specs.Mastering.{message_of};
 ghost use Rattle.post.specs.Superseding.{newest, still_waiting, supersedes_one};
 ghost use Rattle.post.specs.Waiting.{has_room, is_of_node};
 ghost use Rattle.post.specs.Waking.{is_long, wakes};
@@ -45,13 +45,13 @@ impl Model for Outbox {
 
     ghost Value = { Waiting };
 
-    ghost view = { λ tray. record { number = tray.number; items = tray.items.items } };
+    ghost view = { λ outbox. record { number = outbox.number; items = outbox.items.items } };
 
-    ghost invariant = { λ tray. Waits tray.number tray.items.items };
+    ghost invariant = { λ outbox. Waits outbox.number outbox.items.items };
 }
 
 impl Outbox {
-    /// Returns the empty tray of the node of this number.
+    /// Returns the empty outbox of the node of this number.
     pub(crate) fn new(alloc: Global, number: u8) -> Outbox
         ensures { result ≡ record { number = number; items = [] } }
     {
@@ -93,9 +93,9 @@ impl Outbox {
 
     /// Queues an item after all that waits, or replaces the newest if it supersedes that one.
     /// Returns whether there was room and memory for it; if not, it is lost.
-    pub(crate) fn leave(&mut self, item: Item) -> bool
+    pub(crate) fn queue(&mut self, item: Item) -> bool
         requires { IsPosted self.old.number item }
-        ensures left { result ≡ true →
+        ensures queued { result ≡ true →
             self.new ≡ record self.old { items = still_waiting item self.old.items ++ item ∷ [] } }
         ensures lost { result ≡ false →
             self.new ≡ record self.old { items = still_waiting item self.old.items } }
@@ -106,14 +106,17 @@ impl Outbox {
 
     /// Queues an answer of the master after all that waits. Returns whether there was memory for
     /// it; if not, it is lost.
-    pub(crate) fn leave_answer(&mut self, answer: Answer) -> bool
+    pub(crate) fn queue_answer(&mut self, answer: Answer) -> bool
         requires { answer.receiver ≡ self.old.number }
-        ensures left { result ≡ true →
+        ensures queued { result ≡ true →
             self.new ≡ record self.old {
-              items = still_waiting (Peer answer.message) self.old.items ++ Peer answer.message ∷ [];
+              items = still_waiting (Peer answer.message) self.old.items
+                  ++ Peer answer.message ∷ [];
             } }
         ensures lost { result ≡ false →
-            self.new ≡ record self.old { items = still_waiting (Peer answer.message) self.old.items } }
+            self.new ≡ record self.old {
+              items = still_waiting (Peer answer.message) self.old.items;
+            } }
     {
         self.push(Item::Peer(answer.into_message()))
     }
@@ -129,9 +132,9 @@ impl Outbox {
     ) -> Result<u64, OrderError>
         requires { config.primary ≡ self.old.number }
         ensures ballot { IfOk result (λ ballot. ballot ≡ master.old.given + 1) }
-        ensures left { OnOk result (self.new ≡ record self.old {
+        ensures queued { OnOk result (self.new ≡ record self.old {
           items = self.old.items
-              ++ Peer (letter_of (assigned Command master.old config)).message ∷ [];
+              ++ Peer (message_of (assigned Command master.old config)).message ∷ [];
         }) }
         ensures state { OnOk result (master.new ≡ (assigned Command master.old config).state) }
         ensures taken { OnOk result (refusal master.old config ≡ None) }
@@ -157,8 +160,8 @@ impl Outbox {
     // Queues an item after all that waits, or replaces the newest if it supersedes that one.
     // Returns whether there was room and memory for it.
     fn push(&mut self, item: Item) -> bool
-        requires { IsLeft self.old.number item }
-        ensures left { result ≡ true →
+        requires { IsQueued self.old.number item }
+        ensures queued { result ≡ true →
             self.new ≡ record self.old { items = still_waiting item self.old.items ++ item ∷ [] } }
         ensures lost { result ≡ false →
             self.new ≡ record self.old { items = still_waiting item self.old.items } }
@@ -201,7 +204,7 @@ impl Outbox {
     /// Takes all that waits, in order.
     pub(crate) fn take(&mut self, alloc: Global) -> Vec<Item>
         ensures all { result.items ≡ self.old.items }
-        ensures left { Each (IsLeft self.old.number) result.items }
+        ensures queued { Each (IsQueued self.old.number) result.items }
         ensures empty { self.new ≡ record self.old { items = [] } }
     {
         mem::replace(&mut self.items, Vec::new(alloc))

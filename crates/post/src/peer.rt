@@ -2,13 +2,13 @@
 
 ghost use Rattle.std.specs.Prelude.{◌≡◌, ◌≤◌};
 ghost use Rattle.node.specs.Lists.{Each};
-ghost use Rattle.post.specs.Letters.{IsLeft, IsPosted};
+ghost use Rattle.post.specs.Queued.{IsPosted, IsQueued};
 
 use crate::intake::Intake;
 use crate::messaging_master::{Answer, MessagingMaster};
 use crate::order_error::OrderError;
 use crate::outbox::Outbox;
-use crate::parcel::Parcel;
+use crate::outgoing::Outgoing;
 use crate::waker::Waker;
 use crate::waking::is_urgent;
 use node::packet::ClientId;
@@ -31,64 +31,65 @@ pub struct Peer {
     /// The node's number.
     pub number: u8,
     /// What the other nodes and the master have for it.
-    tray: Mutex<Outbox>,
+    outbox: Mutex<Outbox>,
     /// Its status after its last change, and what it takes from its clients.
     intake: Mutex<Intake>,
     /// Whether the order to crash was queued for it.
     is_crash_ordered: Mutex<bool>,
-    /// Its own thread sleeps on this.
-    bell: Waker,
+    /// Lets its own thread sleep, and wakes it.
+    waker: Waker,
 }
 
 impl Peer {
+    /// Returns the node of this number, for which nothing waits, and which is not served yet.
     pub(crate) fn new(alloc: Global, number: u8) -> Peer
         ensures { result.number ≡ number }
     {
         Peer {
             number,
-            tray: Mutex::new(Outbox::new(alloc, number)),
+            outbox: Mutex::new(Outbox::new(alloc, number)),
             intake: Mutex::new(Intake::new()),
             is_crash_ordered: Mutex::new(false),
-            bell: Waker::new(),
+            waker: Waker::new(),
         }
     }
 
     /// Queues an item for the node, and wakes it if the item asks for that. Returns whether there
     /// was memory for it; if not, it is lost.
-    pub(crate) fn leave<R: Wait>(&self, rt: &R, item: Item) -> bool
+    pub(crate) fn queue<R: Wait>(&self, rt: &R, item: Item) -> bool
         requires { IsPosted self.now.number item }
     {
         let urgent = is_urgent(&item);
-        let is_left = self.lay(rt, item);
+        let is_queued = self.push(rt, item);
         if urgent {
-            self.bell.ring(rt);
+            self.waker.wake(rt);
         }
-        is_left
+        is_queued
     }
 
     /// Queues a message of another node for the node, and wakes nobody: its giver does so, or has
     /// it taken, once it has released its own node's lock. If there is no room or memory for it, it
     /// is lost, as the protocol allows.
-    pub(crate) fn leave_parcel<R: Wait>(&self, rt: &R, parcel: Parcel)
-        requires { parcel.receiver ≡ self.now.number }
+    pub(crate) fn queue_outgoing<R: Wait>(&self, rt: &R, outgoing: Outgoing)
+        requires { outgoing.receiver ≡ self.now.number }
     {
-        let mut tray = self.tray.lock(rt);
+        let mut outbox = self.outbox.lock(rt);
         // It is this node's, but no clause is about what is behind a lock.
-        if tray.number() == self.number {
-            let _ = parcel.lay(&mut tray);
+        if outbox.number() == self.number {
+            let _ = outgoing.queue_in(&mut outbox);
         } else {
-            parcel.lose_at(&tray);
+            outgoing.lose_at(&outbox);
         }
     }
 
     /// Queues the order to crash, unless it was queued before. Returns whether it was queued now.
     /// If memory runs out, it is not.
-    pub(crate) fn leave_crash<R: Wait>(&self, rt: &R) -> Result<bool, Memory> {
+    pub(crate) fn queue_crash<R: Wait>(&self, rt: &R) -> Result<bool, Memory> {
         let mut is_ordered = self.is_crash_ordered.lock(rt);
         if *is_ordered {
             return Ok(false);
         }
-        if !self.leave(rt, Item::Crash) {
+        if !self.queue(rt, Item::Crash) {
             return Err(Memory);
         }
         *is_ordered = true;
@@ -96,8 +97,8 @@ impl Peer {
     }
 
     /// Queues the order to end the session of a client. If memory runs out, it is not queued.
-    pub(crate) fn leave_expel<R: Wait>(&self, rt: &R, client: &ClientId) -> Result<(), Memory> {
-        if self.leave(rt, Item::Expel(client.clone()?)) {
+    pub(crate) fn queue_expel<R: Wait>(&self, rt: &R, client: &ClientId) -> Result<(), Memory> {
+        if self.queue(rt, Item::Expel(client.clone()?)) {
             Ok(())
         } else {
             Err(Memory)
@@ -116,7 +117,7 @@ impl Peer {
         requires { config.primary ≡ self.now.number }
     {
         let ballot = self.assign_locked(rt, alloc, master, config);
-        self.bell.ring(rt);
+        self.waker.wake(rt);
         ballot
     }
 
@@ -131,59 +132,59 @@ impl Peer {
         requires { config.primary ≡ self.now.number }
     {
         let mut master = master.lock(rt);
-        let mut tray = self.tray.lock(rt);
+        let mut outbox = self.outbox.lock(rt);
         // It is this node's, but no clause is about what is behind a lock.
-        if tray.number() != self.number {
+        if outbox.number() != self.number {
             return Err(OrderError::Memory);
         }
-        tray.assign(alloc, &mut master, config)
+        outbox.assign(alloc, &mut master, config)
     }
 
     /// Queues an answer of the master for the node, and wakes it. If there is no memory for it, it
     /// is lost.
-    pub(crate) fn leave_answer<R: Wait>(&self, rt: &R, answer: Answer)
+    pub(crate) fn queue_answer<R: Wait>(&self, rt: &R, answer: Answer)
         requires { answer.receiver ≡ self.now.number }
     {
-        self.lay_answer(rt, answer);
-        self.bell.ring(rt);
+        self.push_answer(rt, answer);
+        self.waker.wake(rt);
     }
 
-    // Puts an answer of the master into the node's tray.
-    fn lay_answer<R: Wait>(&self, rt: &R, answer: Answer)
+    // Puts an answer of the master into the node's outbox.
+    fn push_answer<R: Wait>(&self, rt: &R, answer: Answer)
         requires { answer.receiver ≡ self.now.number }
     {
-        let mut tray = self.tray.lock(rt);
+        let mut outbox = self.outbox.lock(rt);
         // It is this node's, but no clause is about what is behind a lock.
-        if tray.number() == self.number {
-            let _ = tray.leave_answer(answer);
+        if outbox.number() == self.number {
+            let _ = outbox.queue_answer(answer);
         } else {
-            answer.lose_at(&tray);
+            answer.lose_at(&outbox);
         }
     }
 
-    // Puts an item into the node's tray. Returns whether there was memory for it.
-    fn lay<R: Wait>(&self, rt: &R, item: Item) -> bool
+    // Puts an item into the node's outbox. Returns whether there was memory for it.
+    fn push<R: Wait>(&self, rt: &R, item: Item) -> bool
         requires { IsPosted self.now.number item }
     {
-        let mut tray = self.tray.lock(rt);
+        let mut outbox = self.outbox.lock(rt);
         // It is this node's, but no clause is about what is behind a lock.
-        tray.number() == self.number && tray.leave(item)
+        outbox.number() == self.number && outbox.queue(item)
     }
 
     /// Takes all that waits, in the order in which it was queued.
     pub fn take_waiting<R: Wait>(&self, rt: &R, alloc: Global) -> Vec<Item>
-        ensures { Each (IsLeft self.now.number) result.items }
+        ensures { Each (IsQueued self.now.number) result.items }
     {
-        let mut tray = self.tray.lock(rt);
-        if tray.number() != self.number {
+        let mut outbox = self.outbox.lock(rt);
+        if outbox.number() != self.number {
             return Vec::new(alloc);
         }
-        tray.take(alloc)
+        outbox.take(alloc)
     }
 
     /// Says whether something waits for the node.
     pub fn is_wanted<R: Wait>(&self, rt: &R) -> bool {
-        !self.tray.lock(rt).is_empty()
+        !self.outbox.lock(rt).is_empty()
     }
 
     /// Says whether a thread that queued something for the node should do its turn: few items wait,
@@ -191,43 +192,43 @@ impl Peer {
     pub fn wants_help<R: Wait>(&self, rt: &R) -> bool {
         let waiting = self.urgency(rt);
         if waiting.is_urgent && waiting.is_long {
-            self.bell.ring(rt);
+            self.waker.wake(rt);
             return false;
         }
-        waiting.is_urgent && self.bell.is_asleep(rt)
+        waiting.is_urgent && self.waker.is_asleep(rt)
     }
 
     // Returns how urgent it is to take what waits.
     fn urgency<R: Wait>(&self, rt: &R) -> Urgency {
-        let tray = self.tray.lock(rt);
+        let outbox = self.outbox.lock(rt);
         Urgency {
-            is_urgent: tray.is_urgent(),
-            is_long: tray.is_long(),
+            is_urgent: outbox.is_urgent(),
+            is_long: outbox.is_long(),
         }
     }
 
     /// Wakes the node's own thread, if something urgent waits.
     pub(crate) fn wake_if_urgent<R: Wait>(&self, rt: &R) {
         if self.urgency(rt).is_urgent {
-            self.bell.ring(rt);
+            self.waker.wake(rt);
         }
     }
 
     /// Wakes the node's own thread, if it sleeps or is about to.
     pub fn wake<R: Wait>(&self, rt: &R) {
-        self.bell.ring(rt);
+        self.waker.wake(rt);
     }
 
     /// Says that the node's own thread is about to sleep: it looks for work once more after this
     /// call. Returns whether there is some already.
     pub fn doze<R: Wait>(&self, rt: &R) -> bool {
-        self.bell.doze(rt);
+        self.waker.doze(rt);
         self.is_wanted(rt)
     }
 
     /// Sleeps until the node is woken, at most this long.
     pub fn sleep<R: Wait>(&self, rt: &R, time: Duration) {
-        self.bell.sleep(rt, time);
+        self.waker.sleep(rt, time);
     }
 
     /// Publishes the node's status. A thread that changes the node does so before it releases the

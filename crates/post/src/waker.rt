@@ -12,6 +12,7 @@ pub(crate) struct Waker {
 }
 
 impl Waker {
+    /// Returns a waker whose thread is awake.
     pub(crate) fn new() -> Waker {
         Waker {
             asleep: Mutex::new(false),
@@ -20,7 +21,7 @@ impl Waker {
     }
 
     /// Wakes the thread, if it sleeps or is about to.
-    pub(crate) fn ring<R: Wait>(&self, rt: &R) {
+    pub(crate) fn wake<R: Wait>(&self, rt: &R) {
         let mut asleep = self.asleep.lock(rt);
         if *asleep {
             *asleep = false;
@@ -38,7 +39,7 @@ impl Waker {
         *self.asleep.lock(rt) = true;
     }
 
-    /// Sleeps until the bell rings, at most this long.
+    /// Sleeps until the thread is woken, at most this long.
     pub(crate) fn sleep<R: Wait>(&self, rt: &R, time: Duration) {
         self.parker.park_timeout(rt, time);
         *self.asleep.lock(rt) = false;

@@ -9,7 +9,7 @@ use Rattle.post.specs.node.Lists.{Each, In}
 use Rattle.post.specs.node.Lists.In.{here, there}
 use Rattle.post.specs.node.State.{Replays, Seen, TakesOne}
 use Rattle.post.proofs.of_lists.OfEach.{each_append}
-use Rattle.post.specs.Letters.{EachOpens, EachOpensAs, WasGiven}
+use Rattle.post.specs.Queued.{EachOpens, EachOpensAs, WasGiven}
 
 -- what holds for whatever is in a list holds for each
 each_in : {X : Type 0} (P : X → Type 0) (xs : List X) → ((x : X) → In x xs → P x) → Each P xs

@@ -3,7 +3,7 @@ use Rattle.std.proofs.Common.{◌≡◌, ℕ, List, [], ◌∷◌, ◌++◌, ◌
 use Rattle.post.specs.mailbox.Ends.{Sender}
 use Rattle.post.specs.node.declared.Item.{Item}
 use Rattle.post.specs.node.declared.Item.TheVariants.{Tick, Cut}
-use Rattle.post.specs.Letters.{IsLeft}
+use Rattle.post.specs.Queued.{IsQueued}
 use Rattle.server.specs.Serving.{OwnSender, SendsOwn}
 use Rattle.server.specs.Serving.SendsOwn.{starts, ticks, cuts, hands}
 
@@ -12,7 +12,7 @@ pub own_join : (node : ℕ) (before sent behind : List Item)
 own_join node before sent _ first starts = first
 own_join node before sent _ first (ticks now rest) = ticks now (own_join node before sent _ first rest)
 own_join node before sent _ first (cuts rest) = cuts (own_join node before sent _ first rest)
-own_join node before sent _ first (hands item rest letter) = hands item (own_join node before sent _ first rest) letter
+own_join node before sent _ first (hands item rest queued) = hands item (own_join node before sent _ first rest) queued
 
 -- the time was reported
 pub own_tick : (node now : ℕ) (before behind : List Item) → behind ≡ before ++ Tick now ∷ [] → SendsOwn node before behind
@@ -24,11 +24,11 @@ pub own_cut : (node : ℕ) (before behind : List Item) → behind ≡ before ++ 
 own_cut node before behind sent =
     subst (λ (items : List Item). SendsOwn node before items) (sym sent) (cuts starts)
 
--- what was left for the node was sent
-pub own_letter : (node : ℕ) (item : Item) (before behind : List Item)
-    → IsLeft node item → behind ≡ before ++ item ∷ [] → SendsOwn node before behind
-own_letter node item before behind letter sent =
-    subst (λ (items : List Item). SendsOwn node before items) (sym sent) (hands item starts letter)
+-- what was queued for the node was sent
+pub own_queued : (node : ℕ) (item : Item) (before behind : List Item)
+    → IsQueued node item → behind ≡ before ++ item ∷ [] → SendsOwn node before behind
+own_queued node item before behind queued sent =
+    subst (λ (items : List Item). SendsOwn node before items) (sym sent) (hands item starts queued)
 
 -- what a node's own lane sent in addition, if the lane is that node's
 pub own_more : (own : OwnSender) (number node : ℕ) (before : Sender Item) (behind : List Item)

@@ -5,7 +5,7 @@ use Rattle.post.specs.node.Output.{Output}
 use Rattle.post.specs.node.Effect.{Effect}
 use Rattle.post.specs.node.Lists.{Each}
 use Rattle.post.specs.node.State.{Seen, next_turn}
-use Rattle.post.specs.Letters.{WasGiven}
+use Rattle.post.specs.Queued.{WasGiven}
 use Rattle.server.specs.Turns.{Turns}
 use Rattle.server.specs.Turns.Turns.{begins, finds_none}
 

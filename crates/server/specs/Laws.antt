@@ -7,7 +7,8 @@ use Rattle.server.specs.Serving.{port_of}
 -- whose numbers are below 256.
 abbrev pub PortsDiffer : Type 0
 PortsDiffer =
-    (lane other count number : ℕ) → lane < 256 → other < 256 → port_of lane count ≡ port_of other number →
+    (lane other count number : ℕ) → lane < 256 → other < 256 →
+    port_of lane count ≡ port_of other number →
     (lane ≡ other) × (count ≡ number)
 
 -- No two nodes, whose numbers are at most 15, have their logs cut after the same tick.

@@ -6,7 +6,7 @@ use Rattle.post.specs.node.declared.Port.{Port}
 use Rattle.post.specs.mailbox.Ends.{Sender}
 use Rattle.streams.specs.connection.declared.ending.Ending.{Ending}
 use Rattle.streams.specs.connection.Hearing.{Hears}
-use Rattle.post.specs.Letters.{IsLeft}
+use Rattle.post.specs.Queued.{IsQueued}
 
 -- A lane that had sent these items sent the whole report of one connection, and nothing else. Of a
 -- socket no bytes are known except those that came.
@@ -44,11 +44,12 @@ pub record OwnSender : Type 0 where
   pub lane : Sender Item
 
 -- The own lane of a node of this number, which had sent these items, sent the time, cuts of the
--- log, and letters for the node.
+-- log, and what was queued for the node.
 pub data SendsOwn (node : ℕ) (before : List Item) : List Item → Type 0 where
   starts : SendsOwn node before before
-  ticks : {sent : List Item} (now : ℕ) → SendsOwn node before sent → SendsOwn node before (sent ++ Tick now ∷ [])
+  ticks : {sent : List Item} (now : ℕ)
+      → SendsOwn node before sent → SendsOwn node before (sent ++ Tick now ∷ [])
   cuts : {sent : List Item} → SendsOwn node before sent → SendsOwn node before (sent ++ Cut ∷ [])
   hands : {sent : List Item} (item : Item)
-      → SendsOwn node before sent → IsLeft node item
+      → SendsOwn node before sent → IsQueued node item
       → SendsOwn node before (sent ++ item ∷ [])

@@ -19,16 +19,16 @@ const APART: u64 = 7;
 impl<'a, J: NodeNaming, S: Stated<J>, G: Gate> Shared<'a, J, S, G> {
     /// Has the log cut, if a cut is due after this many ticks.
     pub(crate) fn cut_in_time<R: Wait + Clock>(&self, rt: &R, lane: &mut Lane<Item, J>, ticks: u64)
-        ensures { SendsOwn self.now.seat.node.now.number lane.old.sent lane.new.sent }
+        ensures { SendsOwn self.now.context.node.now.number lane.old.sent lane.new.sent }
     {
-        if cuts_after(self.seat.node.number, ticks) {
+        if cuts_after(self.context.node.number, ticks) {
             self.send(rt, lane, Item::Cut);
         }
     }
 
     /// Has the log cut, if what the node took since the last cut is large enough.
     pub(crate) fn cut_by_size<R: Wait + Clock>(&self, rt: &R, lane: &mut Lane<Item, J>)
-        ensures { SendsOwn self.now.seat.node.now.number lane.old.sent lane.new.sent }
+        ensures { SendsOwn self.now.context.node.now.number lane.old.sent lane.new.sent }
     {
         let wants_cut = self.node.lock(rt).state().wants_cut();
         if wants_cut {

@@ -26,14 +26,14 @@ impl<'a, J: NodeNaming, S: Stated<J>, G: Gate> ServedNode<'a, J, S, G> {
                 }
             }
         }
-        self.shared.seat.peers.wake_urgent(rt);
+        self.shared.context.cluster.wake_urgent(rt);
     }
 
     // Makes one round. Returns whether it held the lane of a node, and so must look again.
     fn help_each<R: Wait + Clock>(&self, rt: &R, all: &[ServedNode<'a, J, S, G>]) -> bool {
         let mut had_one = false;
         for node in all {
-            if node.shared.seat.node.wants_help(rt) && node.try_turn(rt) {
+            if node.shared.context.node.wants_help(rt) && node.try_turn(rt) {
                 had_one = true;
                 self.write_for(rt, node);
             }
@@ -48,15 +48,15 @@ impl<'a, J: NodeNaming, S: Stated<J>, G: Gate> ServedNode<'a, J, S, G> {
             return false;
         };
         // It is this node's, but no clause is about what is behind a lock.
-        if own.number() == self.shared.seat.node.number {
-            self.shared.take_left(rt, &mut own);
+        if own.number() == self.shared.context.node.number {
+            self.shared.take_queued_by(rt, &mut own);
         }
         true
     }
 
     // Writes what another node queued for its connections, and waits for no socket.
     fn write_for<R: Wait>(&self, rt: &R, node: &ServedNode<'a, J, S, G>) {
-        if node.shared.seat.node.number != self.shared.seat.node.number {
+        if node.shared.context.node.number != self.shared.context.node.number {
             node.shared.write_busy(rt, 0, false);
         }
     }

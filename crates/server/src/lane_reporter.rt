@@ -21,14 +21,14 @@ pub(crate) struct LaneReporter<'e, 'a, J: NodeNaming, S: Stated<J>, G: Gate> {
 }
 
 impl<'e, 'a, J: NodeNaming, S: Stated<J>, G: Gate> Hearer for LaneReporter<'e, 'a, J, S, G> {
-    ghost heard = { λ ear. ear.lane.sent };
+    ghost heard = { λ reporter. reporter.lane.sent };
 
     // No clause is about what is behind a lock.
     ghost lets = { λ _ _. Unit {0} };
 
     fn now<R: Clock>(&self, rt: &R) -> u64 {
         let node = self.node;
-        node.shared.seat.now(rt)
+        node.shared.context.now(rt)
     }
 
     // Bytes are reported once the node takes more of them, and count as in transit until it has
@@ -38,12 +38,12 @@ impl<'e, 'a, J: NodeNaming, S: Stated<J>, G: Gate> Hearer for LaneReporter<'e, '
         let node = self.node;
         let all = self.all;
         let shared = &node.shared;
-        let place = self.link.place;
+        let index = self.link.index;
         let entering = shared.await_room(rt, self.link.port, size_of(&item));
         shared.send(rt, &mut self.lane, item);
-        shared.seat.node.take_in(rt, entering);
+        shared.context.node.take_in(rt, entering);
         node.help(rt, all);
-        shared.write_busy(rt, place, true);
+        shared.write_busy(rt, index, true);
     }
 
     // A port that is not yet reported to the node counts as one that the node closed, so a link is
@@ -56,9 +56,9 @@ impl<'e, 'a, J: NodeNaming, S: Stated<J>, G: Gate> Hearer for LaneReporter<'e, '
         let node = self.node;
         let shared = &node.shared;
         let standing = shared.node.lock(rt).state().standing(self.link.port);
-        let door = &shared.seat.place.door;
-        door.list(rt, link);
-        standing != Standing::Closed && !door.is_closed(rt)
+        let connections = &shared.context.listener.connections;
+        connections.list(rt, link);
+        standing != Standing::Closed && !connections.is_closed(rt)
     }
 }
 

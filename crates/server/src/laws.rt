@@ -2,17 +2,17 @@
 
 ghost use Rattle.server.specs.Laws.{CutsComeApart, CutsComeOften, PortsDiffer};
 
-/// No two connections of a node have the same port.
+/// States that no two connections of a node have the same port.
 pub fn ports_differ()
     ensures { PortsDiffer }
 {}
 
-/// No two nodes have their logs cut after the same tick.
+/// States that no two nodes have their logs cut after the same tick.
 pub fn cuts_come_apart()
     ensures { CutsComeApart }
 {}
 
-/// Of any 50 ticks in a row there is one after which a node has its log cut.
+/// States that of any 50 ticks in a row there is one after which a node has its log cut.
 pub fn cuts_come_often()
     ensures { CutsComeOften }
 {}

@@ -1,10 +1,10 @@
 // The nodes that serve, and the threads of each.
 
 ghost use Rattle.std.specs.Prelude.{◌≡◌};
-ghost use Rattle.post.specs.Letters.{EachOpensAs};
+ghost use Rattle.post.specs.Queued.{EachOpensAs};
 ghost use Rattle.server.specs.Opening.{AreNamed};
 
-use crate::node_context::Seats;
+use crate::node_context::NodeContexts;
 use crate::node_report::NodeReport;
 use crate::opening::{Opened, open_all};
 use crate::outcome::Outcome;
@@ -23,17 +23,17 @@ use std::thread::Threads;
 use std::time::{Clock, Instant};
 use streams::Listener;
 
-/// Serves the clients of several nodes, each at its place, while `attend` runs with these nodes,
+/// Serves the clients of several nodes, each at its listener, while `attend` runs with these nodes,
 /// and returns what that returned; then all connections are ended. The nodes open in ballot 1 of
 /// this configuration.
 ///
-/// The errors are those of the opening, `BadMembers` if two places have one number, and
+/// The errors are those of the opening, `BadMembers` if two listeners have one number, and
 /// [`ServeError::Threads`] if fewer threads can be started than the nodes need: then nothing is
 /// served. A node for which none can be started later is not served.
 pub fn serve_while<R, T, F>(
     rt: &R,
     alloc: Global,
-    places: &[Listener],
+    listeners: &[Listener],
     config: &Config,
     attend: F,
 ) -> Result<T, ServeError>
@@ -43,20 +43,20 @@ where
     F: FnOnce(&Cluster) -> T,
     requires { F.IsAlwaysCallable attend }
 {
-    let (answer, _reports) = serve_all(rt, alloc, places, config, None::<&NoGate>, attend)?;
+    let (answer, _reports) = serve_all(rt, alloc, listeners, config, None::<&NoGate>, attend)?;
     Ok(answer)
 }
 
-/// As [`serve_while`], but each node asks a gate before it takes an item, and reports at the end
-/// what it took and what it left: the reports are in the order of the nodes' numbers. If the gate
-/// has not opened after it was asked ten thousand times, a millisecond apart, the node continues,
-/// and its report counts it.
+/// Does the same as [`serve_while`], but each node asks a gate before it takes an item, and reports
+/// at the end what it took and what it left: the reports are in the order of the nodes' numbers. If
+/// the gate has not opened after it was asked ten thousand times, a millisecond apart, the node
+/// continues, and its report counts it.
 ///
 /// The errors are those of [`serve_while`].
 pub fn serve_gated<R, G, T, F>(
     rt: &R,
     alloc: Global,
-    places: &[Listener],
+    listeners: &[Listener],
     config: &Config,
     gate: &G,
     attend: F,
@@ -68,14 +68,14 @@ where
     F: FnOnce(&Cluster) -> T,
     requires { F.IsAlwaysCallable attend }
 {
-    serve_all(rt, alloc, places, config, Some(gate), attend)
+    serve_all(rt, alloc, listeners, config, Some(gate), attend)
 }
 
 // Does the same with a gate or without one.
 fn serve_all<R, G, T, F>(
     rt: &R,
     alloc: Global,
-    places: &[Listener],
+    listeners: &[Listener],
     config: &Config,
     gate: Option<&G>,
     attend: F,
@@ -87,25 +87,32 @@ where
     F: FnOnce(&Cluster) -> T,
     requires { F.IsAlwaysCallable attend }
 {
-    let peers = open_post(alloc, places, config)?;
-    if !can_start(rt, places.len().saturating_mul(THREADS)) {
+    let cluster = open_cluster(alloc, listeners, config)?;
+    if !can_start(rt, listeners.len().saturating_mul(THREADS)) {
         return Err(ServeError::Threads);
     }
     let Ok(start) = Instant::now(rt) else {
         return Err(ServeError::Clock);
     };
-    let seats = Seats {
-        peers: &peers,
-        places,
+    let contexts = NodeContexts {
+        cluster: &cluster,
+        listeners,
         start,
     };
-    let opened = open_all(alloc, seats, config)?;
-    serve_named::<Brand, R, G, T, F>(rt, alloc, seats, config, opened, gate, attend)
+    let opened = open_all(alloc, contexts, config)?;
+    serve_named::<Brand, R, G, T, F>(rt, alloc, contexts, config, opened, gate, attend)
 }
 
-// Returns the peers of the nodes of these places, and their master.
-fn open_post(alloc: Global, places: &[Listener], config: &Config) -> Result<Cluster, OpeningError> {
-    let numbers: Vec<u8> = places.iter().map(|place| place.number).collect(alloc)?;
+// Returns the nodes of these listeners, and their master.
+fn open_cluster(
+    alloc: Global,
+    listeners: &[Listener],
+    config: &Config,
+) -> Result<Cluster, OpeningError> {
+    let numbers: Vec<u8> = listeners
+        .iter()
+        .map(|listener| listener.number)
+        .collect(alloc)?;
     Cluster::new(alloc, numbers.as_slice(), config)
 }
 
@@ -114,7 +121,7 @@ fn open_post(alloc: Global, places: &[Listener], config: &Config) -> Result<Clus
 fn serve_named<J, R, G, T, F>(
     rt: &R,
     alloc: Global,
-    seats: Seats<'_>,
+    contexts: NodeContexts<'_>,
     config: &Config,
     opened: Vec<Opened>,
     gate: Option<&G>,
@@ -133,8 +140,8 @@ where
     let Ok(mut outcome) = Outcome::new(alloc, opened.len()) else {
         return Err(ServeError::Memory);
     };
-    let nodes = start_all::<J, R, G>(rt, alloc, seats, config, opened, gate)?;
-    let (answer, all_started) = serve_states(rt, seats.peers, nodes.as_slice(), attend);
+    let nodes = start_all::<J, R, G>(rt, alloc, contexts, config, opened, gate)?;
+    let (answer, all_started) = serve_states(rt, contexts.cluster, nodes.as_slice(), attend);
     if !all_started {
         outcome.keep(Err(ServeError::Threads));
     }
@@ -148,7 +155,7 @@ where
 fn start_all<'a, J: NodeNaming, R: Wait, G: Gate>(
     rt: &R,
     alloc: Global,
-    seats: Seats<'a>,
+    contexts: NodeContexts<'a>,
     config: &'a Config,
     opened: Vec<Opened>,
     gate: Option<&'a G>,
@@ -158,9 +165,9 @@ fn start_all<'a, J: NodeNaming, R: Wait, G: Gate>(
 {
     let mut nodes = Vec::with_capacity(alloc, opened.len())?;
     for one in opened {
-        // Each has its place.
-        if let Some(seat) = seats.seat_of(one.number) {
-            nodes.push(ServedNode::start(rt, alloc, seat, config, one, gate)?)?;
+        // Each has its listener.
+        if let Some(context) = contexts.context_of(one.number) {
+            nodes.push(ServedNode::start(rt, alloc, context, config, one, gate)?)?;
         }
     }
     Ok(nodes)
@@ -169,7 +176,7 @@ fn start_all<'a, J: NodeNaming, R: Wait, G: Gate>(
 // Serves with the type that a node's state has. That threads may share it is proved only here.
 fn serve_states<J, R, G, T, F>(
     rt: &R,
-    peers: &Cluster,
+    cluster: &Cluster,
     nodes: &[ServedNode<'_, J, NodeState<J>, G>],
     attend: F,
 ) -> (T, bool)
@@ -181,14 +188,14 @@ where
     F: FnOnce(&Cluster) -> T,
     requires { F.IsAlwaysCallable attend }
 {
-    serve_by::<J, NodeState<J>, R, G, T, F>(rt, peers, nodes, attend)
+    serve_by::<J, NodeState<J>, R, G, T, F>(rt, cluster, nodes, attend)
 }
 
 // Serves with these nodes while `attend` runs. Returns what that returned, and whether each node's
 // threads could be started.
 fn serve_by<J, S, R, G, T, F>(
     rt: &R,
-    peers: &Cluster,
+    cluster: &Cluster,
     nodes: &[ServedNode<'_, J, S, G>],
     attend: F,
 ) -> (T, bool)
@@ -213,9 +220,9 @@ where
                     all_started = false;
                 }
             }
-            let answer = attend(peers);
+            let answer = attend(cluster);
             for node in nodes {
-                node.shared.seat.place.close(rt);
+                node.shared.context.listener.close(rt);
             }
             (answer, all_started)
         },

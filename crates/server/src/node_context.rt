@@ -1,4 +1,4 @@
-// A place with its node and the other nodes.
+// What a node's threads use: its listener, the node itself and the other nodes.
 
 ghost use Rattle.std.specs.Prelude.{◌≡◌, IfSome};
 
@@ -6,48 +6,51 @@ use post::{Cluster, Peer};
 use std::time::{Clock, Instant};
 use streams::Listener;
 
-/// The places of all nodes.
+/// The listeners of all nodes, and what they have in common.
 #[derive(Clone, Copy)]
-pub(crate) struct Seats<'a> {
-    pub(crate) peers: &'a Cluster,
-    pub(crate) places: &'a [Listener],
+pub(crate) struct NodeContexts<'a> {
+    pub(crate) cluster: &'a Cluster,
+    pub(crate) listeners: &'a [Listener],
     pub(crate) start: Instant,
 }
 
-impl<'a> Seats<'a> {
-    /// Returns the seat of the node of this number, if a place has it.
-    pub(crate) fn seat_of(self, number: u8) -> Option<NodeContext<'a>>
-        ensures { IfSome result (λ seat. seat.place.now.number ≡ number) }
+impl<'a> NodeContexts<'a> {
+    /// Returns the context of the node of this number, if a listener has it.
+    pub(crate) fn context_of(self, number: u8) -> Option<NodeContext<'a>>
+        ensures { IfSome result (λ context. context.listener.now.number ≡ number) }
     {
-        let place = self.places.iter().find(|place| place.number == number)?;
-        NodeContext::new(self.peers, place, self.start)
+        let listener = self
+            .listeners
+            .iter()
+            .find(|listener| listener.number == number)?;
+        NodeContext::new(self.cluster, listener, self.start)
     }
 }
 
-/// A place with its node and the other nodes.
+/// What a node's threads use: its listener, the node itself and the other nodes.
 #[derive(Clone, Copy)]
 pub(crate) struct NodeContext<'a> {
-    pub(crate) peers: &'a Cluster,
+    pub(crate) cluster: &'a Cluster,
     pub(crate) node: &'a Peer,
-    pub(crate) place: &'a Listener,
+    pub(crate) listener: &'a Listener,
     start: Instant,
 }
 
 impl<'a> NodeContext<'a> {
-    /// Returns the seat of a place. Times are counted from `start`. There is none if no node has
-    /// the place's number.
+    /// Returns the context of a listener. Times are counted from `start`. There is none if no node
+    /// has the listener's number.
     pub(crate) fn new(
-        peers: &'a Cluster,
-        place: &'a Listener,
+        cluster: &'a Cluster,
+        listener: &'a Listener,
         start: Instant,
     ) -> Option<NodeContext<'a>>
-        ensures { IfSome result (λ seat. seat.place.now.number ≡ place.now.number) }
+        ensures { IfSome result (λ context. context.listener.now.number ≡ listener.now.number) }
     {
-        let node = peers.node(place.number)?;
+        let node = cluster.node(listener.number)?;
         Some(NodeContext {
-            peers,
+            cluster,
             node,
-            place,
+            listener,
             start,
         })
     }

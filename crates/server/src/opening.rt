@@ -3,7 +3,7 @@
 ghost use Rattle.std.specs.Prelude.{◌≡◌, ◌≤◌, IfOk};
 ghost use Rattle.server.specs.Opening.{AreNamed, first_in, inbox_among};
 
-use crate::node_context::Seats;
+use crate::node_context::NodeContexts;
 use post::mailbox::Inbox;
 use post::node::{Config, Item, NodeCore, OpeningError};
 use std::alloc::Global;
@@ -19,24 +19,24 @@ pub(crate) struct Opened {
     pub(crate) core: NodeCore,
 }
 
-/// Opens the nodes of all places, each as the one of its place's number, in rising order.
-/// `BadMembers` comes if two places have one number, if a number is outside 1 to 15, and if no
+/// Opens the nodes of all listeners, each as the one of its listener's number, in rising order.
+/// `BadMembers` comes if two listeners have one number, if a number is outside 1 to 15, and if no
 /// ballot may have the configuration. The other error is that memory ran out.
 pub(crate) fn open_all(
     alloc: Global,
-    seats: Seats<'_>,
+    contexts: NodeContexts<'_>,
     config: &Config,
 ) -> Result<Vec<Opened>, OpeningError>
     ensures { IfOk result (λ opened.
         AreNamed (inbox_among opened.items) (first_in config.now) opened.items) }
 {
-    let mut opened = Vec::with_capacity(alloc, seats.places.len())?;
+    let mut opened = Vec::with_capacity(alloc, contexts.listeners.len())?;
     for number in 1..NUMBERS_END {
-        if seats.seat_of(number).is_some() {
+        if contexts.context_of(number).is_some() {
             opened.push(open(alloc, number, config)?)?;
         }
     }
-    if opened.len() != seats.places.len() {
+    if opened.len() != contexts.listeners.len() {
         return Err(OpeningError::BadMembers);
     }
     Ok(opened)

@@ -3,7 +3,7 @@
 // so each node always has a thread of its own.
 
 ghost use Rattle.std.specs.Prelude.{◌≡◌};
-ghost use Rattle.post.specs.Letters.{IsLeft};
+ghost use Rattle.post.specs.Queued.{IsQueued};
 ghost use Rattle.server.specs.Closing.{is_overdue};
 ghost use Rattle.server.specs.Serving.{SendsOwn};
 
@@ -31,27 +31,27 @@ const STEPS: u32 = 8;
 
 /// When the node got the time last, and how many times, at most 2^64 - 1.
 #[derive(Clone, Copy)]
-struct Told {
+struct LastTick {
     time: u64,
     ticks: u64,
 }
 
 impl<'a, J: NodeNaming, S: Stated<J>, G: Gate> ServedNode<'a, J, S, G> {
-    /// Does the work of the node's own thread, until the door is closed.
+    /// Does the work of the node's own thread, until the listener is closed.
     pub(crate) fn keep_going<R: Wait + Clock>(&self, rt: &R) {
         let shared = &self.shared;
-        let mut told = Told { time: 0, ticks: 0 };
+        let mut last = LastTick { time: 0, ticks: 0 };
         for _ in rt.forever() {
-            if shared.seat.place.door.is_closed(rt) {
+            if shared.context.listener.connections.is_closed(rt) {
                 return;
             }
-            let now_told = self.take_own(rt, told);
-            shared.seat.peers.wake_urgent(rt);
+            let latest = self.take_own(rt, last);
+            shared.context.cluster.wake_urgent(rt);
             shared.write_busy(rt, 0, false);
-            if now_told.time > told.time {
-                shared.end_overdue(rt, now_told.time);
+            if latest.time > last.time {
+                shared.end_overdue(rt, latest.time);
             }
-            told = now_told;
+            last = latest;
             shared.rest(rt);
         }
         unreachable!()
@@ -59,61 +59,61 @@ impl<'a, J: NodeNaming, S: Stated<J>, G: Gate> ServedNode<'a, J, S, G> {
 
     // Does the node's turn by its own lane, once no other thread holds that. Returns when the node
     // got the time last.
-    fn take_own<R: Wait + Clock>(&self, rt: &R, told: Told) -> Told {
+    fn take_own<R: Wait + Clock>(&self, rt: &R, last: LastTick) -> LastTick {
         let mut own = self.own.lock(rt);
         // It is this node's, but no clause is about what is behind a lock.
-        if own.number() != self.shared.seat.node.number {
-            return told;
+        if own.number() != self.shared.context.node.number {
+            return last;
         }
-        self.shared.take_by(rt, &mut own, told)
+        self.shared.take_by(rt, &mut own, last)
     }
 }
 
 impl<'a, J: NodeNaming, S: Stated<J>, G: Gate> Shared<'a, J, S, G> {
     // Takes what was queued for the node, gives it the time and has its log cut, if that is due, by
     // the node's own lane. Returns when the node got the time last.
-    fn take_by<R: Wait + Clock>(&self, rt: &R, own: &mut OwnLane<J>, told: Told) -> Told
-        requires { own.old.number ≡ self.now.seat.node.now.number }
+    fn take_by<R: Wait + Clock>(&self, rt: &R, own: &mut OwnLane<J>, last: LastTick) -> LastTick
+        requires { own.old.number ≡ self.now.context.node.now.number }
     {
-        self.take_letters(rt, &mut own.lane);
-        let told = self.tick(rt, &mut own.lane, told);
+        self.take_queued(rt, &mut own.lane);
+        let last = self.tick(rt, &mut own.lane, last);
         self.cut_by_size(rt, &mut own.lane);
-        told
+        last
     }
 
     /// Takes what was queued for the node, by the node's own lane.
-    pub(crate) fn take_left<R: Wait + Clock>(&self, rt: &R, own: &mut OwnLane<J>)
-        requires { own.old.number ≡ self.now.seat.node.now.number }
+    pub(crate) fn take_queued_by<R: Wait + Clock>(&self, rt: &R, own: &mut OwnLane<J>)
+        requires { own.old.number ≡ self.now.context.node.now.number }
     {
-        self.take_letters(rt, &mut own.lane);
+        self.take_queued(rt, &mut own.lane);
     }
 
     // Gives the node the time, if it is due, and then has the log cut, if that is due. Returns when
     // the node got the time last.
-    fn tick<R: Wait + Clock>(&self, rt: &R, lane: &mut Lane<Item, J>, told: Told) -> Told
-        ensures { SendsOwn self.now.seat.node.now.number lane.old.sent lane.new.sent }
+    fn tick<R: Wait + Clock>(&self, rt: &R, lane: &mut Lane<Item, J>, last: LastTick) -> LastTick
+        ensures { SendsOwn self.now.context.node.now.number lane.old.sent lane.new.sent }
     {
-        let now = self.seat.now(rt);
-        if now.saturating_sub(told.time) < TICK {
-            return told;
+        let now = self.context.now(rt);
+        if now.saturating_sub(last.time) < TICK {
+            return last;
         }
         self.send(rt, lane, Item::Tick(now));
-        let ticks = told.ticks.saturating_add(1);
+        let ticks = last.ticks.saturating_add(1);
         self.cut_in_time(rt, lane, ticks);
-        Told { time: now, ticks }
+        LastTick { time: now, ticks }
     }
 
     // Ends the connections whose first packet did not come in time.
     fn end_overdue<R: Wait>(&self, rt: &R, now: u64) {
-        let mut place = 0;
+        let mut index = 0;
         for _ in 0..CONNECTIONS {
-            let Some((next, link)) = self.seat.place.door.link_from(rt, place) else {
+            let Some((next, link)) = self.context.listener.connections.link_from(rt, index) else {
                 return;
             };
             if self.awaits_too_long(rt, &link, now) {
                 link.shut();
             }
-            place = next;
+            index = next;
         }
     }
 
@@ -124,23 +124,23 @@ impl<'a, J: NodeNaming, S: Stated<J>, G: Gate> Shared<'a, J, S, G> {
     }
 
     // Takes all that other nodes and the master have for the node, and then what the inbox holds.
-    fn take_letters<R: Wait + Clock>(&self, rt: &R, lane: &mut Lane<Item, J>)
-        ensures { SendsOwn self.now.seat.node.now.number lane.old.sent lane.new.sent }
+    fn take_queued<R: Wait + Clock>(&self, rt: &R, lane: &mut Lane<Item, J>)
+        ensures { SendsOwn self.now.context.node.now.number lane.old.sent lane.new.sent }
     {
-        let items = self.seat.node.take_waiting(rt, self.alloc);
+        let items = self.context.node.take_waiting(rt, self.alloc);
         if items.is_empty() {
             return;
         }
         for item in items {
-            self.put_letter(rt, lane, item);
+            self.put_queued(rt, lane, item);
         }
         self.take_all(rt, lane);
     }
 
     // Sends what was queued for the node by its lane.
-    fn put_letter<R: Wait + Clock>(&self, rt: &R, lane: &mut Lane<Item, J>, item: Item)
-        requires { IsLeft self.now.seat.node.now.number item }
-        ensures { SendsOwn self.now.seat.node.now.number lane.old.sent lane.new.sent }
+    fn put_queued<R: Wait + Clock>(&self, rt: &R, lane: &mut Lane<Item, J>, item: Item)
+        requires { IsQueued self.now.context.node.now.number item }
+        ensures { SendsOwn self.now.context.node.now.number lane.old.sent lane.new.sent }
     {
         self.put(rt, lane, item);
     }
@@ -150,16 +150,17 @@ impl<'a, J: NodeNaming, S: Stated<J>, G: Gate> Shared<'a, J, S, G> {
         if self.comes_at_once(rt) {
             return;
         }
-        let is_wanted = self.seat.node.doze(rt) || self.seat.place.door.is_closed(rt);
+        let is_wanted = self.context.node.doze(rt)
+            || self.context.listener.connections.is_closed(rt);
         if !is_wanted {
-            self.seat.node.sleep(rt, Duration::from_millis(TICK));
+            self.context.node.sleep(rt, Duration::from_millis(TICK));
         }
     }
 
     // Watches for a while whether other nodes have something for the node. Returns whether they do.
     fn comes_at_once<R: Wait>(&self, rt: &R) -> bool {
         for _ in 0..LOOKS {
-            if self.seat.node.is_wanted(rt) {
+            if self.context.node.is_wanted(rt) {
                 return true;
             }
             pause();

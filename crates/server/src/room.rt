@@ -18,11 +18,11 @@ impl<'a, J: NodeNaming, S: Stated<J>, G: Gate> Shared<'a, J, S, G> {
     pub(crate) fn await_room<R: Wait + Clock>(&self, rt: &R, port: Port, bytes: u64) -> u64
         requires { bytes ≤ 65536 }
     {
-        if bytes == 0 || !self.seat.peers.are_several() {
+        if bytes == 0 || !self.context.cluster.are_several() {
             return 0;
         }
         for _ in rt.forever() {
-            if self.seat.node.admit(rt, bytes) {
+            if self.context.node.admit(rt, bytes) {
                 return bytes;
             }
             if self.is_over(rt, port) {
@@ -35,7 +35,7 @@ impl<'a, J: NodeNaming, S: Stated<J>, G: Gate> Shared<'a, J, S, G> {
 
     // Says whether nothing more is needed of a connection.
     fn is_over<R: Wait>(&self, rt: &R, port: Port) -> bool {
-        self.seat.place.door.is_closed(rt)
+        self.context.listener.connections.is_closed(rt)
             || self.node.lock(rt).state().standing(port) == Standing::Closed
     }
 }

@@ -2,7 +2,7 @@
 
 ghost use Rattle.std.specs.Prelude.{◌≡◌, [], IfOk};
 ghost use Rattle.post.specs.node.Lists.{Each};
-ghost use Rattle.post.specs.Letters.{EachOpensAs};
+ghost use Rattle.post.specs.Queued.{EachOpensAs};
 
 use crate::node_context::NodeContext;
 use crate::node_report::NodeReport;
@@ -10,7 +10,7 @@ use crate::opening::Opened;
 use crate::own_lane::OwnLane;
 use crate::serve_error::ServeError;
 use crate::shared::Shared;
-use crate::working::{Crew, LANES, THREADS, run};
+use crate::working::{LANES, LaneSlots, THREADS, run};
 use post::mailbox::Lane;
 use post::node::{Config, Gate, Item, Memory, Node, NodeNaming, NodeState, Stated};
 use std::alloc::Global;
@@ -28,7 +28,7 @@ pub(crate) struct ServedNode<'a, J: NodeNaming, S: Stated<J>, G: Gate> {
     /// node's turn with what was queued for the node: its own thread, or one that queued something.
     pub(crate) own: Mutex<OwnLane<J>>,
     /// The lanes of its connections, while no thread works with them.
-    crew: Mutex<Crew<J>>,
+    lane_slots: Mutex<LaneSlots<J>>,
     /// A gate is asked before each taking.
     pub(crate) is_gated: bool,
 }
@@ -38,12 +38,12 @@ impl<'a, J: NodeNaming, G: Gate> ServedNode<'a, J, NodeState<J>, G> {
     pub(crate) fn start<R: Wait>(
         rt: &R,
         alloc: Global,
-        seat: NodeContext<'a>,
+        context: NodeContext<'a>,
         config: &'a Config,
         opened: Opened,
         gate: Option<&'a G>,
     ) -> Result<ServedNode<'a, J, NodeState<J>, G>, Memory>
-        requires seat { seat.place.now.number ≡ opened.number }
+        requires context { context.listener.now.number ≡ opened.number }
         requires named { opened.inbox ≡ J.inbox_of opened.number }
         requires first { opened.core ≡ J.first_of opened.number }
         requires opens { EachOpensAs config.now J.first_of }
@@ -53,22 +53,22 @@ impl<'a, J: NodeNaming, G: Gate> ServedNode<'a, J, NodeState<J>, G> {
             inbox,
             core,
         } = opened;
-        seat.node.publish(rt, core.status());
+        context.node.publish(rt, core.status());
         let (receiver, lanes) = inbox.named::<J>(number, LANES)?;
-        let (own, crew) = crew_of(alloc, number, lanes)?;
+        let (own, lane_slots) = lane_slots_of(alloc, number, lanes)?;
         let node = Node::start(alloc, NodeState::new(receiver, core), gate)?;
-        let late = Mutex::new(Vec::with_capacity(alloc, usize::from(CONNECTIONS))?);
+        let blocked = Mutex::new(Vec::with_capacity(alloc, usize::from(CONNECTIONS))?);
         Ok(ServedNode {
             shared: Shared {
                 alloc,
                 node,
-                seat,
+                context,
                 config,
-                late,
-                late_waker: Parker::new(),
+                blocked,
+                blocked_waker: Parker::new(),
             },
             own: Mutex::new(own),
-            crew: Mutex::new(crew),
+            lane_slots: Mutex::new(lane_slots),
             is_gated: gate.is_some(),
         })
     }
@@ -79,11 +79,13 @@ impl<'a, J: NodeNaming, G: Gate> ServedNode<'a, J, NodeState<J>, G> {
         let ServedNode {
             shared,
             own,
-            crew,
+            lane_slots,
             ..
         } = self;
-        let number = shared.seat.place.number;
-        let mut lanes = crew.into_inner().into_lanes(own.into_inner().into_lane());
+        let number = shared.context.listener.number;
+        let mut lanes = lane_slots
+            .into_inner()
+            .into_lanes(own.into_inner().into_lane());
         let report = shared.close(rt, lanes.as_mut_slice())?;
         Ok(NodeReport { number, report })
     }
@@ -95,39 +97,42 @@ where
     S: Stated<J> + Send,
     G: Gate + Sync,
 {
-    /// Works with each lane by a thread of its own, until the door is closed.
+    /// Works with each lane by a thread of its own, until the listener is closed.
     pub(crate) fn work<R>(&self, rt: &R, all: &[ServedNode<'a, J, S, G>])
     where
         R: Threads + Wait + Clock + Sync,
     {
-        let mut desks = mem::replace(&mut self.crew.lock(rt).desks, Vec::new(self.shared.alloc));
-        run(rt, all, self, desks.as_mut_slice());
-        self.crew.lock(rt).desks = desks;
+        let mut slots = mem::replace(
+            &mut self.lane_slots.lock(rt).slots,
+            Vec::new(self.shared.alloc),
+        );
+        run(rt, all, self, slots.as_mut_slice());
+        self.lane_slots.lock(rt).slots = slots;
     }
 }
 
-// Returns the node's own lane, the first of these lanes, and the desks of its threads. The only
+// Returns the node's own lane, the first of these lanes, and the slots of its threads. The only
 // error is that memory ran out.
-fn crew_of<J: NodeNaming>(
+fn lane_slots_of<J: NodeNaming>(
     alloc: Global,
     number: u8,
     lanes: Vec<Lane<Item, J>>,
-) -> Result<(OwnLane<J>, Crew<J>), Memory>
+) -> Result<(OwnLane<J>, LaneSlots<J>), Memory>
     requires { Each (λ lane. lane.sent ≡ []) lanes.items }
     ensures { IfOk result (λ made. made.0.number ≡ number) }
 {
     let back = Vec::with_capacity(alloc, lanes.len())?;
-    let mut desks = Vec::with_capacity(alloc, THREADS)?;
+    let mut slots = Vec::with_capacity(alloc, THREADS)?;
     let mut lanes = lanes.into_iter();
     let Some(own) = lanes.next() else {
         return Err(Memory);
     };
-    // The desks of the node's own thread, and of the thread that continues with full sockets, have
+    // The slots of the node's own thread, and of the thread that continues with full sockets, have
     // no lane.
-    desks.push(None)?;
+    slots.push(None)?;
     for lane in lanes {
-        desks.push(Some(lane))?;
+        slots.push(Some(lane))?;
     }
-    desks.push(None)?;
-    Ok((OwnLane::new(number, own), Crew { desks, back }))
+    slots.push(None)?;
+    Ok((OwnLane::new(number, own), LaneSlots { slots, back }))
 }

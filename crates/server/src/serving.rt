@@ -16,7 +16,7 @@ use std::time::{Clock, Duration};
 use streams::connection::{Counted, listen};
 use streams::{Link, forget};
 
-/// How long a write may wait before the rest is left to the late writer, in milliseconds.
+/// How long a write may wait before the rest is left to the blocked writer, in milliseconds.
 const WRITE_MILLIS: u64 = 1;
 
 /// How many connections a lane serves, each at a port of its own.
@@ -26,9 +26,9 @@ const CONNECTIONS_OF_LANE: u64 = 1 << 56;
 const PORTS_APART: u64 = 256;
 
 impl<'a, J: NodeNaming, S: Stated<J>, G: Gate> ServedNode<'a, J, S, G> {
-    /// Serves one client after another by a lane, until the door is closed. Returns the lane, which
-    /// sent for each one after another the whole report of its connection, at a port that no other
-    /// has, and nothing else.
+    /// Serves one client after another by a lane, until the listener is closed. Returns the lane,
+    /// which sent for each one after another the whole report of its connection, at a port that no
+    /// other has, and nothing else.
     pub(crate) fn serve_lane<R: Wait + Clock>(
         &self,
         rt: &R,
@@ -40,7 +40,7 @@ impl<'a, J: NodeNaming, S: Stated<J>, G: Gate> ServedNode<'a, J, S, G> {
         let number = lane.lane();
         let mut lane = lane;
         for count in 0..CONNECTIONS_OF_LANE {
-            let Some(stream) = self.shared.seat.place.accept(rt) else {
+            let Some(stream) = self.shared.context.listener.accept(rt) else {
                 return lane;
             };
             lane = self.serve_stream(rt, all, lane, stream, port_of(number, count));
@@ -60,15 +60,15 @@ impl<'a, J: NodeNaming, S: Stated<J>, G: Gate> ServedNode<'a, J, S, G> {
     ) -> Lane<Item, J>
         ensures { TellsOne port lane.sent result.sent }
     {
-        let door = &self.shared.seat.place.door;
-        let Some(place) = door.take_place(rt) else {
+        let connections = &self.shared.context.listener.connections;
+        let Some(index) = connections.take_index(rt) else {
             return lane;
         };
-        let lane = match self.shared.link(rt, port, place, stream) {
+        let lane = match self.shared.link(rt, port, index, stream) {
             Some(link) => self.serve_link(rt, all, lane, link),
             None => lane,
         };
-        door.leave(rt, place);
+        connections.free(rt, index);
         lane
     }
 
@@ -100,7 +100,7 @@ impl<'a, J: NodeNaming, S: Stated<J>, G: Gate> ServedNode<'a, J, S, G> {
     ) -> Lane<Item, J>
         ensures { SendsWhole (arc_value link.now).port lane.sent result.sent }
     {
-        let mut ear = LaneReporter {
+        let mut reporter = LaneReporter {
             node: self,
             all,
             link,
@@ -108,8 +108,8 @@ impl<'a, J: NodeNaming, S: Stated<J>, G: Gate> ServedNode<'a, J, S, G> {
         };
         let mut source = Counted::new(link.source());
         // However it ended, this was reported to the node.
-        let _ending = listen(rt, self.shared.alloc, link.port, &mut source, &mut ear);
-        ear.lane
+        let _ending = listen(rt, self.shared.alloc, link.port, &mut source, &mut reporter);
+        reporter.lane
     }
 }
 
@@ -120,7 +120,7 @@ impl<'a, J: NodeNaming, S: Stated<J>, G: Gate> Shared<'a, J, S, G> {
         &self,
         rt: &R,
         port: Port,
-        place: usize,
+        index: usize,
         stream: TcpStream,
     ) -> Option<Arc<Link, Global>>
         ensures { IfSome result (λ link. (arc_value link).port ≡ port) }
@@ -129,8 +129,8 @@ impl<'a, J: NodeNaming, S: Stated<J>, G: Gate> Shared<'a, J, S, G> {
         stream
             .set_write_timeout(Some(Duration::from_millis(WRITE_MILLIS)))
             .ok()?;
-        let opened = self.seat.now(rt);
-        let link = Link::new(self.alloc, port, place, opened, stream).ok()?;
+        let opened = self.context.now(rt);
+        let link = Link::new(self.alloc, port, index, opened, stream).ok()?;
         Arc::new(self.alloc, link).ok()
     }
 

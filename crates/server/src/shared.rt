@@ -3,7 +3,7 @@
 ghost use Rattle.std.specs.Prelude.{◌≡◌, All, IfOk, OnErr, OnOk, map};
 ghost use Rattle.post.specs.mailbox.Ends.{ArrivesWhole, unmet};
 ghost use Rattle.post.specs.node.Running.{AreItsLanes, ReportsOn};
-ghost use Rattle.post.specs.Letters.{EachOpensAs};
+ghost use Rattle.post.specs.Queued.{EachOpensAs};
 
 use crate::node_context::NodeContext;
 use post::mailbox::Lane;
@@ -19,15 +19,15 @@ use streams::Blocked;
 pub(crate) struct Shared<'a, J: NodeNaming, S: Stated<J>, G: Gate> {
     pub(crate) alloc: Global,
     pub(crate) node: Node<'a, J, S, G>,
-    pub(crate) seat: NodeContext<'a>,
+    pub(crate) context: NodeContext<'a>,
     /// The configuration in which all nodes opened.
     pub(crate) config: &'a Config,
     /// The connections whose sockets were full.
-    pub(crate) late: Mutex<Vec<Blocked>>,
+    pub(crate) blocked: Mutex<Vec<Blocked>>,
     /// The thread that continues with them sleeps on this.
-    pub(crate) late_waker: Parker,
+    pub(crate) blocked_waker: Parker,
     pub(crate) ghost opens: { EachOpensAs config.now J.first_of },
-    pub(crate) ghost named: { node.number ≡ seat.place.now.number },
+    pub(crate) ghost named: { node.number ≡ context.listener.now.number },
 }
 
 impl<'a, J: NodeNaming, G: Gate> Shared<'a, J, NodeState<J>, G> {

@@ -3,7 +3,7 @@
 ghost use Rattle.std.specs.Prelude.{◌≡◌, ◌++◌, ◌∷◌, [], true, false};
 ghost use Rattle.post.specs.mailbox.Ends.{all_met, unmet};
 ghost use Rattle.post.specs.node.Running.{IsNext};
-ghost use Rattle.post.specs.Letters.{EachOpens};
+ghost use Rattle.post.specs.Queued.{EachOpens};
 ghost use Rattle.server.specs.Turns.{Turns};
 
 use crate::shared::Shared;
@@ -61,9 +61,9 @@ impl<'a, J: NodeNaming, S: Stated<J>, G: Gate> Shared<'a, J, S, G> {
         let mut idle = room_for(self.alloc, usize::from(CONNECTIONS));
         let mut busy = room_for(self.alloc, FEW);
         let _ = self.node.lock(rt).state().idle_ports(&mut idle);
-        self.seat
-            .place
-            .door
+        self.context
+            .listener
+            .connections
             .add_busy(rt, IdleLanes::of(&idle), first, &mut busy);
         busy
     }
@@ -88,16 +88,16 @@ impl<'a, J: NodeNaming, S: Stated<J>, G: Gate> Shared<'a, J, S, G> {
         // If none waits, all was taken that the lane sent.
         ensures none { result ≡ false → lane.new ≡ all_met lane.old }
     {
-        let leave = self.node.pass(rt);
-        let more = self.take_locked(rt, &leave, lane);
-        self.node.done(rt, leave);
+        let permit = self.node.pass(rt);
+        let more = self.take_locked(rt, &permit, lane);
+        self.node.done(rt, permit);
         more
     }
 
     // Takes items under one lock, as many as the permit allows. Returns whether more may wait. What
     // the node has for others is handed on while the lock is held, so that it keeps the order of
     // the node's steps. The status is published then, too.
-    fn take_locked<R: Wait>(&self, rt: &R, leave: &Permit<'_>, lane: &mut Lane<Item, J>) -> bool
+    fn take_locked<R: Wait>(&self, rt: &R, permit: &Permit<'_>, lane: &mut Lane<Item, J>) -> bool
         ensures more { result ≡ true → lane.new ≡ lane.old }
         ensures none { result ≡ false → lane.new ≡ all_met lane.old }
     {
@@ -105,15 +105,15 @@ impl<'a, J: NodeNaming, S: Stated<J>, G: Gate> Shared<'a, J, S, G> {
         let state = node.state();
         // The lane is one of this node's inbox, and the permit is for its next taking, but no
         // clause is about what is behind a lock.
-        if state.number() != lane.number() || !leave.is_for(state) {
+        if state.number() != lane.number() || !permit.is_for(state) {
             return true;
         }
-        let (more, given) = take_up_to(rt, self.alloc, state, leave, lane);
-        self.seat.node.publish(rt, state.status());
-        self.seat.peers.hand_on(rt, given);
+        let (more, given) = take_up_to(rt, self.alloc, state, permit, lane);
+        self.context.node.publish(rt, state.status());
+        self.context.cluster.hand_on(rt, given);
         // The node's own thread has the log cut.
         if state.wants_cut() {
-            self.seat.node.wake(rt);
+            self.context.node.wake(rt);
         }
         more
     }
@@ -125,12 +125,12 @@ fn take_up_to<J: NodeNaming, R: Wait>(
     rt: &R,
     alloc: Global,
     node: &mut NodeState<J>,
-    leave: &Permit<'_>,
+    permit: &Permit<'_>,
     lane: &mut Lane<Item, J>,
 ) -> (bool, Given)
     requires inbox { lane.old.inbox ≡ node.old.taker.inbox }
     requires opens { EachOpens J.first_of }
-    requires next { IsNext leave.now node.old }
+    requires next { IsNext permit.now node.old }
 
     // What the steps of the node gave, from the state before to the state after, and nothing else.
     ensures given { Turns node.old node.new result.1 }
@@ -140,7 +140,7 @@ fn take_up_to<J: NodeNaming, R: Wait>(
     ensures none { result.0 ≡ false → lane.new ≡ all_met lane.old }
 {
     let mut effects = Vec::new(alloc);
-    for _ in 0..leave.most() {
+    for _ in 0..permit.most() {
         let receipt = lane.receipt();
         if !node.take_one(rt, &mut effects, receipt) {
             node.meet(lane);

@@ -19,26 +19,26 @@ pub(crate) const LANES: u8 = CONNECTIONS + 2;
 /// How many threads a node has: one for each lane, and one that continues with full sockets.
 pub(crate) const THREADS: usize = LANES as usize + 1;
 
-/// The lane of a connection's thread, unless that is using it. The first desk is that of the node's
+/// The lane of a connection's thread, unless that is using it. The first slot is that of the node's
 /// own thread, whose lane is behind a lock; the last is that of the thread that continues with full
 /// sockets. They have none.
 pub(crate) type LaneSlot<J> = Option<Lane<Item, J>>;
 
-/// The desks of a node's threads, with capacity in which all its lanes are gathered at the end.
+/// The slots of a node's threads, with capacity in which all its lanes are gathered at the end.
 #[derive(Drop)]
-pub(crate) struct Crew<J: NodeNaming> {
-    pub(crate) desks: Vec<LaneSlot<J>>,
+pub(crate) struct LaneSlots<J: NodeNaming> {
+    pub(crate) slots: Vec<LaneSlot<J>>,
     pub(crate) back: Vec<Lane<Item, J>>,
 }
 
-impl<J: NodeNaming> Crew<J> {
-    /// Returns the lanes that came back to their desks, after the node's own.
+impl<J: NodeNaming> LaneSlots<J> {
+    /// Returns the lanes that came back to their slots, after the node's own.
     pub(crate) fn into_lanes(self, own: Lane<Item, J>) -> Vec<Lane<Item, J>> {
-        let Crew { desks, mut back } = self;
+        let LaneSlots { slots, mut back } = self;
         // There is room for all.
         let _ = back.push(own);
-        for desk in desks {
-            if let Some(lane) = desk {
+        for slot in slots {
+            if let Some(lane) = slot {
                 let _ = back.push(lane);
             }
         }
@@ -46,54 +46,54 @@ impl<J: NodeNaming> Crew<J> {
     }
 }
 
-/// Works at each desk by a thread of its own, until the door is closed. If threads are missing,
-/// lanes wait until others come back; the node's own thread comes before all the others.
+/// Works with each slot by a thread of its own, until the listener is closed. If threads are
+/// missing, lanes wait until others come back; the node's own thread comes before all the others.
 pub(crate) fn run<'a, J, S, G, R>(
     rt: &R,
     all: &[ServedNode<'a, J, S, G>],
     node: &ServedNode<'a, J, S, G>,
-    desks: &mut [LaneSlot<J>],
+    slots: &mut [LaneSlot<J>],
 )
 where
     J: NodeNaming + Send + Sync,
     S: Stated<J> + Send,
     G: Gate + Sync,
     R: Threads + Wait + Clock + Sync,
-    ensures { (place : ℕ) (other : _) → place < length desks.old → ComesBack
-        (slice_index_or desks.old place other) (slice_index_or desks.new place other) }
+    ensures { (index : ℕ) (other : _) → index < length slots.old → ComesBack
+        (slice_index_or slots.old index other) (slice_index_or slots.new index other) }
 {
     thread::for_each_mut(
         rt,
-        desks,
+        slots,
         THREADS,
-        &|place, desk| node.run_lane(rt, all, place, desk),
+        &|index, slot| node.run_lane(rt, all, index, slot),
     );
 }
 
 impl<'a, J: NodeNaming, S: Stated<J>, G: Gate> ServedNode<'a, J, S, G> {
-    // Works with the lane of a desk, and puts it back. The first desk is that of the node's own
-    // thread. At another desk that has no lane, its thread continues with full sockets.
+    // Works with the lane of a slot, and puts it back. The first slot is that of the node's own
+    // thread. At another slot that has no lane, its thread continues with full sockets.
     fn run_lane<R: Wait + Clock>(
         &self,
         rt: &R,
         all: &[ServedNode<'a, J, S, G>],
-        place: usize,
-        desk: &mut LaneSlot<J>,
+        index: usize,
+        slot: &mut LaneSlot<J>,
     )
-        ensures { ComesBack desk.old desk.new }
+        ensures { ComesBack slot.old slot.new }
     {
-        match desk.take() {
-            Some(lane) => *desk = Some(self.serve_lane(rt, all, lane)),
-            None => self.work_without(rt, place),
+        match slot.take() {
+            Some(lane) => *slot = Some(self.serve_lane(rt, all, lane)),
+            None => self.work_without(rt, index),
         }
     }
 
-    // Works at a desk that has no lane.
-    fn work_without<R: Wait + Clock>(&self, rt: &R, place: usize) {
-        if place == 0 {
+    // Works at a slot that has no lane.
+    fn work_without<R: Wait + Clock>(&self, rt: &R, index: usize) {
+        if index == 0 {
             self.keep_going(rt);
         } else {
-            self.shared.write_late(rt);
+            self.shared.write_blocked(rt);
         }
     }
 }

@@ -2,7 +2,7 @@
 
 ghost use Rattle.std.specs.Prelude.{◌≡◌, IfSome};
 ghost use Rattle.std.specs.Arc.{arc_value};
-ghost use Rattle.streams.specs.Pens.{HasWholeStream, IsPenOf};
+ghost use Rattle.streams.specs.WriteTokens.{HasWholeStream, IsTokenOf};
 
 use crate::shared::Shared;
 use post::node::{Gate, Handed, Memory, NodeNaming, Stated};
@@ -31,35 +31,35 @@ impl<'e, 'a, J: NodeNaming, S: Stated<J>, G: Gate> Outlet<PortTap> for Source<'e
 
 impl<'a, J: NodeNaming, S: Stated<J>, G: Gate> Shared<'a, J, S, G> {
     /// Writes what the node queued for a connection, unless another thread writes there: then that
-    /// one will look again. What a full socket does not take is left to the late writer. The node's
-    /// own thread does not wait for it.
+    /// one will look again. What a full socket does not take is left to the blocked writer. The
+    /// node's own thread does not wait for it.
     pub(crate) fn flush<R: Wait>(&self, rt: &R, link: &Arc<Link, Global>, waits: bool) {
-        let Some(pen) = link.take_pen(rt) else {
+        let Some(token) = link.take_token(rt) else {
             return;
         };
-        if let Some(pen) = self.write(rt, link, pen, waits) {
-            self.leave_late(rt, link, pen);
+        if let Some(token) = self.write(rt, link, token, waits) {
+            self.hand_blocked(rt, link, token);
         }
     }
 
     /// Writes what a full socket left over and what was queued, until nothing more is, and returns
-    /// the pen to its case. Returns the pen to the caller if the socket is full. A stream that
-    /// takes no more is ended, and its pen is dropped with it.
+    /// the token to its connection. Returns the token to the caller if the socket is full. A stream
+    /// that takes no more is ended, and its token is dropped with it.
     pub(crate) fn write<R: Wait>(
         &self,
         rt: &R,
         link: &Arc<Link, Global>,
-        pen: WriteToken,
+        token: WriteToken,
         waits: bool,
     ) -> Option<WriteToken>
-        requires { IsPenOf (arc_value link.now).port pen }
-        ensures { IfSome result (λ late. IsPenOf (arc_value link.now).port late) }
+        requires { IsTokenOf (arc_value link.now).port token }
+        ensures { IfSome result (λ blocked. IsTokenOf (arc_value link.now).port blocked) }
     {
-        let mut pen = pen;
+        let mut token = token;
         for _ in rt.forever() {
-            match self.write_so(rt, link, &mut pen, waits) {
-                Flow::Open => pen = link.lay_back(rt, pen)?,
-                Flow::Blocked => return Some(pen),
+            match self.write_so(rt, link, &mut token, waits) {
+                Flow::Open => token = link.put_back(rt, token)?,
+                Flow::Blocked => return Some(token),
                 Flow::Closed | Flow::Stopped | Flow::Fault => {
                     link.shut();
                     return None;
@@ -74,18 +74,18 @@ impl<'a, J: NodeNaming, S: Stated<J>, G: Gate> Shared<'a, J, S, G> {
         &self,
         rt: &R,
         link: &Arc<Link, Global>,
-        pen: &mut WriteToken,
+        token: &mut WriteToken,
         waits: bool,
     ) -> Flow
-        ensures { IsPenOf pen.old.tap.port pen.new }
+        ensures { IsTokenOf token.old.tap.port token.new }
     {
         if waits {
-            return self.write_once(rt, pen);
+            return self.write_once(rt, token);
         }
         if !link.set_waiting(false) {
             return Flow::Stopped;
         }
-        let flow = self.write_once(rt, pen);
+        let flow = self.write_once(rt, token);
         if link.set_waiting(true) {
             flow
         } else {
@@ -95,11 +95,11 @@ impl<'a, J: NodeNaming, S: Stated<J>, G: Gate> Shared<'a, J, S, G> {
 
     // Writes what a full socket left over, followed by what the node hands over, as far as the
     // socket takes it within its time.
-    fn write_once<R: Wait>(&self, rt: &R, pen: &mut WriteToken) -> Flow
-        ensures whole { HasWholeStream pen.new }
-        ensures port { IsPenOf pen.old.tap.port pen.new }
+    fn write_once<R: Wait>(&self, rt: &R, token: &mut WriteToken) -> Flow
+        ensures whole { HasWholeStream token.new }
+        ensures port { IsTokenOf token.old.tap.port token.new }
     {
         let mut source = Source { shared: self };
-        pen.write(rt, &mut source)
+        token.write(rt, &mut source)
     }
 }

@@ -27,8 +27,8 @@ pub struct Subscriber {
 }
 
 impl Group {
-    /// All clients are accepted and the subscribers have subscribed. The letters of the clients
-    /// begin with this one.
+    /// Returns a group whose clients are accepted and whose subscribers have subscribed. The
+    /// letters of the clients begin with this one.
     pub fn new<R: Host>(rt: &R, address: SocketAddr, letter: u8, load: &Load) -> Result<Group> {
         let mut subscribers = Vec::new(rt.alloc());
         put_subscribers(rt, address, letter, load, &mut subscribers)?;
@@ -90,7 +90,7 @@ impl Subscriber {
         self.taken.load(Ordering::SeqCst)
     }
 
-    /// This many publications are done at its end.
+    /// Sets how many publications are done at its end.
     pub fn take(&self, taken: u64) {
         self.taken.store(taken, Ordering::SeqCst);
     }

@@ -25,7 +25,7 @@ pub struct Handshakes<'a> {
 }
 
 impl<'a> Handshakes<'a> {
-    /// The handshakes of a stream, none of which has begun. It fails if memory runs out.
+    /// Returns the handshakes of a stream, none of which has begun. It fails if memory runs out.
     pub fn new(alloc: Global, stream: &'a TcpStream) -> Result<Handshakes<'a>> {
         Ok(Handshakes {
             stream,

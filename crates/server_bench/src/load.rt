@@ -21,7 +21,7 @@ pub struct Load {
 }
 
 impl Load {
-    /// A second of publications.
+    /// Returns a load of about a second of publications.
     pub fn new(publishers: u8, subscribers: u8, qos: QoS, window: u64) -> Load {
         Load {
             qos,

@@ -14,19 +14,19 @@ where
     F: FnOnce(SocketAddr) -> T,
     requires { F.IsAlwaysCallable attend }
 {
-    let places = places(rt, members)?;
-    beside_places(rt, places.as_slice(), members, attend)
+    let listeners = listeners(rt, members)?;
+    beside_listeners(rt, listeners.as_slice(), members, attend)
 }
 
 // The places are lent, so that no way out has to drop them.
-fn beside_places<R, T, F>(rt: &R, places: &[Listener], members: &[u8], attend: F) -> Result<T>
+fn beside_listeners<R, T, F>(rt: &R, listeners: &[Listener], members: &[u8], attend: F) -> Result<T>
 where
     R: Host,
     T: Drop,
     F: FnOnce(SocketAddr) -> T,
     requires { F.IsAlwaysCallable attend }
 {
-    let address = first_address(places)?;
+    let address = first_address(listeners)?;
     let members = Members::from_slice(rt.alloc(), members)?;
     let config = Config {
         members,
@@ -35,7 +35,7 @@ where
     let came = serve_while(
         rt,
         rt.alloc(),
-        places,
+        listeners,
         &config,
         |_peers|
             requires callable { F.IsAlwaysCallable attend }
@@ -45,23 +45,23 @@ where
 }
 
 // Returns the places of these nodes, each on a free port.
-fn places<R: Host>(rt: &R, numbers: &[u8]) -> Result<Vec<Listener>> {
-    let mut places = Vec::new(rt.alloc());
-    put_places(rt, numbers, &mut places)?;
-    Ok(places)
+fn listeners<R: Host>(rt: &R, numbers: &[u8]) -> Result<Vec<Listener>> {
+    let mut listeners = Vec::new(rt.alloc());
+    put_listeners(rt, numbers, &mut listeners)?;
+    Ok(listeners)
 }
 
-fn put_places<R: Host>(rt: &R, numbers: &[u8], places: &mut Vec<Listener>) -> Result<()> {
+fn put_listeners<R: Host>(rt: &R, numbers: &[u8], listeners: &mut Vec<Listener>) -> Result<()> {
     for number in numbers {
         let listener = TcpListener::bind(rt, "127.0.0.1:0")?;
-        places.push(Listener::new(rt.alloc(), *number, listener)?)?;
+        listeners.push(Listener::new(rt.alloc(), *number, listener)?)?;
     }
     Ok(())
 }
 
-fn first_address(places: &[Listener]) -> Result<SocketAddr> {
-    match places.first() {
-        Some(place) => Ok(place.address()?),
+fn first_address(listeners: &[Listener]) -> Result<SocketAddr> {
+    match listeners.first() {
+        Some(listener) => Ok(listener.address()?),
         None => bail!("there is no node"),
     }
 }

@@ -11,7 +11,7 @@ pub const SUBSCRIBE: [u8; 10] = [0x82, 8, 0, 1, 0, 3, 0x74, 0x2F, 0x23, 2];
 /// The SUBACK of `SUBSCRIBE`.
 pub const SUBSCRIBED: [u8; 5] = [0x90, 3, 0, 1, 2];
 
-/// CONNECT of the client of this letter with keep alive 60; its session is clean or kept.
+/// Returns a CONNECT of the client of this letter with keep alive 60; its session is clean or kept.
 pub fn connect(letter: u8, clean: bool) -> [u8; 15] {
     let flags = if clean { 2 } else { 0 };
     [
@@ -25,11 +25,11 @@ pub fn publish(first: u8, id: u8, payload: u8) -> [u8; 10] {
 }
 
 /// Opens a stream to a place. A read of it ends after ten seconds.
-pub fn open<R>(rt: &R, place: Option<&Listener>) -> Option<TcpStream>
+pub fn open<R>(rt: &R, listener: Option<&Listener>) -> Option<TcpStream>
 where
     R: Net<Stream = TcpStream>,
 {
-    let stream = TcpStream::connect(rt, place?.address().ok()?).ok()?;
+    let stream = TcpStream::connect(rt, listener?.address().ok()?).ok()?;
     if waits_for(&stream, 10_000) {
         Some(stream)
     } else {
@@ -53,11 +53,16 @@ pub fn waits_to_write(stream: &TcpStream, milliseconds: u64) -> bool {
 
 /// Opens a stream of the client of this letter. There is none unless its CONNECT is accepted and
 /// the CONNACK says this of its session.
-pub fn join<R>(rt: &R, place: Option<&Listener>, letter: u8, has_session: bool) -> Option<TcpStream>
+pub fn join<R>(
+    rt: &R,
+    listener: Option<&Listener>,
+    letter: u8,
+    has_session: bool,
+) -> Option<TcpStream>
 where
     R: Net<Stream = TcpStream>,
 {
-    let mut stream = open(rt, place)?;
+    let mut stream = open(rt, listener)?;
     let accepted = [0x20, 2, u8::from(has_session), 0];
     if is_answered(&mut stream, &connect(letter, false), &accepted) {
         Some(stream)
@@ -75,12 +80,12 @@ pub struct Pair {
 
 impl Pair {
     /// Opens both, as `join` does.
-    pub fn join<R>(rt: &R, place: Option<&Listener>, has_session: bool) -> Option<Pair>
+    pub fn join<R>(rt: &R, listener: Option<&Listener>, has_session: bool) -> Option<Pair>
     where
         R: Net<Stream = TcpStream>,
     {
-        let hearer = join(rt, place, b'h', has_session)?;
-        match join(rt, place, b's', has_session) {
+        let hearer = join(rt, listener, b'h', has_session)?;
+        match join(rt, listener, b's', has_session) {
             Some(speaker) => Some(Pair { hearer, speaker }),
             None => None,
         }

@@ -13,6 +13,7 @@ pub struct Heard {
 }
 
 impl Heard {
+    /// Returns a subscriber that accepted nothing yet.
     pub fn new<R: AllocGlobal>(rt: &R) -> Heard {
         Heard {
             payloads: Vec::new(rt.alloc()),

@@ -22,12 +22,12 @@ fn are_answers(got: &[u8]) -> bool {
 }
 
 /// Says whether client `a` is answered if it sends all at once.
-pub fn visits<R>(rt: &R, place: Option<&Listener>) -> bool
+pub fn visits<R>(rt: &R, listener: Option<&Listener>) -> bool
 where
     R: Net<Stream = TcpStream>,
 {
     let mut room = [0; ANSWERED];
-    match open(rt, place) {
+    match open(rt, listener) {
         Some(mut stream) => fills(&mut stream, &SENT, &mut room) && are_answers(&room),
         None => false,
     }

@@ -9,6 +9,7 @@ use Rattle.streams.specs.declared.port_tap.PortTap.{PortTap}
 -- So no byte that a node handed over by the tap is missing among these.
 abbrev pub TapsCountAll : Type 0
 TapsCountAll =
-    (first : PortTap) (start : Option (List ℕ)) (tap : PortTap) (handed : List ℕ) (contents : Option (List ℕ)) (left : List ℕ)
+    (first : PortTap) (start : Option (List ℕ)) (tap : PortTap)
+    (handed : List ℕ) (contents : Option (List ℕ)) (left : List ℕ)
     → HandsNone first → Lives HandsOut first start tap handed contents left
     → (tap.handed ≡ counted (length handed)) × (tap.port ≡ first.port)

@@ -1,4 +1,4 @@
 pub mod Laws
-pub mod Pens
+pub mod WriteTokens
 pub mod Tapping
 pub use Rattle.connection.specs as connection

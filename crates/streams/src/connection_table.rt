@@ -1,4 +1,4 @@
-// The threads that wait at a node's place for clients, and the connections that are served there.
+// The threads that wait at a node's listener for clients, and the connections that are served.
 
 use crate::idle_lanes::IdleLanes;
 use crate::link::Link;
@@ -26,7 +26,8 @@ pub struct ConnectionTable {
 }
 
 impl ConnectionTable {
-    /// Returns an open door. The only error is that memory runs out.
+    /// Returns a table without connections, which admits some. The only error is that memory runs
+    /// out.
     pub fn new(alloc: Global) -> Result<ConnectionTable, AllocError> {
         Ok(ConnectionTable {
             waiting: Mutex::new(Waiting {
@@ -75,7 +76,7 @@ impl ConnectionTable {
     }
 
     /// Takes an index for a connection. There is none if [`CONNECTIONS`] are taken.
-    pub fn take_place<R: Wait>(&self, rt: &R) -> Option<usize> {
+    pub fn take_index<R: Wait>(&self, rt: &R) -> Option<usize> {
         let mut links = self.links.lock(rt);
         if links.len() >= usize::from(CONNECTIONS) {
             return None;
@@ -83,18 +84,18 @@ impl ConnectionTable {
         links.insert(None).ok()
     }
 
-    /// Lists a connection at its index, which it has taken.
+    /// Lists a connection at its index, which was taken for it.
     pub fn list<R: Wait>(&self, rt: &R, link: Arc<Link, Global>) {
-        let place = link.place;
+        let index = link.index;
         let mut links = self.links.lock(rt);
-        if let Some(listed) = links.get_mut(place) {
+        if let Some(listed) = links.get_mut(index) {
             *listed = Some(link);
         }
     }
 
-    /// Frees an index.
-    pub fn leave<R: Wait>(&self, rt: &R, place: usize) {
-        let _ = self.links.lock(rt).try_remove(place);
+    /// Frees an index, whose connection is listed no more.
+    pub fn free<R: Wait>(&self, rt: &R, index: usize) {
+        let _ = self.links.lock(rt).try_remove(index);
     }
 
     /// Adds the connections that are listed, from this index on and then those before it, except
@@ -115,9 +116,9 @@ impl ConnectionTable {
     /// that.
     pub fn link_from<R: Wait>(&self, rt: &R, first: usize) -> Option<(usize, Arc<Link, Global>)> {
         let links = self.links.lock(rt);
-        for place in first..usize::from(CONNECTIONS) {
-            if let Some(Some(link)) = links.get(place) {
-                return Some((place + 1, Arc::try_clone(link).ok()?));
+        for index in first..usize::from(CONNECTIONS) {
+            if let Some(Some(link)) = links.get(index) {
+                return Some((index + 1, Arc::try_clone(link).ok()?));
             }
         }
         None
@@ -132,8 +133,8 @@ fn add_between(
     end: usize,
     busy: &mut Vec<Arc<Link, Global>>,
 ) {
-    for place in first..end {
-        if let Some(Some(link)) = links.get(place) {
+    for index in first..end {
+        if let Some(Some(link)) = links.get(index) {
             add_unless_idle(link, idle, busy);
         }
     }

@@ -15,14 +15,14 @@ use std::sync::{Arc, Mutex, Wait};
 
 /// The right to write on a connection's stream: the tap of the connection's port, its socket, and
 /// what a full socket has not yet taken. A connection has one, made with it, so one thread at a
-/// time writes, and its stream is whole wherever the pen is kept.
+/// time writes, and its stream is whole wherever the token is kept.
 pub type WriteToken = Outflow<PortTap, Socket>;
 
-/// Where a connection's pen is kept while no thread writes.
+/// Where a connection's token is kept while no thread writes.
 #[derive(Drop)]
 struct WriteSlot {
     /// None while a thread writes, and for good once the stream takes no more.
-    pen: Option<WriteToken>,
+    token: Option<WriteToken>,
     /// More may have been queued since the thread that writes looked.
     again: bool,
 }
@@ -32,34 +32,34 @@ struct WriteSlot {
 pub struct Link {
     /// The port by which the node knows it.
     pub port: Port,
-    /// Its index at the door.
-    pub place: usize,
+    /// Its index in the table of connections.
+    pub index: usize,
     /// When it was accepted.
     pub opened: u64,
     stream: Arc<TcpStream, Global>,
-    case: Mutex<WriteSlot>,
+    slot: Mutex<WriteSlot>,
 }
 
-/// A connection whose socket was full, and its pen.
+/// A connection whose socket was full, and its token.
 #[derive(Drop)]
 pub struct Blocked {
     /// The connection.
     pub link: Arc<Link, Global>,
-    /// Its pen.
-    pub pen: WriteToken,
-    pub ghost its: { pen.tap.port.0 ≡ (arc_value link).port.0 },
+    /// Its token.
+    pub token: WriteToken,
+    pub ghost its: { token.tap.port.0 ≡ (arc_value link).port.0 },
 }
 
 impl Link {
     ghost use Rattle.std.specs.Prelude.{◌≡◌, IfOk, IfSome};
-    ghost use Rattle.streams.specs.Pens.{IsPenOf};
+    ghost use Rattle.streams.specs.WriteTokens.{IsTokenOf};
 
     /// Returns a connection on whose stream nothing was written. The only error is that memory ran
     /// out: then the stream is closed.
     pub fn new(
         alloc: Global,
         port: Port,
-        place: usize,
+        index: usize,
         opened: u64,
         stream: TcpStream,
     ) -> Result<Link, AllocError>
@@ -69,11 +69,11 @@ impl Link {
         let socket = Socket::new(Arc::try_clone(&stream)?);
         Ok(Link {
             port,
-            place,
+            index,
             opened,
             stream,
-            case: Mutex::new(WriteSlot {
-                pen: Some(Outflow::new(alloc, PortTap::new(port), socket)),
+            slot: Mutex::new(WriteSlot {
+                token: Some(Outflow::new(alloc, PortTap::new(port), socket)),
                 again: false,
             }),
         })
@@ -84,37 +84,38 @@ impl Link {
         Patient::new(&self.stream)
     }
 
-    /// Takes the pen, with which the caller writes. If another thread has it, that one looks again.
-    pub fn take_pen<R: Wait>(&self, rt: &R) -> Option<WriteToken>
-        ensures { IfSome result (λ pen. IsPenOf self.now.port pen) }
+    /// Takes the token, with which the caller writes. If another thread has it, that one looks
+    /// again.
+    pub fn take_token<R: Wait>(&self, rt: &R) -> Option<WriteToken>
+        ensures { IfSome result (λ token. IsTokenOf self.now.port token) }
     {
-        let mut case = self.case.lock(rt);
-        let pen = mem::replace(&mut case.pen, None);
-        case.again = pen.is_none();
-        let pen = pen?;
+        let mut slot = self.slot.lock(rt);
+        let token = mem::replace(&mut slot.token, None);
+        slot.again = token.is_none();
+        let token = token?;
         // It is this connection's, but no clause is about what is behind a lock.
-        if pen.tap().port() != self.port {
+        if token.tap().port() != self.port {
             return None;
         }
-        Some(pen)
+        Some(token)
     }
 
-    /// Returns the pen. If more may have been queued meanwhile the caller keeps it, and looks
+    /// Returns the token. If more may have been queued meanwhile the caller keeps it, and looks
     /// again.
-    pub fn lay_back<R: Wait>(&self, rt: &R, pen: WriteToken) -> Option<WriteToken>
-        ensures { IfSome result (λ kept. kept ≡ pen) }
+    pub fn put_back<R: Wait>(&self, rt: &R, token: WriteToken) -> Option<WriteToken>
+        ensures { IfSome result (λ kept. kept ≡ token) }
     {
-        let mut case = self.case.lock(rt);
-        if case.again {
-            case.again = false;
-            return Some(pen);
+        let mut slot = self.slot.lock(rt);
+        if slot.again {
+            slot.again = false;
+            return Some(token);
         }
-        case.pen = Some(pen);
+        slot.token = Some(token);
         None
     }
 
     /// Sets whether a write waits while the socket is full, for a short time. Only the thread that
-    /// has the pen does so. Returns whether it could be set.
+    /// has the token does so. Returns whether it could be set.
     pub fn set_waiting(&self, waits: bool) -> bool {
         self.stream.set_nonblocking(!waits).is_ok()
     }

@@ -1,4 +1,4 @@
-// The place where a node serves its clients: its listener and its connections.
+// Where a node accepts its clients, and the table of its connections.
 
 ghost use Rattle.std.specs.Prelude.{◌≡◌, IfOk};
 
@@ -17,21 +17,21 @@ pub const CONNECTIONS: u8 = 60;
 /// milliseconds.
 const PAUSE_MILLIS: u64 = 1;
 
-/// How often the threads that wait for clients are woken when the door is closed.
+/// How often the threads that wait for clients are woken when a listener is closed.
 const WAKES: u32 = 10_000;
 
-/// The place where a node serves its clients: its listener and its connections.
+/// Where a node accepts its clients: its TCP listener and the table of its connections.
 #[derive(Drop)]
 pub struct Listener {
     /// The node's number.
     pub number: u8,
     listener: TcpListener,
     /// The connections that are served.
-    pub door: ConnectionTable,
+    pub connections: ConnectionTable,
 }
 
 impl Listener {
-    /// Returns the place of the node of this number, whose clients connect to the listener. The
+    /// Returns the listener of the node of this number, which accepts at this TCP listener. The
     /// only error is that memory runs out.
     pub fn new(alloc: Global, number: u8, listener: TcpListener) -> Result<Listener, Memory>
         ensures { IfOk result (λ made. made.number ≡ number) }
@@ -39,7 +39,7 @@ impl Listener {
         Ok(Listener {
             number,
             listener,
-            door: ConnectionTable::new(alloc)?,
+            connections: ConnectionTable::new(alloc)?,
         })
     }
 
@@ -48,14 +48,14 @@ impl Listener {
         self.listener.local_addr()
     }
 
-    /// Returns the stream of the next client. There is none once the door is closed.
+    /// Returns the stream of the next client. There is none once the listener is closed.
     pub fn accept<R: Wait + Clock>(&self, rt: &R) -> Option<TcpStream> {
         for _ in rt.forever() {
-            if !self.door.begin_wait(rt) {
+            if !self.connections.begin_wait(rt) {
                 return None;
             }
             let came = self.listener.accept();
-            if !self.door.end_wait(rt) {
+            if !self.connections.end_wait(rt) {
                 return None;
             }
             match came {
@@ -68,9 +68,9 @@ impl Listener {
 
     /// Ends all connections, and admits no more: the threads that wait for clients continue.
     pub fn close<R: Wait + Clock + Net<Stream = TcpStream>>(&self, rt: &R) {
-        self.door.close(rt);
+        self.connections.close(rt);
         for _ in 0..WAKES {
-            if !self.door.is_waited_at(rt) {
+            if !self.connections.is_waited_at(rt) {
                 return;
             }
             if let Ok(address) = self.address() {

@@ -53,7 +53,8 @@ impl PortTap {
 
         // All that the node queued for the port, and nothing else.
         ensures bytes { OnOk result
-            (out.new.items ≡ out.old.items ++ bytes_of (listed_at self.old.port node.old.node.core)) }
+            (out.new.items
+            ≡ out.old.items ++ bytes_of (listed_at self.old.port node.old.node.core)) }
         ensures left { OnOk result (node.new ≡ record node.old {
           node = record node.old.node { core = hands_over self.old.port node.old.node.core };
         }) }

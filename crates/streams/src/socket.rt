@@ -6,7 +6,7 @@ use std::io::Write;
 use std::net::TcpStream;
 use std::sync::Arc;
 
-/// A connection's socket, on which only the connection's pen writes.
+/// A connection's socket, on which only the connection's token writes.
 #[derive(Drop)]
 pub struct Socket {
     stream: Arc<TcpStream, Global>,

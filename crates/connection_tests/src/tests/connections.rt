@@ -30,9 +30,9 @@ struct LaneReporter<J: Naming> {
 }
 
 impl<J: Naming> Hearer for LaneReporter<J> {
-    ghost heard = { λ ear. ear.lane.sent };
+    ghost heard = { λ hearer. hearer.lane.sent };
 
-    ghost lets = { λ ear answer. answer ≡ ear.is_open };
+    ghost lets = { λ hearer answer. answer ≡ hearer.is_open };
 
     fn now<R: Clock>(&self, _rt: &R) -> u64 {
         5
@@ -194,8 +194,8 @@ fn tells<J: Naming, R: Wait>(
 fn a_connection_is_told_whole(rt: HostRuntime) -> Result<(), Fail> {
     for row in ROWS {
         let inbox = Inbox::new(rt.alloc())?;
-        let told = hears::<Brand, HostRuntime>(&rt, rt.alloc(), inbox, row);
-        assert!(rt; told, "{row:?}");
+        let reported = hears::<Brand, HostRuntime>(&rt, rt.alloc(), inbox, row);
+        assert!(rt; reported, "{row:?}");
     }
     Ok(())
 }
@@ -265,10 +265,10 @@ fn write_all<R: Wait>(
 
 // Says whether what was left before and then the node's answer are written so.
 fn writes<R: Wait>(rt: &R, alloc: Global, spring: &mut Spring, row: &WriteRow) -> bool {
-    let (bad_call, kind, late, flow, count) = *row;
+    let (bad_call, kind, blocked, flow, count) = *row;
     let mut sink = Counted::new(Sink::new(alloc, 3, bad_call, kind));
     let ended = connects(alloc, spring)
-        && write_all(rt, alloc, spring, &mut sink) == Some((late, flow));
+        && write_all(rt, alloc, spring, &mut sink) == Some((blocked, flow));
     let counted = sink.faults() == u64::from(flow == Flow::Fault);
     ended && counted && has_written(&sink.into_device(), count)
 }

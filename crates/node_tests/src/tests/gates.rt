@@ -88,15 +88,15 @@ where
     S: Stated<J>,
     R: Wait + Clock,
 {
-    let leave = node.pass(rt);
+    let permit = node.pass(rt);
     let took = {
         let mut locked = node.lock(rt);
         let state = locked.state();
         let mut effects = Vec::new(alloc);
         let receipt = state.receipt();
-        leave.is_for(state) && state.take_one(rt, &mut effects, receipt) && effects.is_empty()
+        permit.is_for(state) && state.take_one(rt, &mut effects, receipt) && effects.is_empty()
     };
-    node.done(rt, leave);
+    node.done(rt, permit);
     took
 }
 

@@ -171,7 +171,7 @@ fn what_is_left_over_is_listed(rt: HostRuntime) -> Result<(), Fail> {
 
 // What is done with two inboxes, meant by their places, of one lane each, and the result of it.
 #[derive(Clone, Copy)]
-enum Deed {
+enum Call {
     // The lane of an inbox sends an item.
     Send(usize, u64),
     // What is taken from an inbox.
@@ -215,11 +215,11 @@ impl<J: Naming> Two<J> {
         meet(&mut receiver, lanes.as_mut_slice())
     }
 
-    fn is_right<R: Wait>(&self, rt: &R, deed: Deed) -> bool {
-        match deed {
-            Deed::Send(at, item) => self.send(rt, at, item),
-            Deed::Take(at, wanted) => self.take(rt, at) == wanted,
-            Deed::Meet(at, lane_at, wanted) => self.meet(rt, at, lane_at) == wanted,
+    fn is_right<R: Wait>(&self, rt: &R, call: Call) -> bool {
+        match call {
+            Call::Send(at, item) => self.send(rt, at, item),
+            Call::Take(at, wanted) => self.take(rt, at) == wanted,
+            Call::Meet(at, lane_at, wanted) => self.meet(rt, at, lane_at) == wanted,
         }
     }
 }
@@ -229,7 +229,7 @@ fn first_fault_of_two<J: Naming, R: Wait>(
     rt: &R,
     first: Inbox<u64>,
     second: Inbox<u64>,
-    rows: &[Deed],
+    rows: &[Call],
 ) -> Option<usize>
     requires first { first ≡ J.inbox_of 1 }
     requires second { second ≡ J.inbox_of 2 }
@@ -244,23 +244,23 @@ fn first_fault_of_two<J: Naming, R: Wait>(
         receivers: [Mutex::new(first), Mutex::new(second)],
         lanes: [Mutex::new(first_lanes), Mutex::new(second_lanes)],
     };
-    rows.iter().position(|deed| !two.is_right(rt, *deed))
+    rows.iter().position(|call| !two.is_right(rt, *call))
 }
 
-const MET: &[Deed] = &[
-    Deed::Send(0, 7),
-    Deed::Send(0, 8),
-    Deed::Send(0, 9),
-    Deed::Send(1, 70),
-    Deed::Take(0, Some((0, 7))),
-    Deed::Take(0, Some((0, 8))),
-    Deed::Meet(0, 0, Some(2)),
-    Deed::Meet(1, 1, Some(0)),
-    Deed::Meet(0, 1, None),
-    Deed::Meet(1, 0, None),
-    Deed::Take(0, Some((0, 9))),
-    Deed::Take(0, None),
-    Deed::Take(1, Some((0, 70))),
+const MET: &[Call] = &[
+    Call::Send(0, 7),
+    Call::Send(0, 8),
+    Call::Send(0, 9),
+    Call::Send(1, 70),
+    Call::Take(0, Some((0, 7))),
+    Call::Take(0, Some((0, 8))),
+    Call::Meet(0, 0, Some(2)),
+    Call::Meet(1, 1, Some(0)),
+    Call::Meet(0, 1, None),
+    Call::Meet(1, 0, None),
+    Call::Take(0, Some((0, 9))),
+    Call::Take(0, None),
+    Call::Take(1, Some((0, 70))),
 ];
 
 #[test]

@@ -295,7 +295,7 @@ fn what_is_not_taken_is_left_over(rt: HostRuntime) -> Result<(), Fail> {
 
 // What is done with two nodes, meant by their places, of one lane each, and the result of it.
 #[derive(Clone, Copy)]
-enum Deed {
+enum Call {
     // The lane of a node sends a tick of this time.
     Send(usize, u64),
     // Whether a node takes an item.
@@ -333,11 +333,11 @@ impl<J: NodeNaming> Two<J> {
         met(&mut state, lanes.as_mut_slice(), 0)
     }
 
-    fn is_right<R: Wait>(&self, rt: &R, alloc: Global, deed: Deed) -> bool {
-        match deed {
-            Deed::Send(at, now) => self.send(rt, at, now),
-            Deed::Take(at, wanted) => self.take(rt, alloc, at, wanted),
-            Deed::Meet(at, lane_at, wanted) => self.meet(rt, at, lane_at) == wanted,
+    fn is_right<R: Wait>(&self, rt: &R, alloc: Global, call: Call) -> bool {
+        match call {
+            Call::Send(at, now) => self.send(rt, at, now),
+            Call::Take(at, wanted) => self.take(rt, alloc, at, wanted),
+            Call::Meet(at, lane_at, wanted) => self.meet(rt, at, lane_at) == wanted,
         }
     }
 }
@@ -355,7 +355,7 @@ fn first_fault_of_two<J: NodeNaming, R: Wait>(
     alloc: Global,
     first: Start,
     second: Start,
-    deeds: &[Deed],
+    calls: &[Call],
 ) -> Option<usize>
     requires inbox { first.inbox ≡ J.inbox_of 1 }
     requires core { first.core ≡ J.first_of 1 }
@@ -375,31 +375,31 @@ fn first_fault_of_two<J: NodeNaming, R: Wait>(
         ],
         lanes: [Mutex::new(lanes), Mutex::new(other_lanes)],
     };
-    deeds
+    calls
         .iter()
-        .position(|deed| !two.is_right(rt, alloc, *deed))
+        .position(|call| !two.is_right(rt, alloc, *call))
 }
 
-const MET: &[Deed] = &[
-    Deed::Send(0, 1),
-    Deed::Send(0, 2),
-    Deed::Send(0, 3),
-    Deed::Send(1, 5),
-    Deed::Send(1, 6),
-    Deed::Meet(0, 0, Some(0)),
-    Deed::Meet(1, 1, Some(0)),
-    Deed::Take(0, true),
-    Deed::Take(0, true),
-    Deed::Take(1, true),
-    Deed::Meet(0, 0, Some(2)),
-    Deed::Meet(1, 1, Some(1)),
-    Deed::Meet(0, 1, None),
-    Deed::Meet(1, 0, None),
-    Deed::Take(0, true),
-    Deed::Take(0, false),
-    Deed::Meet(0, 0, Some(3)),
-    Deed::Take(1, true),
-    Deed::Meet(1, 1, Some(2)),
+const MET: &[Call] = &[
+    Call::Send(0, 1),
+    Call::Send(0, 2),
+    Call::Send(0, 3),
+    Call::Send(1, 5),
+    Call::Send(1, 6),
+    Call::Meet(0, 0, Some(0)),
+    Call::Meet(1, 1, Some(0)),
+    Call::Take(0, true),
+    Call::Take(0, true),
+    Call::Take(1, true),
+    Call::Meet(0, 0, Some(2)),
+    Call::Meet(1, 1, Some(1)),
+    Call::Meet(0, 1, None),
+    Call::Meet(1, 0, None),
+    Call::Take(0, true),
+    Call::Take(0, false),
+    Call::Meet(0, 0, Some(3)),
+    Call::Take(1, true),
+    Call::Meet(1, 1, Some(2)),
 ];
 
 /// Returns an unused inbox, and the node of this number, the sole member of ballot 1.

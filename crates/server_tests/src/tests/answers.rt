@@ -45,14 +45,14 @@ fn one_client_is_answered(rt: HostRuntime) {
 
 /// Says whether a client with keep alive 1 that falls silent is closed after one and a half seconds
 /// (MQTT 3.1.2.10), and nothing more was sent to it.
-pub(super) fn is_silence_ended<R>(rt: &R, place: Option<&Listener>) -> bool
+pub(super) fn is_silence_ended<R>(rt: &R, listener: Option<&Listener>) -> bool
 where
     R: Clock + Net<Stream = TcpStream>,
 {
     let Ok(start) = Instant::now(rt) else {
         return false;
     };
-    match open(rt, place) {
+    match open(rt, listener) {
         Some(mut stream) => is_ended(&mut stream) && has_taken(rt, start),
         None => false,
     }
@@ -83,7 +83,7 @@ pub(super) struct Flood {
 }
 
 impl Flood {
-    /// 32,768 PINGREQ, and as many PINGRESP.
+    /// Returns 32,768 PINGREQ, and as many PINGRESP.
     pub(super) fn new(alloc: Global) -> Result<Flood, AllocError> {
         Ok(Flood {
             sent: packets(alloc, 0xC0)?,
@@ -113,21 +113,21 @@ fn packets(alloc: Global, first: u8) -> Result<Vec<u8>, AllocError> {
 }
 
 /// Says whether 32,768 PINGREQ in one write are answered by as many PINGRESP and nothing else.
-pub(super) fn is_flood_answered<R>(rt: &R, place: Option<&Listener>) -> bool
+pub(super) fn is_flood_answered<R>(rt: &R, listener: Option<&Listener>) -> bool
 where
     R: AllocGlobal + Net<Stream = TcpStream>,
 {
     match Flood::new(rt.alloc()) {
-        Ok(mut flood) => floods(rt, place, &mut flood),
+        Ok(mut flood) => floods(rt, listener, &mut flood),
         Err(_) => false,
     }
 }
 
-fn floods<R>(rt: &R, place: Option<&Listener>, flood: &mut Flood) -> bool
+fn floods<R>(rt: &R, listener: Option<&Listener>, flood: &mut Flood) -> bool
 where
     R: Net<Stream = TcpStream>,
 {
-    match join(rt, place, b'a', false) {
+    match join(rt, listener, b'a', false) {
         Some(mut stream) => flood.is_sent(&mut stream) && flood.is_heard(&mut stream),
         None => false,
     }

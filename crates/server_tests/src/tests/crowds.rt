@@ -30,7 +30,7 @@ const TABLES: &[Table] = &[
         row: Row::SilentOnes,
     },
     Table {
-        name: "a deaf client loses its place",
+        name: "a deaf client loses its listener",
         members: &[1],
         row: Row::Deaf,
     },
@@ -59,35 +59,35 @@ fn a_client_that_never_reads_keeps_nobody_waiting(rt: HostRuntime) {
 
 /// Says whether sixty clients are answered by PINGRESP while they are connected and one more has
 /// come.
-pub(super) fn are_sixty_answered<R>(rt: &R, place: Option<&Listener>) -> bool
+pub(super) fn are_sixty_answered<R>(rt: &R, listener: Option<&Listener>) -> bool
 where
     R: AllocGlobal + Net<Stream = TcpStream>,
 {
     let mut streams = Vec::new(rt.alloc());
-    (b'A'..b'}').all(|letter| joins(rt, place, letter, &mut streams))
-        && is_turned_away(rt, place)
+    (b'A'..b'}').all(|letter| joins(rt, listener, letter, &mut streams))
+        && is_turned_away(rt, listener)
         && streams
             .iter_mut()
             .all(|stream| is_answered(stream, &[0xC0, 0], &[0xD0, 0]))
 }
 
 // Says whether the client of this letter joins those of the streams.
-fn joins<R>(rt: &R, place: Option<&Listener>, letter: u8, streams: &mut Vec<TcpStream>) -> bool
+fn joins<R>(rt: &R, listener: Option<&Listener>, letter: u8, streams: &mut Vec<TcpStream>) -> bool
 where
     R: Net<Stream = TcpStream>,
 {
-    match join(rt, place, letter, false) {
+    match join(rt, listener, letter, false) {
         Some(stream) => streams.push(stream).is_ok(),
         None => false,
     }
 }
 
 // Says whether the next connection is closed within two seconds.
-fn is_turned_away<R>(rt: &R, place: Option<&Listener>) -> bool
+fn is_turned_away<R>(rt: &R, listener: Option<&Listener>) -> bool
 where
     R: Net<Stream = TcpStream>,
 {
-    match open(rt, place) {
+    match open(rt, listener) {
         Some(mut stream) => is_closed(&mut stream),
         None => false,
     }
@@ -95,24 +95,24 @@ where
 
 /// Says whether sixty clients that say nothing keep their places for six seconds, and not for
 /// fourteen. Then another is accepted.
-pub(super) fn are_silent_ones_ended<R>(rt: &R, place: Option<&Listener>) -> bool
+pub(super) fn are_silent_ones_ended<R>(rt: &R, listener: Option<&Listener>) -> bool
 where
     R: AllocGlobal + Net<Stream = TcpStream>,
 {
     let mut streams = Vec::new(rt.alloc());
-    (0..60u8).all(|_| opens(rt, place, &mut streams))
-        && is_turned_away(rt, place)
+    (0..60u8).all(|_| opens(rt, listener, &mut streams))
+        && is_turned_away(rt, listener)
         && streams.first_mut().map(|stream| is_open_for(stream, 6_000)) == Some(true)
         && streams.iter_mut().all(|stream| !is_open_for(stream, 8_000))
-        && is_accepted(rt, place, b'a')
+        && is_accepted(rt, listener, b'a')
 }
 
 // Says whether a stream is opened, and joins these.
-fn opens<R>(rt: &R, place: Option<&Listener>, streams: &mut Vec<TcpStream>) -> bool
+fn opens<R>(rt: &R, listener: Option<&Listener>, streams: &mut Vec<TcpStream>) -> bool
 where
     R: Net<Stream = TcpStream>,
 {
-    match open(rt, place) {
+    match open(rt, listener) {
         Some(stream) => streams.push(stream).is_ok(),
         None => false,
     }
@@ -120,19 +120,19 @@ where
 
 /// Says whether 200 clients that come one after another, each once the one before has left, are all
 /// accepted.
-pub(super) fn are_all_accepted<R>(rt: &R, place: Option<&Listener>) -> bool
+pub(super) fn are_all_accepted<R>(rt: &R, listener: Option<&Listener>) -> bool
 where
     R: Net<Stream = TcpStream>,
 {
-    (0..200u8).all(|count| is_accepted(rt, place, b'a' + count % 26))
+    (0..200u8).all(|count| is_accepted(rt, listener, b'a' + count % 26))
 }
 
 // Says whether the client of this letter, which wants no session, is accepted. Then it leaves.
-fn is_accepted<R>(rt: &R, place: Option<&Listener>, letter: u8) -> bool
+fn is_accepted<R>(rt: &R, listener: Option<&Listener>, letter: u8) -> bool
 where
     R: Net<Stream = TcpStream>,
 {
-    match open(rt, place) {
+    match open(rt, listener) {
         Some(mut stream) => is_answered(&mut stream, &connect(letter, true), &[0x20, 2, 0, 0]),
         None => false,
     }
@@ -176,22 +176,24 @@ pub(super) fn large_publish(alloc: Global) -> Result<Vec<u8>, AllocError> {
 
 /// Says whether a subscriber gets 50 MB while another one has the same subscription and never
 /// reads.
-pub(super) fn is_heard_beside<R>(rt: &R, place: Option<&Listener>) -> bool
+pub(super) fn is_heard_beside<R>(rt: &R, listener: Option<&Listener>) -> bool
 where
     R: AllocGlobal + Net<Stream = TcpStream>,
 {
-    match join(rt, place, b'd', false) {
-        Some(mut deaf) => { is_answered(&mut deaf, &SUBSCRIBE, &SUBSCRIBED) && is_heard(rt, place) }
+    match join(rt, listener, b'd', false) {
+        Some(mut deaf) => {
+            is_answered(&mut deaf, &SUBSCRIBE, &SUBSCRIBED) && is_heard(rt, listener)
+        }
         None => false,
     }
 }
 
 // Says whether a subscriber gets 50 MB.
-fn is_heard<R>(rt: &R, place: Option<&Listener>) -> bool
+fn is_heard<R>(rt: &R, listener: Option<&Listener>) -> bool
 where
     R: AllocGlobal + Net<Stream = TcpStream>,
 {
-    match Pair::join(rt, place, false) {
+    match Pair::join(rt, listener, false) {
         Some(mut pair) => pair.subscribes() && are_fifty_heard(rt.alloc(), &mut pair),
         None => false,
     }
@@ -206,29 +208,29 @@ fn are_fifty_heard(alloc: Global, pair: &mut Pair) -> bool {
 
 /// Says whether a subscriber with keep alive 4 that never reads, and says nothing more, keeps its
 /// place for a while, and then loses it to another client.
-pub(super) fn is_deaf_one_ended<R>(rt: &R, place: Option<&Listener>) -> bool
+pub(super) fn is_deaf_one_ended<R>(rt: &R, listener: Option<&Listener>) -> bool
 where
     R: AllocGlobal + Wait + Clock + Net<Stream = TcpStream>,
 {
     let mut streams = Vec::new(rt.alloc());
-    match deaf(rt, place) {
+    match deaf(rt, listener) {
         Some(_deaf) => {
-            (b'$'..b'^').all(|letter| joins(rt, place, letter, &mut streams))
-                && joins(rt, place, b's', &mut streams)
+            (b'$'..b'^').all(|letter| joins(rt, listener, letter, &mut streams))
+                && joins(rt, listener, b's', &mut streams)
                 && are_twenty_sent(rt.alloc(), streams.last_mut())
-                && is_turned_away(rt, place)
-                && is_accepted_in_time(rt, place)
+                && is_turned_away(rt, listener)
+                && is_accepted_in_time(rt, listener)
         }
         None => false,
     }
 }
 
 // Returns a subscriber with keep alive 4.
-fn deaf<R>(rt: &R, place: Option<&Listener>) -> Option<TcpStream>
+fn deaf<R>(rt: &R, listener: Option<&Listener>) -> Option<TcpStream>
 where
     R: Net<Stream = TcpStream>,
 {
-    let mut stream = open(rt, place)?;
+    let mut stream = open(rt, listener)?;
     let mut sent = connect(b'd', false);
     sent[11] = 4;
     let accepted = is_answered(&mut stream, &sent, &[0x20, 2, 0, 0]);
@@ -251,12 +253,12 @@ fn are_twenty_sent(alloc: Global, stream: Option<&mut TcpStream>) -> bool {
 }
 
 // Says whether client `a` is accepted within ten seconds.
-fn is_accepted_in_time<R>(rt: &R, place: Option<&Listener>) -> bool
+fn is_accepted_in_time<R>(rt: &R, listener: Option<&Listener>) -> bool
 where
     R: Wait + Clock + Net<Stream = TcpStream>,
 {
     for _ in 0..100 {
-        if is_accepted(rt, place, b'a') {
+        if is_accepted(rt, listener, b'a') {
             return true;
         }
         thread::sleep(rt, Duration::from_millis(100));

@@ -72,11 +72,11 @@ where
         + Sync
         + Net<Listener = TcpListener, Stream = TcpStream>,
 {
-    let mut places = Vec::new(rt.alloc());
-    listen_all(rt, row.members, &mut places) && serve(rt, row, places.as_slice())
+    let mut listeners = Vec::new(rt.alloc());
+    listen_all(rt, row.members, &mut listeners) && serve(rt, row, listeners.as_slice())
 }
 
-fn serve<R>(rt: &R, row: &Row, places: &[Listener]) -> bool
+fn serve<R>(rt: &R, row: &Row, listeners: &[Listener]) -> bool
 where
     R: AllocGlobal + Threads + Wait + Clock + Sync + Net<Stream = TcpStream>,
 {
@@ -93,10 +93,10 @@ where
     let served = serve_gated(
         rt,
         rt.alloc(),
-        places,
+        listeners,
         &config,
         &NoGate,
-        |_peers| sends(rt, row, places.first()),
+        |_peers| sends(rt, row, listeners.first()),
     );
     match served {
         Ok((sent, reports)) => sent && are_as_told(reports.as_slice(), row.are_cut),
@@ -105,11 +105,11 @@ where
 }
 
 // Says whether the publications are sent and taken, and then it waits.
-fn sends<R>(rt: &R, row: &Row, place: Option<&Listener>) -> bool
+fn sends<R>(rt: &R, row: &Row, listener: Option<&Listener>) -> bool
 where
     R: AllocGlobal + Wait + Clock + Net<Stream = TcpStream>,
 {
-    let (Ok(large), Some(mut stream)) = (large_publish(rt.alloc()), join(rt, place, b's', false))
+    let (Ok(large), Some(mut stream)) = (large_publish(rt.alloc()), join(rt, listener, b's', false))
     else {
         return false;
     };

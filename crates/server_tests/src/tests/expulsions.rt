@@ -34,27 +34,27 @@ fn sessions_are_expelled(rt: HostRuntime) {
 /// Says whether client `h` finds no session and nothing of before each time that its session is
 /// ended, while it is connected and while it is away; and whether another client that is away gets
 /// all that was published.
-pub(super) fn expels<R>(rt: &R, peers: &Cluster, place: Option<&Listener>) -> bool
+pub(super) fn expels<R>(rt: &R, cluster: &Cluster, listener: Option<&Listener>) -> bool
 where
     R: AllocGlobal + Wait + Clock + Net<Stream = TcpStream>,
 {
-    leaves_a_queue(rt, place)
-        && match Pair::join(rt, place, false) {
+    leaves_a_queue(rt, listener)
+        && match Pair::join(rt, listener, false) {
             Some(mut pair) => {
-                is_ended_while_connected(rt, peers, &mut pair)
-                    && is_ended_while_away(rt, peers, place, &mut pair.speaker)
-                    && is_heard_whole(rt, place)
+                is_ended_while_connected(rt, cluster, &mut pair)
+                    && is_ended_while_away(rt, cluster, listener, &mut pair.speaker)
+                    && is_heard_whole(rt, listener)
             }
             None => false,
         }
 }
 
 // Says whether client `q` subscribes, and then is away.
-fn leaves_a_queue<R>(rt: &R, place: Option<&Listener>) -> bool
+fn leaves_a_queue<R>(rt: &R, listener: Option<&Listener>) -> bool
 where
     R: Net<Stream = TcpStream>,
 {
-    match join(rt, place, b'q', false) {
+    match join(rt, listener, b'q', false) {
         Some(mut stream) => is_answered(&mut stream, &SUBSCRIBE, &SUBSCRIBED),
         None => false,
     }
@@ -62,7 +62,7 @@ where
 
 // Says whether the subscriber's connection is closed after it was sent `x`, which it has not
 // acknowledged.
-fn is_ended_while_connected<R>(rt: &R, peers: &Cluster, pair: &mut Pair) -> bool
+fn is_ended_while_connected<R>(rt: &R, cluster: &Cluster, pair: &mut Pair) -> bool
 where
     R: AllocGlobal + Wait + Clock,
 {
@@ -70,7 +70,7 @@ where
     pair.subscribes()
         && is_delivered(&mut pair.speaker, publish(0x34, 1, b'x'))
         && heard.hear(&mut pair.hearer).is_some()
-        && is_ordered(rt, peers)
+        && is_ordered(rt, cluster)
         && is_closed(&mut pair.hearer)
         && is_delivered(&mut pair.speaker, publish(0x34, 2, b'y'))
 }
@@ -79,27 +79,27 @@ where
 // `z` waits for it.
 fn is_ended_while_away<R>(
     rt: &R,
-    peers: &Cluster,
-    place: Option<&Listener>,
+    cluster: &Cluster,
+    listener: Option<&Listener>,
     speaker: &mut TcpStream,
 ) -> bool
 where
     R: AllocGlobal + Wait + Clock + Net<Stream = TcpStream>,
 {
-    begins_anew(rt, place)
+    begins_anew(rt, listener)
         && is_delivered(speaker, publish(0x34, 3, b'z'))
-        && is_ordered(rt, peers)
+        && is_ordered(rt, cluster)
         && has_time(rt)
-        && begins_anew(rt, place)
+        && begins_anew(rt, listener)
 }
 
 // Says whether the subscriber finds no session and gets nothing, subscribes again, and then is
 // away.
-fn begins_anew<R>(rt: &R, place: Option<&Listener>) -> bool
+fn begins_anew<R>(rt: &R, listener: Option<&Listener>) -> bool
 where
     R: Wait + Clock + Net<Stream = TcpStream>,
 {
-    match join(rt, place, b'h', false) {
+    match join(rt, listener, b'h', false) {
         Some(mut stream) => {
             is_silent(&mut stream) && is_answered(&mut stream, &SUBSCRIBE, &SUBSCRIBED)
         }
@@ -108,12 +108,12 @@ where
 }
 
 // Says whether the order to end the subscriber's session is taken.
-fn is_ordered<R>(rt: &R, peers: &Cluster) -> bool
+fn is_ordered<R>(rt: &R, cluster: &Cluster) -> bool
 where
     R: AllocGlobal + Wait + Clock,
 {
     match ClientId::new(rt.alloc(), "h") {
-        Ok(client) => peers.expel(rt, &client) == Ok(true),
+        Ok(client) => cluster.expel(rt, &client) == Ok(true),
         Err(_) => false,
     }
 }
@@ -125,12 +125,12 @@ fn has_time<R: Clock>(rt: &R) -> bool {
 }
 
 // Says whether client `q` finds its session, and gets all three publications.
-fn is_heard_whole<R>(rt: &R, place: Option<&Listener>) -> bool
+fn is_heard_whole<R>(rt: &R, listener: Option<&Listener>) -> bool
 where
     R: AllocGlobal + Net<Stream = TcpStream>,
 {
     let mut heard = Heard::new(rt);
-    match join(rt, place, b'q', true) {
+    match join(rt, listener, b'q', true) {
         Some(mut stream) => {
             heard.hears(&mut stream, b'z') && heard.payloads.as_slice() == b"xyz".as_slice()
         }

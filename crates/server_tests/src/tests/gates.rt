@@ -13,7 +13,7 @@ use std::time::{Clock, Duration};
 
 // A gate, and what is done while nodes ask it.
 trait Watched: Gate {
-    fn attend<R>(&self, rt: &R, peers: &Cluster, place: Option<&Listener>) -> bool
+    fn attend<R>(&self, rt: &R, cluster: &Cluster, listener: Option<&Listener>) -> bool
     where
         R: AllocGlobal + Wait + Clock + Net<Stream = TcpStream>;
 }
@@ -30,11 +30,11 @@ where
         + Net<Listener = TcpListener, Stream = TcpStream>,
     G: Watched + Sync,
 {
-    let mut places = Vec::new(rt.alloc());
-    listen_all(rt, members, &mut places) && serve(rt, members, places.as_slice(), gate)
+    let mut listeners = Vec::new(rt.alloc());
+    listen_all(rt, members, &mut listeners) && serve(rt, members, listeners.as_slice(), gate)
 }
 
-fn serve<R, G>(rt: &R, members: &[u8], places: &[Listener], gate: &G) -> bool
+fn serve<R, G>(rt: &R, members: &[u8], listeners: &[Listener], gate: &G) -> bool
 where
     R: AllocGlobal + Threads + Wait + Clock + Sync + Net<Stream = TcpStream>,
     G: Watched + Sync,
@@ -45,13 +45,13 @@ where
     let served = serve_gated(
         rt,
         rt.alloc(),
-        places,
+        listeners,
         &config,
         gate,
-        |peers| gate.attend(rt, peers, places.first()),
+        |cluster| gate.attend(rt, cluster, listeners.first()),
     );
     match served {
-        Ok((went_well, reports)) => went_well && are_through(reports.as_slice(), places.len()),
+        Ok((went_well, reports)) => went_well && are_through(reports.as_slice(), listeners.len()),
         Err(_) => false,
     }
 }
@@ -109,8 +109,8 @@ impl Meeting {
     // Notes that a node comes or goes; says whether all are there.
     fn sees<R: Wait>(&self, rt: &R, node: u8, comes: bool) -> bool {
         let mut there = self.there.lock(rt);
-        if let Some(place) = there.get_mut(usize::from(node).wrapping_sub(1)) {
-            *place = comes;
+        if let Some(entry) = there.get_mut(usize::from(node).wrapping_sub(1)) {
+            *entry = comes;
         }
         there.iter().take(self.nodes).all(|node| *node)
     }
@@ -143,13 +143,13 @@ impl Gate for Meeting {
 impl Watched for Meeting {
     // Says whether the nodes meet within ten seconds, client `a` is answered then, and each taking
     // was asked for by its number.
-    fn attend<R>(&self, rt: &R, _peers: &Cluster, place: Option<&Listener>) -> bool
+    fn attend<R>(&self, rt: &R, _peers: &Cluster, listener: Option<&Listener>) -> bool
     where
         R: AllocGlobal + Wait + Clock + Net<Stream = TcpStream>,
     {
         for _ in 0..1_000 {
             if self.has_met(rt) {
-                return visits(rt, place) && *self.in_order.lock(rt);
+                return visits(rt, listener) && *self.in_order.lock(rt);
             }
             thread::sleep(rt, Duration::from_millis(10));
         }
@@ -192,12 +192,12 @@ impl Bar {
     }
 
     // Says whether `holds` holds for a subscriber and a publisher.
-    fn passes<R>(&self, rt: &R, place: Option<&Listener>) -> bool
+    fn passes<R>(&self, rt: &R, listener: Option<&Listener>) -> bool
     where
         R: AllocGlobal + Wait + Net<Stream = TcpStream>,
     {
         let mut heard = Heard::new(rt);
-        match Pair::join(rt, place, false) {
+        match Pair::join(rt, listener, false) {
             Some(mut pair) => self.holds(rt, &mut pair, &mut heard),
             None => false,
         }
@@ -233,14 +233,14 @@ impl Gate for Bar {
 }
 
 impl Watched for Bar {
-    fn attend<R>(&self, rt: &R, peers: &Cluster, place: Option<&Listener>) -> bool
+    fn attend<R>(&self, rt: &R, cluster: &Cluster, listener: Option<&Listener>) -> bool
     where
         R: AllocGlobal + Wait + Clock + Net<Stream = TcpStream>,
     {
         match self.load {
-            Load::One => self.passes(rt, place),
-            Load::Packets => are_places_bounded(rt, self, peers, place),
-            Load::Bytes => are_bytes_bounded(rt, self, peers, place),
+            Load::One => self.passes(rt, listener),
+            Load::Packets => are_places_bounded(rt, self, cluster, listener),
+            Load::Bytes => are_bytes_bounded(rt, self, cluster, listener),
         }
     }
 }

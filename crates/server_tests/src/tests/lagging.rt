@@ -16,14 +16,14 @@ use std::time::{Clock, Duration};
 pub(super) fn are_places_bounded<R>(
     rt: &R,
     bar: &Bar,
-    peers: &Cluster,
-    place: Option<&Listener>,
+    cluster: &Cluster,
+    listener: Option<&Listener>,
 ) -> bool
 where
     R: AllocGlobal + Wait + Clock + Net<Stream = TcpStream>,
 {
-    match (Flood::new(rt.alloc()), join(rt, place, b'a', false)) {
-        (Ok(mut flood), Some(mut stream)) => waits(rt, bar, peers, &mut flood, &mut stream),
+    match (Flood::new(rt.alloc()), join(rt, listener, b'a', false)) {
+        (Ok(mut flood), Some(mut stream)) => waits(rt, bar, cluster, &mut flood, &mut stream),
         _ => false,
     }
 }
@@ -31,21 +31,21 @@ where
 fn waits<R: Wait + Clock>(
     rt: &R,
     bar: &Bar,
-    peers: &Cluster,
+    cluster: &Cluster,
     flood: &mut Flood,
     stream: &mut TcpStream,
 ) -> bool {
     bar.set(rt, true);
     let sent = (0..3u8).all(|_| flood.is_sent(stream));
     thread::sleep(rt, Duration::from_millis(1_500));
-    let open = open_places(rt, peers);
+    let open = open_places(rt, cluster);
     bar.set(rt, false);
     sent && open > 4_096 && open <= 37_000 && (0..3u8).all(|_| flood.is_heard(stream))
 }
 
 // Returns how many places of the primary's log are not known to be held by all.
-fn open_places<R: Wait + Clock>(rt: &R, peers: &Cluster) -> u64 {
-    match peers.status(rt, 1) {
+fn open_places<R: Wait + Clock>(rt: &R, cluster: &Cluster) -> u64 {
+    match cluster.status(rt, 1) {
         Some(status) => status.held.saturating_sub(status.committed),
         None => u64::MAX,
     }
@@ -56,15 +56,15 @@ fn open_places<R: Wait + Clock>(rt: &R, peers: &Cluster) -> u64 {
 pub(super) fn are_bytes_bounded<R>(
     rt: &R,
     bar: &Bar,
-    peers: &Cluster,
-    place: Option<&Listener>,
+    cluster: &Cluster,
+    listener: Option<&Listener>,
 ) -> bool
 where
     R: AllocGlobal + Wait + Clock + Net<Stream = TcpStream>,
 {
-    match (large_publish(rt.alloc()), join(rt, place, b's', false)) {
+    match (large_publish(rt.alloc()), join(rt, listener, b's', false)) {
         (Ok(large), Some(mut stream)) => {
-            is_held_back(rt, bar, peers, large.as_slice(), &mut stream) && visits(rt, place)
+            is_held_back(rt, bar, cluster, large.as_slice(), &mut stream) && visits(rt, listener)
         }
         _ => false,
     }
@@ -74,14 +74,14 @@ where
 fn is_held_back<R: Wait + Clock>(
     rt: &R,
     bar: &Bar,
-    peers: &Cluster,
+    cluster: &Cluster,
     large: &[u8],
     stream: &mut TcpStream,
 ) -> bool {
     bar.set(rt, true);
     let limited = waits_to_write(stream, 1_000);
     let sent = (0..150u8).all(|_| stream.write_all(large).is_ok());
-    let open = open_places(rt, peers);
+    let open = open_places(rt, cluster);
     bar.set(rt, false);
     limited && !sent && open > 32 && open <= 72
 }

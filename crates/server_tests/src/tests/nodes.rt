@@ -9,7 +9,7 @@ use std::thread;
 use std::thread::Threads;
 use std::time::{Clock, Duration};
 
-/// Ballot 1 of these members, the first of whom is the primary.
+/// Returns ballot 1 of these members, the first of whom is the primary.
 pub(super) fn opening(alloc: Global, members: &[u8]) -> Result<Config, Memory> {
     Ok(Config {
         members: Members::from_slice(alloc, members)?,
@@ -18,19 +18,19 @@ pub(super) fn opening(alloc: Global, members: &[u8]) -> Result<Config, Memory> {
 }
 
 /// Adds a place for each of these nodes, on a free port. False if there is no free port.
-pub(super) fn listen_all<R>(rt: &R, numbers: &[u8], places: &mut Vec<Listener>) -> bool
+pub(super) fn listen_all<R>(rt: &R, numbers: &[u8], listeners: &mut Vec<Listener>) -> bool
 where
     R: AllocGlobal + Net<Listener = TcpListener, Stream = TcpStream>,
 {
     for number in numbers {
-        if !listens(rt, *number, places) {
+        if !listens(rt, *number, listeners) {
             return false;
         }
     }
     true
 }
 
-fn listens<R>(rt: &R, number: u8, places: &mut Vec<Listener>) -> bool
+fn listens<R>(rt: &R, number: u8, listeners: &mut Vec<Listener>) -> bool
 where
     R: AllocGlobal + Net<Listener = TcpListener, Stream = TcpStream>,
 {
@@ -38,7 +38,7 @@ where
         return false;
     };
     match Listener::new(rt.alloc(), number, listener) {
-        Ok(place) => places.push(place).is_ok(),
+        Ok(listener) => listeners.push(listener).is_ok(),
         Err(_) => false,
     }
 }
@@ -72,11 +72,11 @@ where
         + Sync
         + Net<Listener = TcpListener, Stream = TcpStream>,
 {
-    let mut places = Vec::new(rt.alloc());
-    listen_all(rt, members, &mut places) && serve(rt, members, places.as_slice(), row)
+    let mut listeners = Vec::new(rt.alloc());
+    listen_all(rt, members, &mut listeners) && serve(rt, members, listeners.as_slice(), row)
 }
 
-fn serve<R>(rt: &R, members: &[u8], places: &[Listener], row: Row) -> bool
+fn serve<R>(rt: &R, members: &[u8], listeners: &[Listener], row: Row) -> bool
 where
     R: AllocGlobal
         + Threads
@@ -91,29 +91,29 @@ where
     let held = serve_while(
         rt,
         rt.alloc(),
-        places,
+        listeners,
         &config,
-        |peers| holds(rt, peers, places, row),
+        |cluster| holds(rt, cluster, listeners, row),
     );
     held.unwrap_or(false)
 }
 
 /// Says whether the next ballot is given to these members, and their primary becomes the active
 /// one.
-pub(super) fn moves_to<R>(rt: &R, peers: &Cluster, members: &[u8], primary: u8) -> bool
+pub(super) fn moves_to<R>(rt: &R, cluster: &Cluster, members: &[u8], primary: u8) -> bool
 where
     R: AllocGlobal + Wait + Clock,
 {
     let Ok(members) = Members::from_slice(rt.alloc(), members) else {
         return false;
     };
-    peers.assign(rt, Config { members, primary }).is_ok() && is_primary(rt, peers, primary)
+    cluster.assign(rt, Config { members, primary }).is_ok() && is_primary(rt, cluster, primary)
 }
 
 // Says whether a node becomes the active primary within two seconds.
-fn is_primary<R: Wait + Clock>(rt: &R, peers: &Cluster, number: u8) -> bool {
+fn is_primary<R: Wait + Clock>(rt: &R, cluster: &Cluster, number: u8) -> bool {
     for _ in 0..200 {
-        if peers
+        if cluster
             .status(rt, number)
             .is_some_and(|status| status.role.is_active())
         {

@@ -20,9 +20,9 @@ where
     let Ok(config) = opening(rt.alloc(), &[1]) else {
         return false;
     };
-    let mut places = Vec::new(rt.alloc());
-    let are_there = listen_all(rt, numbers, &mut places);
-    let served = serve_while(rt, rt.alloc(), places.as_slice(), &config, |_| true);
+    let mut listeners = Vec::new(rt.alloc());
+    let are_there = listen_all(rt, numbers, &mut listeners);
+    let served = serve_while(rt, rt.alloc(), listeners.as_slice(), &config, |_| true);
     are_there && served == Err(ServeError::BadMembers)
 }
 

@@ -47,11 +47,11 @@ pub(super) struct Table {
 }
 
 /// Says whether a row holds with the nodes of these places.
-pub(super) fn holds<R>(rt: &R, peers: &Cluster, places: &[Listener], row: Row) -> bool
+pub(super) fn holds<R>(rt: &R, cluster: &Cluster, listeners: &[Listener], row: Row) -> bool
 where
     R: AllocGlobal + Wait + Clock + Net<Stream = TcpStream>,
 {
-    let first = places.first();
+    let first = listeners.first();
     match row {
         Row::Visits => visits(rt, first),
         Row::Silence => is_silence_ended(rt, first),
@@ -61,8 +61,8 @@ where
         Row::SilentOnes => are_silent_ones_ended(rt, first),
         Row::Deaf => is_deaf_one_ended(rt, first),
         Row::NeverReads => is_heard_beside(rt, first),
-        Row::Moves => moves(rt, peers, places),
-        Row::Expels => expels(rt, peers, first),
-        Row::TakesOver => takes_over(rt, peers, places),
+        Row::Moves => moves(rt, cluster, listeners),
+        Row::Expels => expels(rt, cluster, first),
+        Row::TakesOver => takes_over(rt, cluster, listeners),
     }
 }

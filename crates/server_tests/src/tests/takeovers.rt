@@ -34,22 +34,22 @@ const FOUND: [u8; 14] = [0x20, 2, 1, 0, 0x3C, 8, 0, 3, 0x74, 0x2F, 0x31, 0, 1, 0
 
 /// Says whether client `a`, which has not finished a handshake with node 1 when ballot 2 with node
 /// 2 as sole member is given, finds its session at node 2, and is sent the publication again.
-pub(super) fn moves<R>(rt: &R, peers: &Cluster, places: &[Listener]) -> bool
+pub(super) fn moves<R>(rt: &R, cluster: &Cluster, listeners: &[Listener]) -> bool
 where
     R: AllocGlobal + Wait + Clock + Net<Stream = TcpStream>,
 {
-    visits(rt, places.first())
-        && moves_to(rt, peers, &[2], 2)
-        && peers.crash(rt, 1) == Ok(true)
-        && finds(rt, places.get(1))
+    visits(rt, listeners.first())
+        && moves_to(rt, cluster, &[2], 2)
+        && cluster.crash(rt, 1) == Ok(true)
+        && finds(rt, listeners.get(1))
 }
 
-fn finds<R>(rt: &R, place: Option<&Listener>) -> bool
+fn finds<R>(rt: &R, listener: Option<&Listener>) -> bool
 where
     R: Net<Stream = TcpStream>,
 {
     let mut room = [0; 14];
-    match open(rt, place) {
+    match open(rt, listener) {
         Some(mut stream) => fills(&mut stream, &connect(b'a', false), &mut room) && room == FOUND,
         None => false,
     }
@@ -57,24 +57,24 @@ where
 
 /// Says whether the subscriber gets each of four publications once, in order, if node 1 crashes
 /// between them and node 2 takes over.
-pub(super) fn takes_over<R>(rt: &R, peers: &Cluster, places: &[Listener]) -> bool
+pub(super) fn takes_over<R>(rt: &R, cluster: &Cluster, listeners: &[Listener]) -> bool
 where
     R: AllocGlobal + Wait + Clock + Net<Stream = TcpStream>,
 {
     let mut heard = Heard::new(rt);
-    begins(rt, peers, places.first(), &mut heard)
-        && moves_to(rt, peers, &[2, 3], 2)
-        && goes_on(rt, places.get(1), &mut heard)
+    begins(rt, cluster, listeners.first(), &mut heard)
+        && moves_to(rt, cluster, &[2, 3], 2)
+        && goes_on(rt, listeners.get(1), &mut heard)
         && heard.payloads.as_slice() == b"xyz!".as_slice()
 }
 
 // Says whether two clients begin at node 1, which then crashes.
-fn begins<R>(rt: &R, peers: &Cluster, place: Option<&Listener>, heard: &mut Heard) -> bool
+fn begins<R>(rt: &R, cluster: &Cluster, listener: Option<&Listener>, heard: &mut Heard) -> bool
 where
     R: Wait + Clock + Net<Stream = TcpStream>,
 {
-    match Pair::join(rt, place, false) {
-        Some(mut pair) => is_begun(&mut pair, heard) && peers.crash(rt, 1) == Ok(true),
+    match Pair::join(rt, listener, false) {
+        Some(mut pair) => is_begun(&mut pair, heard) && cluster.crash(rt, 1) == Ok(true),
         None => false,
     }
 }
@@ -93,11 +93,11 @@ fn is_begun(pair: &mut Pair, heard: &mut Heard) -> bool {
 }
 
 // Says whether both find their sessions at another node, and end there what they began.
-fn goes_on<R>(rt: &R, place: Option<&Listener>, heard: &mut Heard) -> bool
+fn goes_on<R>(rt: &R, listener: Option<&Listener>, heard: &mut Heard) -> bool
 where
     R: Net<Stream = TcpStream>,
 {
-    match Pair::join(rt, place, true) {
+    match Pair::join(rt, listener, true) {
         Some(mut pair) => is_ended(&mut pair, heard),
         None => false,
     }

@@ -1,6 +1,6 @@
 use Rattle.std.proofs.Common.{◌≡◌}
 use Rattle.post.specs.node.Lists.{Each}
-use Rattle.post.specs.Letters.{WasGiven}
+use Rattle.post.specs.Queued.{WasGiven}
 use Rattle.server.specs.Turns.{Turns}
 use Rattle.server.proofs.turns.take_up_to.Given as goal
 

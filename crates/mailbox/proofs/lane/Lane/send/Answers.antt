@@ -32,5 +32,5 @@ returns-in-Err-clause-room g c =
     (ap (λ q. ruled_capacity q) c.deref-2.ensures ∙ kept.has_room)
     (ap (λ v. v.may) kept.role)
     (ap (λ s. s.sent) c.self.view_is)
-    (ap (λ r. r.told) c.receipt.view_is)
+    (ap (λ r. r.bounds) c.receipt.view_is)
     c.in-Err.ensures.rule.2)

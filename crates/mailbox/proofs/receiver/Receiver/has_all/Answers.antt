@@ -1,6 +1,6 @@
 use Rattle.std.proofs.Common.{◌∙◌, sym, ap, refl, arith}
 use Rattle.mailbox.proofs.AllLanesByPlace.{all_by_place, as_many, placed_of_all}
-use Rattle.mailbox.proofs.Seats.{not_false}
+use Rattle.mailbox.proofs.PassNumbers.{not_false}
 use Rattle.mailbox.proofs.receiver.Receiver.has_all.Goals as goal
 use Rattle.mailbox.proofs.receiver.Receiver.has_all.Goals.{then-number-via-then-number, then-number-via-else-number+then-from-place}
 

@@ -19,7 +19,7 @@ returns-in_err-lane-clause-arrived g c =
     c.absorb.ensures.rule
     (ap (λ v. v.gets) c.self.invariant.role)
     (ap (λ r. r.taken) c.self.view_is)
-    (ap (λ r. r.told) c.receipt.view_is)
+    (ap (λ r. r.bounds) c.receipt.view_is)
     c.in_err-lane.ensures.rule.1
 
 pub invariant_of-self-2 : goal.invariant_of-self-2

@@ -1,6 +1,6 @@
 use Rattle.std.proofs.Common.{sym, subst}
 use Rattle.post.specs.Waiting.{Waits}
-use Rattle.post.proofs.TrayKept.{waits_taken}
+use Rattle.post.proofs.OutboxKept.{waits_taken}
 use Rattle.post.proofs.outbox.Outbox.drop_superseded.Goals as goal
 
 pub invariant_of-self : goal.invariant_of-self

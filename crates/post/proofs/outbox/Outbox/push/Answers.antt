@@ -1,14 +1,14 @@
 use Rattle.std.specs.Prelude.{is_ok}
 use Rattle.std.proofs.Common.{rules, sym, subst}
-use Rattle.post.specs.Letters.{IsLeft}
+use Rattle.post.specs.Queued.{IsQueued}
 use Rattle.post.specs.Waiting.{Waiting}
-use Rattle.post.proofs.TrayKept.{left_more}
+use Rattle.post.proofs.OutboxKept.{queued_more}
 use Rattle.post.proofs.outbox.Outbox.push.Goals as goal
 
 pub invariant_of-self : goal.invariant_of-self
 invariant_of-self c =
-    left_more c.drop_superseded.new.self c.self.inside.number c.args.item (is_ok c.push.result) c.self.inside.items.items _
+    queued_more c.drop_superseded.new.self c.self.inside.number c.args.item (is_ok c.push.result) c.self.inside.items.items _
     c.self.view_is
-    (subst (λ (tray : Waiting). IsLeft tray.number c.args.item) (sym c.drop_superseded.ensures) c.requires)
+    (subst (λ (outbox : Waiting). IsQueued outbox.number c.args.item) (sym c.drop_superseded.ensures) c.requires)
     (search rules)
     c.self.invariant c.push.ensures.items

@@ -1,4 +1,4 @@
--- TrayKept.antt: a tray in which an item is left, if there is room and memory for it, holds what
+-- OutboxKept.antt: an outbox in which an item is queued, if there is room and memory for it, holds what
 -- may wait for its node.
 use Rattle.std.proofs.Common.{◌≡◌, ℕ, ◌+◌, ◌≤◌, zero, suc, Bool, true, false, ◌||◌, not, nat_lt, if◌then◌else◌, List, [], ◌∷◌, ◌++◌, length, take, sym, subst, ap, arith}
 use Rattle.std.proofs.Common.{◌∙◌}
@@ -8,9 +8,9 @@ use Rattle.node.specs.declared.Item.{Item}
 use Rattle.node.specs.declared.Item.TheVariants.{Peer}
 use Rattle.node.specs.Lists.{Each}
 use Rattle.master.proofs.of_lists.OfEach.{each_append}
-use Rattle.post.specs.Carrying.{Letter}
-use Rattle.post.specs.Letters.{IsLeft, WasAnswered}
-use Rattle.post.specs.Letters.IsLetter.{of_master}
+use Rattle.post.specs.Carrying.{Addressed}
+use Rattle.post.specs.Queued.{IsQueued, WasAnswered}
+use Rattle.post.specs.Queued.MayQueue.{of_master}
 use Rattle.post.specs.Waiting.{Waiting, Waits, has_room, is_of_node, of_nodes}
 
 one : Item → ℕ
@@ -42,7 +42,7 @@ each_taken P (suc n) (first ∷ items) each = (each.0, each_taken P n items each
 -- a prefix of what waits
 pub waits_taken : (number n : ℕ) (items : List Item) → Waits number items → Waits number (take n items)
 waits_taken number n items waits = record {
-  left = each_taken (IsLeft number) n items waits.left;
+  queued = each_taken (IsQueued number) n items waits.queued;
   bounded = let e = of_nodes_taken n items in let b = waits.bounded in omega (arith, e, b);
 }
 
@@ -53,21 +53,21 @@ roomy true count size room least bounded = grind (arith, room, least, bounded)
 roomy false count size room least bounded = grind (arith, bounded)
 
 waits_more : (number : ℕ) (item : Item) (items : List Item)
-    → IsLeft number item → has_room item items ≡ true → Waits number items → Waits number (items ++ item ∷ [])
-waits_more number item items left room waits = record {
-  left = each_append (IsLeft number) items (item ∷ []) waits.left (left, tt);
+    → IsQueued number item → has_room item items ≡ true → Waits number items → Waits number (items ++ item ∷ [])
+waits_more number item items queued room waits = record {
+  queued = each_append (IsQueued number) items (item ∷ []) waits.queued (queued, tt);
   bounded = subst (λ (count : ℕ). count ≤ 524288) (sym (of_nodes_more items item))
       (roomy (is_of_node item) (of_nodes items) (length items) room (of_nodes_least items) waits.bounded);
 }
 
-pub left_more : (tray : Waiting) (number : ℕ) (item : Item) (kept : Bool) (old new : List Item)
-    → record { number = number; items = old } ≡ tray
-    → IsLeft tray.number item → has_room item old ≡ true → Waits number old
+pub queued_more : (outbox : Waiting) (number : ℕ) (item : Item) (kept : Bool) (old new : List Item)
+    → record { number = number; items = old } ≡ outbox
+    → IsQueued outbox.number item → has_room item old ≡ true → Waits number old
     → new ≡ (if kept then old ++ item ∷ [] else old) → Waits number new
-left_more tray number item true old new view left room waits is =
+queued_more outbox number item true old new view queued room waits is =
     subst (λ (items : List Item). Waits number items) (sym is)
-    (waits_more number item old (subst (λ (seen : Waiting). IsLeft seen.number item) (sym view) left) room waits)
-left_more tray number item false old new view left room waits is =
+    (waits_more number item old (subst (λ (seen : Waiting). IsQueued seen.number item) (sym view) queued) room waits)
+queued_more outbox number item false old new view queued room waits is =
     subst (λ (items : List Item). Waits number items) (sym is) waits
 
 -- a message of the master is not one of a node
@@ -78,15 +78,15 @@ room_always : (b : Bool) (size : ℕ) → b ≡ false → (not b || nat_lt size 
 room_always b size is = ap (λ (c : Bool). not c || nat_lt size 524288) is
 
 -- the same for an answer of the master, for which room was made before
-pub left_answer : (tray : Waiting) (number receiver primary : ℕ) (message : Message Command) (kept : Bool) (before old new : List Item)
-    → record { number = number; items = before } ≡ tray
-    → WasAnswered receiver message → receiver ≡ primary → primary ≡ tray.number
+pub queued_answer : (outbox : Waiting) (number receiver primary : ℕ) (message : Message Command) (kept : Bool) (before old new : List Item)
+    → record { number = number; items = before } ≡ outbox
+    → WasAnswered receiver message → receiver ≡ primary → primary ≡ outbox.number
     → Waits number before → old ≡ before
     → new ≡ (if kept then old ++ Peer message ∷ [] else old) → Waits number new
-left_answer tray number receiver primary message kept before old new view answered names at waits same is =
-    left_more tray number (Peer message) kept before new view
+queued_answer outbox number receiver primary message kept before old new view answered names at waits same is =
+    queued_more outbox number (Peer message) kept before new view
     ∣ of_master message (subst (λ (n : ℕ). WasAnswered n message) (names ∙ at) answered) ∣₁
     (room_always (nat_lt 0 message.from) (length before)
-    (from_master message.from (ap (λ (letter : Letter). letter.message.from) answered.is)))
+    (from_master message.from (ap (λ (addressed : Addressed). addressed.message.from) answered.is)))
     waits
     (subst (λ (items : List Item). new ≡ (if kept then items ++ Peer message ∷ [] else items)) same is)

@@ -13,15 +13,17 @@ pub use Rattle.post.specs.Mastering.{WasAnswered}
 
 -- what any sender except the master may queue for a node of this number
 pub data IsPosted (receiver : ℕ) : Item → Type 0 where
-  of_node : (message : Message Command) → WasGiven (To receiver message) → IsPosted receiver (Peer message)
+  of_node : (message : Message Command)
+      → WasGiven (To receiver message) → IsPosted receiver (Peer message)
   order : IsPosted receiver Crash
   expels : (client : List ℕ) → IsPosted receiver (Expel client)
 
 -- what may be queued for it
-pub data IsLetter (receiver : ℕ) : Item → Type 0 where
-  posted : {item : Item} → IsPosted receiver item → IsLetter receiver item
-  of_master : (message : Message Command) → WasAnswered receiver message → IsLetter receiver (Peer message)
+pub data MayQueue (receiver : ℕ) : Item → Type 0 where
+  posted : {item : Item} → IsPosted receiver item → MayQueue receiver item
+  of_master : (message : Message Command)
+      → WasAnswered receiver message → MayQueue receiver (Peer message)
 
 -- there is such a reason: nothing more is known about a queued item, whichever thread queued it
-abbrev pub IsLeft : ℕ → Item → Type 0
-IsLeft receiver item = ∥ IsLetter receiver item ∥₁
+abbrev pub IsQueued : ℕ → Item → Type 0
+IsQueued receiver item = ∥ MayQueue receiver item ∥₁

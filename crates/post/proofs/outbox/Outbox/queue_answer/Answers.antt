@@ -1,7 +1,7 @@
 use Rattle.std.proofs.Common.{ℕ, subst}
-use Rattle.post.specs.Letters.{WasAnswered}
-use Rattle.post.specs.Letters.IsLetter.{of_master}
-use Rattle.post.proofs.outbox.Outbox.leave_answer.Goals as goal
+use Rattle.post.specs.Queued.{WasAnswered}
+use Rattle.post.specs.Queued.MayQueue.{of_master}
+use Rattle.post.proofs.outbox.Outbox.queue_answer.Goals as goal
 
 pub push-requires : goal.push-requires
 push-requires c =

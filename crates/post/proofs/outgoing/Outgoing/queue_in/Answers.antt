@@ -1,0 +1,12 @@
+use Rattle.std.proofs.Common.{ℕ, ◌∙◌, ap, subst}
+use Rattle.node.specs.declared.Item.TheVariants.{Peer}
+use Rattle.post.specs.Carrying.{Addressed}
+use Rattle.post.specs.Queued.{IsPosted}
+use Rattle.post.specs.Queued.IsPosted.{of_node}
+use Rattle.post.proofs.outgoing.Outgoing.queue_in.Goals as goal
+
+pub queue-requires : goal.queue-requires
+queue-requires c =
+    subst (λ (number : ℕ). IsPosted number (Peer c.self.inside.message))
+    (ap (λ (addressed : Addressed). addressed.receiver) c.self.view_is ∙ c.requires)
+    (of_node c.self.inside.message c.self.invariant)

@@ -1,0 +1,5 @@
+use Rattle.post.specs.Queued.IsPosted.{order}
+use Rattle.post.proofs.peer.Peer.queue_crash.Goals as goal
+
+pub queue-requires : goal.queue-requires
+queue-requires g c = order

@@ -1,0 +1,5 @@
+use Rattle.post.specs.Queued.IsPosted.{expels}
+use Rattle.post.proofs.peer.Peer.queue_expel.Goals as goal
+
+pub queue-requires : goal.queue-requires
+queue-requires g c = expels _

@@ -1,0 +1,16 @@
+-- A connection's stream, wherever its token is kept.
+use Rattle.std.specs.Prelude.{◌≡◌, None}
+use Rattle.node.specs.declared.Port.{Port}
+use Rattle.connection.specs.Whole.{Flowing, IsWhole}
+use Rattle.streams.specs.Tapping.{HandsNone, HandsOut}
+use Rattle.streams.specs.declared.port_tap.PortTap.{PortTap}
+use Rattle.streams.specs.declared.socket.Socket.{Socket}
+
+-- All that a node handed over by the token's tap, from the first byte on, is what was written on
+-- the socket, followed by what is left. Of the socket itself no byte is known.
+abbrev pub HasWholeStream : Flowing PortTap Socket → Type 0
+HasWholeStream token = IsWhole HandsNone HandsOut token.tap None token.left
+
+-- this token writes what is handed over for a port
+abbrev pub IsTokenOf : Port → Flowing PortTap Socket → Type 0
+IsTokenOf port token = token.tap.port.0 ≡ port.0
