@@ -29,10 +29,10 @@ begins_whole {W = W} opens hands contents tap device counted left opened empty i
 -- one more write
 pub stays_whole :
     {T : Type 0} (opens : T → Type 0) (hands : T → List ℕ → Handed → T → Type 0) (flow : Flow)
-    (before behind : T) (old new : Option (List ℕ)) (left rest : List ℕ)
-    → IsWhole opens hands before old left → Flows hands flow before behind old new left rest
-    → IsWhole opens hands behind new rest
-stays_whole opens hands flow before behind old new left rest whole flows =
+    (before after : T) (old new : Option (List ℕ)) (left rest : List ℕ)
+    → IsWhole opens hands before old left → Flows hands flow before after old new left rest
+    → IsWhole opens hands after new rest
+stays_whole opens hands flow before after old new left rest whole flows =
     let lives : Lives hands whole.first whole.start before whole.handed old left = whole.lives in
     record {
       first = whole.first;
@@ -40,5 +40,5 @@ stays_whole opens hands flow before behind old new left rest whole flows =
       start = whole.start;
       empty = whole.empty;
       handed = whole.handed ++ flows.bytes;
-      lives = goes_on flow behind new rest lives flows;
+      lives = goes_on flow after new rest lives flows;
     }

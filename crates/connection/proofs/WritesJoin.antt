@@ -102,5 +102,5 @@ lives_on start old new handed left bytes rest first second = record {
 
 pub nothing_left_out : {T : Type 0} (hands : T → List ℕ → Handed → T → Type 0) → NothingIsLeftOut hands
 nothing_left_out hands first start _ _ _ _ begins = none_written start []
-nothing_left_out hands first start _ _ _ _ (goes_on flow behind new rest lives flows) =
+nothing_left_out hands first start _ _ _ _ (goes_on flow after new rest lives flows) =
     lives_on start _ new _ _ flows.bytes rest (nothing_left_out hands first start _ _ _ _ lives) flows.writes

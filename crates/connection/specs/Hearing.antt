@@ -37,10 +37,10 @@ joined pieces = flat_map (λ (piece : Came). piece.bytes) pieces
 -- How it ended, with the pieces that came, what was read and not reported, and what the device has
 -- left: a byte is lost only if memory ran out.
 abbrev pub EndsSo : Ending → List Came → List ℕ → Option (List ℕ) → Type 0
-EndsSo endings.Refused pieces lost behind = (pieces ≡ []) × (lost ≡ [])
-EndsSo endings.End pieces lost behind = (lost ≡ []) × IsAtEnd behind
-EndsSo endings.Fault pieces lost behind = lost ≡ []
-EndsSo endings.Memory pieces lost behind = length lost ≤ PIECE_BYTES
+EndsSo endings.Refused pieces lost after = (pieces ≡ []) × (lost ≡ [])
+EndsSo endings.End pieces lost after = (lost ≡ []) × IsAtEnd after
+EndsSo endings.Fault pieces lost after = lost ≡ []
+EndsSo endings.Memory pieces lost after = length lost ≤ PIECE_BYTES
 
 -- whether a connection that ended so was let in
 abbrev pub was_let_in : Ending → Bool
@@ -60,13 +60,13 @@ faults_after _ faults = faults
 -- What was reported after the earlier reports is a whole connection, its pieces are what the device
 -- gave, and their times do not fall.
 pub record Hears
-    (port : Port) (old new : List Item) (ending : Ending) (before behind : Option (List ℕ))
+    (port : Port) (old new : List Item) (ending : Ending) (before after : Option (List ℕ))
     : Type 0 where
   pub opened : ℕ
   pub pieces : List Came
   pub lost : List ℕ
   pub reported : new ≡ old ++ report_of port opened pieces
-  pub gave : Consumes before behind (joined pieces ++ lost)
-  pub ends : EndsSo ending pieces lost behind
+  pub gave : Consumes before after (joined pieces ++ lost)
+  pub ends : EndsSo ending pieces lost after
   pub last : ℕ
   pub times : Rises opened pieces last

@@ -9,44 +9,44 @@ use Rattle.connection.specs.Hearing.{Came, EndsSo, Rises, faults_after, joined, 
 -- these pieces were reported, and what was read is these and what was lost
 pub record HearsPieces
     (port : Port) (old new : List Item) (pieces : List Came) (lost : List ℕ)
-    (before behind : Option (List ℕ))
+    (before after : Option (List ℕ))
     : Type 0 where
   pub reported : new ≡ old ++ pieces_reported port pieces
-  pub gave : Consumes before behind (joined pieces ++ lost)
+  pub gave : Consumes before after (joined pieces ++ lost)
 
 -- pieces were reported, for a connection opened at a time, and then it ended so
 pub record HearsOn
     (port : Port) (opened : ℕ) (old new : List Item) (ending : Ending)
-    (before behind : Option (List ℕ))
+    (before after : Option (List ℕ))
     : Type 0 where
   pub pieces : List Came
   pub lost : List ℕ
-  pub hears : HearsPieces port old new pieces lost before behind
-  pub ends : EndsSo ending pieces lost behind
+  pub hears : HearsPieces port old new pieces lost before after
+  pub ends : EndsSo ending pieces lost after
   pub last : ℕ
   pub times : Rises opened pieces last
 
 -- some pieces were reported, the last at this time, and none was lost
 pub record HearsSome
-    (port : Port) (opened last : ℕ) (old new : List Item) (before behind : Option (List ℕ))
+    (port : Port) (opened last : ℕ) (old new : List Item) (before after : Option (List ℕ))
     : Type 0 where
   pub pieces : List Came
-  pub hears : HearsPieces port old new pieces [] before behind
+  pub hears : HearsPieces port old new pieces [] before after
   pub times : Rises opened pieces last
 
 -- one piece was reported, with a time that is not before the last one, or none and it ended
 abbrev pub HearsPiece :
     Port → ℕ → List Item → List Item → Result ℕ Ending
     → Option (List ℕ) → Option (List ℕ) → Type 0
-HearsPiece port last old new (Ok now) before behind =
+HearsPiece port last old new (Ok now) before after =
     (last ≤ now)
     × ((bytes : List ℕ)
-    × HearsPieces port old new (record { bytes = bytes; now = now } ∷ []) [] before behind)
-HearsPiece port last old new (Err ending) before behind =
+    × HearsPieces port old new (record { bytes = bytes; now = now } ∷ []) [] before after)
+HearsPiece port last old new (Err ending) before after =
     (new ≡ old)
     × ((lost : List ℕ)
-    × Consumes before behind lost
-    × ((pieces : List Came) → EndsSo ending pieces lost behind))
+    × Consumes before after lost
+    × ((pieces : List Came) → EndsSo ending pieces lost after))
 
 -- the count of the device's failed calls after one piece
 abbrev pub faults_so_far : Result ℕ Ending → ℕ → ℕ

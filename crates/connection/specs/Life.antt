@@ -12,7 +12,7 @@ pub data Lives {T : Type 0}
     : T → List ℕ → Option (List ℕ) → List ℕ → Type 0 where
   begins : Lives hands first start first [] start []
   goes_on : {before : T} {handed left : List ℕ} {old : Option (List ℕ)}
-      (flow : Flow) (behind : T) (new : Option (List ℕ)) (rest : List ℕ)
+      (flow : Flow) (after : T) (new : Option (List ℕ)) (rest : List ℕ)
       → Lives hands first start before handed old left
-      → (flows : Flows hands flow before behind old new left rest)
-      → Lives hands first start behind (handed ++ flows.bytes) new rest
+      → (flows : Flows hands flow before after old new left rest)
+      → Lives hands first start after (handed ++ flows.bytes) new rest

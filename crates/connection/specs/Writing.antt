@@ -25,26 +25,26 @@ LeavesSo wrotes.Fault left = 0 < length left
 module _ {T : Type 0} where
   -- these bytes are what is handed over with this answer, and they were appended to the list
   pub record HandsOver
-      (hands : T → List ℕ → Handed → T → Type 0) (before : T) (answer : Handed) (behind : T)
+      (hands : T → List ℕ → Handed → T → Type 0) (before : T) (answer : Handed) (after : T)
       (old new : List ℕ)
       : Type 0 where
     pub bytes : List ℕ
-    pub handed : hands before bytes answer behind
+    pub handed : hands before bytes answer after
     pub is : new ≡ old ++ bytes
 
   -- these bytes are handed over, or none, because the device did not take what was left, or memory
   -- ran out
   abbrev pub HandsAny : (T → List ℕ → Handed → T → Type 0) → T → List ℕ → T → Type 0
-  HandsAny hands before bytes behind =
-      ((answer : Handed) × hands before bytes answer behind) ⊎ ((bytes ≡ []) × (behind ≡ before))
+  HandsAny hands before bytes after =
+      ((answer : Handed) × hands before bytes answer after) ⊎ ((bytes ≡ []) × (after ≡ before))
 
   -- what is handed over, by how the writing ended
   abbrev pub HandsSo : (T → List ℕ → Handed → T → Type 0) → Flow → T → List ℕ → T → Type 0
-  HandsSo hands flows.Open before bytes behind = hands before bytes answers.Open behind
-  HandsSo hands flows.Closed before bytes behind = hands before bytes answers.Closed behind
-  HandsSo hands flows.Blocked before bytes behind = HandsAny hands before bytes behind
-  HandsSo hands flows.Stopped before bytes behind = HandsAny hands before bytes behind
-  HandsSo hands flows.Fault before bytes behind = HandsAny hands before bytes behind
+  HandsSo hands flows.Open before bytes after = hands before bytes answers.Open after
+  HandsSo hands flows.Closed before bytes after = hands before bytes answers.Closed after
+  HandsSo hands flows.Blocked before bytes after = HandsAny hands before bytes after
+  HandsSo hands flows.Stopped before bytes after = HandsAny hands before bytes after
+  HandsSo hands flows.Fault before bytes after = HandsAny hands before bytes after
 
 -- what is left, by how the writing ended; if it stopped, that may be nothing, since memory may have
 -- run out
@@ -67,10 +67,10 @@ faults_flowed _ faults = faults
 -- what was left before, followed by what is handed over, is what is written, followed by what is
 -- left now
 pub record Flows {T : Type 0}
-    (hands : T → List ℕ → Handed → T → Type 0) (flow : Flow) (before behind : T)
+    (hands : T → List ℕ → Handed → T → Type 0) (flow : Flow) (before after : T)
     (old new : Option (List ℕ)) (left rest : List ℕ)
     : Type 0 where
   pub bytes : List ℕ
-  pub handed : HandsSo hands flow before bytes behind
+  pub handed : HandsSo hands flow before bytes after
   pub writes : Writes old new (left ++ bytes) rest
   pub rests : RestsSo flow rest
