@@ -1,5 +1,6 @@
 pub mod Crossing
 mod Growing
 mod ItsLanes
+mod OpenBytes
 pub mod Replaying
 pub mod WrittenBack

@@ -23,13 +23,13 @@ opened first_of taker core none is =
 
 -- one item was taken, and its step was done
 pub stepped : (first_of : ℕ → CountedCore) (old new : Taker Item) (taken : ℕ × Item) (core next : CountedCore)
-    (before behind : List (Effect Command Output))
+    (before after : List (Effect Command Output))
     → new ≡ record old { taken = old.taken ++ taken ∷ [] }
-    → Replays (first_of old.inbox) old.taken core → Stepped core taken.1 next before behind
+    → Replays (first_of old.inbox) old.taken core → Stepped core taken.1 next before after
     → Replays (first_of new.inbox) new.taken next
-stepped first_of old new taken core next before behind is replays step =
+stepped first_of old new taken core next before after is replays step =
     subst (λ (t : Taker Item). Replays (first_of t.inbox) t.taken next) (sym is)
-    (steps taken next before behind replays step)
+    (steps taken next before after replays step)
 
 -- what was queued for a port was handed over, or memory ran out
 pub handed : {E : Type 0} (first_of : ℕ → CountedCore) (taker : Taker Item) (port : Port) (core new : CountedCore)

@@ -1,4 +1,7 @@
+pub mod Counting
+pub mod Crowding
 pub mod Growth
+pub mod Laws
 pub mod Running
 pub mod Report
 pub mod State

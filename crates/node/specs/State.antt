@@ -15,8 +15,8 @@ use Rattle.world_base.specs.Losses.{Stepped}
 pub data Replays (first : CountedCore) : List (ℕ × Item) → CountedCore → Type 0 where
   opens : Replays first [] first
   steps : {history : List (ℕ × Item)} {core : CountedCore}
-      (taken : ℕ × Item) (next : CountedCore) (before behind : List (Effect Command Output))
-      → Replays first history core → Stepped core taken.1 next before behind
+      (taken : ℕ × Item) (next : CountedCore) (before after : List (Effect Command Output))
+      → Replays first history core → Stepped core taken.1 next before after
       → Replays first (history ++ taken ∷ []) next
   hands : {history : List (ℕ × Item)} {core : CountedCore} (port : Port)
       → Replays first history core
@@ -34,11 +34,11 @@ abbrev pub next_turn : ℕ → ℕ
 next_turn turns = min (turns + 1) (2 ^ 64 - 1)
 
 -- one item was taken, and the node's step with it was done
-pub record TakesOne (old new : Seen) (before behind : List (Effect Command Output)) : Type 0 where
+pub record TakesOne (old new : Seen) (before after : List (Effect Command Output)) : Type 0 where
   pub lane : ℕ
   pub item : Item
   pub taken : new.taker ≡ record old.taker { taken = old.taker.taken ++ (lane, item) ∷ [] }
-  pub stepped : Stepped old.node item new.node before behind
+  pub stepped : Stepped old.node item new.node before after
 
 -- the node of a number for which none was chosen
 abbrev pub no_core : CountedCore

@@ -2,12 +2,16 @@
 #![tactic(auto)]
 
 mod growth;
+mod intake;
+mod laws;
 mod naming;
 mod node_state;
 mod permit;
 mod report;
 mod running;
 
+pub use intake::Intake;
+pub use laws::open_bytes_are_counted;
 pub use mailbox;
 pub use naming::NodeNaming;
 pub use node_base::{Gate, NoGate, PIECE_BYTES};

@@ -17,22 +17,22 @@ messages_join (To receiver message ∷ first) next =
     ap (λ (messages : List Addressed). record { receiver = receiver; message = message } ∷ messages) (messages_join first next)
 messages_join (Out place output ∷ first) next = messages_join first next
 
-pub carries_join : {X : Type 0} (carries : X → ℕ → Message Command → X → Type 0) (before between behind : X)
+pub carries_join : {X : Type 0} (carries : X → ℕ → Message Command → X → Type 0) (before between after : X)
     (first next : List Addressed)
-    → CarriesAll carries before first between → CarriesAll carries between next behind
-    → CarriesAll carries before (first ++ next) behind
+    → CarriesAll carries before first between → CarriesAll carries between next after
+    → CarriesAll carries before (first ++ next) after
 carries_join carries before between _ first _ carried none =
     subst (λ (messages : List Addressed). CarriesAll carries before messages between) (sym (append-nil first)) carried
-carries_join carries before between _ first _ carried (one_more {messages = messages} addressed behind rest last) =
-    subst (λ (all : List Addressed). CarriesAll carries before all behind) (append_assoc first messages (addressed ∷ []))
-    (one_more addressed behind (carries_join carries before between _ first messages carried rest) last)
+carries_join carries before between _ first _ carried (one_more {messages = messages} addressed after rest last) =
+    subst (λ (all : List Addressed). CarriesAll carries before all after) (append_assoc first messages (addressed ∷ []))
+    (one_more addressed after (carries_join carries before between _ first messages carried rest) last)
 
 -- the messages of one effect more were carried
-pub carries_more : {X : Type 0} (carries : X → ℕ → Message Command → X → Type 0) (before between behind : X)
+pub carries_more : {X : Type 0} (carries : X → ℕ → Message Command → X → Type 0) (before between after : X)
     (effects : List (Effect Command Output)) (effect : Effect Command Output)
     → CarriesAll carries before (messages_of effects) between
-    → CarriesAll carries between (messages_of (effect ∷ [])) behind
-    → CarriesAll carries before (messages_of (effects ++ effect ∷ [])) behind
-carries_more carries before between behind effects effect first next =
-    subst (λ (messages : List Addressed). CarriesAll carries before messages behind) (sym (messages_join effects (effect ∷ [])))
-    (carries_join carries before between behind (messages_of effects) (messages_of (effect ∷ [])) first next)
+    → CarriesAll carries between (messages_of (effect ∷ [])) after
+    → CarriesAll carries before (messages_of (effects ++ effect ∷ [])) after
+carries_more carries before between after effects effect first next =
+    subst (λ (messages : List Addressed). CarriesAll carries before messages after) (sym (messages_join effects (effect ∷ [])))
+    (carries_join carries before between after (messages_of effects) (messages_of (effect ∷ [])) first next)

@@ -3,7 +3,6 @@ mod CountsStand
 mod HighestFound
 mod MasterIsReachable
 mod NoneAmong
-mod OpenBytes
 mod OutboxKept
 pub use Rattle.master.proofs.of_lists as of_lists
 pub use Rattle.node.proofs as of_node

@@ -22,7 +22,7 @@ messages_of (Out place output ∷ effects) = messages_of effects
 pub data CarriesAll {X : Type 0} (carries : X → ℕ → Message Command → X → Type 0) (before : X)
     : List Addressed → X → Type 0 where
   none : CarriesAll carries before [] before
-  one_more : {messages : List Addressed} {between : X} (addressed : Addressed) (behind : X)
+  one_more : {messages : List Addressed} {between : X} (addressed : Addressed) (after : X)
       → CarriesAll carries before messages between
-      → carries between addressed.receiver addressed.message behind
-      → CarriesAll carries before (messages ++ addressed ∷ []) behind
+      → carries between addressed.receiver addressed.message after
+      → CarriesAll carries before (messages ++ addressed ∷ []) after

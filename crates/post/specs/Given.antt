@@ -37,6 +37,6 @@ pub record WasGiven (effect : Effect Command Output) : Type 0 where
   pub item : Item
   pub next : CountedCore
   pub before : List (Effect Command Output)
-  pub behind : List (Effect Command Output)
-  pub step : Stepped core item next before behind
+  pub after : List (Effect Command Output)
+  pub step : Stepped core item next before after
   pub gives : In effect step.given

@@ -1,10 +1,8 @@
--- Laws.antt: which waiting messages may be left out, and which bytes are counted.
-use Rattle.std.specs.Prelude.{◌≡◌, ℕ, ◌+◌, ◌≤◌, true, List, max}
+-- Which waiting messages may be left out.
+use Rattle.std.specs.Prelude.{◌≡◌, ℕ, true, List, max}
 use Rattle.master.specs.ballot_base.declared.status.Progress.{Progress}
 use Rattle.master.specs.ballot_base.Serving.{raised}
 use Rattle.node.specs.declared.Body.TheVariants.{Held, Commit}
-use Rattle.post.specs.Counting.{Counts, Taken, bytes_behind, committed_of}
-use Rattle.post.specs.Crowding.{Taking}
 use Rattle.post.specs.Superseding.{covers}
 
 -- A Held that replaces an earlier one is of the same ballot, and a primary that receives only this
@@ -23,9 +21,3 @@ LaterCommitsSuffice =
     (ballot held earlier fewer committed : ℕ) →
     covers (Commit ballot held) (Commit earlier fewer) ≡ true →
     (ballot ≡ earlier) × (max (max committed fewer) held ≡ max committed held)
-
--- The count includes every byte that the node took and that may be in a place which is not agreed.
-abbrev pub OpenBytesAreCounted : Type 0
-OpenBytesAreCounted =
-    (all : List Taken) (taking : Taking) → Counts all taking →
-    bytes_behind (committed_of taking.status) all ≤ taking.earlier + taking.later

@@ -1,13 +1,11 @@
 pub mod Refusals
 pub mod Carrying
-pub mod Counting
-pub mod Crowding
 pub mod Given
 pub mod Laws
-pub mod Queued
 pub mod Mastering
 pub mod Numbers
 pub mod Primaries
+pub mod Queued
 pub mod Superseding
 pub mod Waiting
 pub mod Waking

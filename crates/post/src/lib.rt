@@ -6,7 +6,6 @@
 mod carrier;
 mod choosing;
 mod cluster;
-mod intake;
 mod laws;
 mod messaging_master;
 mod order_error;
@@ -19,7 +18,7 @@ mod waking;
 
 pub use carrier::{Carrier, Given, carry_all};
 pub use cluster::Cluster;
-pub use laws::{later_commits_suffice, later_counts_suffice, open_bytes_are_counted};
+pub use laws::{later_commits_suffice, later_counts_suffice};
 pub use node;
 pub use node::{mailbox, packet};
 pub use order_error::OrderError;

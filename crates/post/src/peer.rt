@@ -4,7 +4,6 @@ ghost use Rattle.std.specs.Prelude.{◌≡◌, ◌≤◌};
 ghost use Rattle.node.specs.Lists.{Each};
 ghost use Rattle.post.specs.Queued.{IsPosted, IsQueued};
 
-use crate::intake::Intake;
 use crate::messaging_master::{Answer, MessagingMaster};
 use crate::order_error::OrderError;
 use crate::outbox::Outbox;
@@ -12,7 +11,7 @@ use crate::outgoing::Outgoing;
 use crate::waker::Waker;
 use crate::waking::is_urgent;
 use node::packet::ClientId;
-use node::{Config, Item, Memory, Status};
+use node::{Config, Intake, Item, Memory, Status};
 use std::alloc::Global;
 use std::sync::{Mutex, Wait};
 use std::time::Duration;

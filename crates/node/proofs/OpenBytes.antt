@@ -1,10 +1,10 @@
 -- OpenBytes.antt: no byte is left out of the count of those that are not known to be agreed.
 use Rattle.std.proofs.Common.{◌≡◌, ℕ, ◌+◌, ◌≤◌, Bool, true, false, nat_le, nat_lt, min, if◌then◌else◌, List, [], ◌∷◌, Some, refl, arith}
-use Rattle.node.specs.declared.Status.{Status}
-use Rattle.post.specs.Crowding.{Taking, is_agreed, took}
-use Rattle.post.specs.Counting.{Counts, Taken, bytes_behind, committed_of, held_of}
-use Rattle.post.specs.Counting.Counts.{admits, begins, shows, takes}
-use Rattle.post.specs.Laws.{OpenBytesAreCounted}
+use Rattle.world_base.specs.declared.Status.{Status}
+use Rattle.node.specs.Crowding.{Taking, is_agreed, took}
+use Rattle.node.specs.Counting.{Counts, Taken, bytes_behind, committed_of, held_of}
+use Rattle.node.specs.Counting.Counts.{admits, begins, shows, takes}
+use Rattle.node.specs.Laws.{OpenBytesAreCounted}
 
 -- what is known about the bytes that were taken and their count
 record Known (all : List Taken) (taking : Taking) : Type 0 where

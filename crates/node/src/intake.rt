@@ -1,10 +1,10 @@
 // What a node takes from its clients, and when it takes nothing more.
 
 ghost use Rattle.std.specs.Prelude.{◌≡◌, ◌+◌, ◌≤◌, None, false, true};
-ghost use Rattle.post.specs.Crowding.{admits, is_agreed, open_places, shown, took};
+ghost use Rattle.node.specs.Crowding.{admits, is_agreed, open_places, shown, took};
 
-use node::Status;
 use std::marker::Model;
+use world_base::Status;
 
 /// How many places may be open when more bytes are taken.
 const MOST_OPEN: u64 = 4_096;
@@ -19,7 +19,7 @@ const MOST_ENTERING: u64 = 262_144;
 /// agreed, those are counted that may be in places that some member does not hold. The type bounds
 /// them.
 #[derive(Drop)]
-pub(crate) struct Intake {
+pub struct Intake {
     /// None before the node is served.
     status: Option<Status>,
     entering: u64,
@@ -29,7 +29,7 @@ pub(crate) struct Intake {
 }
 
 impl Model for Intake {
-    ghost use Rattle.post.specs.Crowding.{IsBounded, Taking};
+    ghost use Rattle.node.specs.Crowding.{IsBounded, Taking};
 
     ghost Value = { Taking };
 
@@ -52,7 +52,7 @@ impl Model for Intake {
 
 impl Intake {
     /// Returns the intake of a node that is not yet served.
-    pub(crate) fn new() -> Intake
+    pub fn new() -> Intake
         ensures { result
             ≡ record { status = None; entering = 0; mark = 0; earlier = 0; later = 0 } }
     {
@@ -66,14 +66,14 @@ impl Intake {
     }
 
     /// Returns the node's status.
-    pub(crate) fn status(&self) -> Option<Status>
+    pub fn status(&self) -> Option<Status>
         ensures { result ≡ self.now.status }
     {
         self.status
     }
 
     /// Counts bytes as in transit to the node, if it takes more.
-    pub(crate) fn admit(&mut self, bytes: u64) -> bool
+    pub fn admit(&mut self, bytes: u64) -> bool
         requires { bytes ≤ 65536 }
         ensures admits { result ≡ admits self.old }
         ensures counted { result ≡ true →
@@ -90,7 +90,7 @@ impl Intake {
     }
 
     /// Counts bytes that were in transit as taken.
-    pub(crate) fn take(&mut self, bytes: u64)
+    pub fn take(&mut self, bytes: u64)
         ensures { self.new ≡ took bytes self.old }
     {
         let taken = bytes.min(self.entering);
@@ -99,7 +99,7 @@ impl Intake {
     }
 
     /// Takes the node's new status. Bytes that every member now holds are no longer counted.
-    pub(crate) fn show(&mut self, status: Status)
+    pub fn show(&mut self, status: Status)
         ensures { self.new ≡ shown status self.old }
     {
         if is_agreed(self.mark, &status) {

@@ -1,7 +1,7 @@
 -- How a node's count of bytes that are not known to be agreed changes, while its log only grows.
 use Rattle.std.specs.Prelude.{ℕ, ◌+◌, ◌≤◌, nat_lt, min, if◌then◌else◌, List, [], ◌∷◌, Option, Some, None}
-use Rattle.node.specs.declared.Status.{Status}
-use Rattle.post.specs.Crowding.{Taking, shown, took}
+use Rattle.world_base.specs.declared.Status.{Status}
+use Rattle.node.specs.Crowding.{Taking, shown, took}
 
 -- bytes that a node took, and how many places its log had once it had taken them
 pub record Taken : Type 0 where
