@@ -1,7 +1,1 @@
-mod AllMet
-mod CutsApart
-mod GivenBySteps
 mod Namesakes
-mod OwnSendsJoin
-mod PortsApart
-mod TurnsEnd

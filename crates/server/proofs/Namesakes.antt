@@ -1,12 +1,13 @@
 -- Namesakes.antt: of nodes in rising order each has the inbox for which its number stands.
 use Rattle.std.proofs.Common.{◌≡◌, ◌==◌, ℕ, ◌+◌, ◌<◌, Bool, false, List, [], ◌∷◌, ◌++◌, if◌then◌else◌, refl, ◌∙◌, ap, sym, subst, arith}
 use Rattle.std.proofs.lemmas.Bool.{eq-eqb}
-use Rattle.post.specs.mailbox.Naming.{no_inbox}
-use Rattle.post.specs.node.declared.Config.{Config}
-use Rattle.post.specs.node.Lists.{Each}
-use Rattle.post.proofs.of_lists.OfEach.{each_append, each_then}
-use Rattle.server.specs.Opening.{AreNamed, first_in, inbox_among}
-use Rattle.server.specs.declared.opening.Opened.{Opened}
+use Rattle.node_threads.specs.post.mailbox.Naming.{no_inbox}
+use Rattle.node_threads.specs.post.node.declared.Config.{Config}
+use Rattle.node_threads.specs.post.node.Lists.{Each}
+use Rattle.node_threads.proofs.of_post.of_lists.OfEach.{each_append, each_then}
+use Rattle.node_threads.specs.Named.{AreNamed}
+use Rattle.server.specs.Opening.{first_in, inbox_among}
+use Rattle.node_threads.specs.declared.opened.Opened.{Opened}
 
 above : (number other : ℕ) → number < other → (other == number) ≡ false
 above number other less = grind (arith, less)

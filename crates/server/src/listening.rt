@@ -1,19 +1,17 @@
-// The nodes that serve, and the threads of each.
+// The nodes that serve, while an order of the caller runs.
 
 ghost use Rattle.std.specs.Prelude.{◌≡◌};
-ghost use Rattle.post.specs.Queued.{EachOpensAs};
-ghost use Rattle.server.specs.Opening.{AreNamed};
+ghost use Rattle.node_threads.specs.post.Queued.{EachOpensAs};
+ghost use Rattle.node_threads.specs.Named.{AreNamed};
 
-use crate::node_context::NodeContexts;
-use crate::node_report::NodeReport;
-use crate::opening::{Opened, open_all};
+use crate::opening::open_all;
 use crate::outcome::Outcome;
 use crate::serve_error::ServeError;
-use crate::served_node::ServedNode;
 use crate::starting::can_start;
-use crate::working::THREADS;
-use post::Cluster;
-use post::node::{Config, Gate, Memory, NoGate, NodeNaming, NodeState, OpeningError, Stated};
+use node_threads::post::Cluster;
+use node_threads::post::node::{Config, Gate, NoGate, NodeNaming, NodeState, OpeningError, Stated};
+use node_threads::streams::Listener;
+use node_threads::{NodeContexts, NodeReport, Opened, ServedNode, THREADS, start_all};
 use std::alloc::Global;
 use std::marker::Brand;
 use std::net::{Net, TcpStream};
@@ -21,7 +19,6 @@ use std::sync::Wait;
 use std::thread;
 use std::thread::Threads;
 use std::time::{Clock, Instant};
-use streams::Listener;
 
 /// Serves the clients of several nodes, each at its listener, while `attend` runs with these nodes,
 /// and returns what that returned; then all connections are ended. The nodes open in ballot 1 of
@@ -143,34 +140,12 @@ where
     let nodes = start_all::<J, R, G>(rt, alloc, contexts, config, opened, gate)?;
     let (answer, all_started) = serve_states(rt, contexts.cluster, nodes.as_slice(), attend);
     if !all_started {
-        outcome.keep(Err(ServeError::Threads));
+        outcome.fail(ServeError::Threads);
     }
     for node in nodes {
         outcome.keep(node.close(rt));
     }
     Ok((answer, outcome.into_reports()?))
-}
-
-// Returns the nodes that serve, made of those that opened.
-fn start_all<'a, J: NodeNaming, R: Wait, G: Gate>(
-    rt: &R,
-    alloc: Global,
-    contexts: NodeContexts<'a>,
-    config: &'a Config,
-    opened: Vec<Opened>,
-    gate: Option<&'a G>,
-) -> Result<Vec<ServedNode<'a, J, NodeState<J>, G>>, Memory>
-    requires named { AreNamed J.inbox_of J.first_of opened.items }
-    requires opens { EachOpensAs config.now J.first_of }
-{
-    let mut nodes = Vec::with_capacity(alloc, opened.len())?;
-    for one in opened {
-        // Each has its listener.
-        if let Some(context) = contexts.context_of(one.number) {
-            nodes.push(ServedNode::start(rt, alloc, context, config, one, gate)?)?;
-        }
-    }
-    Ok(nodes)
 }
 
 // Serves with the type that a node's state has. That threads may share it is proved only here.
@@ -222,7 +197,7 @@ where
             }
             let answer = attend(cluster);
             for node in nodes {
-                node.shared.context.listener.close(rt);
+                node.close_listener(rt);
             }
             (answer, all_started)
         },

@@ -1,23 +1,16 @@
 // Nodes that are about to serve.
 
 ghost use Rattle.std.specs.Prelude.{◌≡◌, ◌≤◌, IfOk};
-ghost use Rattle.server.specs.Opening.{AreNamed, first_in, inbox_among};
+ghost use Rattle.node_threads.specs.Named.{AreNamed};
+ghost use Rattle.server.specs.Opening.{first_in, inbox_among};
 
-use crate::node_context::NodeContexts;
-use post::mailbox::Inbox;
-use post::node::{Config, Item, NodeCore, OpeningError};
+use node_threads::post::mailbox::Inbox;
+use node_threads::post::node::{Config, NodeCore, OpeningError};
+use node_threads::{NodeContexts, Opened};
 use std::alloc::Global;
 
 /// One more than the highest number of a node.
 const NUMBERS_END: u8 = 16;
-
-/// A node that is about to serve, with its inbox, by which it receives everything.
-#[derive(Drop)]
-pub(crate) struct Opened {
-    pub(crate) number: u8,
-    pub(crate) inbox: Inbox<Item>,
-    pub(crate) core: NodeCore,
-}
 
 /// Opens the nodes of all listeners, each as the one of its listener's number, in rising order.
 /// `BadMembers` comes if two listeners have one number, if a number is outside 1 to 15, and if no
@@ -32,7 +25,7 @@ pub(crate) fn open_all(
 {
     let mut opened = Vec::with_capacity(alloc, contexts.listeners.len())?;
     for number in 1..NUMBERS_END {
-        if contexts.context_of(number).is_some() {
+        if contexts.listener_of(number).is_some() {
             opened.push(open(alloc, number, config)?)?;
         }
     }

@@ -1,7 +1,8 @@
 // What the nodes reported at their ends.
 
-use crate::node_report::NodeReport;
 use crate::serve_error::ServeError;
+use node_threads::NodeReport;
+use node_threads::post::node::Memory;
 use std::alloc::{AllocError, Global};
 
 /// What the nodes reported at their ends.
@@ -22,16 +23,21 @@ impl Outcome {
         })
     }
 
-    /// Keeps what a node reports.
-    pub(crate) fn keep(&mut self, served: Result<NodeReport, ServeError>) {
-        match served {
+    /// Keeps what a node reports at its end.
+    pub(crate) fn keep(&mut self, closed: Result<NodeReport, Memory>) {
+        match closed {
             Ok(report) => {
                 if self.reports.push(report).is_err() {
-                    self.failure = Some(ServeError::Memory);
+                    self.fail(ServeError::Memory);
                 }
             }
-            Err(error) => self.failure = Some(error),
+            Err(error) => self.fail(ServeError::from(error)),
         }
+    }
+
+    /// Keeps why a node was not served.
+    pub(crate) fn fail(&mut self, error: ServeError) {
+        self.failure = Some(error);
     }
 
     /// Returns the reports by the nodes' numbers, or why a node was not served.

@@ -17,9 +17,9 @@ abbrev Counts : PortTap → List ℕ → PortTap → Type 0
 Counts first handed tap = (tap.handed ≡ counted (length handed)) × (tap.port ≡ first.port)
 
 -- one more call
-counts_call : (first before behind : PortTap) (handed bytes : List ℕ) (answer : Handed)
-    → Counts first handed before → HandsOut before bytes answer behind → Counts first (handed ++ bytes) behind
-counts_call first before behind handed bytes answer (count, port) out =
+counts_call : (first before after : PortTap) (handed bytes : List ℕ) (answer : Handed)
+    → Counts first handed before → HandsOut before bytes answer after → Counts first (handed ++ bytes) after
+counts_call first before after handed bytes answer (count, port) out =
     let more = ap (λ (tap : PortTap). tap.handed) out.counts in
     let same = ap (λ (tap : PortTap). tap.port) out.counts in (
       omega (arith, count, more, length-append handed bytes),
@@ -27,24 +27,24 @@ counts_call first before behind handed bytes answer (count, port) out =
     )
 
 -- a call, or none
-counts_any : (first before behind : PortTap) (handed bytes : List ℕ)
-    → Counts first handed before → HandsAny HandsOut before bytes behind → Counts first (handed ++ bytes) behind
-counts_any first before behind handed bytes counts (inl (answer, out)) =
-    counts_call first before behind handed bytes answer counts out
-counts_any first before behind handed bytes counts (inr (none, same)) =
+counts_any : (first before after : PortTap) (handed bytes : List ℕ)
+    → Counts first handed before → HandsAny HandsOut before bytes after → Counts first (handed ++ bytes) after
+counts_any first before after handed bytes counts (inl (answer, out)) =
+    counts_call first before after handed bytes answer counts out
+counts_any first before after handed bytes counts (inr (none, same)) =
     subst (λ (tap : PortTap). Counts first (handed ++ bytes) tap) (sym same)
     (subst (λ (l : List ℕ). Counts first l before) (sym (ap (λ (l : List ℕ). handed ++ l) none ∙ append-nil handed)) counts)
 
 -- one more write
-counts_flow : (first before behind : PortTap) (handed bytes : List ℕ) (flow : Flow)
-    → Counts first handed before → HandsSo HandsOut flow before bytes behind → Counts first (handed ++ bytes) behind
-counts_flow first before behind handed bytes flows.Open counts out = counts_call first before behind handed bytes _ counts out
-counts_flow first before behind handed bytes flows.Closed counts out = counts_call first before behind handed bytes _ counts out
-counts_flow first before behind handed bytes flows.Blocked counts out = counts_any first before behind handed bytes counts out
-counts_flow first before behind handed bytes flows.Stopped counts out = counts_any first before behind handed bytes counts out
-counts_flow first before behind handed bytes flows.Fault counts out = counts_any first before behind handed bytes counts out
+counts_flow : (first before after : PortTap) (handed bytes : List ℕ) (flow : Flow)
+    → Counts first handed before → HandsSo HandsOut flow before bytes after → Counts first (handed ++ bytes) after
+counts_flow first before after handed bytes flows.Open counts out = counts_call first before after handed bytes _ counts out
+counts_flow first before after handed bytes flows.Closed counts out = counts_call first before after handed bytes _ counts out
+counts_flow first before after handed bytes flows.Blocked counts out = counts_any first before after handed bytes counts out
+counts_flow first before after handed bytes flows.Stopped counts out = counts_any first before after handed bytes counts out
+counts_flow first before after handed bytes flows.Fault counts out = counts_any first before after handed bytes counts out
 
 pub counts_all : TapsCountAll
 counts_all first start _ _ _ _ none begins = (none, refl)
-counts_all first start _ _ _ _ none (goes_on flow behind new rest lives write) =
-    counts_flow first _ behind _ write.bytes flow (counts_all first start _ _ _ _ none lives) write.handed
+counts_all first start _ _ _ _ none (goes_on flow after new rest lives write) =
+    counts_flow first _ after _ write.bytes flow (counts_all first start _ _ _ _ none lives) write.handed

@@ -12,17 +12,17 @@ use Rattle.streams.specs.Tapping.{Began, HandsOut}
 use Rattle.streams.specs.declared.port_tap.PortTap.{PortTap}
 
 pub handed_by_tap :
-    (first_of : ℕ → CountedCore) (before behind : PortTap) (seen : Seen) (answer : Handed) (old new : List ℕ)
+    (first_of : ℕ → CountedCore) (before after : PortTap) (seen : Seen) (answer : Handed) (old new : List ℕ)
     (was is count : ℕ)
     → Began first_of
     → Replays (first_of seen.taker.inbox) seen.taker.taken seen.node
     → new ≡ old ++ bytes_of (listed_at before.port seen.node.core)
     → answer ≡ answer_of (listed_at before.port seen.node.core)
     → was ≡ length old → is ≡ length new
-    → behind ≡ record before { handed = count }
+    → after ≡ record before { handed = count }
     → count ≡ min (before.handed + (is - was)) (2 ^ 64 - 1)
-    → HandsOver HandsOut before answer behind old new
-handed_by_tap first_of before behind seen answer old new was is count began replays bytes answers first last counts sum =
+    → HandsOver HandsOut before answer after old new
+handed_by_tap first_of before after seen answer old new was is count began replays bytes answers first last counts sum =
     let more = bytes_of (listed_at before.port seen.node.core) in
     let size : length new ≡ length old + length more = ap length bytes ∙ length-append old more in
     let all : count ≡ counted (before.handed + length more) = omega (arith, size, first, last, sum) in
@@ -31,7 +31,7 @@ handed_by_tap first_of before behind seen answer old new was is count began repl
       handed = record {
         first_of = first_of;
         began = began;
-        puts = record { seen = seen; replays = replays; bytes_are = refl; answer_is = answers };
+        hands = record { seen = seen; replays = replays; bytes_are = refl; answer_is = answers };
         counts = counts ∙ ap (λ (handed : ℕ). record before { handed = handed }) all;
       };
       is = bytes;

@@ -17,7 +17,8 @@ pub record Began (first_of : ℕ → CountedCore) : Type 0 where
 
 -- These bytes, with this answer, are what a node hands over for a port that is what its first state
 -- became by one step for each item that was taken from its inbox.
-pub record PutsOut (first_of : ℕ → CountedCore) (port : Port) (bytes : List ℕ) (answer : Handed)
+pub record IsHandedOver
+    (first_of : ℕ → CountedCore) (port : Port) (bytes : List ℕ) (answer : Handed)
     : Type 0 where
   pub seen : Seen
   pub replays : Replays (first_of seen.taker.inbox) seen.taker.taken seen.node
@@ -30,9 +31,9 @@ HandsNone tap = tap.handed ≡ 0
 
 -- a node that opened in some configuration hands over these bytes for a tap's port, and the tap
 -- counts them, up to 2^64 - 1
-pub record HandsOut (before : PortTap) (bytes : List ℕ) (answer : Handed) (behind : PortTap)
+pub record HandsOut (before : PortTap) (bytes : List ℕ) (answer : Handed) (after : PortTap)
     : Type 0 where
   pub first_of : ℕ → CountedCore
   pub began : Began first_of
-  pub puts : PutsOut first_of before.port bytes answer
-  pub counts : behind ≡ record before { handed = counted (before.handed + length bytes) }
+  pub hands : IsHandedOver first_of before.port bytes answer
+  pub counts : after ≡ record before { handed = counted (before.handed + length bytes) }

@@ -18,7 +18,7 @@ struct Waiting {
 
 /// The connections that a node serves, each at an index of its own, and whether it serves any.
 #[derive(Drop)]
-pub struct ConnectionTable {
+pub(crate) struct ConnectionTable {
     waiting: Mutex<Waiting>,
     /// An index is taken before its connection is reported to the node; the connection is put at
     /// the index after that.
@@ -28,7 +28,7 @@ pub struct ConnectionTable {
 impl ConnectionTable {
     /// Returns a table without connections, which admits some. The only error is that memory runs
     /// out.
-    pub fn new(alloc: Global) -> Result<ConnectionTable, AllocError> {
+    pub(crate) fn new(alloc: Global) -> Result<ConnectionTable, AllocError> {
         Ok(ConnectionTable {
             waiting: Mutex::new(Waiting {
                 closed: false,
@@ -39,7 +39,7 @@ impl ConnectionTable {
     }
 
     /// Ends all connections, and admits no more.
-    pub fn close<R: Wait>(&self, rt: &R) {
+    pub(crate) fn close<R: Wait>(&self, rt: &R) {
         self.waiting.lock(rt).closed = true;
         for (_, link) in self.links.lock(rt).iter() {
             if let Some(link) = link {
@@ -49,12 +49,12 @@ impl ConnectionTable {
     }
 
     /// Says whether no more connections are admitted.
-    pub fn is_closed<R: Wait>(&self, rt: &R) -> bool {
+    pub(crate) fn is_closed<R: Wait>(&self, rt: &R) -> bool {
         self.waiting.lock(rt).closed
     }
 
     /// Says whether a thread may wait for a client. It then counts as waiting.
-    pub fn begin_wait<R: Wait>(&self, rt: &R) -> bool {
+    pub(crate) fn begin_wait<R: Wait>(&self, rt: &R) -> bool {
         let mut waiting = self.waiting.lock(rt);
         if waiting.closed {
             return false;
@@ -64,19 +64,19 @@ impl ConnectionTable {
     }
 
     /// Counts a thread as no longer waiting. Returns whether clients are still admitted.
-    pub fn end_wait<R: Wait>(&self, rt: &R) -> bool {
+    pub(crate) fn end_wait<R: Wait>(&self, rt: &R) -> bool {
         let mut waiting = self.waiting.lock(rt);
         waiting.threads = waiting.threads.saturating_sub(1);
         !waiting.closed
     }
 
     /// Says whether a thread waits for a client.
-    pub fn is_waited_at<R: Wait>(&self, rt: &R) -> bool {
+    pub(crate) fn is_waited_at<R: Wait>(&self, rt: &R) -> bool {
         self.waiting.lock(rt).threads > 0
     }
 
     /// Takes an index for a connection. There is none if [`CONNECTIONS`] are taken.
-    pub fn take_index<R: Wait>(&self, rt: &R) -> Option<usize> {
+    pub(crate) fn take_index<R: Wait>(&self, rt: &R) -> Option<usize> {
         let mut links = self.links.lock(rt);
         if links.len() >= usize::from(CONNECTIONS) {
             return None;
@@ -85,7 +85,7 @@ impl ConnectionTable {
     }
 
     /// Lists a connection at its index, which was taken for it.
-    pub fn list<R: Wait>(&self, rt: &R, link: Arc<Link, Global>) {
+    pub(crate) fn list<R: Wait>(&self, rt: &R, link: Arc<Link, Global>) {
         let index = link.index;
         let mut links = self.links.lock(rt);
         if let Some(listed) = links.get_mut(index) {
@@ -94,13 +94,13 @@ impl ConnectionTable {
     }
 
     /// Frees an index, whose connection is listed no more.
-    pub fn free<R: Wait>(&self, rt: &R, index: usize) {
+    pub(crate) fn free<R: Wait>(&self, rt: &R, index: usize) {
         let _ = self.links.lock(rt).try_remove(index);
     }
 
     /// Adds the connections that are listed, from this index on and then those before it, except
     /// those of idle lanes. If memory runs out for one, it is left out.
-    pub fn add_busy<R: Wait>(
+    pub(crate) fn add_busy<R: Wait>(
         &self,
         rt: &R,
         idle: IdleLanes,
@@ -114,7 +114,11 @@ impl ConnectionTable {
 
     /// Returns the first connection that is listed at this index or after it, and the index after
     /// that.
-    pub fn link_from<R: Wait>(&self, rt: &R, first: usize) -> Option<(usize, Arc<Link, Global>)> {
+    pub(crate) fn link_from<R: Wait>(
+        &self,
+        rt: &R,
+        first: usize,
+    ) -> Option<(usize, Arc<Link, Global>)> {
         let links = self.links.lock(rt);
         for index in first..usize::from(CONNECTIONS) {
             if let Some(Some(link)) = links.get(index) {

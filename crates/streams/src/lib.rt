@@ -12,7 +12,6 @@ mod port_tap;
 mod socket;
 
 pub use connection;
-pub use connection_table::ConnectionTable;
 pub use forgetting::forget;
 pub use idle_lanes::IdleLanes;
 pub use laws::taps_count_all;

@@ -100,7 +100,7 @@ impl Link {
         Some(token)
     }
 
-    /// Returns the token. If more may have been queued meanwhile the caller keeps it, and looks
+    /// Puts the token back. If more may have been queued meanwhile the caller keeps it, and looks
     /// again.
     pub fn put_back<R: Wait>(&self, rt: &R, token: WriteToken) -> Option<WriteToken>
         ensures { IfSome result (λ kept. kept ≡ token) }

@@ -3,10 +3,12 @@
 ghost use Rattle.std.specs.Prelude.{◌≡◌, IfOk};
 
 use crate::connection_table::ConnectionTable;
+use crate::idle_lanes::IdleLanes;
+use crate::link::Link;
 use node::Memory;
 use std::alloc::Global;
 use std::net::{Net, SocketAddr, TcpListener, TcpStream};
-use std::sync::Wait;
+use std::sync::{Arc, Wait};
 use std::time::{Clock, Duration};
 use std::{io, thread};
 
@@ -27,7 +29,7 @@ pub struct Listener {
     pub number: u8,
     listener: TcpListener,
     /// The connections that are served.
-    pub connections: ConnectionTable,
+    connections: ConnectionTable,
 }
 
 impl Listener {
@@ -79,5 +81,44 @@ impl Listener {
             }
             thread::sleep(rt, Duration::from_millis(PAUSE_MILLIS));
         }
+    }
+
+    /// Says whether the listener is closed: no more connections are admitted.
+    pub fn is_closed<R: Wait>(&self, rt: &R) -> bool {
+        self.connections.is_closed(rt)
+    }
+
+    /// Takes an index for a connection. There is none if [`CONNECTIONS`] are taken.
+    pub fn take_index<R: Wait>(&self, rt: &R) -> Option<usize> {
+        self.connections.take_index(rt)
+    }
+
+    /// Lists a connection at its index, which was taken for it. It ends when the listener is
+    /// closed.
+    pub fn list<R: Wait>(&self, rt: &R, link: Arc<Link, Global>) {
+        self.connections.list(rt, link);
+    }
+
+    /// Frees an index, whose connection is listed no more.
+    pub fn free<R: Wait>(&self, rt: &R, index: usize) {
+        self.connections.free(rt, index);
+    }
+
+    /// Adds the connections that are listed, from this index on and then those before it, except
+    /// those of idle lanes. If memory runs out for one, it is left out.
+    pub fn add_busy<R: Wait>(
+        &self,
+        rt: &R,
+        idle: IdleLanes,
+        first: usize,
+        busy: &mut Vec<Arc<Link, Global>>,
+    ) {
+        self.connections.add_busy(rt, idle, first, busy);
+    }
+
+    /// Returns the first connection that is listed at this index or after it, and the index after
+    /// that.
+    pub fn link_from<R: Wait>(&self, rt: &R, first: usize) -> Option<(usize, Arc<Link, Global>)> {
+        self.connections.link_from(rt, first)
     }
 }

@@ -1,7 +1,8 @@
 use Rattle.std.proofs.Common.{◌<◌}
-use Rattle.post.specs.node.Lists.{Each}
-use Rattle.server.specs.Opening.{AreNamed, first_in, inbox_among}
-use Rattle.server.specs.declared.opening.Opened.{Opened}
+use Rattle.node_threads.specs.post.node.Lists.{Each}
+use Rattle.node_threads.specs.Named.{AreNamed}
+use Rattle.server.specs.Opening.{first_in, inbox_among}
+use Rattle.node_threads.specs.declared.opened.Opened.{Opened}
 use Rattle.server.proofs.opening.open_all.Given as goal
 
 abbrev pub invariant-loop-number : goal.invariant-loop-number

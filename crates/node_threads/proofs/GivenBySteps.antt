@@ -1,0 +1,40 @@
+-- GivenBySteps.antt: what the steps of a node give was given by one of them.
+use Rattle.std.proofs.Common.{ℕ, List, [], ◌∷◌, sym, subst}
+use Rattle.post.specs.node.Command.{Command}
+use Rattle.post.specs.node.Output.{Output}
+use Rattle.post.specs.node.Effect.{Effect}
+use Rattle.post.specs.node.Core.{CountedCore}
+use Rattle.post.specs.node.declared.Config.{Config}
+use Rattle.post.specs.node.Lists.{Each, In}
+use Rattle.post.specs.node.Lists.In.{here, there}
+use Rattle.post.specs.node.State.{Replays, Seen, TakesOne}
+use Rattle.post.proofs.of_lists.OfEach.{each_append}
+use Rattle.post.specs.Queued.{EachOpens, EachOpensAs, WasGiven}
+
+-- what holds for whatever is in a list holds for each
+each_in : {X : Type 0} (P : X → Type 0) (xs : List X) → ((x : X) → In x xs → P x) → Each P xs
+each_in P [] f = tt
+each_in P (x ∷ xs) f = (f x here, each_in P xs (λ y i. f y (there i)))
+
+-- nodes each of which began as the one of its number began as ones that open
+pub each_opens : (config : Config) (first_of : ℕ → CountedCore) → EachOpensAs config first_of → EachOpens first_of
+each_opens config first_of opens = λ inbox. ∣ record { number = inbox; config = config; is = opens inbox } ∣₁
+
+pub given_more : (first_of : ℕ → CountedCore) (old new : Seen) (before after : List (Effect Command Output))
+    → EachOpens first_of → Replays (first_of old.taker.inbox) old.taker.taken old.node
+    → TakesOne old new before after → Each WasGiven before → Each WasGiven after
+given_more first_of old new before after opens replays takes given =
+    subst (λ (effects : List (Effect Command Output)). Each WasGiven effects) (sym takes.stepped.appended)
+    (each_append WasGiven before takes.stepped.given given (each_in WasGiven takes.stepped.given (λ effect gives. record {
+      first = first_of old.taker.inbox;
+      opens = opens old.taker.inbox;
+      history = old.taker.taken;
+      core = old.node;
+      replays = replays;
+      item = takes.item;
+      next = new.node;
+      before = before;
+      after = after;
+      step = takes.stepped;
+      gives = gives;
+    })))

@@ -1,0 +1,7 @@
+mod AllMet
+mod CutsApart
+mod GivenBySteps
+mod OwnSendsJoin
+mod PortsApart
+mod TurnsEnd
+pub use Rattle.post.proofs as of_post

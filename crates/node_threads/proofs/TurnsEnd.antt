@@ -1,0 +1,22 @@
+-- TurnsEnd.antt: how turns of a node begin, and how they end if no item waits.
+use Rattle.std.proofs.Common.{◌≡◌, List, [], sym, subst}
+use Rattle.post.specs.node.Command.{Command}
+use Rattle.post.specs.node.Output.{Output}
+use Rattle.post.specs.node.Effect.{Effect}
+use Rattle.post.specs.node.Lists.{Each}
+use Rattle.post.specs.node.State.{Seen, next_turn}
+use Rattle.post.specs.Queued.{WasGiven}
+use Rattle.node_threads.specs.Turns.{Turns}
+use Rattle.node_threads.specs.Turns.Turns.{begins, finds_none}
+
+-- nothing was given yet
+pub given_none : (node : Seen) (given : List (Effect Command Output)) → given ≡ [] → Each WasGiven given × Turns node node given
+given_none node given none = subst (λ (l : List (Effect Command Output)). Each WasGiven l × Turns node node l) (sym none) (tt, begins)
+
+-- no item waited
+pub found_none : (old seen new : Seen) (given after : List (Effect Command Output))
+    → Turns old seen given → new ≡ record seen { turns = next_turn seen.turns } → after ≡ given → Turns old new after
+found_none old seen new given after turns is same =
+    subst (λ (s : Seen). Turns old s after) (sym is)
+    (subst (λ (l : List (Effect Command Output)). Turns old (record seen { turns = next_turn seen.turns }) l) (sym same)
+    (finds_none turns))

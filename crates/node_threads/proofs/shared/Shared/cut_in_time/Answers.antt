@@ -1,0 +1,12 @@
+use Rattle.std.proofs.Common.{ap}
+use Rattle.post.specs.mailbox.Ends.{Sender}
+use Rattle.post.specs.node.declared.Item.{Item}
+use Rattle.node_threads.specs.Serving.SendsOwn.{starts}
+use Rattle.node_threads.proofs.OwnSendsJoin.{own_cut}
+use Rattle.node_threads.proofs.shared.Shared.cut_in_time.Goals as goal
+
+pub returns-then-cuts_after : goal.returns-then-cuts_after
+returns-then-cuts_after g c = own_cut _ _ _ (ap (λ (lane : Sender Item). lane.sent) c.send.ensures)
+
+pub returns-else-cuts_after : goal.returns-else-cuts_after
+returns-else-cuts_after g c = starts

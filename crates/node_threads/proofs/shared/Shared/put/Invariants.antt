@@ -1,0 +1,11 @@
+use Rattle.std.proofs.Common.{◌≡◌}
+use Rattle.post.specs.mailbox.Ends.{unmet}
+use Rattle.node_threads.proofs.shared.Shared.put.Given as goal
+
+abbrev pub invariant-loop : goal.invariant-loop
+invariant-loop g l = record {
+  can : (goal.iterator-loop g).can_next l.iterator';
+  ends : (goal.iterator-loop g).is_finite l.iterator';
+  item : l.unsent ≡ l.initial.unsent;
+  lane : unmet l.lane ≡ unmet l.initial.lane;
+}

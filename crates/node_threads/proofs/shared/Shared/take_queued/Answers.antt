@@ -1,0 +1,16 @@
+use Rattle.std.proofs.Common.{rules}
+use Rattle.node_threads.specs.Serving.SendsOwn.{starts}
+use Rattle.node_threads.proofs.OwnSendsJoin.{own_join}
+use Rattle.node_threads.proofs.shared.Shared.take_queued.Goals as goal
+
+pub returns-then-is_empty : goal.returns-then-is_empty
+returns-then-is_empty g c = starts
+
+pub loop-item-init : goal.loop-item-init
+loop-item-init g c = record { queued = search rules; own = starts }
+
+pub loop-item-preserved : goal.loop-item-preserved
+loop-item-preserved g c = record {
+  queued = search rules;
+  own = own_join _ _ _ _ c.loop-item.invariant.own c.put_queued.ensures;
+}

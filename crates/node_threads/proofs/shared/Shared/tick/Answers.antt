@@ -1,0 +1,15 @@
+use Rattle.std.proofs.Common.{ap}
+use Rattle.post.specs.mailbox.Ends.{Sender}
+use Rattle.post.specs.node.declared.Item.{Item}
+use Rattle.node_threads.specs.Serving.SendsOwn.{starts}
+use Rattle.node_threads.proofs.OwnSendsJoin.{own_join, own_tick}
+use Rattle.node_threads.proofs.shared.Shared.tick.Goals as goal
+
+pub returns-then-saturating_sub-lt-TICK : goal.returns-then-saturating_sub-lt-TICK
+returns-then-saturating_sub-lt-TICK g c = starts
+
+pub returns : goal.returns
+returns g c =
+    own_join _ _ _ _
+    (own_tick _ c.now-now.result _ _ (ap (λ (lane : Sender Item). lane.sent) c.send.ensures))
+    c.cut_in_time.ensures

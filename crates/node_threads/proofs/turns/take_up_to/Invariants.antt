@@ -1,0 +1,13 @@
+use Rattle.std.proofs.Common.{◌≡◌}
+use Rattle.post.specs.node.Lists.{Each}
+use Rattle.post.specs.Queued.{WasGiven}
+use Rattle.node_threads.specs.Turns.{Turns}
+use Rattle.node_threads.proofs.turns.take_up_to.Given as goal
+
+abbrev pub invariant-loop : goal.invariant-loop
+invariant-loop g l = record {
+  given : Each WasGiven l.effects.items;
+  turns : Turns l.initial.node l.node l.effects.items;
+  lane : l.lane ≡ l.initial.lane;
+  inbox : l.lane.inbox ≡ l.node.taker.inbox;
+}

@@ -1,0 +1,9 @@
+pub mod Closing
+pub mod Cutting
+pub mod Laws
+pub mod Named
+pub mod Serving
+pub mod Turns
+pub mod Working
+pub use Rattle.post.specs as post
+pub use Rattle.streams.specs as streams

@@ -1,0 +1,55 @@
+-- What a lane reports of a connection.
+use Rattle.std.specs.Prelude.{ℕ, ◌+◌, ◌*◌, List, [], ◌∷◌, ◌++◌, None}
+use Rattle.post.specs.node.declared.Item.{Item}
+use Rattle.post.specs.node.declared.Item.TheVariants.{Tick, Cut}
+use Rattle.post.specs.node.declared.Port.{Port}
+use Rattle.post.specs.mailbox.Ends.{Sender}
+use Rattle.streams.specs.connection.declared.ending.Ending.{Ending}
+use Rattle.streams.specs.connection.Hearing.{Hears}
+use Rattle.post.specs.Queued.{IsQueued}
+
+-- A lane that had sent these items sent the whole report of one connection, and nothing else. Of a
+-- socket no bytes are known except those that came.
+pub record SendsWhole (port : Port) (before after : List Item) : Type 0 where
+  pub ending : Ending
+  pub hears : Hears port before after ending None None
+
+-- the port of a lane's connection that comes after this many others
+abbrev pub port_of : ℕ → ℕ → Port
+port_of lane count = record { 0 = 256 * count + lane }
+
+-- A lane that had sent these items sent the whole report of one connection, or nothing if that was
+-- closed at once.
+pub data TellsOne (port : Port) (before : List Item) : List Item → Type 0 where
+  closed_at_once : TellsOne port before before
+  served : {after : List Item} → SendsWhole port before after → TellsOne port before after
+
+-- A lane that had sent these items sent for this many connections, one after another, the report of
+-- each, and nothing else.
+pub data TellsEach (lane : ℕ) (before : List Item) : ℕ → List Item → Type 0 where
+  begins : TellsEach lane before 0 before
+  goes_on : {count : ℕ} {sent : List Item} (after : List Item)
+      → TellsEach lane before count sent → TellsOne (port_of lane count) sent after
+      → TellsEach lane before (count + 1) after
+
+-- the same, for any number of connections
+pub record SendsRow (lane : ℕ) (before after : List Item) : Type 0 where
+  pub count : ℕ
+  pub tells : TellsEach lane before count after
+
+-- a node's own lane, by which everything is sent to it that does not come from its clients, and the
+-- node's number
+pub record OwnSender : Type 0 where
+  pub number : ℕ
+  pub lane : Sender Item
+
+-- The own lane of a node of this number, which had sent these items, sent the time, cuts of the
+-- log, and what was queued for the node.
+pub data SendsOwn (node : ℕ) (before : List Item) : List Item → Type 0 where
+  starts : SendsOwn node before before
+  ticks : {sent : List Item} (now : ℕ)
+      → SendsOwn node before sent → SendsOwn node before (sent ++ Tick now ∷ [])
+  cuts : {sent : List Item} → SendsOwn node before sent → SendsOwn node before (sent ++ Cut ∷ [])
+  hands : {sent : List Item} (item : Item)
+      → SendsOwn node before sent → IsQueued node item
+      → SendsOwn node before (sent ++ item ∷ [])

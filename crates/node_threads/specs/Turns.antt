@@ -1,0 +1,16 @@
+-- What the turns of a node give.
+use Rattle.std.specs.Prelude.{List, []}
+use Rattle.post.specs.node.Command.{Command}
+use Rattle.post.specs.node.Output.{Output}
+use Rattle.post.specs.node.Effect.{Effect}
+use Rattle.post.specs.node.State.{Seen, TakesOne, next_turn}
+
+-- From a state of a node on, one item after another was taken, and these are all effects of the
+-- steps, in order; or no item waited.
+pub data Turns (old : Seen) : Seen → List (Effect Command Output) → Type 0 where
+  begins : Turns old old []
+  takes : {seen : Seen} {given : List (Effect Command Output)}
+      (next : Seen) (after : List (Effect Command Output))
+      → Turns old seen given → TakesOne seen next given after → Turns old next after
+  finds_none : {seen : Seen} {given : List (Effect Command Output)}
+      → Turns old seen given → Turns old (record seen { turns = next_turn seen.turns }) given

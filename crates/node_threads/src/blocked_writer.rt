@@ -1,0 +1,112 @@
+// The thread that continues with connections whose sockets were full.
+
+ghost use Rattle.std.specs.Prelude.{IfSome};
+ghost use Rattle.std.specs.Arc.{arc_value};
+ghost use Rattle.streams.specs.WriteTokens.{IsTokenOf};
+
+use crate::shared::Shared;
+use post::node::{Gate, NodeNaming, Standing, Stated};
+use std::alloc::Global;
+use std::mem;
+use std::sync::{Arc, Wait};
+use std::time::Duration;
+use streams::{Blocked, Link, WriteToken};
+
+/// How long the thread sleeps at most before it looks whether the listener is closed, in
+/// milliseconds.
+const LOOK_MILLIS: u64 = 200;
+
+/// How long it sleeps at first, and at most, before it tries sockets again that were full, in
+/// milliseconds.
+const FIRST_MILLIS: u64 = 1;
+
+const MOST_MILLIS: u64 = 16;
+
+impl<'a, J: NodeNaming, S: Stated<J>, G: Gate> Shared<'a, J, S, G> {
+    /// Continues with connections whose sockets were full, until the listener is closed. No thread
+    /// waits for this one, and it waits for no socket: between its tries it sleeps, longer each
+    /// time while all stay full.
+    pub(crate) fn write_blocked<R: Wait>(&self, rt: &R) {
+        let mut pause = FIRST_MILLIS;
+        for _ in rt.forever() {
+            if self.context.listener.is_closed(rt) {
+                return;
+            }
+            let (tried, left) = self.write_each_blocked(rt);
+            pause = next_pause(pause, tried, left);
+            self.blocked_waker.park_timeout(
+                rt,
+                Duration::from_millis(if left == 0 { LOOK_MILLIS } else { pause }),
+            );
+        }
+    }
+
+    /// Hands a connection whose socket is full to that thread.
+    pub(crate) fn hand_blocked<R: Wait>(&self, rt: &R, link: &Arc<Link, Global>, token: WriteToken)
+        requires { IsTokenOf (arc_value link.now).port token }
+    {
+        if self.keep_blocked(rt, link, token) {
+            self.blocked_waker.unpark();
+        }
+    }
+
+    // Keeps a connection for that thread's next round. If there is no memory for it, it is ended.
+    fn keep_blocked<R: Wait>(&self, rt: &R, link: &Arc<Link, Global>, token: WriteToken) -> bool
+        requires { IsTokenOf (arc_value link.now).port token }
+    {
+        let kept = match Arc::try_clone(link) {
+            Ok(link) => self.blocked.lock(rt).push(Blocked { link, token }).is_ok(),
+            Err(_) => false,
+        };
+        if !kept {
+            link.shut();
+        }
+        kept
+    }
+
+    // Goes over the connections whose sockets were full. Returns how many there were, and how many
+    // are still full.
+    fn write_each_blocked<R: Wait>(&self, rt: &R) -> (usize, usize) {
+        let blocked = mem::replace(&mut *self.blocked.lock(rt), Vec::new(self.alloc));
+        let tried = blocked.len();
+        let mut left = 0usize;
+        for Blocked { link, token } in blocked {
+            if let Some(token) = self.retry_blocked(rt, &link, token) {
+                left = left.saturating_add(1);
+                let _ = self.keep_blocked(rt, &link, token);
+            }
+        }
+        (tried, left)
+    }
+
+    // Writes as much as the socket takes. Returns the token if the socket is still full. A
+    // connection that the node closed meanwhile is then ended, so that a client that does not read
+    // keeps no index.
+    fn retry_blocked<R: Wait>(
+        &self,
+        rt: &R,
+        link: &Arc<Link, Global>,
+        token: WriteToken,
+    ) -> Option<WriteToken>
+        requires { IsTokenOf (arc_value link.now).port token }
+        ensures { IfSome result (λ blocked. IsTokenOf (arc_value link.now).port blocked) }
+    {
+        let token = self.write(rt, link, token, false)?;
+        let standing = self.node.lock(rt).state().standing(link.port);
+        if standing == Standing::Closed {
+            link.shut();
+            return None;
+        }
+        Some(token)
+    }
+}
+
+// Returns how long the thread sleeps next, by how many connections it tried and how many of these
+// are still blocked.
+fn next_pause(pause: u64, tried: usize, left: usize) -> u64 {
+    if left == 0 || left < tried {
+        FIRST_MILLIS
+    } else {
+        pause.saturating_mul(2).min(MOST_MILLIS)
+    }
+}

@@ -1,0 +1,73 @@
+// A connection's lane, by which the connection is reported to the node.
+
+ghost use Rattle.std.specs.Prelude.{◌≡◌, ◌≤◌, ◌++◌, ◌∷◌, []};
+
+use crate::served_node::ServedNode;
+use post::mailbox::Lane;
+use post::node::{Gate, Item, NodeNaming, Standing, Stated};
+use std::alloc::Global;
+use std::sync::{Arc, Wait};
+use std::time::Clock;
+use streams::Link;
+use streams::connection::{Hearer, PIECE_BYTES};
+
+/// A connection's lane. What is reported to it is what the lane sent.
+#[derive(Drop)]
+pub(crate) struct LaneReporter<'e, 'a, J: NodeNaming, S: Stated<J>, G: Gate> {
+    pub(crate) node: &'e ServedNode<'a, J, S, G>,
+    pub(crate) all: &'e [ServedNode<'a, J, S, G>],
+    pub(crate) link: &'e Arc<Link, Global>,
+    pub(crate) lane: Lane<Item, J>,
+}
+
+impl<'e, 'a, J: NodeNaming, S: Stated<J>, G: Gate> Hearer for LaneReporter<'e, 'a, J, S, G> {
+    ghost heard = { λ reporter. reporter.lane.sent };
+
+    // No clause is about what is behind a lock.
+    ghost lets = { λ _ _. Unit {0} };
+
+    fn now<R: Clock>(&self, rt: &R) -> u64 {
+        let node = self.node;
+        node.shared.context.now(rt)
+    }
+
+    // Bytes are reported once the node takes more of them, and count as in transit until it has
+    // taken them. Then nodes for which something was queued have their turns. After that, what this
+    // node queued is written, to this connection first.
+    fn tell<R: Wait + Clock>(&mut self, rt: &R, item: Item) {
+        let node = self.node;
+        let all = self.all;
+        let shared = &node.shared;
+        let index = self.link.index;
+        let entering = shared.await_room(rt, self.link.port, size_of(&item));
+        shared.send(rt, &mut self.lane, item);
+        shared.context.node.take_in(rt, entering);
+        node.help(rt, all);
+        shared.write_busy(rt, index, true);
+    }
+
+    // A port that is not yet reported to the node counts as one that the node closed, so a link is
+    // listed after that. A connection that the node did not take, because it is no primary, is not
+    // read.
+    fn lets_in<R: Wait>(&self, rt: &R) -> bool {
+        let Ok(link) = Arc::try_clone(self.link) else {
+            return false;
+        };
+        let node = self.node;
+        let shared = &node.shared;
+        let standing = shared.node.lock(rt).state().standing(self.link.port);
+        let listener = shared.context.listener;
+        listener.list(rt, link);
+        standing != Standing::Closed && !listener.is_closed(rt)
+    }
+}
+
+// Returns how many bytes of a client an item carries, at most as many as a read returns.
+fn size_of(item: &Item) -> u64
+    ensures { result ≤ 65536 }
+{
+    match item {
+        Item::Bytes(_, piece, _) => piece.as_slice().len().min(PIECE_BYTES) as u64,
+        _ => 0,
+    }
+}

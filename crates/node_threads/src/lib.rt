@@ -1,0 +1,33 @@
+//! The threads of one node that serves clients over TCP. Each has a lane to the node's inbox for good:
+//! it accepts a client, reads its bytes, sends them by the lane, and then takes what waits in the
+//! inbox itself, so that no bytes are handed from thread to thread before they are answered. What a
+//! node has for another is taken there by the same thread, if no other does so; otherwise by that
+//! node's own thread, which also takes what the master has for it.
+#![tactic(auto)]
+
+mod blocked_writer;
+mod cutting;
+mod helping;
+mod lane_reporter;
+mod laws;
+mod node_context;
+mod node_report;
+mod opened;
+mod own_lane;
+mod own_thread;
+mod room;
+mod served_node;
+mod serving;
+mod shared;
+mod turns;
+mod working;
+mod writing;
+
+pub use laws::{cuts_come_apart, cuts_come_often, ports_differ};
+pub use node_context::NodeContexts;
+pub use node_report::NodeReport;
+pub use opened::Opened;
+pub use post;
+pub use served_node::{ServedNode, start_all};
+pub use streams;
+pub use working::THREADS;

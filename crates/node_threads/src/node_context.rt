@@ -1,0 +1,74 @@
+// What a node's threads use: its listener, the node itself and the other nodes.
+
+ghost use Rattle.std.specs.Prelude.{◌≡◌, IfSome};
+
+use post::{Cluster, Peer};
+use std::time::{Clock, Instant};
+use streams::Listener;
+
+/// The listeners of all nodes, and what they have in common.
+#[derive(Clone, Copy)]
+pub struct NodeContexts<'a> {
+    /// The nodes and their master.
+    pub cluster: &'a Cluster,
+    /// The listener of each node.
+    pub listeners: &'a [Listener],
+    /// When their times begin.
+    pub start: Instant,
+}
+
+impl<'a> NodeContexts<'a> {
+    /// Returns the listener of the node of this number.
+    pub fn listener_of(self, number: u8) -> Option<&'a Listener>
+        ensures { IfSome result (λ listener. listener.now.number ≡ number) }
+    {
+        self.listeners
+            .iter()
+            .find(|listener| listener.number == number)
+    }
+
+    /// Returns the context of the node of this number, if a listener has it.
+    pub(crate) fn context_of(self, number: u8) -> Option<NodeContext<'a>>
+        ensures { IfSome result (λ context. context.listener.now.number ≡ number) }
+    {
+        let listener = self.listener_of(number)?;
+        NodeContext::new(self.cluster, listener, self.start)
+    }
+}
+
+/// What a node's threads use: its listener, the node itself and the other nodes.
+#[derive(Clone, Copy)]
+pub(crate) struct NodeContext<'a> {
+    pub(crate) cluster: &'a Cluster,
+    pub(crate) node: &'a Peer,
+    pub(crate) listener: &'a Listener,
+    start: Instant,
+}
+
+impl<'a> NodeContext<'a> {
+    /// Returns the context of a listener. Times are counted from `start`. There is none if no node
+    /// has the listener's number.
+    pub(crate) fn new(
+        cluster: &'a Cluster,
+        listener: &'a Listener,
+        start: Instant,
+    ) -> Option<NodeContext<'a>>
+        ensures { IfSome result (λ context. context.listener.now.number ≡ listener.now.number) }
+    {
+        let node = cluster.node(listener.number)?;
+        Some(NodeContext {
+            cluster,
+            node,
+            listener,
+            start,
+        })
+    }
+
+    /// Returns the milliseconds since its times began.
+    pub(crate) fn now<R: Clock>(&self, rt: &R) -> u64 {
+        match self.start.elapsed(rt) {
+            Ok(time) => u64::try_from(time.as_millis()).unwrap_or(u64::MAX),
+            Err(_) => 0,
+        }
+    }
+}

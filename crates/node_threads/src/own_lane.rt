@@ -1,0 +1,53 @@
+// The lane by which everything is sent to a node that does not come from its clients.
+
+ghost use Rattle.std.specs.Prelude.{◌≡◌, []};
+ghost use Rattle.node_threads.specs.Serving.{SendsOwn};
+
+use post::mailbox::Lane;
+use post::node::{Item, NodeNaming};
+use std::marker::Model;
+
+/// The lane by which everything is sent to a node that does not come from its clients, and the
+/// node's number. It is behind a lock, so its type says what it sent since it was made: the time,
+/// cuts of the log, and what was queued for the node.
+#[derive(Drop)]
+pub(crate) struct OwnLane<J: NodeNaming> {
+    number: u8,
+    pub(crate) lane: Lane<Item, J>,
+}
+
+impl<J: NodeNaming> Model for OwnLane<J> {
+    ghost use Rattle.std.specs.Prelude.{[]};
+    ghost use Rattle.node_threads.specs.Serving.{OwnSender, SendsOwn};
+
+    ghost Value = { OwnSender };
+
+    ghost view = { λ own. record { number = own.number; lane = own.lane } };
+
+    ghost invariant = { λ own. SendsOwn own.number [] own.lane.sent };
+}
+
+impl<J: NodeNaming> OwnLane<J> {
+    /// Returns the own lane of the node of this number. Nothing was sent by it.
+    pub(crate) fn new(number: u8, lane: Lane<Item, J>) -> OwnLane<J>
+        requires { lane.sent ≡ [] }
+        ensures { result ≡ record { number = number; lane = lane } }
+    {
+        OwnLane { number, lane }
+    }
+
+    /// Returns the node's number.
+    pub(crate) fn number(&self) -> u8
+        ensures { result ≡ self.now.number }
+    {
+        self.number
+    }
+
+    /// Returns the lane itself.
+    pub(crate) fn into_lane(self) -> Lane<Item, J>
+        ensures lane { result ≡ self.lane }
+        ensures sent { SendsOwn self.number [] result.sent }
+    {
+        self.lane
+    }
+}

@@ -1,0 +1,183 @@
+// The node's own thread: it takes what other nodes have for the node, gives the node the time, has
+// the log cut, and ends connections whose first packet does not come. It does no other node's turn,
+// so each node always has a thread of its own.
+
+ghost use Rattle.std.specs.Prelude.{◌≡◌};
+ghost use Rattle.post.specs.Queued.{IsQueued};
+ghost use Rattle.node_threads.specs.Closing.{is_overdue};
+ghost use Rattle.node_threads.specs.Serving.{SendsOwn};
+
+use crate::own_lane::OwnLane;
+use crate::served_node::ServedNode;
+use crate::shared::Shared;
+use post::mailbox::Lane;
+use post::node::{Gate, Item, NodeNaming, Standing, Stated};
+use std::hint;
+use std::sync::Wait;
+use std::time::{Clock, Duration};
+use streams::{CONNECTIONS, Link};
+
+/// How often the node gets the time, in milliseconds.
+const TICK: u64 = 200;
+
+/// How long the first packet of a connection may take, in milliseconds.
+const FIRST_PACKET: u64 = 10_000;
+
+/// How often the thread looks for what comes before it sleeps, and how many steps it waits between
+/// two looks: all in all for about as long as it takes to wake a thread.
+const LOOKS: u32 = 64;
+
+const STEPS: u32 = 8;
+
+/// When the node got the time last, and how many times, at most 2^64 - 1.
+#[derive(Clone, Copy)]
+struct LastTick {
+    time: u64,
+    ticks: u64,
+}
+
+impl<'a, J: NodeNaming, S: Stated<J>, G: Gate> ServedNode<'a, J, S, G> {
+    /// Does the work of the node's own thread, until the listener is closed.
+    pub(crate) fn keep_going<R: Wait + Clock>(&self, rt: &R) {
+        let shared = &self.shared;
+        let mut last = LastTick { time: 0, ticks: 0 };
+        for _ in rt.forever() {
+            if shared.context.listener.is_closed(rt) {
+                return;
+            }
+            let latest = self.take_own(rt, last);
+            shared.context.cluster.wake_urgent(rt);
+            shared.write_busy(rt, 0, false);
+            if latest.time > last.time {
+                shared.end_overdue(rt, latest.time);
+            }
+            last = latest;
+            shared.rest(rt);
+        }
+        unreachable!()
+    }
+
+    // Does the node's turn by its own lane, once no other thread holds that. Returns when the node
+    // got the time last.
+    fn take_own<R: Wait + Clock>(&self, rt: &R, last: LastTick) -> LastTick {
+        let mut own = self.own.lock(rt);
+        // It is this node's, but no clause is about what is behind a lock.
+        if own.number() != self.shared.context.node.number {
+            return last;
+        }
+        self.shared.take_by(rt, &mut own, last)
+    }
+}
+
+impl<'a, J: NodeNaming, S: Stated<J>, G: Gate> Shared<'a, J, S, G> {
+    // Takes what was queued for the node, gives it the time and has its log cut, if that is due, by
+    // the node's own lane. Returns when the node got the time last.
+    fn take_by<R: Wait + Clock>(&self, rt: &R, own: &mut OwnLane<J>, last: LastTick) -> LastTick
+        requires { own.old.number ≡ self.now.context.node.now.number }
+    {
+        self.take_queued(rt, &mut own.lane);
+        let last = self.tick(rt, &mut own.lane, last);
+        self.cut_by_size(rt, &mut own.lane);
+        last
+    }
+
+    /// Takes what was queued for the node, by the node's own lane.
+    pub(crate) fn take_queued_by<R: Wait + Clock>(&self, rt: &R, own: &mut OwnLane<J>)
+        requires { own.old.number ≡ self.now.context.node.now.number }
+    {
+        self.take_queued(rt, &mut own.lane);
+    }
+
+    // Gives the node the time, if it is due, and then has the log cut, if that is due. Returns when
+    // the node got the time last.
+    fn tick<R: Wait + Clock>(&self, rt: &R, lane: &mut Lane<Item, J>, last: LastTick) -> LastTick
+        ensures { SendsOwn self.now.context.node.now.number lane.old.sent lane.new.sent }
+    {
+        let now = self.context.now(rt);
+        if now.saturating_sub(last.time) < TICK {
+            return last;
+        }
+        self.send(rt, lane, Item::Tick(now));
+        let ticks = last.ticks.saturating_add(1);
+        self.cut_in_time(rt, lane, ticks);
+        LastTick { time: now, ticks }
+    }
+
+    // Ends the connections whose first packet did not come in time.
+    fn end_overdue<R: Wait>(&self, rt: &R, now: u64) {
+        let mut index = 0;
+        for _ in 0..CONNECTIONS {
+            let Some((next, link)) = self.context.listener.link_from(rt, index) else {
+                return;
+            };
+            if self.awaits_too_long(rt, &link, now) {
+                link.shut();
+            }
+            index = next;
+        }
+    }
+
+    // Says whether the first packet of a connection did not come in time.
+    fn awaits_too_long<R: Wait>(&self, rt: &R, link: &Link, now: u64) -> bool {
+        let standing = self.node.lock(rt).state().standing(link.port);
+        is_overdue(standing, link.opened, now)
+    }
+
+    // Takes all that other nodes and the master have for the node, and then what the inbox holds.
+    fn take_queued<R: Wait + Clock>(&self, rt: &R, lane: &mut Lane<Item, J>)
+        ensures { SendsOwn self.now.context.node.now.number lane.old.sent lane.new.sent }
+    {
+        let items = self.context.node.take_waiting(rt, self.alloc);
+        if items.is_empty() {
+            return;
+        }
+        for item in items {
+            self.put_queued(rt, lane, item);
+        }
+        self.take_all(rt, lane);
+    }
+
+    // Sends what was queued for the node by its lane.
+    fn put_queued<R: Wait + Clock>(&self, rt: &R, lane: &mut Lane<Item, J>, item: Item)
+        requires { IsQueued self.now.context.node.now.number item }
+        ensures { SendsOwn self.now.context.node.now.number lane.old.sent lane.new.sent }
+    {
+        self.put(rt, lane, item);
+    }
+
+    // Sleeps until something comes or it is time for a tick, if nothing comes at once.
+    fn rest<R: Wait>(&self, rt: &R) {
+        if self.comes_at_once(rt) {
+            return;
+        }
+        let is_wanted = self.context.node.doze(rt) || self.context.listener.is_closed(rt);
+        if !is_wanted {
+            self.context.node.sleep(rt, Duration::from_millis(TICK));
+        }
+    }
+
+    // Watches for a while whether other nodes have something for the node. Returns whether they do.
+    fn comes_at_once<R: Wait>(&self, rt: &R) -> bool {
+        for _ in 0..LOOKS {
+            if self.context.node.is_wanted(rt) {
+                return true;
+            }
+            pause();
+        }
+        false
+    }
+}
+
+// Says whether the first packet of a connection that was accepted at a time is awaited too long.
+fn is_overdue(standing: Standing, opened: u64, now: u64) -> bool
+    ensures { result ≡ is_overdue standing opened now }
+{
+    standing == Standing::Awaits && now.saturating_sub(opened) > FIRST_PACKET
+}
+
+// Waits for less than a microsecond.
+fn pause() {
+    for _ in 0..STEPS {
+        hint::spin_loop();
+    }
+}

@@ -1,0 +1,41 @@
+// Bytes of clients, which wait until the node takes more of them.
+
+ghost use Rattle.std.specs.Prelude.{◌≤◌};
+
+use crate::shared::Shared;
+use post::node::{Gate, NodeNaming, Port, Standing, Stated};
+use std::sync::Wait;
+use std::thread;
+use std::time::{Clock, Duration};
+
+/// How long a thread sleeps before it asks again whether the node takes more, in milliseconds.
+const ROOM_MILLIS: u64 = 1;
+
+impl<'a, J: NodeNaming, S: Stated<J>, G: Gate> Shared<'a, J, S, G> {
+    /// Waits until the node takes this many more bytes from its clients. Returns how many count as
+    /// in transit. None do if there is only one node, nor on a connection that the node has closed,
+    /// whose bytes have no effect.
+    pub(crate) fn await_room<R: Wait + Clock>(&self, rt: &R, port: Port, bytes: u64) -> u64
+        requires { bytes ≤ 65536 }
+    {
+        if bytes == 0 || !self.context.cluster.are_several() {
+            return 0;
+        }
+        for _ in rt.forever() {
+            if self.context.node.admit(rt, bytes) {
+                return bytes;
+            }
+            if self.is_over(rt, port) {
+                return 0;
+            }
+            thread::sleep(rt, Duration::from_millis(ROOM_MILLIS));
+        }
+        unreachable!()
+    }
+
+    // Says whether nothing more is needed of a connection.
+    fn is_over<R: Wait>(&self, rt: &R, port: Port) -> bool {
+        self.context.listener.is_closed(rt)
+            || self.node.lock(rt).state().standing(port) == Standing::Closed
+    }
+}

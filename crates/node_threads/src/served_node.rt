@@ -1,0 +1,169 @@
+// A node that serves, with the lanes of its threads.
+
+ghost use Rattle.std.specs.Prelude.{◌≡◌, [], IfOk};
+ghost use Rattle.post.specs.node.Lists.{Each};
+ghost use Rattle.post.specs.Queued.{EachOpensAs};
+ghost use Rattle.node_threads.specs.Named.{AreNamed};
+
+use crate::node_context::{NodeContext, NodeContexts};
+use crate::node_report::NodeReport;
+use crate::opened::Opened;
+use crate::own_lane::OwnLane;
+use crate::shared::Shared;
+use crate::working::{LANES, LaneSlots, THREADS, run};
+use post::mailbox::Lane;
+use post::node::{Config, Gate, Item, Memory, Node, NodeNaming, NodeState, Stated};
+use std::alloc::Global;
+use std::mem;
+use std::net::{Net, TcpStream};
+use std::sync::{Mutex, Wait};
+use std::thread::{Parker, Threads};
+use std::time::Clock;
+use streams::CONNECTIONS;
+
+/// A node that serves: what its threads share, and their lanes.
+#[derive(Drop)]
+pub struct ServedNode<'a, J: NodeNaming, S: Stated<J>, G: Gate> {
+    pub(crate) shared: Shared<'a, J, S, G>,
+    /// The lane of everything that does not come from a client. The thread that holds it does the
+    /// node's turn with what was queued for the node: its own thread, or one that queued something.
+    pub(crate) own: Mutex<OwnLane<J>>,
+    /// The lanes of its connections, while no thread works with them.
+    lane_slots: Mutex<LaneSlots<J>>,
+    /// A gate is asked before each taking.
+    pub(crate) is_gated: bool,
+}
+
+impl<'a, J: NodeNaming, G: Gate> ServedNode<'a, J, NodeState<J>, G> {
+    /// Starts a node that opened. The only error is that memory ran out.
+    pub(crate) fn start<R: Wait>(
+        rt: &R,
+        alloc: Global,
+        context: NodeContext<'a>,
+        config: &'a Config,
+        opened: Opened,
+        gate: Option<&'a G>,
+    ) -> Result<ServedNode<'a, J, NodeState<J>, G>, Memory>
+        requires context { context.listener.now.number ≡ opened.number }
+        requires named { opened.inbox ≡ J.inbox_of opened.number }
+        requires first { opened.core ≡ J.first_of opened.number }
+        requires opens { EachOpensAs config.now J.first_of }
+    {
+        let Opened {
+            number,
+            inbox,
+            core,
+        } = opened;
+        context.node.publish(rt, core.status());
+        let (receiver, lanes) = inbox.named::<J>(number, LANES)?;
+        let (own, lane_slots) = lane_slots_of(alloc, number, lanes)?;
+        let node = Node::start(alloc, NodeState::new(receiver, core), gate)?;
+        let blocked = Mutex::new(Vec::with_capacity(alloc, usize::from(CONNECTIONS))?);
+        Ok(ServedNode {
+            shared: Shared {
+                alloc,
+                node,
+                context,
+                config,
+                blocked,
+                blocked_waker: Parker::new(),
+            },
+            own: Mutex::new(own),
+            lane_slots: Mutex::new(lane_slots),
+            is_gated: gate.is_some(),
+        })
+    }
+
+    /// Ends the node, whose threads have returned, and reports what became of the items that were
+    /// sent to it. The error comes if not all its lanes came back from its threads.
+    pub fn close<R: Wait>(self, rt: &R) -> Result<NodeReport, Memory> {
+        let ServedNode {
+            shared,
+            own,
+            lane_slots,
+            ..
+        } = self;
+        let number = shared.context.listener.number;
+        let mut lanes = lane_slots
+            .into_inner()
+            .into_lanes(own.into_inner().into_lane());
+        let report = shared.close(rt, lanes.as_mut_slice())?;
+        Ok(NodeReport { number, report })
+    }
+}
+
+impl<'a, J: NodeNaming, S: Stated<J>, G: Gate> ServedNode<'a, J, S, G> {
+    /// Ends all connections of the node, and admits no more: its threads return.
+    pub fn close_listener<R: Wait + Clock + Net<Stream = TcpStream>>(&self, rt: &R) {
+        self.shared.context.listener.close(rt);
+    }
+}
+
+impl<'a, J, S, G> ServedNode<'a, J, S, G>
+where
+    J: NodeNaming + Send + Sync,
+    S: Stated<J> + Send,
+    G: Gate + Sync,
+{
+    /// Works with each lane by a thread of its own, until the listener is closed.
+    pub fn work<R>(&self, rt: &R, all: &[ServedNode<'a, J, S, G>])
+    where
+        R: Threads + Wait + Clock + Sync,
+    {
+        let mut slots = mem::replace(
+            &mut self.lane_slots.lock(rt).slots,
+            Vec::new(self.shared.alloc),
+        );
+        run(rt, all, self, slots.as_mut_slice());
+        self.lane_slots.lock(rt).slots = slots;
+    }
+}
+
+/// Returns the nodes that serve, made of those that opened, each with its listener's context. The
+/// only error is that memory ran out.
+pub fn start_all<'a, J: NodeNaming, R: Wait, G: Gate>(
+    rt: &R,
+    alloc: Global,
+    contexts: NodeContexts<'a>,
+    config: &'a Config,
+    opened: Vec<Opened>,
+    gate: Option<&'a G>,
+) -> Result<Vec<ServedNode<'a, J, NodeState<J>, G>>, Memory>
+    requires named { AreNamed J.inbox_of J.first_of opened.items }
+    requires opens { EachOpensAs config.now J.first_of }
+{
+    let mut nodes = Vec::with_capacity(alloc, opened.len())?;
+    for one in opened {
+        // Each has its listener.
+        if let Some(context) = contexts.context_of(one.number) {
+            nodes.push(ServedNode::start(rt, alloc, context, config, one, gate)?)?;
+        }
+    }
+    Ok(nodes)
+}
+
+// Returns the node's own lane, the first of these lanes, and the slots of its threads. The only
+// error is that memory ran out.
+fn lane_slots_of<J: NodeNaming>(
+    alloc: Global,
+    number: u8,
+    lanes: Vec<Lane<Item, J>>,
+) -> Result<(OwnLane<J>, LaneSlots<J>), Memory>
+    requires { Each (λ lane. lane.sent ≡ []) lanes.items }
+    ensures { IfOk result (λ made. made.0.number ≡ number) }
+{
+    let back = Vec::with_capacity(alloc, lanes.len())?;
+    let mut slots = Vec::with_capacity(alloc, THREADS)?;
+    let mut lanes = lanes.into_iter();
+    let Some(own) = lanes.next() else {
+        return Err(Memory);
+    };
+    // The slots of the node's own thread, and of the thread that continues with full sockets, have
+    // no lane.
+    slots.push(None)?;
+    for lane in lanes {
+        slots.push(Some(lane))?;
+    }
+    slots.push(None)?;
+    Ok((OwnLane::new(number, own), LaneSlots { slots, back }))
+}

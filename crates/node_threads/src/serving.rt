@@ -1,0 +1,149 @@
+// The thread of a lane, and the connections that it serves one after another.
+
+ghost use Rattle.std.specs.Prelude.{◌≡◌, ◌<◌, ◌^◌, IfSome};
+ghost use Rattle.std.specs.Arc.{arc_value};
+ghost use Rattle.node_threads.specs.Serving.{SendsRow, SendsWhole, TellsOne, port_of};
+
+use crate::lane_reporter::LaneReporter;
+use crate::served_node::ServedNode;
+use crate::shared::Shared;
+use post::mailbox::Lane;
+use post::node::{Gate, Item, NodeNaming, Port, Stated};
+use std::alloc::Global;
+use std::net::TcpStream;
+use std::sync::{Arc, Wait};
+use std::time::{Clock, Duration};
+use streams::connection::{Counted, listen};
+use streams::{Link, forget};
+
+/// How long a write may wait before the rest is left to the blocked writer, in milliseconds.
+const WRITE_MILLIS: u64 = 1;
+
+/// How many connections a lane serves, each at a port of its own.
+const CONNECTIONS_OF_LANE: u64 = 1 << 56;
+
+/// The ports of a lane's connections are this far apart. A lane's number is below it.
+const PORTS_APART: u64 = 256;
+
+impl<'a, J: NodeNaming, S: Stated<J>, G: Gate> ServedNode<'a, J, S, G> {
+    /// Serves one client after another by a lane, until the listener is closed. Returns the lane,
+    /// which sent for each one after another the whole report of its connection, at a port that no
+    /// other has, and nothing else.
+    pub(crate) fn serve_lane<R: Wait + Clock>(
+        &self,
+        rt: &R,
+        all: &[ServedNode<'a, J, S, G>],
+        lane: Lane<Item, J>,
+    ) -> Lane<Item, J>
+        ensures { SendsRow lane.lane lane.sent result.sent }
+    {
+        let number = lane.lane();
+        let mut lane = lane;
+        for count in 0..CONNECTIONS_OF_LANE {
+            let Some(stream) = self.shared.context.listener.accept(rt) else {
+                return lane;
+            };
+            lane = self.serve_stream(rt, all, lane, stream, port_of(number, count));
+        }
+        lane
+    }
+
+    // Serves a stream until its client or the node ends it. If as many are served as may be, or
+    // memory runs out, it is closed at once.
+    fn serve_stream<R: Wait + Clock>(
+        &self,
+        rt: &R,
+        all: &[ServedNode<'a, J, S, G>],
+        lane: Lane<Item, J>,
+        stream: TcpStream,
+        port: Port,
+    ) -> Lane<Item, J>
+        ensures { TellsOne port lane.sent result.sent }
+    {
+        let listener = self.shared.context.listener;
+        let Some(index) = listener.take_index(rt) else {
+            return lane;
+        };
+        let lane = match self.shared.link(rt, port, index, stream) {
+            Some(link) => self.serve_link(rt, all, lane, link),
+            None => lane,
+        };
+        listener.free(rt, index);
+        lane
+    }
+
+    // Reports a connection to the node by a lane, until it ends. Returns the lane, which sent that
+    // the connection was opened, each piece that came, and that it ended.
+    fn serve_link<R: Wait + Clock>(
+        &self,
+        rt: &R,
+        all: &[ServedNode<'a, J, S, G>],
+        lane: Lane<Item, J>,
+        link: Arc<Link, Global>,
+    ) -> Lane<Item, J>
+        ensures { SendsWhole (arc_value link).port lane.sent result.sent }
+    {
+        let port = link.port;
+        let lane = self.hear(rt, all, lane, &link);
+        link.shut();
+        self.shared.forget(rt, port);
+        lane
+    }
+
+    // Reports a connection to the node by a lane, until it ends.
+    fn hear<R: Wait + Clock>(
+        &self,
+        rt: &R,
+        all: &[ServedNode<'a, J, S, G>],
+        lane: Lane<Item, J>,
+        link: &Arc<Link, Global>,
+    ) -> Lane<Item, J>
+        ensures { SendsWhole (arc_value link.now).port lane.sent result.sent }
+    {
+        let mut reporter = LaneReporter {
+            node: self,
+            all,
+            link,
+            lane,
+        };
+        let mut source = Counted::new(link.source());
+        // However it ended, this was reported to the node.
+        let _ending = listen(rt, self.shared.alloc, link.port, &mut source, &mut reporter);
+        reporter.lane
+    }
+}
+
+impl<'a, J: NodeNaming, S: Stated<J>, G: Gate> Shared<'a, J, S, G> {
+    // Returns the connection of a stream. Its bytes are sent at once, and a write does not wait for
+    // long.
+    fn link<R: Clock>(
+        &self,
+        rt: &R,
+        port: Port,
+        index: usize,
+        stream: TcpStream,
+    ) -> Option<Arc<Link, Global>>
+        ensures { IfSome result (λ link. (arc_value link).port ≡ port) }
+    {
+        stream.set_nodelay(true).ok()?;
+        stream
+            .set_write_timeout(Some(Duration::from_millis(WRITE_MILLIS)))
+            .ok()?;
+        let opened = self.context.now(rt);
+        let link = Link::new(self.alloc, port, index, opened, stream).ok()?;
+        Arc::new(self.alloc, link).ok()
+    }
+
+    // Takes what the node still holds for a connection that has ended, so that it holds no more.
+    fn forget<R: Wait>(&self, rt: &R, port: Port) {
+        forget(self.alloc, self.node.lock(rt).state(), port);
+    }
+}
+
+// Returns the port of a lane's connection that comes after this many others.
+fn port_of(lane: u8, count: u64) -> Port
+    requires { count < 2 ^ 56 }
+    ensures { result ≡ port_of lane count }
+{
+    Port(PORTS_APART * count + u64::from(lane))
+}

@@ -1,0 +1,158 @@
+// A node's turn, which the thread that sent an item, or queued something for the node, does itself.
+
+ghost use Rattle.std.specs.Prelude.{◌≡◌, ◌++◌, ◌∷◌, [], true, false};
+ghost use Rattle.post.specs.mailbox.Ends.{all_met, unmet};
+ghost use Rattle.post.specs.node.Running.{IsNext};
+ghost use Rattle.post.specs.Queued.{EachOpens};
+ghost use Rattle.node_threads.specs.Turns.{Turns};
+
+use crate::shared::Shared;
+use post::Given;
+use post::mailbox::Lane;
+use post::node::{Gate, Item, NodeNaming, NodeState, Permit, Stated};
+use std::alloc::Global;
+use std::sync::{Arc, Wait};
+use std::time::Clock;
+use streams::{CONNECTIONS, IdleLanes, Link};
+
+/// How many connections are written to in most turns.
+const FEW: usize = 8;
+
+impl<'a, J: NodeNaming, S: Stated<J>, G: Gate> Shared<'a, J, S, G> {
+    /// Sends an item by a lane, and takes what waits in the inbox, including that item. Once it
+    /// returns the node has taken all that the lane sent, and the lane knows it. What the node
+    /// queued for connections is not written yet.
+    pub(crate) fn send<R: Wait + Clock>(&self, rt: &R, lane: &mut Lane<Item, J>, item: Item)
+        ensures { lane.new ≡ all_met (record lane.old { sent = lane.old.sent ++ item ∷ [] }) }
+    {
+        self.put(rt, lane, item);
+        self.take_all(rt, lane);
+    }
+
+    /// Sends an item by a lane. If the inbox is full, takes what waits there first.
+    pub(crate) fn put<R: Wait + Clock>(&self, rt: &R, lane: &mut Lane<Item, J>, item: Item)
+        ensures { unmet lane.new ≡ unmet (record lane.old { sent = lane.old.sent ++ item ∷ [] }) }
+    {
+        let mut unsent = item;
+        for _ in rt.forever() {
+            let receipt = lane.receipt();
+            match lane.send(rt, unsent, receipt) {
+                Ok(()) => return,
+                Err(back) => unsent = back,
+            }
+            self.take_all(rt, lane);
+        }
+        unreachable!()
+    }
+
+    /// Writes what the node queued for its connections, to the one at this index first. `waits`
+    /// says whether it waits for a full socket, for a short time.
+    pub(crate) fn write_busy<R: Wait>(&self, rt: &R, first: usize, waits: bool) {
+        let busy = self.busy_links(rt, first);
+        for link in &busy {
+            self.flush(rt, link, waits);
+        }
+    }
+
+    // Returns the connections for which something may have been queued. The one at this index is
+    // first. Capacity is allocated before a lock is taken. If memory runs out, idle ones are among
+    // them, or some are missing.
+    fn busy_links<R: Wait>(&self, rt: &R, first: usize) -> Vec<Arc<Link, Global>> {
+        let mut idle = room_for(self.alloc, usize::from(CONNECTIONS));
+        let mut busy = room_for(self.alloc, FEW);
+        let _ = self.node.lock(rt).state().idle_ports(&mut idle);
+        self.context
+            .listener
+            .add_busy(rt, IdleLanes::of(&idle), first, &mut busy);
+        busy
+    }
+
+    /// Takes items until the inbox is empty, with all that this lane sent.
+    pub(crate) fn take_all<R: Wait + Clock>(&self, rt: &R, lane: &mut Lane<Item, J>)
+        ensures { lane.new ≡ all_met lane.old }
+    {
+        for _ in rt.forever() {
+            if !self.take_some(rt, lane) {
+                return;
+            }
+        }
+        unreachable!()
+    }
+
+    // Takes some items. Returns whether more may wait. A gate is asked before each item, while the
+    // node's state is not locked.
+    fn take_some<R: Wait + Clock>(&self, rt: &R, lane: &mut Lane<Item, J>) -> bool
+        ensures more { result ≡ true → lane.new ≡ lane.old }
+
+        // If none waits, all was taken that the lane sent.
+        ensures none { result ≡ false → lane.new ≡ all_met lane.old }
+    {
+        let permit = self.node.pass(rt);
+        let more = self.take_locked(rt, &permit, lane);
+        self.node.done(rt, permit);
+        more
+    }
+
+    // Takes items under one lock, as many as the permit allows. Returns whether more may wait. What
+    // the node has for others is handed on while the lock is held, so that it keeps the order of
+    // the node's steps. The status is published then, too.
+    fn take_locked<R: Wait>(&self, rt: &R, permit: &Permit<'_>, lane: &mut Lane<Item, J>) -> bool
+        ensures more { result ≡ true → lane.new ≡ lane.old }
+        ensures none { result ≡ false → lane.new ≡ all_met lane.old }
+    {
+        let mut node = self.node.lock(rt);
+        let state = node.state();
+        // The lane is one of this node's inbox, and the permit is for its next taking, but no
+        // clause is about what is behind a lock.
+        if state.number() != lane.number() || !permit.is_for(state) {
+            return true;
+        }
+        let (more, given) = take_up_to(rt, self.alloc, state, permit, lane);
+        self.context.node.publish(rt, state.status());
+        self.context.cluster.hand_on(rt, given);
+        // The node's own thread has the log cut.
+        if state.wants_cut() {
+            self.context.node.wake(rt);
+        }
+        more
+    }
+}
+
+// Takes items until the inbox is empty, as many as the permit allows. Returns whether more may
+// wait, and what the node's steps gave.
+fn take_up_to<J: NodeNaming, R: Wait>(
+    rt: &R,
+    alloc: Global,
+    node: &mut NodeState<J>,
+    permit: &Permit<'_>,
+    lane: &mut Lane<Item, J>,
+) -> (bool, Given)
+    requires inbox { lane.old.inbox ≡ node.old.taker.inbox }
+    requires opens { EachOpens J.first_of }
+    requires next { IsNext permit.now node.old }
+
+    // What the steps of the node gave, from the state before to the state after, and nothing else.
+    ensures given { Turns node.old node.new result.1 }
+    ensures more { result.0 ≡ true → lane.new ≡ lane.old }
+
+    // If none waits, all was taken that the lane sent: the node has its items in its history.
+    ensures none { result.0 ≡ false → lane.new ≡ all_met lane.old }
+{
+    let mut effects = Vec::new(alloc);
+    for _ in 0..permit.most() {
+        let receipt = lane.receipt();
+        if !node.take_one(rt, &mut effects, receipt) {
+            node.meet(lane);
+            return (false, Given::new(effects));
+        }
+    }
+    (true, Given::new(effects))
+}
+
+// Returns a list with capacity for this many, or without capacity if memory runs out.
+fn room_for<T: Drop>(alloc: Global, count: usize) -> Vec<T> {
+    match Vec::with_capacity(alloc, count) {
+        Ok(list) => list,
+        Err(_) => Vec::new(alloc),
+    }
+}

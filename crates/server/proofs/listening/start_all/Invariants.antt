@@ -1,6 +1,0 @@
-use Rattle.std.specs.Vec.Iter.{into_iter_items}
-use Rattle.server.specs.Opening.{AreNamed}
-use Rattle.server.proofs.listening.start_all.Given as goal
-
-abbrev pub invariant-loop-one : goal.invariant-loop-one
-invariant-loop-one g l = AreNamed g.J.Naming.inbox_of g.J.NodeNaming.first_of (into_iter_items l.one-iterator)
