@@ -4,3 +4,4 @@ mod echoing;
 mod gates;
 mod inboxes;
 mod nodes;
+mod two_nodes;

@@ -18,7 +18,7 @@ where
     beside_listeners(rt, listeners.as_slice(), members, attend)
 }
 
-// The places are lent, so that no way out has to drop them.
+// The listeners are lent, so that no way out has to drop them.
 fn beside_listeners<R, T, F>(rt: &R, listeners: &[Listener], members: &[u8], attend: F) -> Result<T>
 where
     R: Host,
@@ -44,7 +44,7 @@ where
     Ok(came)
 }
 
-// Returns the places of these nodes, each on a free port.
+// Returns the listeners of these nodes, each on a free port.
 fn listeners<R: Host>(rt: &R, numbers: &[u8]) -> Result<Vec<Listener>> {
     let mut listeners = Vec::new(rt.alloc());
     put_listeners(rt, numbers, &mut listeners)?;

@@ -24,7 +24,7 @@ pub fn publish(first: u8, id: u8, payload: u8) -> [u8; 10] {
     [first, 8, 0, 3, 0x74, 0x2F, 0x31, 0, id, payload]
 }
 
-/// Opens a stream to a place. A read of it ends after ten seconds.
+/// Opens a stream to a listener. A read of it ends after ten seconds.
 pub fn open<R>(rt: &R, listener: Option<&Listener>) -> Option<TcpStream>
 where
     R: Net<Stream = TcpStream>,

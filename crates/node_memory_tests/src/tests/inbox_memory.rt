@@ -9,8 +9,8 @@ use std::marker::Brand;
 use std::sync::Wait;
 
 // Says whether a lane sends an item.
-fn sends<J: Naming, R: Wait>(rt: &R, lanes: &mut [Lane<u64, J>], place: usize, item: u64) -> bool {
-    match lanes.get_mut(place) {
+fn sends<J: Naming, R: Wait>(rt: &R, lanes: &mut [Lane<u64, J>], index: usize, item: u64) -> bool {
+    match lanes.get_mut(index) {
         Some(lane) => {
             let receipt = lane.receipt();
             lane.send(rt, item, receipt).is_ok()

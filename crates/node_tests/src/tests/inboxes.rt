@@ -11,7 +11,7 @@ use std::test::Fail;
 use std::thread;
 use std::thread::Threads;
 
-// What is done with an inbox, and the result of it. A lane is meant by its place.
+// What is done with an inbox, and the result of it. A lane is meant by its index.
 #[derive(Clone, Copy)]
 enum Act<'a> {
     // A lane sends this item.
@@ -37,10 +37,10 @@ enum Act<'a> {
 fn send<J: Naming, R: Wait>(
     rt: &R,
     lanes: &mut [Lane<u64, J>],
-    place: usize,
+    index: usize,
     item: u64,
 ) -> Option<Result<(), u64>> {
-    let lane = lanes.get_mut(place)?;
+    let lane = lanes.get_mut(index)?;
     let receipt = lane.receipt();
     Some(lane.send(rt, item, receipt))
 }
@@ -55,11 +55,11 @@ fn take<J: Naming, R: Wait>(rt: &R, receiver: &mut Receiver<u64, J>) -> Option<(
 fn sends<J: Naming, R: Wait>(
     rt: &R,
     lanes: &mut [Lane<u64, J>],
-    place: usize,
+    index: usize,
     item: u64,
     wanted: Result<(), u64>,
 ) -> bool {
-    send(rt, lanes, place, item) == Some(wanted)
+    send(rt, lanes, index, item) == Some(wanted)
 }
 
 // Says whether all lanes but the first are not all of the inbox.
@@ -100,12 +100,12 @@ fn is_right<J: Naming, R: Wait>(
     act: Act<'_>,
 ) -> bool {
     match act {
-        Act::Send(place, item) => sends(rt, lanes, place, item, Ok(())),
-        Act::SendMany(place, count) => {
-            (0..count).all(|item| sends(rt, lanes, place, item, Ok(())))
+        Act::Send(index, item) => sends(rt, lanes, index, item, Ok(())),
+        Act::SendMany(index, count) => {
+            (0..count).all(|item| sends(rt, lanes, index, item, Ok(())))
         }
-        Act::HandBack(place, item) => sends(rt, lanes, place, item, Err(item)),
-        Act::Count(place, count) => lanes.get(place).map(Lane::count) == Some(count),
+        Act::HandBack(index, item) => sends(rt, lanes, index, item, Err(item)),
+        Act::Count(index, count) => lanes.get(index).map(Lane::count) == Some(count),
         Act::Take(wanted) => take(rt, receiver) == wanted,
         Act::Lanes(count) => receiver.lanes() == count && lanes.len() == count,
         Act::HasAll => receiver.has_all(lanes) && lacks_one(receiver, lanes),
@@ -169,7 +169,7 @@ fn what_is_left_over_is_listed(rt: HostRuntime) -> Result<(), Fail> {
     Ok(())
 }
 
-// What is done with two inboxes, meant by their places, of one lane each, and the result of it.
+// What is done with two inboxes, meant by their indexes, of one lane each, and the result of it.
 #[derive(Clone, Copy)]
 enum Call {
     // The lane of an inbox sends an item.

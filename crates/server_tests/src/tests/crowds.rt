@@ -93,7 +93,7 @@ where
     }
 }
 
-/// Says whether sixty clients that say nothing keep their places for six seconds, and not for
+/// Says whether sixty clients that say nothing keep their connections for six seconds, and not for
 /// fourteen. Then another is accepted.
 pub(super) fn are_silent_ones_ended<R>(rt: &R, listener: Option<&Listener>) -> bool
 where
@@ -207,7 +207,7 @@ fn are_fifty_heard(alloc: Global, pair: &mut Pair) -> bool {
 }
 
 /// Says whether a subscriber with keep alive 4 that never reads, and says nothing more, keeps its
-/// place for a while, and then loses it to another client.
+/// connection for a while, and then loses it to another client.
 pub(super) fn is_deaf_one_ended<R>(rt: &R, listener: Option<&Listener>) -> bool
 where
     R: AllocGlobal + Wait + Clock + Net<Stream = TcpStream>,

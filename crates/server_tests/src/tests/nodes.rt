@@ -17,7 +17,7 @@ pub(super) fn opening(alloc: Global, members: &[u8]) -> Result<Config, Memory> {
     })
 }
 
-/// Adds a place for each of these nodes, on a free port. False if there is no free port.
+/// Adds a listener for each of these nodes, on a free port. False if there is no free port.
 pub(super) fn listen_all<R>(rt: &R, numbers: &[u8], listeners: &mut Vec<Listener>) -> bool
 where
     R: AllocGlobal + Net<Listener = TcpListener, Stream = TcpStream>,

@@ -1,4 +1,4 @@
-// Places that are not served.
+// Listeners that are not served.
 
 use super::nodes::{listen_all, opening};
 use server::{ServeError, serve_while};
@@ -7,7 +7,7 @@ use std::sync::Wait;
 use std::thread::Threads;
 use std::time::Clock;
 
-// Whether nothing is served at places of these numbers, since no nodes may have them.
+// Whether nothing is served at listeners of these numbers, since no nodes may have them.
 fn are_refused<R>(rt: &R, numbers: &[u8]) -> bool
 where
     R: AllocGlobal
@@ -27,7 +27,7 @@ where
 }
 
 #[test]
-fn numbers_of_places_are_refused(rt: HostRuntime) {
+fn numbers_of_listeners_are_refused(rt: HostRuntime) {
     for numbers in [[1, 1].as_slice(), [1, 16].as_slice(), [0, 1].as_slice()] {
         assert!(rt; are_refused(&rt, numbers), "{numbers:?}");
     }

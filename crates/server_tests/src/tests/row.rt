@@ -27,7 +27,7 @@ pub(super) enum Row {
     ComeAndGo,
     /// Sixty clients that say nothing are ended after ten seconds.
     SilentOnes,
-    /// A client that never reads and falls silent loses its place.
+    /// A client that never reads and falls silent loses its connection.
     Deaf,
     /// A subscriber gets 50 MB while another one never reads.
     NeverReads,
@@ -46,7 +46,7 @@ pub(super) struct Table {
     pub(super) row: Row,
 }
 
-/// Says whether a row holds with the nodes of these places.
+/// Says whether a row holds with the nodes of these listeners.
 pub(super) fn holds<R>(rt: &R, cluster: &Cluster, listeners: &[Listener], row: Row) -> bool
 where
     R: AllocGlobal + Wait + Clock + Net<Stream = TcpStream>,

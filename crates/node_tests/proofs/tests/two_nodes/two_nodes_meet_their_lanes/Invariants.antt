@@ -1,5 +1,5 @@
 use Rattle.std.proofs.Common.{cond, eqb}
-use Rattle.node_tests.proofs.tests.nodes.two_nodes_meet_their_lanes.Given as goal
+use Rattle.node_tests.proofs.tests.two_nodes.two_nodes_meet_their_lanes.Given as goal
 
 abbrev pub ghosts-first_fault_of_two-J-Naming : goal.ghosts-first_fault_of_two-J-Naming
 ghosts-first_fault_of_two-J-Naming g a = record {
