@@ -50,7 +50,8 @@ pub record IsSubscribe (rows : List Row) (job : Subscribe) : Type 0 where
 -- the members of a way out and its client, both or neither
 abbrev pub IsEscapeOf : Option Text → Option Text → Option Escape → Type 0
 IsEscapeOf None None None = Unit {0}
-IsEscapeOf (Some members) (Some client) (Some job) = (members ≡ job.members.now) × (client ≡ job.client.now)
+IsEscapeOf (Some members) (Some client) (Some job) =
+    (members ≡ job.members.now) × (client ≡ job.client.now)
 IsEscapeOf _ _ _ = ⊥
 
 abbrev pub IsEscape : List Row → Option Escape → Type 0

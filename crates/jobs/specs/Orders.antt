@@ -7,4 +7,5 @@ use Rattle.command_line.specs.topics.Malformed.{number_of}
 -- memory runs out, by 12
 abbrev pub IsRefusedBy : List ℕ → ℕ → Type 0
 IsRefusedBy client number =
-    (option_map number_of (client_fault client) ≡ Some number) ⊎ ((client_fault client ≡ None) × (number ≡ 12))
+    (option_map number_of (client_fault client) ≡ Some number)
+    ⊎ ((client_fault client ≡ None) × (number ≡ 12))

@@ -11,7 +11,8 @@ pub record Prints (text : List ℕ) (old new : Option (List ℕ)) (losses : ℕ)
   pub written : Appends old new transcript
 
 -- the lines of a way out were written
-pub record PrintsWay (text members : List ℕ) (client : List ℕ) (old new : Option (List ℕ)) : Type 0 where
+pub record PrintsWay (text members : List ℕ) (client : List ℕ) (old new : Option (List ℕ))
+    : Type 0 where
   pub way : List ℕ
   pub told : TellsWay text members client [] way
   pub written : Appends old new way

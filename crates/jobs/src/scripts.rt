@@ -115,7 +115,7 @@ pub fn play_text<O: Write>(alloc: Global, text: &[u8], output: &mut O) -> Result
         (Prints text.now (O.contents output.old) (O.contents output.new) 0) }
 
     // If memory ran out in the world, the transcript is still written.
-    ensures wanting { IsErrOf result Fault.Losses → (losses : ℕ) × ((0 < losses)
+    ensures out_of_memory { IsErrOf result Fault.Losses → (losses : ℕ) × ((0 < losses)
         × Prints text.now (O.contents output.old) (O.contents output.new) losses) }
 
     // A text that is no script is refused for its first line that does not have its form; nothing
@@ -139,7 +139,8 @@ pub fn play_text<O: Write>(alloc: Global, text: &[u8], output: &mut O) -> Result
 
 // Writes all of the bytes.
 fn write<O: Write>(bytes: &[u8], output: &mut O) -> Result<(), Fault>
-    ensures whole { OnOk result (Appends (O.contents output.old) (O.contents output.new) bytes.now) }
+    ensures whole { OnOk result
+        (Appends (O.contents output.old) (O.contents output.new) bytes.now) }
     ensures fault { OnErr result (IsErrOf result Fault.Output) }
 {
     output.write_all(bytes).ok().ok_or(Fault::Output)?;

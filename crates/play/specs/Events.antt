@@ -38,8 +38,10 @@ event_of waiting (orders.Cut node) = option_map events.Cut (node_of node)
 event_of waiting (orders.Crash node) = option_map events.Crash (node_of node)
 event_of waiting (orders.Expel client node) = option_map (events.Expel client) (node_of node)
 event_of waiting (orders.Open client node) = option_map (events.Open client) (node_of node)
-event_of waiting (orders.CarryUp connection amount) = Some (events.CarryUp connection (count_of waiting amount))
-event_of waiting (orders.CarryDown connection amount) = Some (events.CarryDown connection (count_of waiting amount))
+event_of waiting (orders.CarryUp connection amount) =
+    Some (events.CarryUp connection (count_of waiting amount))
+event_of waiting (orders.CarryDown connection amount) =
+    Some (events.CarryDown connection (count_of waiting amount))
 event_of waiting (orders.Abandon client) = Some (events.Abandon client)
 event_of waiting (orders.Disconnect client) = Some (events.Disconnect client)
 event_of waiting (orders.Notice connection) = Some (events.Notice connection)

@@ -18,7 +18,8 @@ abbrev pub IsCallOf : Order → Event → Type 0
 IsCallOf order event = (waiting : ℕ) → event_of waiting order ≡ Some event
 
 -- what an order asks for had this result
-pub record Comes (order : Order) (old : WorldState) (result : Result (Unit {0}) Idle) (new : WorldState) : Type 0 where
+pub record Comes (order : Order) (old : WorldState) (result : Result (Unit {0}) Idle)
+    (new : WorldState) : Type 0 where
   pub comes : ComesTo (asked_in old order) old result new
   pub goes : WorldGoesOn old new
   pub reached : StaysReached old.nodes new.nodes
@@ -27,7 +28,8 @@ pub record Comes (order : Order) (old : WorldState) (result : Result (Unit {0}) 
   pub exact : KeepsReached asked old new
 
 -- its line was appended
-pub record Written (index : ℕ) (result : Result (Unit {0}) Idle) (world : WorldState) (old new : List ℕ) : Type 0 where
+pub record Written (index : ℕ) (result : Result (Unit {0}) Idle) (world : WorldState)
+    (old new : List ℕ) : Type 0 where
   pub line : List ℕ
   pub is_line : IsLine index result world line
   pub is : new ≡ old ++ line
@@ -64,19 +66,22 @@ new_listener name = record { client = name; told = 0 }
 -- ---- orders
 
 -- the lines of one order were appended
-pub record Appends (clients : List (List ℕ)) (index : ℕ) (order : Order) (before after : WorldState) (old new : List ℕ) : Type 0 where
+pub record Appends (clients : List (List ℕ)) (index : ℕ) (order : Order)
+    (before after : WorldState) (old new : List ℕ) : Type 0 where
   pub lines : List ℕ
   pub step : Step clients index order before after lines
   pub is : new ≡ old ++ lines
 
 -- the lines of these orders were appended
-pub record AppendsAll (clients : List (List ℕ)) (orders : List Order) (first last : WorldState) (old new : List ℕ) : Type 0 where
+pub record AppendsAll (clients : List (List ℕ)) (orders : List Order)
+    (first last : WorldState) (old new : List ℕ) : Type 0 where
   pub lines : List ℕ
   pub played : Played clients first orders lines last
   pub is : new ≡ old ++ lines
 
 -- and the last line after them, with this count of losses
-pub record PlaysOn (clients : List (List ℕ)) (orders : List Order) (first : WorldState) (old new : List ℕ) (losses : ℕ) : Type 0 where
+pub record PlaysOn (clients : List (List ℕ)) (orders : List Order) (first : WorldState)
+    (old new : List ℕ) (losses : ℕ) : Type 0 where
   pub last : WorldState
   pub mid : List ℕ
   pub all : AppendsAll clients orders first last old mid

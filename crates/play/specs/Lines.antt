@@ -11,7 +11,8 @@ idle_line index = decimal index ++ (codes " idle" ++ 10 ∷ [])
 -- `7 ok msgs=3 agreed=1`
 abbrev pub done_line : ℕ → ℕ → ℕ → List ℕ
 done_line index messages agreed = decimal index
-    ++ (codes " ok msgs=" ++ (decimal messages ++ (codes " agreed=" ++ (decimal agreed ++ 10 ∷ []))))
+    ++ (codes " ok msgs=" ++ (decimal messages
+    ++ (codes " agreed=" ++ (decimal agreed ++ 10 ∷ []))))
 
 -- `accepted b 1 2 0 t/1 x`
 abbrev pub accepted_line : List ℕ → Accepted → List ℕ

@@ -41,7 +41,8 @@ lines_after count name w = accepted_lines name (drop count (accepted_in name w))
 -- a line for each that one of these clients shows and did not show before
 abbrev pub told_lines : List (List ℕ) → WorldState → WorldState → List ℕ
 told_lines [] old new = []
-told_lines (name ∷ names) old new = lines_after (length (accepted_in name old)) name new ++ told_lines names old new
+told_lines (name ∷ names) old new =
+    lines_after (length (accepted_in name old)) name new ++ told_lines names old new
 
 -- ---- one order
 
@@ -51,7 +52,8 @@ ComesTo None old result new = IsErr result × (new ≡ old)
 ComesTo (Some event) old result new = Happens event old result new
 
 -- what its event asked clients to publish
-abbrev pub IsAskedIn : Option Event → WorldState → Result (Unit {0}) Idle → List (ℕ × Publication) → WorldState → Type 0
+abbrev pub IsAskedIn : Option Event → WorldState → Result (Unit {0}) Idle
+    → List (ℕ × Publication) → WorldState → Type 0
 IsAskedIn None old result asked new = asked ≡ []
 IsAskedIn (Some event) old result asked new = IsAsked event old result asked new
 
@@ -60,12 +62,14 @@ IsAskedIn (Some event) old result asked new = IsAsked event old result asked new
 abbrev pub IsLine : ℕ → Result (Unit {0}) Idle → WorldState → List ℕ → Type 0
 IsLine index (Err idle) new line = line ≡ idle_line index
 IsLine index (Ok done) new line =
-    (agreed : ℕ) × AgreeOnSoMany new.nodes agreed × (line ≡ done_line index (length new.nodes.sent) agreed)
+    (agreed : ℕ) × AgreeOnSoMany new.nodes agreed
+    × (line ≡ done_line index (length new.nodes.sent) agreed)
 
 -- One order: its line, and a line for each publication that a client newly accepted. Even if memory
 -- ran out in it, the nodes did what they may do, and agree as before, and each client stays exact,
 -- by what it was asked to publish.
-pub record Step (clients : List (List ℕ)) (index : ℕ) (order : Order) (old new : WorldState) (lines : List ℕ) : Type 0 where
+pub record Step (clients : List (List ℕ)) (index : ℕ) (order : Order) (old new : WorldState)
+    (lines : List ℕ) : Type 0 where
   pub result : Result (Unit {0}) Idle
   pub comes : ComesTo (asked_in old order) old result new
   pub line : List ℕ
@@ -80,17 +84,21 @@ pub record Step (clients : List (List ℕ)) (index : ℕ) (order : Order) (old n
 -- ---- the whole
 
 -- the lines of these orders, from the opening on
-pub data Played (clients : List (List ℕ)) (first : WorldState) : List Order → List ℕ → WorldState → Type 0 where
+pub data Played (clients : List (List ℕ)) (first : WorldState)
+    : List Order → List ℕ → WorldState → Type 0 where
   opens : Played clients first [] [] first
-  goes_on : {orders : List Order} {lines more : List ℕ} {old new : WorldState} → Played clients first orders lines old → (order : Order)
-      → Step clients (length orders) order old new more → Played clients first (orders ++ order ∷ []) (lines ++ more) new
+  goes_on : {orders : List Order} {lines more : List ℕ} {old new : WorldState}
+      → Played clients first orders lines old → (order : Order)
+      → Step clients (length orders) order old new more
+      → Played clients first (orders ++ order ∷ []) (lines ++ more) new
 
 -- each order of a script has its event, these are the lines of its transcript, and the last line
 -- says how many commands are agreed
 pub record IsTranscript (script : Script) (last : WorldState) (transcript : List ℕ) : Type 0 where
   pub first : WorldState
   pub opened : AreReached script.opening.nodes script.opening.config first.nodes
-  pub exact : IsReached script.opening.nodes script.opening.config script.opening.clients.items first
+  pub exact :
+      IsReached script.opening.nodes script.opening.config script.opening.clients.items first
   pub unasked : asked_on exact ≡ []
   pub whole : first.losses ≡ 0
   pub lines : List ℕ
@@ -110,4 +118,5 @@ pub record Plays (text old new : List ℕ) (losses : ℕ) : Type 0 where
   pub appended : new ≡ old ++ transcript
   pub losses_are : last.losses ≡ losses
   pub reached : AreReached script.opening.nodes script.opening.config last.nodes
-  pub exact : IsReached script.opening.nodes script.opening.config script.opening.clients.items last
+  pub exact :
+      IsReached script.opening.nodes script.opening.config script.opening.clients.items last

@@ -32,11 +32,14 @@ two_fields word field other = word ++ (field ++ (32 ∷ (other ++ 10 ∷ [])))
 
 -- the line of each event that a way out may have, as a script writes it
 abbrev pub event_line : Event → List ℕ
-event_line (events.Assign config) = two_fields (codes "assign ") (members_text config.members) (decimal config.primary)
+event_line (events.Assign config) =
+    two_fields (codes "assign ") (members_text config.members) (decimal config.primary)
 event_line (events.Deliver number) = one_field (codes "deliver ") (decimal number)
 event_line (events.Open client node) = two_fields (codes "open ") client (decimal node)
-event_line (events.CarryUp connection count) = two_fields (codes "up ") (decimal connection) (decimal count)
-event_line (events.CarryDown connection count) = two_fields (codes "down ") (decimal connection) (decimal count)
+event_line (events.CarryUp connection count) =
+    two_fields (codes "up ") (decimal connection) (decimal count)
+event_line (events.CarryDown connection count) =
+    two_fields (codes "down ") (decimal connection) (decimal count)
 event_line (events.Abandon client) = one_field (codes "abandon ") client
 event_line _ = []
 
@@ -53,7 +56,8 @@ pub record EndsIn (text : List ℕ) (last : WorldState) : Type 0 where
   pub is_script : IsScript (lines_of text) script
   pub first : WorldState
   pub opened : AreReached script.opening.nodes script.opening.config first.nodes
-  pub exact : IsReached script.opening.nodes script.opening.config script.opening.clients.items first
+  pub exact :
+      IsReached script.opening.nodes script.opening.config script.opening.clients.items first
   pub lines : List ℕ
   pub played : Played script.opening.clients.items first script.orders.items lines last
   pub whole : last.losses ≡ 0

@@ -30,7 +30,8 @@ pub(crate) fn write_event(
 // `assign 1,2 1`
 fn write_assign(alloc: Global, config: &Config, text: &mut Vec<u8>) -> Result<(), AllocError>
     ensures { OnOk result (text.new.items ≡ text.old.items
-        ++ two_fields (codes "assign ") (members_text config.now.members) (decimal config.now.primary)) }
+        ++ two_fields (codes "assign ") (members_text config.now.members)
+        (decimal config.now.primary)) }
 {
     text.extend_from_slice(b"assign ")?;
     write_members(alloc, config.members.as_slice(), text)?;
@@ -119,7 +120,8 @@ fn write_down(
 
 // `abandon a`
 fn write_abandon(client: &ClientId, text: &mut Vec<u8>) -> Result<(), AllocError>
-    ensures { OnOk result (text.new.items ≡ text.old.items ++ one_field (codes "abandon ") client.now) }
+    ensures { OnOk result
+        (text.new.items ≡ text.old.items ++ one_field (codes "abandon ") client.now) }
 {
     text.extend_from_slice(b"abandon ")?;
     text.extend_from_slice(client.as_str().as_bytes())?;

@@ -23,7 +23,7 @@ pub fn play(alloc: Global, text: &[u8], transcript: &mut Vec<u8>) -> Result<(), 
         → transcript.new.items ≡ transcript.old.items }
 
     // If memory ran out in the world, the transcript is still complete.
-    ensures wanting { IsErrOf result PlayError.Losses → (losses : ℕ) × ((0 < losses)
+    ensures out_of_memory { IsErrOf result PlayError.Losses → (losses : ℕ) × ((0 < losses)
         × Plays text.now transcript.old.items transcript.new.items losses) }
 {
     let Script { opening, orders } = read(alloc, text)?;
@@ -44,7 +44,7 @@ fn play_whole(
     ensures played { OnOk result (PlaysOn (names_of stage.old.listeners.items) orders.now
         stage.old.world transcript.old.items transcript.new.items 0) }
     ensures form { (number : ℕ) → IsErrOf result (PlayError.Line number) → ⊥ }
-    ensures wanting { IsErrOf result PlayError.Losses → (losses : ℕ) × ((0 < losses)
+    ensures out_of_memory { IsErrOf result PlayError.Losses → (losses : ℕ) × ((0 < losses)
         × PlaysOn (names_of stage.old.listeners.items) orders.now stage.old.world
         transcript.old.items transcript.new.items losses) }
 {
@@ -52,7 +52,7 @@ fn play_whole(
     stage.end(transcript)
 }
 
-// Does what the orders ask for, one after another, and appends the results.
+/// Does what the orders ask for, one after another, and appends the results.
 pub(crate) fn play_all(
     stage: &mut Stage,
     orders: &[Order],

@@ -126,7 +126,7 @@ impl Stage {
     pub(crate) fn end(&self, transcript: &mut Vec<u8>) -> Result<(), PlayError>
         ensures line { OnOk result (Ends self.now.world transcript.old.items transcript.new.items) }
         ensures whole { OnOk result (self.now.world.losses ≡ 0) }
-        ensures wanting { IsErrOf result PlayError.Losses
+        ensures out_of_memory { IsErrOf result PlayError.Losses
             → Ends self.now.world transcript.old.items transcript.new.items }
         ensures losses { IsErrOf result PlayError.Losses → 0 < self.now.world.losses }
         ensures form { (number : ℕ) → IsErrOf result (PlayError.Line number) → ⊥ }

@@ -39,7 +39,8 @@ pub fn write_accepted(
     accepted: &Accepted,
     text: &mut Vec<u8>,
 ) -> Result<(), AllocError>
-    ensures { OnOk result (text.new.items ≡ text.old.items ++ accepted_line client.now accepted.now) }
+    ensures { OnOk result
+        (text.new.items ≡ text.old.items ++ accepted_line client.now accepted.now) }
 {
     let session = accepted.session;
     let session = format!(in alloc; " {session} ")?;

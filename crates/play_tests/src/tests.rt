@@ -10,5 +10,6 @@ mod reading;
 mod refusals;
 mod rows;
 mod scripts;
+mod transcripts;
 mod ways;
 mod worlds;

@@ -63,9 +63,9 @@ first_bad lines i d os within before bad =
     (λ has. bad (subst HasOrder here has))
 
 -- a line after the first is refused by its number
-pub bad_behind : {T : Type 0} (first : Text) (rest : List Text) (error : ScriptError) (o : Opening) → IsOpeningLine first o
+pub bad_after : {T : Type 0} (first : Text) (rest : List Text) (error : ScriptError) (o : Opening) → IsOpeningLine first o
     → ((bad : ℕ) → IsErrOf {T = T} (Err error) (errors.Line bad) → (index : ℕ) × (bad ≡ index + 2) × IsFirstBad rest index)
     → Refuses (first ∷ rest) error
-bad_behind first rest errors.Memory o is refused = tt
-bad_behind first rest (errors.Line n) o is refused =
+bad_after first rest errors.Memory o is refused = tt
+bad_after first rest (errors.Line n) o is refused =
     let (index, number, bad) = refused n refl in inr ((o, is), (index, (number, bad)))

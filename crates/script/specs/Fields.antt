@@ -61,7 +61,8 @@ retain_of text = bit_of (number_of text)
 -- `all`, or a number
 unfoldable pub amount_of : Text → Option Amount
 amount_of text =
-    if bytes_eq text (codes "all") then Some amounts.All else option_map amounts.Bytes (number_of text)
+    if bytes_eq text (codes "all") then Some amounts.All else
+    option_map amounts.Bytes (number_of text)
 
 -- `-` for no byte, or two hexadecimal digits for each
 unfoldable pub payload_of : Text → Option Text

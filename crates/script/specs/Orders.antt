@@ -54,7 +54,8 @@ pub data IsOrder : List Text → Order → Type 0 where
       → client_of c ≡ Some client → topic_of t ≡ Some topic → qos_of q ≡ Some qos
       → retain_of r ≡ Some retain → payload_of p ≡ Some payload
       → IsOrder (codes "publish" ∷ c ∷ t ∷ q ∷ r ∷ p ∷ [])
-      (orders.Publish client (record { retain = retain; qos = qos; topic = topic; payload = payload }))
+      (orders.Publish client
+      (record { retain = retain; qos = qos; topic = topic; payload = payload }))
   -- `subscribe b t/# 2`
   subscribe : {c f q : Text} {client filter : Text} {qos : QoS}
       → client_of c ≡ Some client → filter_of f ≡ Some filter → qos_of q ≡ Some qos

@@ -34,63 +34,77 @@ fn one_client(alloc: Global, fields: &[&str]) -> Result<ClientId, LineFault>
     }
 }
 
-/// `deliver 0`
+/// Reads the fields of `deliver 0`: message 0 reaches its receiver.
 pub(crate) fn deliver(fields: &[&str]) -> Result<Order, LineFault>
-    ensures value { IfOk result (λ order. one orders.Deliver number_of (texts fields.now) ≡ Some order) }
-    ensures form { IsErrOf result LineFault.Form → one orders.Deliver number_of (texts fields.now) ≡ None }
+    ensures value { IfOk result (λ order.
+        one orders.Deliver number_of (texts fields.now) ≡ Some order) }
+    ensures form { IsErrOf result LineFault.Form
+        → one orders.Deliver number_of (texts fields.now) ≡ None }
 {
     Ok(Order::Deliver(one_number(fields)?))
 }
 
-/// `tick 1`
+/// Reads the fields of `tick 1`: time passes at node 1.
 pub(crate) fn tick(fields: &[&str]) -> Result<Order, LineFault>
-    ensures value { IfOk result (λ order. one orders.Tick number_of (texts fields.now) ≡ Some order) }
-    ensures form { IsErrOf result LineFault.Form → one orders.Tick number_of (texts fields.now) ≡ None }
+    ensures value { IfOk result (λ order.
+        one orders.Tick number_of (texts fields.now) ≡ Some order) }
+    ensures form { IsErrOf result LineFault.Form
+        → one orders.Tick number_of (texts fields.now) ≡ None }
 {
     Ok(Order::Tick(one_number(fields)?))
 }
 
-/// `cut 1`
+/// Reads the fields of `cut 1`: node 1 cuts its log.
 pub(crate) fn cut(fields: &[&str]) -> Result<Order, LineFault>
-    ensures value { IfOk result (λ order. one orders.Cut number_of (texts fields.now) ≡ Some order) }
-    ensures form { IsErrOf result LineFault.Form → one orders.Cut number_of (texts fields.now) ≡ None }
+    ensures value { IfOk result (λ order.
+        one orders.Cut number_of (texts fields.now) ≡ Some order) }
+    ensures form { IsErrOf result LineFault.Form
+        → one orders.Cut number_of (texts fields.now) ≡ None }
 {
     Ok(Order::Cut(one_number(fields)?))
 }
 
-/// `crash 1`
+/// Reads the fields of `crash 1`: node 1 stops for good.
 pub(crate) fn crash(fields: &[&str]) -> Result<Order, LineFault>
-    ensures value { IfOk result (λ order. one orders.Crash number_of (texts fields.now) ≡ Some order) }
-    ensures form { IsErrOf result LineFault.Form → one orders.Crash number_of (texts fields.now) ≡ None }
+    ensures value { IfOk result (λ order.
+        one orders.Crash number_of (texts fields.now) ≡ Some order) }
+    ensures form { IsErrOf result LineFault.Form
+        → one orders.Crash number_of (texts fields.now) ≡ None }
 {
     Ok(Order::Crash(one_number(fields)?))
 }
 
-/// `notice 1`
+/// Reads the fields of `notice 1`: the node notices the end of connection 1.
 pub(crate) fn notice(fields: &[&str]) -> Result<Order, LineFault>
-    ensures value { IfOk result (λ order. one orders.Notice number_of (texts fields.now) ≡ Some order) }
-    ensures form { IsErrOf result LineFault.Form → one orders.Notice number_of (texts fields.now) ≡ None }
+    ensures value { IfOk result (λ order.
+        one orders.Notice number_of (texts fields.now) ≡ Some order) }
+    ensures form { IsErrOf result LineFault.Form
+        → one orders.Notice number_of (texts fields.now) ≡ None }
 {
     Ok(Order::Notice(one_number(fields)?))
 }
 
-/// `abandon a`
+/// Reads the fields of `abandon a`: client a loses its connection.
 pub(crate) fn abandon(alloc: Global, fields: &[&str]) -> Result<Order, LineFault>
-    ensures value { IfOk result (λ order. one orders.Abandon client_of (texts fields.now) ≡ Some order) }
-    ensures form { IsErrOf result LineFault.Form → one orders.Abandon client_of (texts fields.now) ≡ None }
+    ensures value { IfOk result (λ order.
+        one orders.Abandon client_of (texts fields.now) ≡ Some order) }
+    ensures form { IsErrOf result LineFault.Form
+        → one orders.Abandon client_of (texts fields.now) ≡ None }
 {
     Ok(Order::Abandon(one_client(alloc, fields)?))
 }
 
-/// `disconnect a`
+/// Reads the fields of `disconnect a`: client a sends DISCONNECT and closes.
 pub(crate) fn disconnect(alloc: Global, fields: &[&str]) -> Result<Order, LineFault>
-    ensures value { IfOk result (λ order. one orders.Disconnect client_of (texts fields.now) ≡ Some order) }
-    ensures form { IsErrOf result LineFault.Form → one orders.Disconnect client_of (texts fields.now) ≡ None }
+    ensures value { IfOk result (λ order.
+        one orders.Disconnect client_of (texts fields.now) ≡ Some order) }
+    ensures form { IsErrOf result LineFault.Form
+        → one orders.Disconnect client_of (texts fields.now) ≡ None }
 {
     Ok(Order::Disconnect(one_client(alloc, fields)?))
 }
 
-/// `assign 2,3 2`
+/// Reads the fields of `assign 2,3 2`: a ballot of members 2 and 3, with primary 2.
 pub(crate) fn assign(alloc: Global, fields: &[&str]) -> Result<Order, LineFault>
     ensures value { IfOk result (λ order.
         two orders.Assign numbers_of number_of (texts fields.now) ≡ Some order) }
@@ -104,7 +118,7 @@ pub(crate) fn assign(alloc: Global, fields: &[&str]) -> Result<Order, LineFault>
     Ok(Order::Assign(members, number(primary)?))
 }
 
-/// `open a 1`
+/// Reads the fields of `open a 1`: client a opens a connection to node 1.
 pub(crate) fn open_connection(alloc: Global, fields: &[&str]) -> Result<Order, LineFault>
     ensures value { IfOk result (λ order.
         two orders.Open client_of number_of (texts fields.now) ≡ Some order) }
@@ -118,7 +132,7 @@ pub(crate) fn open_connection(alloc: Global, fields: &[&str]) -> Result<Order, L
     Ok(Order::Open(name, number(node)?))
 }
 
-/// `expel b 1`
+/// Reads the fields of `expel b 1`: node 1 proposes that the session of client b ends.
 pub(crate) fn expel(alloc: Global, fields: &[&str]) -> Result<Order, LineFault>
     ensures value { IfOk result (λ order.
         two orders.Expel client_of number_of (texts fields.now) ≡ Some order) }
@@ -132,7 +146,7 @@ pub(crate) fn expel(alloc: Global, fields: &[&str]) -> Result<Order, LineFault>
     Ok(Order::Expel(name, number(node)?))
 }
 
-/// `up 1 all`
+/// Reads the fields of `up 1 all`: all bytes of connection 1 go up to its node.
 pub(crate) fn carry_up(fields: &[&str]) -> Result<Order, LineFault>
     ensures value { IfOk result (λ order.
         two orders.CarryUp number_of amount_of (texts fields.now) ≡ Some order) }
@@ -146,7 +160,7 @@ pub(crate) fn carry_up(fields: &[&str]) -> Result<Order, LineFault>
     Ok(Order::CarryUp(connection, amount(bytes)?))
 }
 
-/// `down 1 all`
+/// Reads the fields of `down 1 all`: all bytes of connection 1 go down to its client.
 pub(crate) fn carry_down(fields: &[&str]) -> Result<Order, LineFault>
     ensures value { IfOk result (λ order.
         two orders.CarryDown number_of amount_of (texts fields.now) ≡ Some order) }
@@ -160,7 +174,7 @@ pub(crate) fn carry_down(fields: &[&str]) -> Result<Order, LineFault>
     Ok(Order::CarryDown(connection, amount(bytes)?))
 }
 
-/// `publish a t/1 2 0 78`
+/// Reads the fields of `publish a t/1 2 0 78`: topic, QoS, RETAIN and payload in hexadecimal.
 pub(crate) fn publish(alloc: Global, fields: &[&str]) -> Result<Order, LineFault>
     ensures value { IfOk result (λ order. publish_of (texts fields.now) ≡ Some order) }
     ensures form { IsErrOf result LineFault.Form → publish_of (texts fields.now) ≡ None }
@@ -197,7 +211,7 @@ fn publication(
     })
 }
 
-/// `subscribe b t/# 2`
+/// Reads the fields of `subscribe b t/# 2`: client b subscribes, at most at QoS 2.
 pub(crate) fn subscribe(alloc: Global, fields: &[&str]) -> Result<Order, LineFault>
     ensures value { IfOk result (λ order. subscribe_of (texts fields.now) ≡ Some order) }
     ensures form { IsErrOf result LineFault.Form → subscribe_of (texts fields.now) ≡ None }
@@ -210,7 +224,7 @@ pub(crate) fn subscribe(alloc: Global, fields: &[&str]) -> Result<Order, LineFau
     Ok(Order::Subscribe(name, pattern, qos(level)?))
 }
 
-/// `unsubscribe b t/#`
+/// Reads the fields of `unsubscribe b t/#`: client b unsubscribes.
 pub(crate) fn unsubscribe(alloc: Global, fields: &[&str]) -> Result<Order, LineFault>
     ensures value { IfOk result (λ order.
         two orders.Unsubscribe client_of filter_of (texts fields.now) ≡ Some order) }

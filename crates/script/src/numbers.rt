@@ -19,7 +19,7 @@ impl Model for Numbers {
 }
 
 impl Numbers {
-    // Returns a list of these numbers.
+    /// Returns a list of these numbers.
     pub(crate) fn new(numbers: Vec<u64>) -> Numbers
         ensures { result ≡ numbers.items }
     {

@@ -28,7 +28,8 @@ const MOST: u64 = 15;
 
 /// Returns the world that the fields of the first line open.
 pub(crate) fn opening_of(alloc: Global, fields: &[&str]) -> Result<Opening, LineFault>
-    ensures value { IfOk result (λ opening. world_of (texts fields.now) ≡ Some (values_of opening)) }
+    ensures value { IfOk result (λ opening.
+        world_of (texts fields.now) ≡ Some (values_of opening)) }
     ensures form { IsErrOf result LineFault.Form → world_of (texts fields.now) ≡ None }
 {
     let [word, count, members, primary, names] = fields else {

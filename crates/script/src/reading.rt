@@ -41,12 +41,12 @@ fn script_of(alloc: Global, lines: &[&[u8]]) -> Result<Script, ScriptError>
 {
     match lines {
         [] => Err(ScriptError::Line(1)),
-        [first, others @ ..] => script_behind(alloc, first, others),
+        [first, others @ ..] => script_after(alloc, first, others),
     }
 }
 
 // Returns the script of the first line and the others.
-fn script_behind(alloc: Global, first: &[u8], others: &[&[u8]]) -> Result<Script, ScriptError>
+fn script_after(alloc: Global, first: &[u8], others: &[&[u8]]) -> Result<Script, ScriptError>
     ensures script { IfOk result (IsScript (first.now ∷ texts others.now)) }
     ensures refused { IfErr result (Refuses (first.now ∷ texts others.now)) }
 {

@@ -1,4 +1,4 @@
--- Acknowledged.antt: a publisher that took its leave keeps what it kept.
+-- Acknowledged.antt: a publisher that disconnected keeps what it kept.
 use Rattle.std.proofs.Common.{◌≡◌, [], sym, subst, ◌∙◌, Option}
 use Rattle.std.specs.Prelude.{Some, None}
 use Rattle.client.specs.packet.declared.publish.Publish.{Publish}

@@ -33,7 +33,7 @@ pub no_step : (core : Core) (was : Bool) {seen : Called} (new : Core) → parts 
     → Trace seen [] (parts new was)
 no_step core was new is same = subst (λ (s : Called). Trace s [] (parts new was)) is (stays (parts core was) new same)
 
--- the client took its leave, or did not because memory ran out, or had no connection
+-- the client disconnected, or did not because memory ran out, or had no connection
 pub left : (core : Core) (was : Bool) {seen : Called} (new : Core) (result : Result (Unit {0}) ClientError)
     → parts core was ≡ seen → Leaves (keeper_step Call.Disconnects core.state) core result new
     → Trace seen [] (parts new was)

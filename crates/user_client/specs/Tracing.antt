@@ -33,7 +33,8 @@ pub data Step (old : Called) : Called → Type 0 where
   opens : (core : Core) → Opens (keeper_step Call.Opens old.core.state) old.core (Ok tt) core
       → Step old (with_core core old)
   publishes : (retain : Bool) (qos : QoS) (topic payload : List ℕ) (core : Core)
-      → Does (keeper_step (Call.Publishes (publication_with retain qos topic payload)) old.core.state)
+      → Does
+      (keeper_step (Call.Publishes (publication_with retain qos topic payload)) old.core.state)
       old.core (Ok tt) core
       → Step old (with_core core old)
   subscribes : (filter : List ℕ) (qos : QoS) (core : Core)

@@ -8,7 +8,7 @@ ghost use Rattle.user_client.specs.Publishing.{IsAcknowledged};
 use crate::caller::{Caller, News};
 use crate::fault::ClientFault;
 use crate::servers::Servers;
-use crate::visiting::{exchange, leave, next_stream, send};
+use crate::visiting::{disconnect, exchange, next_stream, send};
 use client::ClientError;
 use client::packet::{ClientId, Delivery, Packet, Payload, Publish, QoS};
 use client::topics::TopicName;
@@ -108,7 +108,7 @@ impl Publisher {
                 Progress::Waits => {}
                 Progress::Lost => return Ok(false),
                 Progress::Done => {
-                    leave(self.alloc, &mut stream, &mut self.caller);
+                    disconnect(self.alloc, &mut stream, &mut self.caller);
                     return Ok(true);
                 }
             }
@@ -122,7 +122,8 @@ impl Publisher {
         stream: &mut Counted<D>,
         room: &mut [u8],
     ) -> Result<Progress, ClientFault>
-        ensures acknowledged { IfOk result (λ progress. progress ≡ Progress.Done → IsAcknowledged self.new) }
+        ensures acknowledged { IfOk result (λ progress.
+            progress ≡ Progress.Done → IsAcknowledged self.new) }
         ensures trace { OnOk result (Trace self.old.caller [] self.new.caller) }
         ensures same { self.new.once ≡ self.old.once }
     {
@@ -136,7 +137,8 @@ impl Publisher {
         news: News,
         stream: &mut Counted<D>,
     ) -> Result<Progress, ClientFault>
-        ensures acknowledged { IfOk result (λ progress. progress ≡ Progress.Done → IsAcknowledged self.new) }
+        ensures acknowledged { IfOk result (λ progress.
+            progress ≡ Progress.Done → IsAcknowledged self.new) }
         ensures trace { OnOk result (Trace self.old.caller [] self.new.caller) }
         ensures same { self.new.once ≡ self.old.once }
     {

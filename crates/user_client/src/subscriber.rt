@@ -9,7 +9,7 @@ use crate::caller::{Caller, News};
 use crate::fault::ClientFault;
 use crate::printing::print_line;
 use crate::servers::Servers;
-use crate::visiting::{exchange, leave, next_stream};
+use crate::visiting::{disconnect, exchange, next_stream};
 use client::Accepted;
 use client::packet::{ClientId, QoS};
 use client::topics::Filter;
@@ -102,7 +102,7 @@ impl Subscriber {
         for _ in 0..u64::MAX {
             let is_lost = self.turn(&mut stream, room.as_mut_slice(), output)?;
             if self.left == 0 {
-                leave(self.alloc, &mut stream, &mut self.caller);
+                disconnect(self.alloc, &mut stream, &mut self.caller);
                 return Ok(true);
             }
             if is_lost {
@@ -170,7 +170,8 @@ fn print_all<W: Write>(
     left: u32,
     output: &mut W,
 ) -> Result<u32, ClientFault>
-    ensures { IfOk result (λ rest. Shows accepted.now left rest (W.contents output.old) (W.contents output.new)) }
+    ensures { IfOk result (λ rest.
+        Shows accepted.now left rest (W.contents output.old) (W.contents output.new)) }
 {
     let mut rest = left;
     for one in accepted {
@@ -186,7 +187,8 @@ fn print_next<W: Write>(
     left: u32,
     output: &mut W,
 ) -> Result<u32, ClientFault>
-    ensures { IfOk result (λ rest. Shows (accepted.now ∷ []) left rest (W.contents output.old) (W.contents output.new)) }
+    ensures { IfOk result (λ rest.
+        Shows (accepted.now ∷ []) left rest (W.contents output.old) (W.contents output.new)) }
 {
     if left == 0 {
         return Ok(0);

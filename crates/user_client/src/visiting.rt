@@ -52,7 +52,11 @@ fn next_piece<'r, D: Read>(stream: &mut Counted<D>, room: &'r mut [u8]) -> Optio
 
 /// Disconnects from the server. The client has done what it was asked for, so it does not matter
 /// whether the DISCONNECT reaches the server.
-pub(crate) fn leave<D: Read + Write>(alloc: Global, stream: &mut Counted<D>, caller: &mut Caller)
+pub(crate) fn disconnect<D: Read + Write>(
+    alloc: Global,
+    stream: &mut Counted<D>,
+    caller: &mut Caller,
+)
     ensures trace { Trace caller.old [] caller.new }
     ensures kept { kept_count caller.new.core.state ≡ kept_count caller.old.core.state }
 {

@@ -7,7 +7,7 @@ use user_client::client::ClientError;
 use user_client::topics::MalformedKind;
 
 /// Returns a PUBLISH, and after it these bytes.
-fn behind_publish(alloc: Global, bytes: &[u8]) -> Result<Vec<u8>, AllocError> {
+fn after_publish(alloc: Global, bytes: &[u8]) -> Result<Vec<u8>, AllocError> {
     let mut piece = Vec::from_slice(alloc, PUBLISH)?;
     piece.extend_from_slice(bytes)?;
     Ok(piece)
@@ -36,7 +36,7 @@ fn is_the_end(alloc: Global, piece: &[u8], cause: ClientError) -> bool {
 
 /// Says whether these bytes after a PUBLISH end the connection, and the PUBLISH stays accepted.
 fn ends(alloc: Global, bytes: &[u8], cause: ClientError) -> bool {
-    match behind_publish(alloc, bytes) {
+    match after_publish(alloc, bytes) {
         Ok(piece) => is_the_end(alloc, &piece, cause),
         Err(_) => false,
     }

@@ -126,7 +126,7 @@ const CALLS: &[Row<'static>] = &[
 
 #[test]
 fn a_call_without_memory_is_done_again(rt: HostRuntime) {
-    let mut client = client_at_last(rt.alloc()).expect(&rt, "memory is wanting at most once");
+    let mut client = client_at_last(rt.alloc()).expect(&rt, "memory runs out at most once");
     assert_eq!(rt; first_fault_again(&mut client, rt.alloc(), CALLS), None);
     assert_eq!(rt; taken(&mut client), (3, 0));
 }
@@ -192,7 +192,7 @@ fn is_taken_in(client: &mut ClientCore, alloc: Global) -> bool {
 // for the second; and when both come again, each is accepted once.
 #[test]
 fn earlier_packets_of_a_piece_stand(rt: HostRuntime) {
-    let mut client = online_at_last(rt.alloc()).expect(&rt, "memory is wanting at most once");
+    let mut client = online_at_last(rt.alloc()).expect(&rt, "memory runs out at most once");
     assert!(rt; is_taken_in(&mut client, rt.alloc()));
     assert_eq!(rt; taken(&mut client), (2, 0));
 }

@@ -48,18 +48,18 @@ pub const NOTHING: &[u8] = &[];
 /// No piece of the rows is longer.
 const LONGEST: usize = 26;
 
-/// Client `a`, never connected.
+/// Returns client `a`, never connected; none if there is no memory for it.
 pub fn new_client(alloc: Global) -> Option<ClientCore> {
     let client = ClientId::new(alloc, "a").ok()?;
     Some(ClientCore::new(alloc, client, 0))
 }
 
-/// Gives bytes of the server: what they are refused with.
+/// Gives the client bytes of the server, and returns their refusal.
 pub fn give(client: &mut ClientCore, bytes: &[u8]) -> Option<ClientError> {
     client.on_bytes(bytes).err()
 }
 
-/// Opens a connection: what that is refused with.
+/// Opens a connection, and returns its refusal.
 pub fn open(client: &mut ClientCore) -> Option<ClientError> {
     client.open().err()
 }
@@ -67,11 +67,11 @@ pub fn open(client: &mut ClientCore) -> Option<ClientError> {
 /// Gives a piece in two parts, of which the first has this many bytes, or all. Returns the first
 /// refusal.
 fn give_in_two(client: &mut ClientCore, bytes: &[u8], cut: usize) -> Option<ClientError> {
-    let Some((front, behind)) = bytes.split_at_checked(cut.min(bytes.len())) else {
+    let Some((front, rest)) = bytes.split_at_checked(cut.min(bytes.len())) else {
         return Some(ClientError::TooLarge);
     };
     let first = give(client, front);
-    let second = give(client, behind);
+    let second = give(client, rest);
     first.or(second)
 }
 
@@ -83,7 +83,7 @@ fn give_cut(client: &mut ClientCore, bytes: &[u8], cut: Option<usize>) -> Option
     }
 }
 
-fn leave(client: &mut ClientCore) -> Option<ClientError> {
+fn disconnect(client: &mut ClientCore) -> Option<ClientError> {
     client.disconnect().err()
 }
 
@@ -123,7 +123,7 @@ pub fn publish(
     }
 }
 
-/// Does this: what it is refused with.
+/// Does this, and returns its refusal.
 pub fn attempt(
     client: &mut ClientCore,
     alloc: Global,
@@ -136,7 +136,7 @@ pub fn attempt(
             client.lost();
             None
         }
-        Act::Disconnect => leave(client),
+        Act::Disconnect => disconnect(client),
         Act::Bytes(bytes) => give_cut(client, bytes, cut),
         Act::Subscribe => subscribe(client, alloc, "t/#"),
         Act::Unsubscribe => unsubscribe(client, alloc, "t/#"),
@@ -193,7 +193,7 @@ pub fn play_cut(alloc: Global, rows: &[Row<'_>], cut: Option<usize>) -> Result<C
     Ok(client)
 }
 
-/// The same with every cut of each piece, and at last with none.
+/// Does the rows with every cut of each piece, and at last with none.
 pub fn play(alloc: Global, rows: &[Row<'_>]) -> Result<ClientCore, usize> {
     for cut in 0..LONGEST {
         play_cut(alloc, rows, Some(cut))?;

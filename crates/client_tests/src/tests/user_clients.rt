@@ -122,7 +122,7 @@ fn is_written(bytes: &[u8], packets: &[&[u8]]) -> bool {
     let mut rest = bytes;
     for packet in packets {
         match rest.strip_prefix(*packet) {
-            Some(behind) => rest = behind,
+            Some(after) => rest = after,
             None => return false,
         }
     }

@@ -40,7 +40,7 @@ pub(super) struct Served {
 }
 
 impl Served {
-    /// On this port of the loopback.
+    /// Returns the table with this port of the loopback for node 1; port 0 is any free one.
     pub(super) fn new(alloc: Global, port: u16) -> Result<Served, AllocError> {
         let table = format!(in alloc;
             "members = [1, 2]\nprimary = 1\n\

@@ -2,17 +2,26 @@
 
 use play::{PlayError, play};
 use std::alloc::Global;
+use std::str;
 
-/// Says whether a script is played to its end, and gives this transcript.
-pub fn gives(alloc: Global, script: &str, wanted: &str) -> bool {
+/// Returns the transcript of a script; the error if it is not played to its end.
+pub fn transcript_of(alloc: Global, script: &str) -> Result<Vec<u8>, PlayError> {
     let mut transcript = Vec::new(alloc);
-    let played = play(alloc, script.as_bytes(), &mut transcript);
-    played.is_ok() && transcript.as_slice() == wanted.as_bytes()
+    play(alloc, script.as_bytes(), &mut transcript)?;
+    Ok(transcript)
 }
 
-/// Says whether a text is refused by this line, and nothing is written.
-pub fn is_refused(alloc: Global, text: &[u8], line: u64) -> bool {
+/// Returns what was written as a text, so that it can be compared and shown.
+pub fn text_of(written: &Result<Vec<u8>, PlayError>) -> &str {
+    match written {
+        Ok(written) => str::from_utf8(written.as_slice()).unwrap_or("not UTF-8"),
+        Err(_) => "not played to its end",
+    }
+}
+
+/// Returns the result of a script, and how many bytes of a transcript were written.
+pub fn outcome_of(alloc: Global, text: &[u8]) -> (Result<(), PlayError>, usize) {
     let mut transcript = Vec::new(alloc);
     let played = play(alloc, text, &mut transcript);
-    played == Err(PlayError::Line(line)) && transcript.is_empty()
+    (played, transcript.len())
 }

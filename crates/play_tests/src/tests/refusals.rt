@@ -1,7 +1,8 @@
 // Texts that are no scripts: the first bad line is named, and nothing is played.
 
-use crate::tests::hand::is_refused;
+use crate::tests::hand::outcome_of;
 use crate::tests::reading::{Outcome, comes};
+use play::PlayError;
 use play::script::ScriptError;
 use std::alloc::{AllocError, Global};
 
@@ -205,12 +206,13 @@ const NOT_PLAYED: &[(&str, u64)] = &[
 #[test]
 fn nothing_is_played_before_a_bad_line(rt: HostRuntime) {
     for (text, line) in NOT_PLAYED {
-        assert!(rt; is_refused(rt.alloc(), text.as_bytes(), *line), "{text}");
+        let outcome = outcome_of(rt.alloc(), text.as_bytes());
+        assert_eq!(rt; outcome, (Err(PlayError::Line(*line)), 0), "{text}");
     }
 }
 
 #[test]
 fn a_line_that_is_no_text_is_bad(rt: HostRuntime) {
     let text = b"world 2 1,2 1 a\nopen a 1\nabandon \xFF\n".as_slice();
-    assert!(rt; is_refused(rt.alloc(), text, 3));
+    assert_eq!(rt; outcome_of(rt.alloc(), text), (Err(PlayError::Line(3)), 0));
 }

@@ -1,6 +1,7 @@
 // Single lines: what cannot happen, and what counts.
 
-use crate::tests::hand::gives;
+use crate::tests::hand::{text_of, transcript_of};
+use play::PlayError;
 use std::alloc::Global;
 
 // Orders that name what no world has are of the form, and cannot happen.
@@ -41,15 +42,19 @@ const IDLE: &[&str] = &[
 #[test]
 fn what_cannot_happen_is_idle(rt: HostRuntime) {
     for line in IDLE {
-        assert!(rt; is_idle(rt.alloc(), line), "{line}");
+        let played = played_with(rt.alloc(), line);
+        assert_eq!(rt;
+            text_of(&played),
+            "0 idle\nend agreed=0 active=1\n",
+            "{line}"
+        );
     }
 }
 
-fn is_idle(alloc: Global, line: &str) -> bool {
-    match format!(in alloc; "world 2 1,2 1 a\n{line}\n") {
-        Ok(text) => gives(alloc, text.as_str(), "0 idle\nend agreed=0 active=1\n"),
-        Err(_) => false,
-    }
+// Returns the transcript of a script with this line alone after the first.
+fn played_with(alloc: Global, line: &str) -> Result<Vec<u8>, PlayError> {
+    let text = format!(in alloc; "world 2 1,2 1 a\n{line}\n")?;
+    transcript_of(alloc, text.as_str())
 }
 
 // A client and a payload as they are printed; RETAIN; an empty payload leaves a space at the end.
@@ -88,5 +93,6 @@ const PRINTED: [&str; 2] = [
 
 #[test]
 fn publications_are_printed(rt: HostRuntime) {
-    assert!(rt; gives(rt.alloc(), PRINTED[0], PRINTED[1]));
+    let played = transcript_of(rt.alloc(), PRINTED[0]);
+    assert_eq!(rt; text_of(&played), PRINTED[1]);
 }

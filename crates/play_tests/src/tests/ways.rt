@@ -1,11 +1,13 @@
 // Ways out, as lines that may follow a script.
 
+use crate::tests::hand::{text_of, transcript_of};
 use crate::tests::scripts::{
     ANSWER_WAITS_FOR_THE_BACKUP, CLIENT_IS_EXPELLED, PRIMARY_CRASHES, SNAPSHOT_TRAVELS,
 };
 use play::packet::ClientId;
 use play::{PlayError, escape, play};
 use std::alloc::Global;
+use std::str;
 
 // To node 2 as sole member, after both nodes answered a. Three messages were sent, and the first of
 // two members is asked for its log.
@@ -39,129 +41,85 @@ const BOTH: &str = "assign 1,2 1\n\
     deliver 15\n\
     down 2 4\n";
 
-// Returns the lines of a way out; none if it is refused.
-fn way_of(alloc: Global, script: &str, members: &[u8], client: &str) -> Option<Vec<u8>> {
-    let client = ClientId::new(alloc, client).ok()?;
-    let mut way = Vec::new(alloc);
-    escape(alloc, script.as_bytes(), members, &client, &mut way).ok()?;
-    Some(way)
-}
+// A script and its transcript, members and client of a way out, and what both have at their end: how
+// long the agreed list is, and the active ballot.
+const WAYS: &[(&[&str; 2], &[u8], &str, u64, u64)] = &[
+    (&ANSWER_WAITS_FOR_THE_BACKUP, &[2], "a", 3, 2),
+    (&ANSWER_WAITS_FOR_THE_BACKUP, &[1, 2], "a", 3, 2),
+    (&PRIMARY_CRASHES, &[2], "b", 10, 3),
+    (&SNAPSHOT_TRAVELS, &[1, 2], "a", 5, 3),
+    (&CLIENT_IS_EXPELLED, &[1], "b", 10, 2),
+];
 
-// Says whether these are the lines.
-fn tells(alloc: Global, script: &str, members: &[u8], client: &str, wanted: &str) -> bool {
-    match way_of(alloc, script, members, client) {
-        Some(way) => way.as_slice() == wanted.as_bytes(),
-        None => false,
-    }
+// Returns the lines of a way out.
+fn way_of(alloc: Global, script: &str, members: &[u8], client: &str) -> Result<Vec<u8>, PlayError> {
+    let client = ClientId::new(alloc, client).ok().ok_or(PlayError::Memory)?;
+    let mut way = Vec::new(alloc);
+    escape(alloc, script.as_bytes(), members, &client, &mut way)?;
+    Ok(way)
 }
 
 // Returns the transcript of a script that is followed by its way out.
-fn goes_on(alloc: Global, script: &str, members: &[u8], client: &str) -> Option<Vec<u8>> {
+fn played_out(
+    alloc: Global,
+    script: &str,
+    members: &[u8],
+    client: &str,
+) -> Result<Vec<u8>, PlayError> {
     let way = way_of(alloc, script, members, client)?;
-    let mut whole = Vec::new(alloc);
-    whole.extend_from_slice(script.as_bytes()).ok()?;
-    whole.extend_from_slice(way.as_slice()).ok()?;
-    let mut transcript = Vec::new(alloc);
-    play(alloc, whole.as_slice(), &mut transcript).ok()?;
-    Some(transcript)
+    let lines = str::from_utf8(way.as_slice()).unwrap_or("not UTF-8");
+    let whole = format!(in alloc; "{script}{lines}")?;
+    transcript_of(alloc, whole.as_str())
 }
 
-// Says whether a script that is followed by its way out has this end, and no line of the way is
-// idle.
-fn ends(alloc: Global, script: &[&str; 2], members: &[u8], client: &str, end: &str) -> bool {
-    match goes_on(alloc, script[0], members, client) {
-        Some(transcript) => {
-            let before = count_idle(script[1].as_bytes());
-            transcript.ends_with(end.as_bytes()) && count_idle(transcript.as_slice()) == before
+// Returns the last line of a transcript, and how many lines are idle.
+fn end_of(transcript: &str) -> (&str, usize) {
+    let mut last = "";
+    let mut idle = 0usize;
+    for line in transcript.lines() {
+        last = line;
+        if line.ends_with(" idle") {
+            idle = idle.saturating_add(1);
         }
-        None => false,
     }
-}
-
-// Returns how many lines are idle.
-fn count_idle(transcript: &[u8]) -> usize {
-    transcript
-        .split(|byte| *byte == b'\n')
-        .filter(|line| line.ends_with(b" idle"))
-        .count()
-}
-
-// Returns what an attempt without a way out is answered.
-fn answer(alloc: Global, script: &str, members: &[u8], client: &str) -> Option<PlayError> {
-    let client = ClientId::new(alloc, client).ok()?;
-    let mut way = Vec::new(alloc);
-    match escape(alloc, script.as_bytes(), members, &client, &mut way) {
-        Ok(()) => None,
-        Err(error) => Some(error),
-    }
+    (last, idle)
 }
 
 #[test]
 fn ways_are_told(rt: HostRuntime) {
     let script = ANSWER_WAITS_FOR_THE_BACKUP[0];
-    assert!(rt; tells(rt.alloc(), script, &[2], "a", ALONE));
-    assert!(rt; tells(rt.alloc(), script, &[1, 2], "a", BOTH));
+    let alone = way_of(rt.alloc(), script, &[2], "a");
+    assert_eq!(rt; text_of(&alone), ALONE);
+    let both = way_of(rt.alloc(), script, &[1, 2], "a");
+    assert_eq!(rt; text_of(&both), BOTH);
 }
 
+// No line of a way out is idle.
 #[test]
 fn ways_are_played(rt: HostRuntime) {
-    let first = "end agreed=3 active=2\n";
-    assert!(rt; ends(rt.alloc(), &ANSWER_WAITS_FOR_THE_BACKUP, &[2], "a", first));
-    assert!(rt;
-        ends(
-            rt.alloc(),
-            &ANSWER_WAITS_FOR_THE_BACKUP,
-            &[1, 2],
-            "a",
-            first
-        )
-    );
-    assert!(rt;
-        ends(
-            rt.alloc(),
-            &PRIMARY_CRASHES,
-            &[2],
-            "b",
-            "end agreed=10 active=3\n"
-        )
-    );
-    assert!(rt;
-        ends(
-            rt.alloc(),
-            &SNAPSHOT_TRAVELS,
-            &[1, 2],
-            "a",
-            "end agreed=5 active=3\n"
-        )
-    );
-    assert!(rt;
-        ends(
-            rt.alloc(),
-            &CLIENT_IS_EXPELLED,
-            &[1],
-            "b",
-            "end agreed=10 active=2\n"
-        )
-    );
+    for (row, members, client, agreed, active) in WAYS {
+        let (_, idle) = end_of(row[1]);
+        let played = played_out(rt.alloc(), row[0], members, client);
+        let end = format!(in rt.alloc(); "end agreed={agreed} active={active}");
+        let end = end.expect(&rt, "memory is left");
+        assert_eq!(rt; end_of(text_of(&played)), (end.as_str(), idle));
+    }
 }
+
+// Members, client, and why there is no way out.
+const NO_WAYS: &[(&[u8], &str, PlayError)] = &[
+    (&[2, 1], "a", PlayError::Idle),
+    (&[3], "a", PlayError::Idle),
+    (&[2], "z", PlayError::Idle),
+];
 
 #[test]
 fn no_way_is_told(rt: HostRuntime) {
     let script = ANSWER_WAITS_FOR_THE_BACKUP[0];
-    assert_eq!(rt;
-        answer(rt.alloc(), script, &[2, 1], "a"),
-        Some(PlayError::Idle)
-    );
-    assert_eq!(rt;
-        answer(rt.alloc(), script, &[3], "a"),
-        Some(PlayError::Idle)
-    );
-    assert_eq!(rt;
-        answer(rt.alloc(), script, &[2], "z"),
-        Some(PlayError::Idle)
-    );
-    assert_eq!(rt;
-        answer(rt.alloc(), "world 1 1 1 a\nup 1\n", &[1], "a"),
-        Some(PlayError::Line(2))
-    );
+    for (members, client, error) in NO_WAYS {
+        let refused = way_of(rt.alloc(), script, members, client).err();
+        assert_eq!(rt; refused, Some(*error));
+    }
+    let bad = way_of(rt.alloc(), "world 1 1 1 a\nup 1\n", &[1], "a").err();
+    assert_eq!(rt; bad, Some(PlayError::Line(2)));
 }

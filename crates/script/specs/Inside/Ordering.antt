@@ -49,7 +49,8 @@ publication topic qos retain payload =
 -- the last four fields of `publish`
 unfoldable pub publication_of : Text → Text → Text → Text → Option Publication
 publication_of t q r p =
-    with (with (with (with (Some publication) (topic_of t)) (qos_of q)) (retain_of r)) (payload_of p)
+    with (with (with (with (Some publication) (topic_of t)) (qos_of q)) (retain_of r))
+    (payload_of p)
 
 abbrev pub publication_order : Text → Publication → Order
 publication_order client sent = orders.Publish client sent
@@ -81,7 +82,8 @@ order_by word fields =
     if bytes_eq word (codes "notice") then one orders.Notice number_of fields else
     if bytes_eq word (codes "publish") then publish_of fields else
     if bytes_eq word (codes "subscribe") then subscribe_of fields else
-    if bytes_eq word (codes "unsubscribe") then two orders.Unsubscribe client_of filter_of fields else
+    if bytes_eq word (codes "unsubscribe")
+    then two orders.Unsubscribe client_of filter_of fields else
     if bytes_eq word (codes "expel") then two orders.Expel client_of number_of fields else
     None
 

@@ -14,9 +14,9 @@ returns-clause-played c =
     (c.in-Ok.ensures.exact (script_apart _ c.in_ok-opening.field-0 c.in_ok-opening.ensures.script)) c.in-Ok.ensures.losses c.in-Ok.ensures.named c.as_slice.ensures.value
     c.play_whole.ensures.played
 
-pub returns-clause-wanting : goal.returns-clause-wanting
-returns-clause-wanting c = λ is.
+pub returns-clause-out_of_memory : goal.returns-clause-out_of_memory
+returns-clause-out_of_memory c = λ is.
     plays_losing c.args.text.now c.args.transcript.now.items c.play_whole.new.transcript.items c.in_ok-opening.field-0
     c.in-Ok.stage.world (names_of c.in-Ok.stage.listeners.items) c.as_slice.result.now c.in_ok-opening.ensures.script c.in-Ok.ensures.opened
     (c.in-Ok.ensures.exact (script_apart _ c.in_ok-opening.field-0 c.in_ok-opening.ensures.script)) c.in-Ok.ensures.losses
-    c.in-Ok.ensures.named c.as_slice.ensures.value (c.play_whole.ensures.wanting is)
+    c.in-Ok.ensures.named c.as_slice.ensures.value (c.play_whole.ensures.out_of_memory is)

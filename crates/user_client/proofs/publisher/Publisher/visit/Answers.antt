@@ -8,13 +8,13 @@ returns-in-Lost-clause-trace g c = traces_follow c.loop.invariant.0 c.in_ok-turn
 
 pub returns-in-Done-clause-acknowledged : goal.returns-in-Done-clause-acknowledged
 returns-in-Done-clause-acknowledged g c =
-    λ _. stays_acknowledged c.self-in-loop.inside.caller c.leave.new.caller c.self-in-loop.inside.once c.self-in-loop.view_is
-    c.leave.ensures.kept (c.in_ok-turn.ensures.acknowledged c.in-Done.is)
+    λ _. stays_acknowledged c.self-in-loop.inside.caller c.disconnect.new.caller c.self-in-loop.inside.once c.self-in-loop.view_is
+    c.disconnect.ensures.kept (c.in_ok-turn.ensures.acknowledged c.in-Done.is)
 
 pub returns-in-Done-clause-trace : goal.returns-in-Done-clause-trace
 returns-in-Done-clause-trace g c =
-    left_trace c.self-in-loop.inside.caller c.leave.new.caller c.self-in-loop.inside.once c.self-in-loop.view_is
-    (traces_follow c.loop.invariant.0 c.in_ok-turn.ensures.trace) c.leave.ensures.trace
+    left_trace c.self-in-loop.inside.caller c.disconnect.new.caller c.self-in-loop.inside.once c.self-in-loop.view_is
+    (traces_follow c.loop.invariant.0 c.in_ok-turn.ensures.trace) c.disconnect.ensures.trace
 
 pub loop-preserved : goal.loop-preserved
 loop-preserved g c =

@@ -14,11 +14,11 @@ returns-then-self-eq0-clause-printed g c =
     let old = g.W.Write.contents c.args.output.now in
     let new = g.W.Write.contents c.turn.new.output in
     hears_asks old new c.args.self.now c.turn.new.self
-    (made_of c.leave.new.caller c.self-in-loop.inside.count c.self-in-loop.inside.left)
+    (made_of c.disconnect.new.caller c.self-in-loop.inside.count c.self-in-loop.inside.left)
     (hears_join old (g.W.Write.contents c.loop.output) new c.args.self.now c.loop.self c.turn.new.self c.loop.invariant
     c.in_ok-is_lost.ensures.printed)
-    (asks_made c.self-in-loop.inside.caller c.leave.new.caller c.self-in-loop.inside.count c.self-in-loop.inside.left
-    c.self-in-loop.view_is c.leave.ensures.trace)
+    (asks_made c.self-in-loop.inside.caller c.disconnect.new.caller c.self-in-loop.inside.count c.self-in-loop.inside.left
+    c.self-in-loop.view_is c.disconnect.ensures.trace)
 
 pub returns-then-is_lost-clause-printed : goal.returns-then-is_lost-clause-printed
 returns-then-is_lost-clause-printed g c =
