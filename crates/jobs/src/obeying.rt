@@ -42,7 +42,7 @@ const NO_MEMORY: u8 = 12;
 /// input that cannot be read.
 pub(crate) fn obey<R, I, O>(
     rt: &R,
-    peers: &Cluster,
+    cluster: &Cluster,
     nodes: &[ListeningNode],
     input: &mut I,
     output: &mut O,
@@ -55,7 +55,7 @@ where
     for _ in rt.forever() {
         match next_order(rt.alloc(), input)? {
             Ok(Order::Quit) => return Ok(()),
-            Ok(order) => answer(rt, peers, nodes, order, output),
+            Ok(order) => answer(rt, cluster, nodes, order, output),
             Err(number) => refuse(output, number),
         }
         let _ = output.flush();
@@ -141,38 +141,38 @@ pub(crate) fn members_of(alloc: Global, word: &str) -> Result<Members, u8> {
 }
 
 // Does an order and prints the result. Clients are served also if nothing can be printed.
-fn answer<R, O>(rt: &R, peers: &Cluster, nodes: &[ListeningNode], order: Order, output: &mut O)
+fn answer<R, O>(rt: &R, cluster: &Cluster, nodes: &[ListeningNode], order: Order, output: &mut O)
 where
     R: Wait + Clock,
     O: Write,
 {
     match order {
         Order::Quit => {}
-        Order::Status => tell_all(rt, peers, nodes, output),
-        Order::Assign(config) => match peers.assign(rt, config) {
+        Order::Status => tell_all(rt, cluster, nodes, output),
+        Order::Assign(config) => match cluster.assign(rt, config) {
             Ok(ballot) => {
                 let _ = writeln!(output, "ballot {ballot}");
             }
             Err(error) => refuse(output, error.number()),
         },
-        Order::Crash(number) => match peers.crash(rt, number) {
+        Order::Crash(number) => match cluster.crash(rt, number) {
             Ok(true) => {
                 let _ = writeln!(output, "crashed {number}");
             }
             Ok(false) => refuse(output, NO_ORDER),
             Err(_) => refuse(output, NO_MEMORY),
         },
-        Order::Expel(client) => expel(rt, peers, &client, output),
+        Order::Expel(client) => expel(rt, cluster, &client, output),
     }
 }
 
 // Ends the session of a client, and prints that, or why not.
-fn expel<R, O>(rt: &R, peers: &Cluster, client: &ClientId, output: &mut O)
+fn expel<R, O>(rt: &R, cluster: &Cluster, client: &ClientId, output: &mut O)
 where
     R: Wait + Clock,
     O: Write,
 {
-    match peers.expel(rt, client) {
+    match cluster.expel(rt, client) {
         Ok(true) => {
             let _ = writeln!(output, "expel {client}");
         }
@@ -186,14 +186,14 @@ fn refuse<O: Write>(output: &mut O, number: u8) {
 }
 
 // Prints the status of each node, in the order of their numbers.
-fn tell_all<R, O>(rt: &R, peers: &Cluster, nodes: &[ListeningNode], output: &mut O)
+fn tell_all<R, O>(rt: &R, cluster: &Cluster, nodes: &[ListeningNode], output: &mut O)
 where
     R: Wait + Clock,
     O: Write,
 {
     for number in 1..=15u8 {
         if nodes.iter().any(|node| node.id == number) {
-            if let Some(status) = peers.status(rt, number) {
+            if let Some(status) = cluster.status(rt, number) {
                 tell(number, &status, output);
             }
         }

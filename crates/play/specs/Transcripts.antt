@@ -81,8 +81,6 @@ pub record Step (clients : List (List ℕ)) (index : ℕ) (order : Order) (old n
   pub asks : IsAskedIn (asked_in old order) old result asked new
   pub exact : KeepsReached asked old new
 
--- ---- the whole
-
 -- the lines of these orders, from the opening on
 pub data Played (clients : List (List ℕ)) (first : WorldState)
     : List Order → List ℕ → WorldState → Type 0 where

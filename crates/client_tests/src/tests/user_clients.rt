@@ -204,34 +204,15 @@ fn a_publication_is_given_up(rt: HostRuntime) {
 // twice.
 #[test]
 fn an_acknowledged_publication_is_done(rt: HostRuntime) {
+    let alloc = rt.alloc();
     let pieces: &[Pieces] = &[&[CONNACK, PUBREC, PUBCOMP], &[SESSION_PRESENT]];
     let written: &[&[u8]] = &[CONNECT, PUBLISH, PUBREL];
     let room = CONNECT.len() + PUBLISH.len() + PUBREL.len();
-    assert!(rt;
-        publishes_within(
-            rt.alloc(),
-            QoS::ExactlyOnce,
-            room,
-            pieces,
-            written,
-            Ok(()),
-            0
-        )
-    );
+    assert!(rt; publishes_within(alloc, QoS::ExactlyOnce, room, pieces, written, Ok(()), 0));
     let pieces: &[Pieces] = &[&[CONNACK, PUBACK], &[SESSION_PRESENT]];
     let written: &[&[u8]] = &[CONNECT, PUBLISH_ANSWERED];
     let room = CONNECT.len() + PUBLISH_ANSWERED.len();
-    assert!(rt;
-        publishes_within(
-            rt.alloc(),
-            QoS::AtLeastOnce,
-            room,
-            pieces,
-            written,
-            Ok(()),
-            0
-        )
-    );
+    assert!(rt; publishes_within(alloc, QoS::AtLeastOnce, room, pieces, written, Ok(()), 0));
 }
 
 // Bytes that are no packet, in the piece of the last answer.
@@ -245,37 +226,18 @@ fn what_comes_after_the_last_answer_does_not_matter(rt: HostRuntime) {
 // At QoS 0 a publication is done once its bytes are written, and not before.
 #[test]
 fn a_publication_at_qos_0_is_written(rt: HostRuntime) {
+    let alloc = rt.alloc();
     let pieces: &[Pieces] = &[&[CONNACK], &[CONNACK]];
     let lost = Err(ClientFault::Lost);
     let room = CONNECT.len();
     let written: &[&[u8]] = &[CONNECT, CONNECT];
-    assert!(rt; publishes_within(rt.alloc(), QoS::AtMostOnce, room, pieces, written, lost, 1));
+    assert!(rt; publishes_within(alloc, QoS::AtMostOnce, room, pieces, written, lost, 1));
     let pieces: &[Pieces] = &[&[CONNACK], &[SESSION_PRESENT]];
     let written: &[&[u8]] = &[CONNECT, CONNECT, PUBLISH_ONCE, DISCONNECT];
-    assert!(rt;
-        publishes_within(
-            rt.alloc(),
-            QoS::AtMostOnce,
-            room,
-            pieces,
-            written,
-            Ok(()),
-            1
-        )
-    );
+    assert!(rt; publishes_within(alloc, QoS::AtMostOnce, room, pieces, written, Ok(()), 1));
     let room = CONNECT.len() + PUBLISH_ONCE.len();
     let written: &[&[u8]] = &[CONNECT, PUBLISH_ONCE];
-    assert!(rt;
-        publishes_within(
-            rt.alloc(),
-            QoS::AtMostOnce,
-            room,
-            pieces,
-            written,
-            Ok(()),
-            0
-        )
-    );
+    assert!(rt; publishes_within(alloc, QoS::AtMostOnce, room, pieces, written, Ok(()), 0));
 }
 
 fn subscribe(
