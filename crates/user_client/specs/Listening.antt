@@ -4,13 +4,17 @@ use Rattle.std.specs.List.{flat_map}
 use Rattle.std.specs.Io.KnownBytes.{Appends}
 use Rattle.client.specs.client_base.declared.accepted.Accepted.{Accepted}
 use Rattle.user_client.specs.Printing.{line_of}
-use Rattle.user_client.specs.Tracing.{Called, Trace}
+use Rattle.user_client.specs.Tracing.{Called, Trace, new_called}
 
 -- a client, how many publications it was asked for, and how many of them are still to be printed
 pub record Listening : Type 0 where
   pub caller : Called
   pub count : ℕ
   pub left : ℕ
+
+-- a client that was never connected
+abbrev pub new_listening : List ℕ → ℕ → Listening
+new_listening id count = record { caller = new_called id; count = count; left = count }
 
 -- it begins from the start
 abbrev pub begun : Listening → Listening

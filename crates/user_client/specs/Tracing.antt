@@ -7,13 +7,17 @@ use Rattle.client.specs.client_base.declared.error.ClientError.{ClientError}
 use Rattle.client.specs.client_base.declared.error.ClientError.TheVariants as errors
 use Rattle.client.specs.client_base.State.{is_online}
 use Rattle.client.specs.client_base.Steps.{Call, keeper_step}
-use Rattle.client.specs.Core.{Core, Does, Opens, Leaves, publication_with, without_accepted}
+use Rattle.client.specs.Core.{Core, Does, Opens, Leaves, new_core, publication_with, without_accepted}
 use Rattle.client.specs.Reading.{OnBytes}
 
 -- a client, and whether a server has accepted one of its connections
 pub record Called : Type 0 where
   pub core : Core
   pub was_accepted : Bool
+
+-- it has keep alive 0, and was never connected
+abbrev pub new_called : List ℕ → Called
+new_called id = record { core = new_core id 0; was_accepted = false }
 
 -- the client does this, and nothing changes except its keeper
 abbrev pub with_core : Core → Called → Called

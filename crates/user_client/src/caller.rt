@@ -1,10 +1,9 @@
 // A client, and whether a server has accepted one of its connections.
 
-ghost use Rattle.std.specs.Prelude.{◌≡◌, ◌≢◌, ◌++◌, false, OnOk, Err, []};
+ghost use Rattle.std.specs.Prelude.{◌≡◌, ◌≢◌, ◌++◌, OnOk, Err, []};
 ghost use Rattle.client.specs.client_base.declared.error.ClientError.TheVariants as errors;
 ghost use Rattle.client.specs.client_base.State.{kept_count};
-ghost use Rattle.client.specs.Core.{new_core};
-ghost use Rattle.user_client.specs.Tracing.{IsFirst, Trace};
+ghost use Rattle.user_client.specs.Tracing.{IsFirst, Trace, new_called};
 
 use crate::fault::ClientFault;
 use client::packet::{ClientId, Payload, QoS};
@@ -44,7 +43,7 @@ impl Model for Caller {
 impl Caller {
     /// Returns a client with this identifier, with keep alive 0, that was never connected.
     pub(crate) fn new(alloc: Global, id: ClientId) -> Caller
-        ensures { result ≡ record { core = new_core id 0; was_accepted = false } }
+        ensures { result ≡ new_called id }
     {
         Caller {
             core: ClientCore::new(alloc, id, 0),

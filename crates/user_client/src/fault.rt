@@ -1,5 +1,7 @@
 // Why a client did not do what it was asked for.
 
+ghost use Rattle.std.specs.Prelude.{◌≡◌};
+
 use client::ClientError;
 use client::topics::MalformedKind;
 use std::alloc::{AllocError, AllocFailed};
@@ -21,6 +23,10 @@ pub enum ClientFault {
 }
 
 impl From<MalformedKind> for ClientFault {
+    ghost use Rattle.user_client.specs.Refusals.{fault_of};
+
+    ghost from_gives = { λ kind fault. fault ≡ fault_of kind };
+
     fn from(kind: MalformedKind) -> ClientFault {
         match kind {
             MalformedKind::Memory => ClientFault::Memory,

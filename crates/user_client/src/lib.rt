@@ -3,6 +3,7 @@
 #![tactic(auto)]
 
 mod caller;
+mod checking;
 mod fault;
 mod printing;
 mod publisher;

@@ -1,16 +1,19 @@
 // Publishing once.
 
-ghost use Rattle.std.specs.Prelude.{◌≡◌, ◌≢◌, true, [], OnOk, IfOk};
+ghost use Rattle.std.specs.Prelude.{◌≡◌, ◌≢◌, None, true, [], OnOk, IfOk};
 ghost use Rattle.client.specs.client_base.State.{kept_count};
+ghost use Rattle.client.specs.packet.ClientId.{client_fault};
+ghost use Rattle.client.specs.topics.Text.{topic_fault};
 ghost use Rattle.user_client.specs.Tracing.{Trace};
 ghost use Rattle.user_client.specs.Publishing.{IsAcknowledged};
 
 use crate::caller::{Caller, News};
+use crate::checking::{checked_id, checked_topic};
 use crate::fault::ClientFault;
 use crate::servers::Servers;
 use crate::visiting::{disconnect, exchange, next_stream, send};
 use client::ClientError;
-use client::packet::{ClientId, Delivery, Packet, Payload, Publish, QoS};
+use client::packet::{Delivery, Packet, Payload, Publish, QoS};
 use client::topics::TopicName;
 use node_base::{Counted, PIECE_BYTES};
 use std::alloc::Global;
@@ -56,9 +59,11 @@ impl Publisher {
         qos: QoS,
         retain: bool,
         message: &str,
-    ) -> Result<Publisher, ClientFault> {
-        let id = ClientId::new(alloc, id)?;
-        let topic = TopicName::new(alloc, topic)?;
+    ) -> Result<Publisher, ClientFault>
+        ensures ok { OnOk result ((client_fault id.now ≡ None) × (topic_fault topic.now ≡ None)) }
+    {
+        let id = checked_id(alloc, id)?;
+        let topic = checked_topic(alloc, topic)?;
         let payload = Payload::new(alloc, message.as_bytes())?;
         let mut caller = Caller::new(alloc, id);
         let once = match qos {

@@ -1,17 +1,21 @@
 // Printing what is published.
 
-ghost use Rattle.std.specs.Prelude.{◌≡◌, true, [], ◌∷◌, OnOk, IfOk};
+ghost use Rattle.std.specs.Prelude.{◌≡◌, None, true, [], ◌∷◌, OnOk, IfErr, IfOk};
 ghost use Rattle.std.specs.Io.KnownBytes.{Appends};
+ghost use Rattle.client.specs.packet.ClientId.{client_fault};
+ghost use Rattle.client.specs.topics.Text.{filter_fault};
 ghost use Rattle.user_client.specs.Printing.{line_of};
-ghost use Rattle.user_client.specs.Listening.{Asks, Hears, Shows, begun};
+ghost use Rattle.user_client.specs.Listening.{Asks, Hears, Shows, begun, new_listening};
+ghost use Rattle.user_client.specs.Refusals.{RefusesListener};
 
 use crate::caller::{Caller, News};
+use crate::checking::{checked_filter, checked_id};
 use crate::fault::ClientFault;
 use crate::printing::print_line;
 use crate::servers::Servers;
 use crate::visiting::{disconnect, exchange, next_stream};
 use client::Accepted;
-use client::packet::{ClientId, QoS};
+use client::packet::QoS;
 use client::topics::Filter;
 use node_base::{Counted, PIECE_BYTES};
 use std::alloc::Global;
@@ -41,16 +45,22 @@ impl Model for Subscriber {
 
 impl Subscriber {
     /// Returns a client with this identifier that subscribes to a filter, and stops after `count`
-    /// publications. The identifier is checked first, then the filter.
+    /// publications. The identifier is checked first, then the filter: `Refused` has the number of
+    /// the first fault, and `Memory` comes only without one before it.
     pub fn new(
         alloc: Global,
         id: &str,
         filter: &str,
         qos: QoS,
         count: u32,
-    ) -> Result<Subscriber, ClientFault> {
-        let id = ClientId::new(alloc, id)?;
-        let filter = Filter::new(alloc, filter)?;
+    ) -> Result<Subscriber, ClientFault>
+        ensures made { IfOk result (λ subscriber. subscriber ≡ new_listening id.now count) }
+        ensures ok { OnOk result
+            ((client_fault id.now ≡ None) × (filter_fault filter.now ≡ None)) }
+        ensures err { IfErr result (RefusesListener id.now filter.now) }
+    {
+        let id = checked_id(alloc, id)?;
+        let filter = checked_filter(alloc, filter)?;
         Ok(Subscriber {
             alloc,
             caller: Caller::new(alloc, id),
