@@ -6,7 +6,7 @@ use Rattle.user_client.specs.client_base.declared.accepted.Accepted.{Accepted}
 use Rattle.script.specs.session_base.declared.publication.Publication.{Publication}
 use Rattle.script.specs.declared.order.Order.{Order}
 use Rattle.play.specs.Lines.{accepted_line}
-use Rattle.world.specs.declared.event.Event.{Event}
+use Rattle.world.specs.world_events.declared.event.Event.{Event}
 use Rattle.world.specs.declared.world.WorldClient.{WorldClient}
 use Rattle.world.specs.Found.{core_at, is_named}
 use Rattle.world.specs.Asking.{IsAsked}

@@ -5,8 +5,8 @@ use Rattle.script.specs.declared.order.Amount.{Amount}
 use Rattle.script.specs.declared.order.Amount.TheVariants as amounts
 use Rattle.script.specs.declared.order.Order.{Order}
 use Rattle.script.specs.declared.order.Order.TheVariants as orders
-use Rattle.world.specs.declared.event.Event.{Event}
-use Rattle.world.specs.declared.event.Event.TheVariants as events
+use Rattle.world.specs.world_events.declared.event.Event.{Event}
+use Rattle.world.specs.world_events.declared.event.Event.TheVariants as events
 use Rattle.world.specs.Found.{way_of}
 use Rattle.world.specs.Cannot.{down_of, up_of}
 use Rattle.world.specs.World.{WorldState}

@@ -3,8 +3,8 @@ use Rattle.world.specs.ballot.declared.error.OpeningError.{OpeningError}
 use Rattle.world.specs.ballot.declared.error.OpeningError.TheVariants as openings
 use Rattle.script.specs.declared.error.ScriptError.{ScriptError}
 use Rattle.script.specs.declared.error.ScriptError.TheVariants as scripts
-use Rattle.world.specs.declared.escape_error.EscapeError.{EscapeError}
-use Rattle.world.specs.declared.escape_error.EscapeError.TheVariants as escapes
+use Rattle.world.specs.world_events.declared.escape_error.EscapeError.{EscapeError}
+use Rattle.world.specs.world_events.declared.escape_error.EscapeError.TheVariants as escapes
 use Rattle.play.specs.declared.error.PlayError.{PlayError}
 use Rattle.play.specs.declared.error.PlayError.TheVariants as faults
 

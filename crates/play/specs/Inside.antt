@@ -4,7 +4,7 @@ use Rattle.world.specs.master.declared.event.Idle.{Idle}
 use Rattle.script.specs.session_base.declared.publication.Publication.{Publication}
 use Rattle.script.specs.declared.order.Order.{Order}
 use Rattle.play.specs.Lines.{end_line}
-use Rattle.world.specs.declared.event.Event.{Event}
+use Rattle.world.specs.world_events.declared.event.Event.{Event}
 use Rattle.world.specs.Goes.{StaysReached, WorldGoesOn}
 use Rattle.world.specs.Standing.{KeepsReached}
 use Rattle.world.specs.World.{WorldState}

@@ -9,7 +9,7 @@ use Rattle.script.specs.Scripts.{IsScript, lines_of}
 use Rattle.script.specs.declared.order.Order.{Order}
 use Rattle.script.specs.declared.reading.Script.{Script}
 use Rattle.play.specs.Lines.{accepted_line, done_line, end_line, idle_line}
-use Rattle.world.specs.declared.event.Event.{Event}
+use Rattle.world.specs.world_events.declared.event.Event.{Event}
 use Rattle.world.specs.Found.{core_named}
 use Rattle.world.specs.Goes.{AreReached, StaysReached, WorldGoesOn}
 use Rattle.world.specs.Happening.{Happens}

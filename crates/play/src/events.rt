@@ -2,7 +2,7 @@
 
 ghost use Rattle.std.specs.Prelude.{◌≡◌, true, Some, length, option_map, IfOk, IsErrOf, OnErr};
 ghost use Rattle.std.specs.List.{list_all};
-ghost use Rattle.world.specs.declared.event.Event.TheVariants as events;
+ghost use Rattle.world.specs.world_events.declared.event.Event.TheVariants as events;
 ghost use Rattle.world.specs.Found.{way_of};
 ghost use Rattle.world.specs.Cannot.{down_of, up_of};
 ghost use Rattle.play.specs.Events.{asked_in, assign_of, count_of, is_small, node_of};

@@ -26,8 +26,8 @@ use Rattle.headline.specs.world_base.Step.{node_step}
 use Rattle.escaping_nodes.specs.world_nodes.Goes.{behind_deed}
 use Rattle.escaping_nodes.specs.world_nodes.Nodes.{NodesState}
 use Rattle.escaping_nodes.proofs.of_world_nodes.Acts.{acts}
-use Rattle.world.specs.declared.event.Event.{Event}
-use Rattle.world.specs.declared.event.Event.TheVariants as events
+use Rattle.world_events.specs.declared.event.Event.{Event}
+use Rattle.world_events.specs.declared.event.Event.TheVariants as events
 use Rattle.world.specs.Found.{is_named, port_of}
 use Rattle.world.specs.Gathering.{Gathers}
 use Rattle.world.specs.Goes.{LosesNothing, NodesGo}

@@ -10,13 +10,13 @@ use Rattle.escaping_client.specs.client_base.declared.error.ClientError.{ClientE
 use Rattle.escaping_client.specs.client_base.declared.error.ClientError.TheVariants as errors
 use Rattle.escaping_nodes.specs.master.declared.event.Idle.{Idle}
 use Rattle.escaping_client.specs.session_base.declared.publication.Publication.{Publication}
-use Rattle.world_pipes.specs.declared.sending.Sending.{Sending}
-use Rattle.world_pipes.specs.declared.sending.Sending.TheVariants as sendings
-use Rattle.world_pipes.specs.Following.{CallingFollows}
-use Rattle.world_pipes.specs.Piped.{Piped}
-use Rattle.world_pipes.proofs.CallingFollows.{calling_goes}
-use Rattle.world.specs.declared.event.Event.{Event}
-use Rattle.world.specs.declared.event.Event.TheVariants as events
+use Rattle.world_events.specs.world_pipes.declared.sending.Sending.{Sending}
+use Rattle.world_events.specs.world_pipes.declared.sending.Sending.TheVariants as sendings
+use Rattle.world_events.specs.world_pipes.Following.{CallingFollows}
+use Rattle.world_events.specs.world_pipes.Piped.{Piped}
+use Rattle.world_events.proofs.of_world_pipes.CallingFollows.{calling_goes}
+use Rattle.world_events.specs.declared.event.Event.{Event}
+use Rattle.world_events.specs.declared.event.Event.TheVariants as events
 use Rattle.world.specs.declared.world.WorldClient.{WorldClient}
 use Rattle.world.specs.Asking.{AskedBy, AsksOne, IsAsked, RunAsks}
 use Rattle.world.specs.Found.{is_named}

@@ -17,11 +17,11 @@ use Rattle.escaping_client.specs.client_base.declared.stage.Stage.TheVariants as
 use Rattle.escaping_nodes.specs.master.declared.event.Idle.{Idle}
 use Rattle.escaping_client.specs.packet.declared.qos.QoS.{QoS}
 use Rattle.escaping_client.specs.session_base.declared.publication.Publication.{Publication}
-use Rattle.world_pipes.specs.declared.sending.Sending.{Sending}
-use Rattle.world_pipes.specs.declared.sending.Sending.TheVariants as sendings
-use Rattle.world_pipes.specs.Following.{CallingFollows}
-use Rattle.world_pipes.specs.Piped.{Calls, Piped, TakesLeave}
-use Rattle.world.specs.declared.event.Event.TheVariants as events
+use Rattle.world_events.specs.world_pipes.declared.sending.Sending.{Sending}
+use Rattle.world_events.specs.world_pipes.declared.sending.Sending.TheVariants as sendings
+use Rattle.world_events.specs.world_pipes.Following.{CallingFollows}
+use Rattle.world_events.specs.world_pipes.Piped.{Calls, Piped, TakesLeave}
+use Rattle.world_events.specs.declared.event.Event.TheVariants as events
 use Rattle.world.specs.declared.world.WorldClient.{WorldClient}
 use Rattle.world.specs.Found.{core_named, is_named, with_piped}
 use Rattle.world.specs.Doing.{Asks, ClientDoes, Leaves, Loses, LosesAsking, LosesLeaving}

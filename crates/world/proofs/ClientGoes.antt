@@ -5,10 +5,10 @@ use Rattle.escaping_client.proofs.of_lists.Places.{get_set}
 use Rattle.headline.specs.byte_world.World.{ClientPipes, World, with_client}
 use Rattle.headline.specs.byte_world.Published.{from_client}
 use Rattle.escaping_client.specs.session_base.declared.publication.Publication.{Publication}
-use Rattle.world_pipes.specs.Following.{FollowsAll, FollowsBy, FollowsLosing, after_losing}
-use Rattle.world_pipes.specs.Goes.{ClientGoes, published_along as published_with, published_with as published_with_one}
-use Rattle.world_pipes.specs.Piped.{Piped}
-use Rattle.world_pipes.proofs.StepsInWorlds.{steps_in_worlds}
+use Rattle.world_events.specs.world_pipes.Following.{FollowsAll, FollowsBy, FollowsLosing, after_losing}
+use Rattle.world_events.specs.world_pipes.Goes.{ClientGoes, published_along as published_with, published_with as published_with_one}
+use Rattle.world_events.specs.world_pipes.Piped.{Piped}
+use Rattle.world_events.proofs.of_world_pipes.StepsInWorlds.{steps_in_worlds}
 use Rattle.world.specs.declared.connection_slot.ConnectionSlot.{ConnectionSlot}
 use Rattle.world.specs.declared.world.WorldClient.{WorldClient}
 use Rattle.world.specs.SlotsAreValid.{AreHoused, leads, leads_of}

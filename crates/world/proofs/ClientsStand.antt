@@ -2,8 +2,8 @@
 use Rattle.std.proofs.Common.{◌≡◌, ℕ, zero, suc, List, [], ◌∷◌, Some, set, slice_get, refl, subst}
 use Rattle.std.proofs.lemmas.Option.{same_Some, none-some}
 use Rattle.headline.specs.byte_world.World.{ClientPipes}
-use Rattle.world_pipes.specs.Piped.{Piped}
-use Rattle.world_pipes.specs.Standing.{StandsFor as ClientStands}
+use Rattle.world_events.specs.world_pipes.Piped.{Piped}
+use Rattle.world_events.specs.world_pipes.Standing.{StandsFor as ClientStands}
 use Rattle.world.specs.declared.world.WorldClient.{WorldClient}
 use Rattle.world.specs.Standing.{ClientsStand}
 

@@ -9,8 +9,8 @@ use Rattle.headline.specs.byte_world.World.{HasPipe, Pipe, World, with_client, w
 use Rattle.headline.specs.byte_world.Goes.WorldStep.{comes_up}
 use Rattle.escaping_nodes.specs.world_nodes.Goes.{Acts}
 use Rattle.escaping_nodes.specs.world_nodes.Nodes.{NodesState}
-use Rattle.world_pipes.specs.declared.way.Way.{Way}
-use Rattle.world_pipes.specs.Piped.{Piped}
+use Rattle.world_events.specs.world_pipes.declared.way.Way.{Way}
+use Rattle.world_events.specs.world_pipes.Piped.{Piped}
 use Rattle.world.specs.declared.connection_slot.ConnectionSlot.{ConnectionSlot}
 use Rattle.world.specs.declared.world.WorldClient.{WorldClient}
 use Rattle.world.specs.SlotsAreValid.{LeadsThere, leads_of}

@@ -15,9 +15,9 @@ use Rattle.escaping_client.specs.lists.Lists.{IsPrefixOf}
 use Rattle.escaping_client.proofs.of_lists.Places.{get_pushed, get_set}
 use Rattle.escaping_client.specs.packet.Spelling.{spelling}
 use Rattle.escaping_client.specs.packet.Verdict.{verdict}
-use Rattle.world_pipes.specs.declared.way.Way.{Way}
-use Rattle.world_pipes.specs.Piped.{Hears, Piped, broken, come_down, sent_up}
-use Rattle.world.specs.declared.event.Event.TheVariants as events
+use Rattle.world_events.specs.world_pipes.declared.way.Way.{Way}
+use Rattle.world_events.specs.world_pipes.Piped.{Hears, Piped, broken, come_down, sent_up}
+use Rattle.world_events.specs.declared.event.Event.TheVariants as events
 use Rattle.world.specs.declared.connection_slot.ConnectionSlot.{ConnectionSlot}
 use Rattle.world.specs.declared.world.WorldClient.{WorldClient}
 use Rattle.world.specs.Doing.{Does}

@@ -17,9 +17,9 @@ use Rattle.headline.specs.byte_world.Goes.{after_connecting}
 use Rattle.headline.specs.byte_world.Goes.WorldStep.{connects}
 use Rattle.escaping_nodes.specs.world_nodes.Goes.{Acts, node_of}
 use Rattle.escaping_nodes.specs.world_nodes.Nodes.{NodesState, StandsFor as NodesStand}
-use Rattle.world_pipes.specs.declared.way.Way.{Way}
-use Rattle.world_pipes.specs.Following.{ConnectingFollows}
-use Rattle.world_pipes.specs.Standing.{AreWays}
+use Rattle.world_events.specs.world_pipes.declared.way.Way.{Way}
+use Rattle.world_events.specs.world_pipes.Following.{ConnectingFollows}
+use Rattle.world_events.specs.world_pipes.Standing.{AreWays}
 use Rattle.world.specs.declared.world.WorldClient.{WorldClient}
 use Rattle.world.specs.SlotsAreValid.{AreHoused, leads, leads_of}
 use Rattle.world.specs.Inside.Connecting.{ConnectsAt, IsKnown}

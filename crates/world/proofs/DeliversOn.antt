@@ -25,7 +25,7 @@ use Rattle.escaping_nodes.specs.world_nodes.Goes.{Comes, ComesToNobody, TakesExa
 use Rattle.escaping_nodes.specs.world_nodes.Nodes.{NodesState, cores_of}
 use Rattle.escaping_nodes.proofs.of_world_nodes.Acts.{acts}
 use Rattle.escaping_nodes.proofs.of_world_nodes.MasterActs.{answers_exactly}
-use Rattle.world.specs.declared.event.Event.TheVariants as events
+use Rattle.world_events.specs.declared.event.Event.TheVariants as events
 use Rattle.world.specs.Cannot.{CannotHappen}
 use Rattle.world.specs.Doing.{Does, receiver_of}
 use Rattle.world.specs.Gathering.{Gathers}

@@ -9,8 +9,8 @@ use Rattle.headline.specs.node_moves.Moves.NodeCall.{takes}
 use Rattle.escaping_nodes.specs.world_nodes.Goes.{Acts, running}
 use Rattle.escaping_nodes.specs.world_nodes.Nodes.{NodesState}
 use Rattle.escaping_nodes.specs.world_nodes.Steps.{TakesIn}
-use Rattle.world_pipes.specs.declared.way.Way.{Way}
-use Rattle.world_pipes.specs.Piped.{Piped}
+use Rattle.world_events.specs.world_pipes.declared.way.Way.{Way}
+use Rattle.world_events.specs.world_pipes.Piped.{Piped}
 use Rattle.world.specs.declared.connection_slot.ConnectionSlot.{ConnectionSlot}
 use Rattle.world.specs.declared.world.WorldClient.{WorldClient}
 use Rattle.world.specs.Goes.{NodesGoOn}

@@ -14,10 +14,10 @@ use Rattle.headline.specs.world_base.declared.item.Item.TheVariants.{Bytes, Cras
 use Rattle.escaping_nodes.specs.world_nodes.Goes.{Comes, ComesToNobody, CutsExactly, TakesExactly, cutting, proposing, running}
 use Rattle.escaping_nodes.specs.world_nodes.Nodes.{NodesState}
 use Rattle.escaping_nodes.specs.world_nodes.Steps.{ComesIn, CutsIn, ExpelsIn, GivesIn, LosesNothing as NodesLoseNothing, TakesIn}
-use Rattle.world_pipes.specs.declared.way.Way.{Way}
-use Rattle.world_pipes.specs.Piped.{Piped, is_holding}
-use Rattle.world.specs.declared.event.Event.{Event}
-use Rattle.world.specs.declared.event.Event.TheVariants as events
+use Rattle.world_events.specs.world_pipes.declared.way.Way.{Way}
+use Rattle.world_events.specs.world_pipes.Piped.{Piped, is_holding}
+use Rattle.world_events.specs.declared.event.Event.{Event}
+use Rattle.world_events.specs.declared.event.Event.TheVariants as events
 use Rattle.world.specs.declared.connection_slot.ConnectionSlot.{ConnectionSlot}
 use Rattle.world.specs.declared.world.WorldClient.{WorldClient}
 use Rattle.world.specs.Found.{Connected, is_named, place_numbered, port_of, with_less, with_piped}

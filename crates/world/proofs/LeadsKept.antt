@@ -4,7 +4,7 @@ use Rattle.std.proofs.lemmas.List.{map-set}
 use Rattle.std.proofs.lemmas.Option.{same_Some}
 use Rattle.headline.specs.world_base.declared.Port.{Port}
 use Rattle.headline.proofs.of_node_group.Placed.{get_mapped}
-use Rattle.world_pipes.specs.declared.way.Way.{Way}
+use Rattle.world_events.specs.world_pipes.declared.way.Way.{Way}
 use Rattle.world.specs.declared.connection_slot.ConnectionSlot.{ConnectionSlot}
 use Rattle.world.specs.declared.world.WorldClient.{WorldClient}
 use Rattle.world.specs.SlotsAreValid.{AreHoused, LeadsThere, leads, leads_of}

@@ -23,9 +23,9 @@ use Rattle.headline.specs.world_base.Core.{rules}
 use Rattle.escaping_nodes.specs.world_nodes.Agreed.{AgreeOn}
 use Rattle.escaping_nodes.specs.world_nodes.Asking.{log_of}
 use Rattle.escaping_nodes.specs.world_nodes.Nodes.{NodesState}
-use Rattle.world_pipes.specs.Standing.{CanGoOut}
-use Rattle.world.specs.declared.event.Event.{Event}
-use Rattle.world.specs.declared.event.Event.TheVariants as events
+use Rattle.world_events.specs.world_pipes.Standing.{CanGoOut}
+use Rattle.world_events.specs.declared.event.Event.{Event}
+use Rattle.world_events.specs.declared.event.Event.TheVariants as events
 use Rattle.world.specs.declared.connection_slot.ConnectionSlot.{ConnectionSlot}
 use Rattle.world.specs.Doing.{next_number}
 use Rattle.world.specs.Escaping.{CanEscape, HasEscaped, LeadsOut}
@@ -33,7 +33,8 @@ use Rattle.world.specs.Found.{port_of}
 use Rattle.world.specs.Goes.{AreReached, LosesNothing, NodesGo}
 use Rattle.world.specs.Happening.{Run}
 use Rattle.world.specs.SlotsAreValid.{AreHoused, leads_of}
-use Rattle.world.specs.Inside.Escaping.{answer_events, client_events, escaping_events, leaving, sent_then}
+use Rattle.world_events.specs.EscapeEvents.{answer_events, client_events, leaving}
+use Rattle.world.specs.Inside.Escaping.{escaping_events, sent_then}
 use Rattle.world.specs.Standing.{IsReached}
 use Rattle.world.specs.World.{WorldState}
 use Rattle.world.proofs.AgreedOnlyGrows.{agreed_grows}

@@ -5,9 +5,9 @@ use Rattle.std.proofs.lemmas.Option.{same_Some}
 use Rattle.escaping_client.specs.client.Core.{Core, gone}
 use Rattle.escaping_client.specs.client.State.{is_open}
 use Rattle.escaping_client.proofs.of_lists.Places.{get_set}
-use Rattle.world_pipes.specs.Piped.{Piped}
-use Rattle.world.specs.declared.event.Event.{Event}
-use Rattle.world.specs.declared.event.Event.TheVariants as events
+use Rattle.world_events.specs.world_pipes.Piped.{Piped}
+use Rattle.world_events.specs.declared.event.Event.{Event}
+use Rattle.world_events.specs.declared.event.Event.TheVariants as events
 use Rattle.world.specs.declared.world.WorldClient.{WorldClient}
 use Rattle.world.specs.Cannot.{HoldsNone}
 use Rattle.world.specs.Doing.{Does}
@@ -15,7 +15,7 @@ use Rattle.world.specs.Found.{core_named, with_piped}
 use Rattle.world.specs.Goes.{LosesNothing}
 use Rattle.world.specs.Happening.{Run}
 use Rattle.world.specs.SlotsAreValid.{AreHoused, leads, leads_of}
-use Rattle.world.specs.Inside.Escaping.{leaving}
+use Rattle.world_events.specs.EscapeEvents.{leaving}
 use Rattle.world.specs.World.{WorldState}
 use Rattle.world.proofs.ExactRuns.{First, first_done}
 use Rattle.world.proofs.LeadsKept.{housed_client}

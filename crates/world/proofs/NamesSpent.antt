@@ -6,7 +6,7 @@ use Rattle.headline.specs.broker_base.Connection.{ConnectionName, is_connection_
 use Rattle.headline.specs.world_base.Core.{CountedCore}
 use Rattle.headline.specs.world_base.Step.{accepted}
 use Rattle.escaping_nodes.specs.world_nodes.Goes.{node_of}
-use Rattle.world.specs.declared.event.Event.TheVariants as events
+use Rattle.world_events.specs.declared.event.Event.TheVariants as events
 use Rattle.world.specs.Doing.{OpensUnless, is_full}
 use Rattle.world.specs.Happening.{Happens}
 use Rattle.world.specs.World.{WorldState}

@@ -32,7 +32,7 @@ use Rattle.escaping_client.specs.lists.Lists.In.{here}
 use Rattle.headline.specs.world_base.Core.{CoreState, CountedCore, rules}
 use Rattle.escaping_nodes.specs.world_nodes.Asking.{log_of}
 use Rattle.escaping_nodes.specs.world_nodes.Nodes.{cores_of}
-use Rattle.world.specs.declared.event.Event.{Event}
+use Rattle.world_events.specs.declared.event.Event.{Event}
 use Rattle.world.specs.Escaping.{CanEscape, is_running}
 use Rattle.world.specs.Found.{port_of}
 use Rattle.world.specs.Standing.{GoesTo, StandsFor}

@@ -13,9 +13,9 @@ use Rattle.headline.specs.world_base.declared.item.Item.TheVariants.{Bytes}
 use Rattle.headline.specs.node_moves.Moves.NodeCall.{takes}
 use Rattle.escaping_nodes.specs.world_nodes.Goes.{TakesExactly, behind_deed, running, unless_stopped}
 use Rattle.escaping_nodes.specs.world_nodes.Nodes.{NodesState}
-use Rattle.world_pipes.specs.declared.way.Way.{Way}
-use Rattle.world_pipes.specs.Piped.{is_holding}
-use Rattle.world.specs.declared.event.Event.TheVariants as events
+use Rattle.world_events.specs.world_pipes.declared.way.Way.{Way}
+use Rattle.world_events.specs.world_pipes.Piped.{is_holding}
+use Rattle.world_events.specs.declared.event.Event.TheVariants as events
 use Rattle.world.specs.declared.connection_slot.ConnectionSlot.{ConnectionSlot}
 use Rattle.world.specs.declared.world.WorldClient.{WorldClient}
 use Rattle.world.specs.Cannot.{IsClosed, IsNoPart, down_of, is_held, is_held_by, up_of}

@@ -16,11 +16,11 @@ use Rattle.headline.specs.byte_world.Goes.WorldStep.{is_turned_away}
 use Rattle.escaping_nodes.specs.world_nodes.Goes.{Acts, node_of}
 use Rattle.escaping_nodes.specs.world_nodes.Nodes.{NodesState}
 use Rattle.escaping_nodes.specs.world_nodes.Steps.{LosesNothing as NodesLoseNothing}
-use Rattle.world_pipes.specs.Following.{FollowsAll}
-use Rattle.world_pipes.specs.Piped.{Piped, is_holding}
+use Rattle.world_events.specs.world_pipes.Following.{FollowsAll}
+use Rattle.world_events.specs.world_pipes.Piped.{Piped, is_holding}
 use Rattle.world.specs.Goes.{NodesGoOn}
 use Rattle.world.specs.SlotsAreValid.{AreHoused, leads_of}
-use Rattle.world.specs.declared.event.Event.TheVariants as events
+use Rattle.world_events.specs.declared.event.Event.TheVariants as events
 use Rattle.world.specs.declared.world.WorldClient.{WorldClient}
 use Rattle.world.specs.declared.connection_slot.ConnectionSlot.{ConnectionSlot}
 use Rattle.world.specs.Found.{Named, core_named, is_named, port_of, with_piped}

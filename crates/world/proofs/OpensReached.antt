@@ -12,8 +12,8 @@ use Rattle.headline.specs.world_base.declared.Port.{Port}
 use Rattle.headline.specs.byte_world.World.{ClientPipes, Pipe, new_client, opening}
 use Rattle.headline.specs.byte_world.Goes.Reached.{begins}
 use Rattle.escaping_nodes.specs.world_nodes.Nodes.{StandsFor as NodesStand}
-use Rattle.world_pipes.specs.declared.way.Way.{Way}
-use Rattle.world_pipes.specs.Standing.{StandsFor as ClientStands}
+use Rattle.world_events.specs.world_pipes.declared.way.Way.{Way}
+use Rattle.world_events.specs.world_pipes.Standing.{StandsFor as ClientStands}
 use Rattle.world.specs.declared.world.WorldClient.{WorldClient}
 use Rattle.world.specs.Happening.{new_world_client}
 use Rattle.world.specs.SlotsAreValid.{AreHoused, leads, leads_of}

@@ -14,8 +14,8 @@ use Rattle.headline.specs.world_base.declared.Port.{Port}
 use Rattle.escaping_nodes.specs.world_nodes.Goes.{node_of}
 use Rattle.escaping_nodes.specs.world_nodes.Nodes.{NodesState}
 use Rattle.escaping_nodes.proofs.of_world_nodes.Exactly.{at_place, gives_acts}
-use Rattle.world_pipes.specs.declared.way.Way.{Way}
-use Rattle.world_pipes.specs.Piped.{Piped}
+use Rattle.world_events.specs.world_pipes.declared.way.Way.{Way}
+use Rattle.world_events.specs.world_pipes.Piped.{Piped}
 use Rattle.world.specs.declared.connection_slot.ConnectionSlot.{ConnectionSlot}
 use Rattle.world.specs.declared.world.WorldClient.{WorldClient}
 use Rattle.world.specs.Found.{place_numbered, port_of, with_down}

@@ -12,8 +12,8 @@ use Rattle.escaping_nodes.specs.world_nodes.Goes.{node_of}
 use Rattle.escaping_nodes.specs.world_nodes.Nodes.{NodesState}
 use Rattle.escaping_nodes.specs.world_nodes.Steps.{HandsIn}
 use Rattle.escaping_nodes.proofs.of_world_nodes.Exactly.{gives_acts}
-use Rattle.world_pipes.specs.declared.way.Way.{Way}
-use Rattle.world_pipes.specs.Piped.{Piped}
+use Rattle.world_events.specs.world_pipes.declared.way.Way.{Way}
+use Rattle.world_events.specs.world_pipes.Piped.{Piped}
 use Rattle.world.specs.SlotsAreValid.{leads}
 use Rattle.world.specs.Found.{with_down}
 use Rattle.world.specs.Gathering.{Gives, is_more, is_told_open, put_out}

@@ -21,8 +21,8 @@ use Rattle.headline.specs.world_base.Handing.{bytes_of}
 use Rattle.headline.specs.world_base.Step.{node_step}
 use Rattle.escaping_nodes.specs.world_nodes.Goes.{ComesToNobody, behind_deed, node_of, running}
 use Rattle.escaping_nodes.specs.world_nodes.Nodes.{NodesState}
-use Rattle.world.specs.declared.event.Event.{Event}
-use Rattle.world.specs.declared.event.Event.TheVariants as events
+use Rattle.world_events.specs.declared.event.Event.{Event}
+use Rattle.world_events.specs.declared.event.Event.TheVariants as events
 use Rattle.world.specs.Found.{is_named, port_of}
 use Rattle.world.specs.Gathering.{Gathers, is_told_open, put_out}
 use Rattle.world.specs.Goes.{LosesNothing, NodesGo}

@@ -19,7 +19,7 @@ use Rattle.headline.proofs.of_world_base.Calmly.{hands_over_waits, nothing_hande
 use Rattle.escaping_nodes.specs.world_nodes.Goes.{Comes, GivesExactly, HeardByMaster, TakesExactly, node_of, running, unless_stopped}
 use Rattle.escaping_nodes.specs.world_nodes.Nodes.{NodesState}
 use Rattle.escaping_nodes.specs.world_nodes.Quiet.{ComesUnheeded, IsUnheeded, RestsAt, WaitsAtNone}
-use Rattle.world.specs.declared.event.Event.{Event}
+use Rattle.world_events.specs.declared.event.Event.{Event}
 use Rattle.world.specs.declared.connection_slot.ConnectionSlot.{ConnectionSlot}
 use Rattle.world.specs.Cannot.{CannotHappen}
 use Rattle.world.specs.Doing.{receiver_of}

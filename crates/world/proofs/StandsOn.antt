@@ -10,7 +10,7 @@ use Rattle.headline.proofs.of_packet_world.Lists.{same_or_other}
 use Rattle.headline.specs.world_base.Core.{CountedCore}
 use Rattle.headline.specs.world_base.declared.Port.{Port}
 use Rattle.escaping_nodes.specs.world_nodes.Goes.{node_of}
-use Rattle.world_pipes.specs.declared.way.Way.{Way}
+use Rattle.world_events.specs.world_pipes.declared.way.Way.{Way}
 use Rattle.world.specs.declared.connection_slot.ConnectionSlot.{ConnectionSlot}
 use Rattle.world.specs.declared.world.WorldClient.{WorldClient}
 use Rattle.world.specs.Found.{place_numbered, port_of, with_down}

@@ -1,7 +1,7 @@
 -- UncountedIsExact.antt: an event that was not idle was done exactly, if no loss was counted.
 use Rattle.std.proofs.Common.{inl, inr, ap, arith}
 use Rattle.std.specs.Prelude.{Ok}
-use Rattle.world.specs.declared.event.Event.{Event}
+use Rattle.world_events.specs.declared.event.Event.{Event}
 use Rattle.world.specs.Goes.{LosesNothing}
 use Rattle.world.specs.Happening.{Happens, HappensExactly}
 use Rattle.world.specs.World.{WorldState}

@@ -30,7 +30,7 @@ use Rattle.headline.specs.world_base.Core.{CountedCore, rules}
 use Rattle.headline.specs.world_base.Handing.{answer_of, bytes_of}
 use Rattle.escaping_nodes.specs.world_nodes.Goes.{behind_answer, behind_deed, node_of}
 use Rattle.escaping_nodes.specs.world_nodes.Nodes.{NodesState}
-use Rattle.world.specs.declared.event.Event.TheVariants as events
+use Rattle.world_events.specs.declared.event.Event.TheVariants as events
 use Rattle.world.specs.Found.{port_of}
 use Rattle.world.specs.Gathering.{Gathers, is_more, is_told_open, put_out}
 use Rattle.world.specs.Goes.{LosesNothing}

@@ -20,13 +20,14 @@ use Rattle.headline.specs.world_base.Core.{CountedCore}
 use Rattle.escaping_nodes.specs.world_nodes.Asking.{log_in, log_of, welcomes_back}
 use Rattle.escaping_nodes.specs.world_nodes.Goes.{node_of}
 use Rattle.escaping_nodes.specs.world_nodes.Nodes.{NodesState}
-use Rattle.world.specs.declared.event.Event.{Event}
-use Rattle.world.specs.declared.event.Event.TheVariants as events
+use Rattle.world_events.specs.declared.event.Event.{Event}
+use Rattle.world_events.specs.declared.event.Event.TheVariants as events
 use Rattle.world.specs.declared.world.WorldClient.{WorldClient}
 use Rattle.escaping_nodes.proofs.of_master.Counting.{get_there}
 use Rattle.world.specs.Escaping.{CanEscape, configuration_of, held_in, is_running}
 use Rattle.world.specs.Found.{is_named}
-use Rattle.world.specs.Inside.Escaping.{IsFetchedFrom, answer_events, client_events, escaping_events, group_events, leaving, sent_then}
+use Rattle.world_events.specs.EscapeEvents.{answer_events, client_events, leaving}
+use Rattle.world.specs.Inside.Escaping.{IsFetchedFrom, escaping_events, group_events, sent_then}
 use Rattle.world.specs.World.{WorldState}
 use Rattle.world.proofs.StandsThere.{core_found}
 

@@ -4,9 +4,9 @@ use Rattle.headline.specs.ballot.Losses.{one_more}
 use Rattle.escaping_client.specs.client_base.Steps.{Call}
 use Rattle.escaping_nodes.specs.master.declared.event.Idle.{Idle}
 use Rattle.escaping_client.specs.session_base.declared.publication.Publication.{Publication}
-use Rattle.world_pipes.specs.Piped.{Piped}
-use Rattle.world.specs.declared.event.Event.{Event}
-use Rattle.world.specs.declared.event.Event.TheVariants as events
+use Rattle.world_events.specs.world_pipes.Piped.{Piped}
+use Rattle.world_events.specs.declared.event.Event.{Event}
+use Rattle.world_events.specs.declared.event.Event.TheVariants as events
 use Rattle.world.specs.Found.{Named, with_piped}
 use Rattle.world.specs.Doing.{Asks}
 use Rattle.world.specs.Happening.{Happens}

@@ -7,10 +7,10 @@ use Rattle.escaping_client.specs.client_base.State.{is_open}
 use Rattle.escaping_client.specs.client_base.Steps.{Call, keeper_step}
 use Rattle.headline.specs.world_base.Core.{CountedCore, serves}
 use Rattle.escaping_nodes.specs.world_nodes.Goes.{ComesToNobody, cutting, node_of, proposing, running}
-use Rattle.world_pipes.specs.declared.way.Way.{Way}
-use Rattle.world_pipes.specs.Piped.{is_holding}
-use Rattle.world.specs.declared.event.Event.{Event}
-use Rattle.world.specs.declared.event.Event.TheVariants as events
+use Rattle.world_events.specs.world_pipes.declared.way.Way.{Way}
+use Rattle.world_events.specs.world_pipes.Piped.{is_holding}
+use Rattle.world_events.specs.declared.event.Event.{Event}
+use Rattle.world_events.specs.declared.event.Event.TheVariants as events
 use Rattle.world.specs.declared.connection_slot.ConnectionSlot.{ConnectionSlot}
 use Rattle.world.specs.declared.world.WorldClient.{WorldClient}
 use Rattle.world.specs.Found.{core_named, is_named, place_numbered, way_of}

@@ -15,11 +15,11 @@ use Rattle.headline.specs.world_base.declared.Port.{Port}
 use Rattle.escaping_nodes.specs.world_nodes.Goes.{Comes, CutsExactly, TakesExactly, behind_giving, node_of}
 use Rattle.escaping_nodes.specs.world_nodes.Nodes.{NodesState}
 use Rattle.escaping_nodes.specs.world_nodes.Steps.{ComesIn, CutsIn, ExpelsIn, GivesIn, TakesIn}
-use Rattle.world_pipes.specs.declared.sending.Sending.{Sending}
-use Rattle.world_pipes.specs.declared.sending.Sending.TheVariants as sendings
-use Rattle.world_pipes.specs.Piped.{Calls, Connects, Hears, Piped, TakesLeave, taken_back}
-use Rattle.world.specs.declared.event.Event.{Event}
-use Rattle.world.specs.declared.event.Event.TheVariants as events
+use Rattle.world_events.specs.world_pipes.declared.sending.Sending.{Sending}
+use Rattle.world_events.specs.world_pipes.declared.sending.Sending.TheVariants as sendings
+use Rattle.world_events.specs.world_pipes.Piped.{Calls, Connects, Hears, Piped, TakesLeave, taken_back}
+use Rattle.world_events.specs.declared.event.Event.{Event}
+use Rattle.world_events.specs.declared.event.Event.TheVariants as events
 use Rattle.world.specs.Found.{Connected, Named, port_of, with_less, with_piped}
 use Rattle.world.specs.Gathering.{Gathers, TakesItem}
 use Rattle.world.specs.World.{WorldState}

@@ -7,8 +7,8 @@ use Rattle.headline.specs.node_group.Group.{opening_group}
 use Rattle.escaping_nodes.specs.master.declared.event.Idle.{Idle}
 use Rattle.escaping_nodes.specs.world_nodes.Nodes.{StandsFor}
 use Rattle.escaping_nodes.specs.world_nodes.Steps.{LosesNothing as NodesLoseNothing}
-use Rattle.world_pipes.specs.Piped.{new_piped}
-use Rattle.world.specs.declared.event.Event.{Event}
+use Rattle.world_events.specs.world_pipes.Piped.{new_piped}
+use Rattle.world_events.specs.declared.event.Event.{Event}
 use Rattle.world.specs.declared.world.WorldClient.{WorldClient}
 use Rattle.world.specs.World.{WorldState}
 use Rattle.world.specs.Cannot.{CannotHappen}

@@ -12,9 +12,9 @@ pub mod Happening
 pub mod Asking
 pub mod Laws
 pub mod Escaping
-pub mod Refusals
 pub use Rattle.headline.specs.agreement as agreement
 pub use Rattle.headline.specs.ballot as ballot
 pub use Rattle.escaping_nodes.specs.master as master
 pub use Rattle.headline.specs.packet_world as packet_world
 pub use Rattle.escaping_nodes.specs.world_nodes as world_nodes
+pub use Rattle.world_events.specs as world_events

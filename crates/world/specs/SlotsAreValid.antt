@@ -1,7 +1,7 @@
 -- What holds for every `World`, by its fields.
 use Rattle.std.specs.Prelude.{◌≡◌, ◌≤◌, ℕ, suc, List, [], ◌∷◌, Some, if◌then◌else◌, length, map, slice_get}
 use Rattle.headline.specs.world_base.declared.Port.{Port}
-use Rattle.world_pipes.specs.declared.way.Way.{Way}
+use Rattle.world_events.specs.world_pipes.declared.way.Way.{Way}
 use Rattle.world.specs.declared.connection_slot.ConnectionSlot.{ConnectionSlot}
 use Rattle.world.specs.declared.world.WorldClient.{WorldClient}
 

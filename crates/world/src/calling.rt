@@ -3,8 +3,8 @@
 ghost use Rattle.std.specs.Prelude.{◌≡◌, ◌<◌, if◌then◌else◌, true, false, [], ◌∷◌, length, slice_get, IfSome};
 ghost use Rattle.escaping_client.specs.client_base.Steps.{Call, keeper_step};
 ghost use Rattle.escaping_nodes.specs.world_nodes.Goes.{node_of};
-ghost use Rattle.world_pipes.specs.Following.{CallingFollows, FollowsAll};
-ghost use Rattle.world_pipes.specs.Piped.{TakesLeave, is_holding, taken_back};
+ghost use Rattle.world_events.specs.world_pipes.Following.{CallingFollows, FollowsAll};
+ghost use Rattle.world_events.specs.world_pipes.Piped.{TakesLeave, is_holding, taken_back};
 ghost use Rattle.world.specs.Goes.{CountsOnce, NodesGoOn};
 ghost use Rattle.world.specs.Doing.{Loses, is_full};
 ghost use Rattle.world.specs.Quiet.{TakesNoMemory};
@@ -15,14 +15,14 @@ ghost use Rattle.world.specs.Inside.Calling.{Counts, IsCall};
 ghost use Rattle.world.specs.Inside.Steps.{GoesAsked, GoesOn, Meets};
 
 use crate::connection_slot::ConnectionSlot;
-use crate::event::Event;
 use crate::world::World;
 use escaping_client::packet::{ClientId, QoS};
 use escaping_client::session_base::Publication;
 use escaping_client::topics::Filter;
 use escaping_nodes::world_nodes::{Idle, Nodes};
 use headline::world_base::Port;
-use world_pipes::{ClientError, PipedClient, Sending};
+use world_events::Event;
+use world_events::world_pipes::{ClientError, PipedClient, Sending};
 
 impl World {
     pub(crate) fn open(&mut self, client: &ClientId, node: u8) -> Result<(), Idle>

@@ -2,7 +2,7 @@
 
 ghost use Rattle.std.specs.Prelude.{◌≡◌, ◌⊎◌, ◌≤◌, ◌<◌, ◌-◌, ◌↔◌, true, false, Some, None, length, slice_get, if◌then◌else◌, IfOk, OnErr};
 ghost use Rattle.escaping_nodes.specs.world_nodes.Goes.{running};
-ghost use Rattle.world_pipes.specs.Following.{FollowsAll};
+ghost use Rattle.world_events.specs.world_pipes.Following.{FollowsAll};
 ghost use Rattle.world.specs.Goes.{CountsOnce, NodesGoOn};
 ghost use Rattle.world.specs.SlotsAreValid.{leads};
 ghost use Rattle.world.specs.Inside.Carrying.{CannotHear, CannotTake, CannotTakeOn, HearsOn, TakesUpOnWhere, TakesUpWhere};
@@ -10,12 +10,12 @@ ghost use Rattle.world.specs.Inside.Steps.{GoesOn, Meets};
 ghost use Rattle.world.specs.Inside.Calling.{forgetful};
 
 use crate::connection_slot::ConnectionSlot;
-use crate::event::Event;
 use crate::world::World;
 use escaping_nodes::world_nodes::{Idle, Nodes};
 use headline::world_base::{Piece, Port};
 use std::alloc::Global;
-use world_pipes::{ClientError, PipedClient};
+use world_events::Event;
+use world_events::world_pipes::{ClientError, PipedClient};
 
 impl World {
     pub(crate) fn carry_up(&mut self, number: u64, count: u64) -> Result<(), Idle>

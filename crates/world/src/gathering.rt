@@ -13,7 +13,7 @@ use crate::world::World;
 use escaping_nodes::world_nodes::{Idle, Nodes};
 use headline::world_base::{Handed, Port};
 use std::alloc::Global;
-use world_pipes::PipedClient;
+use world_events::world_pipes::PipedClient;
 
 impl World {
     // Carries down what a node queued, on each connection whose end there is open. The master, node

@@ -7,11 +7,11 @@ ghost use Rattle.world.specs.Inside.Steps.{GoesOn, Meets};
 ghost use Rattle.world.specs.Quiet.{IsQuietAt, TakesNoMemory};
 
 use crate::connection_slot::ConnectionSlot;
-use crate::event::Event;
 use crate::world::World;
 use escaping_client::packet::ClientId;
 use escaping_nodes::world_nodes::Idle;
 use headline::world_base::{Config, Item, Port};
+use world_events::Event;
 
 impl World {
     pub(crate) fn deliver(&mut self, number: u64) -> Result<(), Idle>

@@ -6,21 +6,19 @@ ghost use Rattle.headline.specs.agreement.MasterState.{refusal};
 ghost use Rattle.headline.specs.broker_base.Commands.{past_of, usual_limits};
 ghost use Rattle.headline.specs.broker_base.Past.{session_of};
 ghost use Rattle.escaping_nodes.specs.world_nodes.Asking.{log_of};
-ghost use Rattle.world_pipes.specs.Piped.{is_holding};
+ghost use Rattle.world_events.specs.world_pipes.Piped.{is_holding};
 ghost use Rattle.world.specs.declared.world.WorldClient.{WorldClient};
 ghost use Rattle.escaping_nodes.specs.world_nodes.Goes.{node_of};
 ghost use Rattle.world.specs.Escaping.{CanEscape, LeadsOut, configuration_of, held_in, is_running};
 ghost use Rattle.world.specs.Inside.Escaping.{IsFetchedFrom, escaping_events};
 
-use crate::escape_error::EscapeError;
-use crate::event::Event;
-use crate::scheduling::{push_answers, push_client, push_group};
 use crate::world::World;
 use escaping_client::packet::ClientId;
 use escaping_nodes::ways_out::ways_are_short;
 use headline::ballot::MOST_PLACES;
 use headline::world_base::{Config, Members, Memory};
 use std::alloc::Global;
+use world_events::{EscapeError, Event, push_answers, push_client, push_group};
 
 // More messages than any memory holds.
 const MOST_MESSAGES: u64 = 4_611_686_018_427_387_904;

@@ -4,21 +4,16 @@
 mod calling;
 mod carrying;
 mod connection_slot;
-mod escape_error;
-mod event;
 mod gathering;
 mod going_on;
 mod laws;
 mod leading_out;
 mod reading;
-mod scheduling;
 mod world;
 
-pub use escape_error::EscapeError;
 pub use escaping_client::{machine, packet, session_base, topics};
 pub use escaping_nodes::master;
 pub use escaping_nodes::world_nodes::Idle;
-pub use event::Event;
 pub use headline::ballot;
 pub use headline::world_base::{
     Command, Config, ConnectionId, Effect, Item, Members, Memory, Message, NodeCore, OpeningError,
@@ -26,5 +21,5 @@ pub use headline::world_base::{
 };
 pub use laws::{an_open_past_the_last_changes_nothing, uncounted_is_exact};
 pub use world::World;
-pub use world_pipes;
-pub use world_pipes::{Accepted, ClientCore};
+pub use world_events::world_pipes::{Accepted, ClientCore};
+pub use world_events::{EscapeError, Event, world_pipes};

@@ -15,7 +15,7 @@ use crate::connection_slot::ConnectionSlot;
 use crate::world::{World, WorldClient};
 use escaping_client::packet::ClientId;
 use headline::world_base::Command;
-use world_pipes::ClientCore;
+use world_events::world_pipes::ClientCore;
 
 impl WorldClient {
     // Says whether it has this identifier.

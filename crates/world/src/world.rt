@@ -6,7 +6,7 @@ ghost use Rattle.headline.specs.agreement.World.{can_open};
 ghost use Rattle.headline.specs.ballot.Losses.{one_more};
 ghost use Rattle.headline.specs.packet_world.World.{AreApart};
 ghost use Rattle.headline.specs.byte_world.World.{new_client};
-ghost use Rattle.world_pipes.specs.Standing.{StandsFor};
+ghost use Rattle.world_events.specs.world_pipes.Standing.{StandsFor};
 ghost use Rattle.world.specs.Goes.{AgreedGrows, AreReached, CountsOnce, StaysReached, WorldGoesOn};
 ghost use Rattle.world.specs.Asking.{IsAsked, RunAsks};
 ghost use Rattle.world.specs.Happening.{Happens, Opens, Run, new_world_client};
@@ -16,13 +16,13 @@ ghost use Rattle.world.specs.Quiet.{TakesNoMemory};
 ghost use Rattle.world.specs.Standing.{ClientsStand, IsReached, KeepsReached, WorldGoesBy, asked_on, identifiers};
 
 use crate::connection_slot::ConnectionSlot;
-use crate::event::Event;
 use escaping_client::packet::ClientId;
 use escaping_nodes::world_nodes::{Idle, Nodes};
 use headline::world_base::{Config, Memory, OpeningError};
 use std::alloc::Global;
 use std::marker::Model;
-use world_pipes::PipedClient;
+use world_events::Event;
+use world_events::world_pipes::PipedClient;
 
 /// A client of a world, with its identifier.
 #[derive(Drop)]

@@ -11,8 +11,9 @@ mod piped_client;
 mod sending;
 mod way;
 
+pub use byte_world::world_base;
 pub use byte_world::world_base::Port;
-pub use client::{Accepted, ClientCore, ClientError};
+pub use client::{Accepted, ClientCore, ClientError, packet, session_base, topics};
 pub use laws::clients_step_in_worlds;
 pub use piped_client::PipedClient;
 pub use sending::Sending;

@@ -1,11 +1,12 @@
 -- The events of a way out, by arithmetic, and the member whose log is fetched.
-use Rattle.std.specs.Prelude.{◌≡◌, ◌≤◌, ℕ, suc, ◌+◌, ◌-◌, ◌*◌, Bool, true, false, List, [], ◌∷◌, ◌++◌, Some, length, map, slice_get}
+use Rattle.std.specs.Prelude.{◌≡◌, ◌≤◌, ℕ, suc, ◌+◌, ◌-◌, ◌*◌, Bool, List, ◌∷◌, ◌++◌, Some, length, map, slice_get}
 use Rattle.std.specs.List.{position}
 use Rattle.headline.specs.ballot.Serving.{most_places}
-use Rattle.escaping_nodes.specs.ways_out.Deliveries.{asked_and_answered, way_out}
+use Rattle.escaping_nodes.specs.ways_out.Deliveries.{way_out}
 use Rattle.escaping_nodes.specs.world_nodes.Goes.{node_of}
-use Rattle.world.specs.declared.event.Event.{Event}
-use Rattle.world.specs.declared.event.Event.TheVariants as events
+use Rattle.world_events.specs.declared.event.Event.{Event}
+use Rattle.world_events.specs.declared.event.Event.TheVariants as events
+use Rattle.world_events.specs.EscapeEvents.{answer_events, client_events}
 use Rattle.world.specs.Escaping.{configuration_of, held_in, is_running}
 use Rattle.world.specs.World.{WorldState}
 
@@ -24,20 +25,6 @@ abbrev pub group_events : WorldState → List ℕ → ℕ → List Event
 group_events w members place =
     events.Assign (configuration_of members)
     ∷ map events.Deliver (way_out (length w.nodes.sent) (length w.nodes.master.members) place (length members - 1))
-
--- a client that holds a connection loses it; it opens another, and its CONNECT reaches the new
--- primary
-abbrev pub leaving : Bool → List ℕ → List Event
-leaving true name = events.Abandon name ∷ []
-leaving false name = []
-
-abbrev pub client_events : Bool → List ℕ → ℕ → ℕ → ℕ → List Event
-client_events holds name primary number bytes =
-    leaving holds name ++ events.Open name primary ∷ events.CarryUp number bytes ∷ []
-
--- the others hold it and answer, and the CONNACK comes down
-abbrev pub answer_events : ℕ → ℕ → ℕ → List Event
-answer_events sent others number = map events.Deliver (asked_and_answered sent others) ++ events.CarryDown number 4 ∷ []
 
 -- how many messages were sent when the ballot has begun
 abbrev pub sent_then : WorldState → ℕ → ℕ

@@ -7,8 +7,8 @@ use Rattle.headline.specs.node_moves.Moves.NodeCall.{gives}
 use Rattle.escaping_nodes.specs.world_nodes.Goes.{Acts, HandsOver, node_of}
 use Rattle.escaping_nodes.specs.world_nodes.Nodes.{NodesState}
 use Rattle.escaping_nodes.specs.world_nodes.Steps.{forgetful as nodes_forgetful}
-use Rattle.world_pipes.specs.declared.way.Way.{Way}
-use Rattle.world_pipes.specs.Piped.{Piped}
+use Rattle.world_events.specs.world_pipes.declared.way.Way.{Way}
+use Rattle.world_events.specs.world_pipes.Piped.{Piped}
 use Rattle.world.specs.declared.connection_slot.ConnectionSlot.{ConnectionSlot}
 use Rattle.world.specs.declared.world.WorldClient.{WorldClient}
 use Rattle.world.specs.Found.{place_numbered, port_of, with_down, with_piped}

@@ -6,7 +6,7 @@ use Rattle.headline.specs.node_group.Group.{Group}
 use Rattle.escaping_client.specs.session_base.declared.publication.Publication.{Publication}
 use Rattle.escaping_nodes.specs.world_nodes.Nodes.{NodesState, StandsFor as NodesStand}
 use Rattle.escaping_nodes.specs.world_nodes.Steps.{LosesNothing as NodesLoseNothing}
-use Rattle.world.specs.declared.event.Event.{Event}
+use Rattle.world_events.specs.declared.event.Event.{Event}
 use Rattle.world.specs.Asking.{IsAsked}
 use Rattle.world.specs.Goes.{NodesGoOn}
 use Rattle.world.specs.Cannot.{CannotHappen}

@@ -1,5 +1,5 @@
 use Rattle.std.proofs.Common.{ap}
-use Rattle.world_pipes.specs.Piped.{Piped}
+use Rattle.world_events.specs.world_pipes.Piped.{Piped}
 use Rattle.world.specs.SlotsAreValid.{leads}
 use Rattle.world.proofs.ClientGoes.{losing_goes}
 use Rattle.world.proofs.calling.lose.Goals as goal

@@ -1,21 +1,21 @@
 // The events of a way out, in order.
 
 ghost use Rattle.std.specs.Prelude.{◌≡◌, ◌≤◌, ◌<◌, ◌+◌, ◌*◌, ◌^◌, ◌-◌, ◌∷◌, ◌++◌, length, map, OnOk};
-ghost use Rattle.escaping_nodes.specs.ways_out.Deliveries.{way_out};
+ghost use Rattle.ways_out.specs.Deliveries.{way_out};
 ghost use Rattle.world_pipes.specs.Piped.{is_holding};
-ghost use Rattle.world.specs.declared.event.Event.TheVariants as events;
-ghost use Rattle.world.specs.Inside.Escaping.{answer_events, client_events, leaving};
+ghost use Rattle.world_events.specs.declared.event.Event.TheVariants as events;
+ghost use Rattle.world_events.specs.EscapeEvents.{answer_events, client_events, leaving};
 
 use crate::event::Event;
-use escaping_client::packet::ClientId;
-use escaping_nodes::ways_out::{answers, way_out};
-use headline::world_base::{Config, Memory};
 use std::alloc::Global;
+use ways_out::{answers, way_out};
 use world_pipes::PipedClient;
+use world_pipes::packet::ClientId;
+use world_pipes::world_base::{Config, Memory};
 
 /// Appends an Assign, and the deliveries that lead its ballot to the start. `sent` messages were
 /// sent before, and the member at `place` of this many `members` is asked for its log.
-pub(crate) fn push_group(
+pub fn push_group(
     alloc: Global,
     way: &mut Vec<Event>,
     config: Config,
@@ -37,7 +37,7 @@ pub(crate) fn push_group(
 
 /// Appends the events by which a client opens a connection to the new primary, once it has lost the
 /// one that it holds, and its CONNECT arrives.
-pub(crate) fn push_client(
+pub fn push_client(
     way: &mut Vec<Event>,
     piped: &PipedClient,
     client: &ClientId,
@@ -68,7 +68,7 @@ fn push_leaving(way: &mut Vec<Event>, piped: &PipedClient, client: &ClientId) ->
 
 /// Appends the events by which the others hold the command and answer, when this many messages were
 /// sent before, and the CONNACK comes down.
-pub(crate) fn push_answers(
+pub fn push_answers(
     alloc: Global,
     way: &mut Vec<Event>,
     sent: u64,

@@ -1,12 +1,12 @@
 // Why no way out of a world is returned.
 
 ghost use Rattle.std.specs.Prelude.{◌≡◌};
-ghost use Rattle.world.specs.Refusals.{escape_number};
+ghost use Rattle.world_events.specs.Refusals.{escape_number};
 
-use headline::world_base::Memory;
 use std::alloc::{AllocError, AllocFailed};
 use std::error::Error;
 use std::fmt;
+use world_pipes::world_base::Memory;
 
 /// Why no way out of a world is returned.
 #[derive(Clone, Copy, Debug, PartialEq, Eq)]
@@ -43,7 +43,7 @@ impl Error for EscapeError {}
 
 impl From<Memory> for EscapeError {
     ghost use Rattle.std.specs.Prelude.{◌≡◌};
-    ghost use Rattle.world.specs.declared.escape_error.EscapeError.TheVariants as errors;
+    ghost use Rattle.world_events.specs.declared.escape_error.EscapeError.TheVariants as errors;
 
     ghost from_gives = { λ _ error. error ≡ errors.Memory };
 
@@ -54,7 +54,7 @@ impl From<Memory> for EscapeError {
 
 impl From<AllocError> for EscapeError {
     ghost use Rattle.std.specs.Prelude.{◌≡◌};
-    ghost use Rattle.world.specs.declared.escape_error.EscapeError.TheVariants as errors;
+    ghost use Rattle.world_events.specs.declared.escape_error.EscapeError.TheVariants as errors;
 
     ghost from_gives = { λ _ error. error ≡ errors.Memory };
 
@@ -65,7 +65,7 @@ impl From<AllocError> for EscapeError {
 
 impl<T: Drop> From<AllocFailed<T>> for EscapeError {
     ghost use Rattle.std.specs.Prelude.{◌≡◌};
-    ghost use Rattle.world.specs.declared.escape_error.EscapeError.TheVariants as errors;
+    ghost use Rattle.world_events.specs.declared.escape_error.EscapeError.TheVariants as errors;
 
     ghost from_gives = { λ _ error. error ≡ errors.Memory };
 

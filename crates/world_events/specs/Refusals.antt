@@ -1,7 +1,7 @@
 -- The number of a refusal, as in the table of refusals.
 use Rattle.std.specs.Prelude.{ℕ}
-use Rattle.world.specs.declared.escape_error.EscapeError.{EscapeError}
-use Rattle.world.specs.declared.escape_error.EscapeError.TheVariants as errors
+use Rattle.world_events.specs.declared.escape_error.EscapeError.{EscapeError}
+use Rattle.world_events.specs.declared.escape_error.EscapeError.TheVariants as errors
 
 -- a way out that is not returned
 abbrev pub escape_number : EscapeError → ℕ

@@ -1,0 +1,1 @@
+pub use Rattle.world_pipes.proofs as of_world_pipes

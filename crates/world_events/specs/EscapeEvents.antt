@@ -1,0 +1,19 @@
+-- The events of a way out at a client, and those by which its CONNECT is answered.
+use Rattle.std.specs.Prelude.{ℕ, Bool, true, false, List, [], ◌∷◌, ◌++◌, map}
+use Rattle.ways_out.specs.Deliveries.{asked_and_answered}
+use Rattle.world_events.specs.declared.event.Event.{Event}
+use Rattle.world_events.specs.declared.event.Event.TheVariants as events
+
+-- a client that holds a connection loses it; it opens another, and its CONNECT reaches the new
+-- primary
+abbrev pub leaving : Bool → List ℕ → List Event
+leaving true name = events.Abandon name ∷ []
+leaving false name = []
+
+abbrev pub client_events : Bool → List ℕ → ℕ → ℕ → ℕ → List Event
+client_events holds name primary number bytes =
+    leaving holds name ++ events.Open name primary ∷ events.CarryUp number bytes ∷ []
+
+-- the others hold it and answer, and the CONNACK comes down
+abbrev pub answer_events : ℕ → ℕ → ℕ → List Event
+answer_events sent others number = map events.Deliver (asked_and_answered sent others) ++ events.CarryDown number 4 ∷ []
