@@ -10,7 +10,8 @@ use Rattle.node_group.specs.ballot.Cutting.{can_cut}
 use Rattle.node_group.specs.world_base.Core.{CoreState, Turn, rules}
 use Rattle.node_group.specs.world_base.Handing.{listed_at}
 use Rattle.node_group.specs.world_base.Reading.{open_at}
-use Rattle.node_group.specs.node_moves.Ends.{bytes_on, came_on, piece_on}
+use Rattle.node_group.specs.node_moves.Ends.{came_on, piece_on}
+use Rattle.node_group.specs.node_moves.RunProposals.{bytes_on}
 use Rattle.node_group.specs.node_moves.Moves.{NodeCall, Moves, Runs, done}
 use Rattle.node_group.specs.node_moves.Moves.NodeCall.{takes, gives}
 use Rattle.node_group.specs.node_moves.Moves.Moves.{hears, opens_one, holds, reads_first, reads_later, closes, refuses, loses_one, loses_next, expels_one, cuts_log, crashes, settles, hands}

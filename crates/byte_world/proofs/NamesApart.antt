@@ -18,7 +18,8 @@ use Rattle.node_group.specs.world_base.Core.{CoreState, Turn, rules}
 use Rattle.node_group.specs.world_base.Turns.{quiet}
 use Rattle.node_group.specs.node_moves.Closed.{listed_named}
 use Rattle.node_group.specs.node_moves.Ends.{IsOrderly}
-use Rattle.node_group.specs.node_moves.LossyMoves.{LossyMoves, given_in, inputs_in}
+use Rattle.node_group.specs.node_moves.LossyMoves.{LossyMoves}
+use Rattle.node_group.specs.node_moves.LossyParts.{given_in, inputs_in}
 use Rattle.node_group.specs.node_moves.LossyRuns.{AllFreeze, Freezes, LossyRuns, all_inputs}
 use Rattle.node_group.specs.node_moves.LossyRuns.LossyRuns.{rests, goes_on}
 use Rattle.node_group.proofs.of_node_moves.Kept.{named}

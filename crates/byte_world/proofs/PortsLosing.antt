@@ -25,11 +25,12 @@ use Rattle.node_group.specs.world_base.Failing.{closes_failed}
 use Rattle.node_group.specs.world_base.Lossy.{Account, Declines, Delivers, Drives, Proposes, Repeated, Serves, Takes, Then, quietly}
 use Rattle.node_group.specs.world_base.Lossy.Declines.{no_room, forgets, stops}
 use Rattle.node_group.specs.world_base.Lossy.Delivers.{nothing, does, tells, loses}
-use Rattle.node_group.specs.world_base.LossyStep.{ActsOn, Asks, Begins, Closes, Ends, EndsSilent, Holds, LosesAllFailed, LosesFailed, Opens, ReadsAll, ReadsNext, RunsOn, Shuts, TakesIn}
-use Rattle.node_group.specs.world_base.LossyStep.Ends.{none_open, untold, told}
-use Rattle.node_group.specs.world_base.LossyStep.EndsSilent.{none_silent, ends_one}
-use Rattle.node_group.specs.world_base.LossyStep.LosesFailed.{none_failed, tells_one}
-use Rattle.node_group.specs.world_base.LossyStep.ReadsNext.{waits, first, later, refuses, ends}
+use Rattle.node_group.specs.world_base.LossyStep.{ActsOn, Holds, LosesAllFailed, Opens, ReadsAll, RunsOn, TakesIn}
+use Rattle.node_group.specs.world_base.LossyReading.{Asks, Begins, Closes, Ends, EndsSilent, LosesFailed, ReadsNext, Shuts}
+use Rattle.node_group.specs.world_base.LossyReading.Ends.{none_open, untold, told}
+use Rattle.node_group.specs.world_base.LossyReading.EndsSilent.{none_silent, ends_one}
+use Rattle.node_group.specs.world_base.LossyReading.LosesFailed.{none_failed, tells_one}
+use Rattle.node_group.specs.world_base.LossyReading.ReadsNext.{waits, first, later, refuses, ends}
 use Rattle.node_group.specs.world_base.Reading.{changes, open_at, refused, unread_of}
 use Rattle.node_group.specs.world_base.Step.{opens}
 use Rattle.node_group.proofs.of_node_moves.EachKept.{each_settled}

@@ -5,7 +5,8 @@ use Rattle.node_group.specs.world_base.declared.item.Item.TheVariants.{Peer, Tic
 use Rattle.node_group.specs.world_base.Core.{CoreState, Turn}
 use Rattle.node_group.specs.world_base.Handing.{listed_at}
 use Rattle.node_group.specs.world_base.Reading.{open_at}
-use Rattle.node_group.specs.node_moves.Ends.{bytes_on, piece_on}
+use Rattle.node_group.specs.node_moves.Ends.{piece_on}
+use Rattle.node_group.specs.node_moves.RunProposals.{bytes_on}
 use Rattle.node_group.specs.node_moves.Moves.{NodeCall, Runs}
 use Rattle.node_group.specs.node_moves.Moves.NodeCall.{takes, gives}
 use Rattle.node_group.specs.Group.{Group}

@@ -13,9 +13,11 @@ use Rattle.exactly_once.specs.Items.{Item, busy, has_released}
 use Rattle.exactly_once.specs.Handshake.{Backward}
 use Rattle.exactly_once.specs.HandshakeSides.{IsGood, IsBehind, IsNew, IsWaiting, WaitsLast}
 use Rattle.client_base.specs.Keeper.{Own, ids_in_use}
-use Rattle.exactly_once.specs.Story.{Story, AreUnsent, unserved}
+use Rattle.exactly_once.specs.Story.{Story}
+use Rattle.exactly_once.specs.Told.{AreUnsent, unserved}
 use Rattle.exactly_once.specs.Carried.{carries, new_numbers, more_by, is_two}
-use Rattle.exactly_once.specs.Inside.Projections.{items_of, items_of_own, as_publisher, as_subscriber, left_behind}
+use Rattle.exactly_once.specs.Inside.Projections.{items_of_own, as_publisher}
+use Rattle.exactly_once.specs.Inside.AsSubscriber.{items_of, as_subscriber, left_behind}
 use Rattle.exactly_once.specs.Inside.Shape.{AreNumbered, HasShape, IsSoundStory, LastIsCurrent, NewestIsServed}
 use Rattle.exactly_once.proofs.places.Sessions.{received_outside}
 use Rattle.exactly_once.proofs.subscribing.places.Quiet.{no_entries}

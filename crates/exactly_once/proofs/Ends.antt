@@ -15,8 +15,9 @@ use Rattle.exactly_once.specs.HandshakeSides.{IsGood}
 use Rattle.exactly_once.proofs.Exact.{good_exact, good_run}
 use Rattle.exactly_once.specs.Carried.{is_two, new_numbers, published}
 use Rattle.client_base.specs.Keeper.{Own}
-use Rattle.exactly_once.specs.Headline.{AcceptedInOrder, two_entries, is_released}
-use Rattle.exactly_once.specs.Inside.Projections.{items_of, two_item, items_of_own, as_subscriber, as_publisher, IsLike, GoesTo}
+use Rattle.exactly_once.specs.Acceptance.{AcceptedInOrder, two_entries, is_released}
+use Rattle.exactly_once.specs.Inside.Projections.{items_of_own, as_publisher, IsLike, GoesTo}
+use Rattle.exactly_once.specs.Inside.AsSubscriber.{items_of, two_item, as_subscriber}
 use Rattle.exactly_once.specs.Story.{Story}
 
 -- two handshakes that differ in nothing are one

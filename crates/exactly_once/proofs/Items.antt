@@ -9,7 +9,7 @@ use Rattle.broker_base.specs.Entries.{Entry}
 use Rattle.broker_base.specs.Times.{at_pubrec, at_pubcomp}
 use Rattle.exactly_once.specs.Items.{Item, releasing, finishing}
 use Rattle.exactly_once.specs.Carried.{is_two}
-use Rattle.exactly_once.specs.Inside.Projections.{items_of, two_item}
+use Rattle.exactly_once.specs.Inside.AsSubscriber.{items_of, two_item}
 
 -- an entry is of QoS 1 or 2
 abbrev pub IsQueued : Entry → Type 0

@@ -15,7 +15,7 @@ use Rattle.broker_base.specs.Output.{Output}
 use Rattle.exactly_once.specs.Handshake.{Forward, publishing}
 use Rattle.exactly_once.specs.Sends.{sends_to}
 use Rattle.exactly_once.specs.Carried.{is_two}
-use Rattle.exactly_once.specs.Inside.Projections.{forward_of}
+use Rattle.exactly_once.specs.Inside.AsSubscriber.{forward_of}
 use Rattle.exactly_once.proofs.Starts.{rows_started}
 use Rattle.exactly_once.proofs.Takes.{same_name_self}
 

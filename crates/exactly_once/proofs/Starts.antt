@@ -17,7 +17,7 @@ use Rattle.client_base.proofs.of_lists.Tests.{or_none, none_or}
 use Rattle.exactly_once.proofs.BusyIdentifiers.{busy_append}
 use Rattle.exactly_once.proofs.Exact.{run_then}
 use Rattle.exactly_once.specs.Carried.{is_two}
-use Rattle.exactly_once.specs.Inside.Projections.{items_of}
+use Rattle.exactly_once.specs.Inside.AsSubscriber.{items_of}
 use Rattle.std.specs.List.{AllByRecursion}
 
 -- items of which none waits

@@ -2,7 +2,8 @@
 use Rattle.std.proofs.Common.{length, subst}
 use Rattle.broker_base.specs.Place.{Client, Limits}
 use Rattle.broker_base.specs.QuietLaws.{IsSteady}
-use Rattle.exactly_once.specs.Story.{Story, Told}
+use Rattle.exactly_once.specs.Story.{Story}
+use Rattle.exactly_once.specs.Told.{Told}
 use Rattle.exactly_once.specs.Headline.{PublishedOnce, ExactlyOnce}
 use Rattle.exactly_once.proofs.Entering.{entering, entering_as}
 use Rattle.exactly_once.proofs.Ends.{numbers_in_order}

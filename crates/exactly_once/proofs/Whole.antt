@@ -6,10 +6,12 @@ use Rattle.broker_base.specs.QuietLaws.{IsSteady}
 use Rattle.broker_base.specs.Received.{received_of}
 use Rattle.broker_base.specs.Times.{entries_of}
 use Rattle.exactly_once.specs.HandshakeSides.{IsGood}
-use Rattle.exactly_once.specs.Story.{Story, Told, no_story}
-use Rattle.exactly_once.specs.Story.Told.{begins, goes_on, begins_at}
-use Rattle.exactly_once.specs.Headline.{AcceptedInOrder}
-use Rattle.exactly_once.specs.Inside.Projections.{as_publisher, as_subscriber}
+use Rattle.exactly_once.specs.Story.{Story, no_story}
+use Rattle.exactly_once.specs.Told.{Told}
+use Rattle.exactly_once.specs.Told.Told.{begins, goes_on, begins_at}
+use Rattle.exactly_once.specs.Acceptance.{AcceptedInOrder}
+use Rattle.exactly_once.specs.Inside.Projections.{as_publisher}
+use Rattle.exactly_once.specs.Inside.AsSubscriber.{as_subscriber}
 use Rattle.exactly_once.specs.Inside.Shape.{HasShape, IsSoundStory, EventKeepsShape, EventPublishes, EventSubscribes}
 use Rattle.exactly_once.proofs.Ends.{good_goes, accepted_in_order}
 use Rattle.broker_base.specs.Commands.{past_of}

@@ -1,18 +1,17 @@
 -- What holds for one client's story, whatever happens: publications once and in order, and what it
 -- accepts.
 use Rattle.client_base.specs.Keeper.{all_own}
-use Rattle.std.specs.Prelude.{◌≡◌, ◌≤◌, ℕ, ◌+◌, Bool, true, false, ◌==◌, if◌then◌else◌, List, [], ◌∷◌, ◌++◌, length, map, filter, Option, Some, None, slice_get}
+use Rattle.std.specs.Prelude.{◌≡◌, ◌≤◌, ℕ, ◌+◌, Bool, false, ◌==◌, if◌then◌else◌, List, [], ◌∷◌, ◌++◌, length, map, filter, Option, Some, None, slice_get}
 use Rattle.client_base.specs.packet.declared.publish.Publish.{Publish}
 use Rattle.client_base.specs.packet.declared.packet.Packet.{Packet}
 use Rattle.client_base.specs.packet.declared.packet.Packet.TheVariants as packets
-use Rattle.client_base.specs.session_base.declared.publication.Publication.{Publication}
 use Rattle.client_base.specs.session_base.Publication.{publication_of}
 use Rattle.broker_base.specs.Connection.{ConnectionName}
 use Rattle.broker_base.specs.Place.{Client, Place, Past, Limits, Mark}
 use Rattle.broker_base.specs.Subscriptions.{effective_qos}
 use Rattle.broker_base.specs.Marks.{is_queued_at}
 use Rattle.broker_base.specs.Entries.{Entry}
-use Rattle.broker_base.specs.Readings.{publication_in, release_place}
+use Rattle.broker_base.specs.Readings.{publication_in}
 use Rattle.broker_base.specs.Times.{entries_of}
 use Rattle.broker_base.specs.Answers.{answers_at}
 use Rattle.broker_base.specs.OriginLaws.{is_from_publish}
@@ -20,10 +19,12 @@ use Rattle.broker_base.specs.EndingLaws.{StandsAt}
 use Rattle.broker_base.specs.TakenLaws.{queued_at}
 use Rattle.broker_base.specs.Command.TheVariants as commands
 use Rattle.broker_base.specs.Output.TheVariants.{Send}
-use Rattle.client_base.specs.lists.Lists.{In, IsPrefixOf, Each}
+use Rattle.client_base.specs.lists.Lists.{In, IsPrefixOf}
 use Rattle.exactly_once.specs.Sides.{Connection}
-use Rattle.exactly_once.specs.Story.{Story, Told}
-use Rattle.exactly_once.specs.Carried.{carries, new_numbers, publications_of, published, is_two}
+use Rattle.exactly_once.specs.Story.{Story}
+use Rattle.exactly_once.specs.Told.{Told}
+use Rattle.exactly_once.specs.Carried.{carries, new_numbers, publications_of, published}
+use Rattle.exactly_once.specs.Acceptance.{AcceptedInOrder}
 
 -- ---- publishers
 
@@ -83,36 +84,6 @@ pub record PublishedOnce (limits : Limits) (s : Story) : Type 0 where
   pub acknowledged : (place : Place) (below : Past) (x : ConnectionName) (id k : ℕ) → StandsAt s.past place below →
       carries s.connections place.command below ≡ Some k → IsAnsweredBy limits place below x (packets.Puback id) →
       IsTakenAt s k place below
-
--- ---- subscribers
-
-abbrev pub is_two_entry : Entry → Bool
-is_two_entry entry = is_two (publication_in entry).qos
-
--- the QoS 2 entries of a session
-abbrev pub two_entries : List Entry → List Entry
-two_entries = filter is_two_entry
-
--- what the client accepted, connection by connection, the oldest first
-abbrev pub accepted_on : List Connection → List Publication
-accepted_on (κ ∷ connections) = accepted_on connections ++ κ.accepted
-accepted_on [] = []
-
-abbrev pub is_released : Entry → Bool
-is_released entry = is_there (release_place entry)
-  where
-    is_there : Option ℕ → Bool
-    is_there (Some n) = true
-    is_there None = false
-
--- the client accepted a prefix of the QoS 2 entries of its session, and each that is released is
--- among them
-pub record AcceptedInOrder (limits : Limits) (s : Story) : Type 0 where
-  pub old : List Entry
-  pub new : List Entry
-  pub is : two_entries (entries_of limits s.past s.keeper.client) ≡ old ++ new
-  pub accepted : accepted_on s.connections ≡ map publication_in old
-  pub rest : Each (λ entry. is_released entry ≡ false) new
 
 -- ---- the whole
 

@@ -1,2 +1,4 @@
 pub mod Projections
+pub mod AsSubscriber
+pub mod ConnectionShape
 pub mod Shape

@@ -14,9 +14,11 @@ use Rattle.broker_base.specs.Place.{Client, Limits, Mark, Past, Place}
 use Rattle.broker_base.specs.Subscriptions.{effective_qos}
 use Rattle.broker_base.specs.Times.{entries_of}
 use Rattle.broker_base.specs.QuietLaws.{IsSteady}
-use Rattle.exactly_once.specs.Headline.{AcceptedInOrder, PublishedOnce, StoriesAreExact}
+use Rattle.exactly_once.specs.Headline.{PublishedOnce, StoriesAreExact}
+use Rattle.exactly_once.specs.Acceptance.{AcceptedInOrder}
 use Rattle.exactly_once.specs.Lives.{AcceptsInEachSession, LivesAreExact}
-use Rattle.exactly_once.specs.Story.{Story, Told}
+use Rattle.exactly_once.specs.Story.{Story}
+use Rattle.exactly_once.specs.Told.{Told}
 
 -- the client's publications: those at QoS 2 become new in the list in the order of its calls, each
 -- at most once; those that were answered are there; each enters each session at most once

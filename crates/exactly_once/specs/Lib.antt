@@ -1,7 +1,9 @@
 pub mod Sends
 pub mod Sides
 pub mod Story
+pub mod Told
 pub mod Carried
+pub mod Acceptance
 pub mod Headline
 pub mod Laws
 pub mod Inside

@@ -21,7 +21,8 @@ use Rattle.broker_base.specs.Command.TheVariants as commands
 use Rattle.client_base.specs.Keeper.{all_own}
 use Rattle.exactly_once.specs.Story.{Story, Happens, no_story}
 use Rattle.exactly_once.specs.Carried.{carries, new_numbers, publications_of, published}
-use Rattle.exactly_once.specs.Headline.{accepted_on, two_entries, is_released, IsAnsweredBy, made_by, IsTakenAt}
+use Rattle.exactly_once.specs.Headline.{IsAnsweredBy, made_by, IsTakenAt}
+use Rattle.exactly_once.specs.Acceptance.{accepted_on, two_entries, is_released}
 use Rattle.exactly_once.specs.InStep.{IsInStep, sessions_begun, starts_of, IsFirstSession, entries_in, accepted_in}
 
 -- what may happen in a story of one session, and an Expel of the client at any time

@@ -1,6 +1,6 @@
 -- One client's story: the list of commands, its connections as packets, what it keeps; and what may
 -- happen.
-use Rattle.std.specs.Prelude.{◌≡◌, ℕ, zero, suc, Bool, true, false, ◌||◌, if◌then◌else◌, List, [], ◌∷◌, ◌++◌, Some, slice_get, Option, None, is_some, length}
+use Rattle.std.specs.Prelude.{◌≡◌, ℕ, zero, suc, Bool, true, false, ◌||◌, if◌then◌else◌, List, [], ◌∷◌, ◌++◌, Some, slice_get, is_some}
 use Rattle.client_base.specs.packet.declared.subscribe.Subscribe.{Subscribe}
 use Rattle.client_base.specs.packet.declared.unsubscribe.Unsubscribe.{Unsubscribe}
 use Rattle.client_base.specs.packet.declared.packet.Packet.{Packet}
@@ -10,11 +10,11 @@ use Rattle.client_base.specs.session_base.Publication.{is_answered}
 use Rattle.client_base.specs.session_base.Identifiers.{least_free}
 use Rattle.broker_base.specs.Connection.{ConnectionName, same_connection}
 use Rattle.broker_base.specs.Place.{Client, Past, Limits}
-use Rattle.broker_base.specs.Commands.{place_of, past_of}
+use Rattle.broker_base.specs.Commands.{place_of}
 use Rattle.broker_base.specs.Command.{Command}
 use Rattle.broker_base.specs.Command.TheVariants as commands
 use Rattle.exactly_once.specs.Sends.{put_to}
-use Rattle.client_base.specs.Keeper.{Written, Keeper, new_keeper, ids_in_use, Own}
+use Rattle.client_base.specs.Keeper.{Written, Keeper, new_keeper, ids_in_use}
 use Rattle.client_base.specs.declared.request.Request.TheVariants as requests
 use Rattle.exactly_once.specs.Sides.{Connection, Side}
 use Rattle.client_base.specs.Written.{plain}
@@ -22,8 +22,6 @@ use Rattle.client_base.specs.Handled.{handled, lost}
 use Rattle.client_base.specs.Called.{new_connection, adds_own, written_for}
 use Rattle.client_base.specs.Written.{writes_first}
 use Rattle.broker_base.specs.Past.{session_of}
-use Rattle.client_base.specs.lists.Lists.{IsDistinct}
-use Rattle.client_base.specs.OrderLaws.{AreNumbered}
 
 -- the connections, the newest first: the client holds the first one while it is open
 pub record Story : Type 0 where
@@ -118,23 +116,3 @@ pub data Happens (limits : Limits) (s : Story) : Story → Type 0 where
         connections = writes_first (plain (packets.Unsubscribe p) ∷ []) s.connections;
         keeper = record s.keeper { requests = s.keeper.requests ++ requests.Unsubscribes p.id ∷ [] };
       })
-
--- publications that were never sent, numbered from this one on
-abbrev pub AreUnsent : ℕ → List Own → Type 0
-AreUnsent n (Own.Unsent k p id ∷ own) = (k ≡ n) × AreUnsent (suc n) own
-AreUnsent n [] = Unit {0}
-AreUnsent n _ = ⊥
-
--- a client that was never served in this session, with what it published before it, and what it
--- keeps
-abbrev pub unserved : Client → List Own → List Own → Keeper
-unserved c earlier own = record (new_keeper c) { earlier = earlier; own = own }
-
--- A story of one session begins with the list, or when the client has no session: then nothing is
--- left of what it had.
-pub data Told (limits : Limits) (c : Client) : Story → Type 0 where
-  begins : Told limits c (no_story c)
-  begins_at : (list : List Command) (earlier own : List Own) → session_of (past_of limits list) c ≡ None →
-      AreNumbered 0 earlier → AreUnsent (length earlier) own → IsDistinct (ids_in_use (unserved c earlier own)) →
-      Told limits c (record { past = past_of limits list; connections = []; keeper = unserved c earlier own })
-  goes_on : {s t : Story} → Told limits c s → Happens limits s t → Told limits c t

@@ -12,7 +12,8 @@ use Rattle.byte_world.specs.broker_base.Received.{is_new}
 use Rattle.byte_world.specs.broker_base.Times.{entries_of}
 use Rattle.byte_world.specs.client_base.Keeper.{Keeper, all_own}
 use Rattle.byte_world.specs.exactly_once.Carried.{carries, connection_named, more_by, new_numbers, number_at, published}
-use Rattle.byte_world.specs.exactly_once.Headline.{IsTakenAt, accepted_on, is_this, made_by}
+use Rattle.byte_world.specs.exactly_once.Headline.{IsTakenAt, is_this, made_by}
+use Rattle.byte_world.specs.exactly_once.Acceptance.{accepted_on}
 use Rattle.byte_world.specs.exactly_once.InStep.{AreWelcome, IsFirstSession, IsInStep, WasWelcome, accepted_in, is_at, opened_in, starts_of}
 use Rattle.byte_world.specs.exactly_once.Lives.{AcceptedInSession, ExactlyOnceOverSessions, HasOneSession, IsRising, PublishedOverSessions}
 use Rattle.byte_world.specs.exactly_once.Sides.{Connection}

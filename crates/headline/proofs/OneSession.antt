@@ -9,7 +9,7 @@ use Rattle.byte_world.specs.broker_base.Past.{session_of, session_start}
 use Rattle.byte_world.specs.broker_base.Place.{Client, Past}
 use Rattle.byte_world.specs.broker_base.Readings.{publication_in}
 use Rattle.byte_world.specs.client_base.State.{ClientState}
-use Rattle.byte_world.specs.exactly_once.Headline.{two_entries}
+use Rattle.byte_world.specs.exactly_once.Acceptance.{two_entries}
 use Rattle.byte_world.specs.exactly_once.InStep.{IsFirstSession, starts_of}
 use Rattle.byte_world.proofs.of_exactly_once.sessions.LastingAccepts.{entries_now}
 use Rattle.byte_world.proofs.of_exactly_once.sessions.Openings.{session_began}

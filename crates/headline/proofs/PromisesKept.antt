@@ -32,7 +32,7 @@ use Rattle.byte_world.specs.client_base.State.{ClientState}
 use Rattle.byte_world.specs.exactly_once.Carried.{carries, more_by, new_numbers, publications_of}
 use Rattle.byte_world.specs.exactly_once.InStep.{IsInStep, accepted_in, starts_of}
 use Rattle.byte_world.specs.exactly_once.Lives.{ExactlyOnceOverSessions, Lived}
-use Rattle.byte_world.specs.exactly_once.Headline.{accepted_on}
+use Rattle.byte_world.specs.exactly_once.Acceptance.{accepted_on}
 use Rattle.byte_world.specs.exactly_once.Sides.{Connection}
 use Rattle.byte_world.specs.exactly_once.Story.{Story}
 use Rattle.byte_world.proofs.of_exactly_once.Entering.{entering_as}

@@ -10,7 +10,7 @@ use Rattle.byte_world.specs.broker_base.EndingLaws.{EndsWithTheSession, connects
 use Rattle.byte_world.specs.broker_base.Place.{Client}
 use Rattle.byte_world.specs.client_base.History as history
 use Rattle.byte_world.specs.client_base.State.{ClientState}
-use Rattle.byte_world.specs.exactly_once.Headline.{accepted_on}
+use Rattle.byte_world.specs.exactly_once.Acceptance.{accepted_on}
 use Rattle.byte_world.specs.exactly_once.InStep.{IsInStep}
 use Rattle.byte_world.specs.exactly_once.Lives.{ExactlyOnceOverSessions, HasOneSession, IsUnexpelled}
 use Rattle.byte_world.specs.exactly_once.Sides.{Connection}

@@ -8,7 +8,7 @@ use Rattle.byte_world.specs.broker_base.Place.{Client, Past}
 use Rattle.byte_world.specs.broker_base.Readings.{publication_in}
 use Rattle.byte_world.specs.broker_base.Times.{entries_of}
 use Rattle.byte_world.specs.client_base.State.{ClientState}
-use Rattle.byte_world.specs.exactly_once.Headline.{is_released, two_entries}
+use Rattle.byte_world.specs.exactly_once.Acceptance.{is_released, two_entries}
 use Rattle.byte_world.specs.exactly_once.InStep.{IsFirstSession}
 use Rattle.headline.specs.Promise.{PromiseInStep}
 use Rattle.headline.specs.Shown.{at_two, kept_of, new_of}

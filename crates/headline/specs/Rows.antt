@@ -9,7 +9,7 @@ use Rattle.byte_world.specs.broker_base.Command.TheVariants as commands
 use Rattle.byte_world.specs.client_base.Keeper.{Own}
 use Rattle.byte_world.specs.session_base.declared.publication.Publication.{Publication}
 use Rattle.byte_world.specs.session_base.Publication.{publish_of}
-use Rattle.byte_world.specs.exactly_once.Headline.{accepted_on}
+use Rattle.byte_world.specs.exactly_once.Acceptance.{accepted_on}
 use Rattle.byte_world.specs.exactly_once.Rows.{asks_for_news, first_name, news, writer}
 use Rattle.byte_world.specs.world_base.Core.{CoreState}
 use Rattle.byte_world.specs.Goes.{Reached}

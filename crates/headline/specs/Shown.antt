@@ -23,7 +23,7 @@ use Rattle.byte_world.specs.broker_base.Received.{is_exactly_once}
 use Rattle.byte_world.specs.client_base.State.{ClientState}
 use Rattle.byte_world.specs.client_base.declared.kept_publication.KeptPublication.{KeptPublication}
 use Rattle.byte_world.specs.exactly_once.Carried.{is_two}
-use Rattle.byte_world.specs.exactly_once.Headline.{is_released, two_entries}
+use Rattle.byte_world.specs.exactly_once.Acceptance.{is_released, two_entries}
 use Rattle.byte_world.specs.exactly_once.InStep.{entries_in, starts_of}
 use Rattle.byte_world.specs.exactly_once.Lives.{IsRising}
 use Rattle.byte_world.specs.Accepted.{accepted_once}

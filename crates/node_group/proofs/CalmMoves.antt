@@ -9,7 +9,8 @@ use Rattle.node_moves.specs.world_base.Connections.{asked, closed, failing, left
 use Rattle.node_moves.specs.world_base.Core.{CoreState, Turn, rules}
 use Rattle.node_moves.specs.world_base.Lossy.{Account, Takes}
 use Rattle.node_moves.specs.world_base.Reading.{changes}
-use Rattle.node_moves.specs.LossyMoves.{LossyMoves, hears_in}
+use Rattle.node_moves.specs.LossyMoves.{LossyMoves}
+use Rattle.node_moves.specs.LossyParts.{hears_in}
 use Rattle.node_moves.specs.LossyMoves.LossyMoves.{exactly, hears_losing, first_losing, later_losing, tells_losing, expels_losing, forgets, halts, fails, unheard, drops}
 use Rattle.node_moves.proofs.LossyOutputs.{delivers_replica}
 use Rattle.node_moves.proofs.MovesOfReplica.{move_same}

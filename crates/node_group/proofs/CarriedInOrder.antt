@@ -20,7 +20,8 @@ use Rattle.packet_world.specs.agreement.Proposals.{commands_of as commands_in}
 use Rattle.packet_world.specs.agreement.World.{can_open}
 use Rattle.packet_world.proofs.of_snapshots.PastsAgree.{has_agreed}
 use Rattle.node_moves.specs.world_base.Core.{CoreState, opening_core, rules}
-use Rattle.node_moves.specs.Ends.{bytes_on, commands_of}
+use Rattle.node_moves.specs.Ends.{commands_of}
+use Rattle.node_moves.specs.RunProposals.{bytes_on}
 use Rattle.node_moves.specs.LossyRuns.{came_with}
 use Rattle.node_moves.specs.LossyRuns.{bytes_on as bytes_losing}
 use Rattle.node_moves.proofs.Kept.{named}

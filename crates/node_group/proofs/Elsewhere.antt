@@ -19,7 +19,8 @@ use Rattle.node_moves.specs.Closed.{refusal_in as exactly_refusal}
 use Rattle.node_moves.specs.Ends.{IsEnd, IsGiven, IsOrderly, open_named, piece_on}
 use Rattle.node_moves.specs.Ends.{came_on as exactly_came, proposal_of as exactly_proposed}
 use Rattle.node_moves.specs.Ends.IsEnd.{not_yet, is_open, is_over}
-use Rattle.node_moves.specs.LossyMoves.{LossyMoves, came_on, proposal_of, refusal_in}
+use Rattle.node_moves.specs.LossyMoves.{LossyMoves}
+use Rattle.node_moves.specs.LossyParts.{came_on, proposal_of, refusal_in}
 use Rattle.node_moves.specs.LossyMoves.LossyMoves.{exactly, first_losing, later_losing, drops}
 use Rattle.node_moves.specs.Moves.{Moves}
 use Rattle.node_moves.specs.Moves.Moves.{holds, reads_first, reads_later, refuses, loses_one, loses_next, expels_one}

@@ -2,7 +2,8 @@
 use Rattle.std.proofs.Common.{◌≡◌, ℕ, false, List, [], ◌++◌, refl, ap, ◌∙◌}
 use Rattle.packet_world.specs.broker_base.Connection.{ConnectionName}
 use Rattle.node_moves.specs.world_base.Core.{CoreState, Turn}
-use Rattle.node_moves.specs.LossyMoves.{LossyMoves, is_handing}
+use Rattle.node_moves.specs.LossyMoves.{LossyMoves}
+use Rattle.node_moves.specs.LossyParts.{is_handing}
 use Rattle.node_moves.specs.LossyRuns.{HandsNothing, LossyRuns}
 use Rattle.node_moves.specs.LossyMoves.LossyMoves.{exactly}
 use Rattle.node_moves.specs.LossyRuns.LossyRuns.{rests as rests_losing, goes_on as goes_losing}

@@ -3,9 +3,10 @@ use Rattle.std.proofs.Common.{◌≡◌, ℕ, List, ◌++◌, refl, ap}
 use Rattle.packet_world.specs.broker_base.Command.{Command}
 use Rattle.packet_world.specs.broker_base.Connection.{ConnectionName}
 use Rattle.node_moves.specs.world_base.Core.{CoreState, Turn}
-use Rattle.node_moves.specs.Ends.{bytes_on, came_on}
+use Rattle.node_moves.specs.Ends.{came_on}
+use Rattle.node_moves.specs.RunProposals.{bytes_on}
 use Rattle.node_moves.specs.Hearing.{HearsAtFirst, IsCalm}
-use Rattle.node_moves.specs.LossyMoves.{inputs_of}
+use Rattle.node_moves.specs.LossyParts.{inputs_of}
 use Rattle.node_moves.specs.LossyRuns.{AllFreeze, Freezes, LossyRuns, all_inputs}
 use Rattle.node_moves.specs.LossyRuns.{HearsAtFirst as FirstLosing, IsCalm as CalmLosing, bytes_on as bytes_losing}
 use Rattle.node_moves.specs.LossyMoves.LossyMoves.{exactly}

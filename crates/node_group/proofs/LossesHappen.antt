@@ -21,7 +21,8 @@ use Rattle.node_moves.specs.world_base.Core.{CoreState, Turn, rules, serves}
 use Rattle.node_moves.specs.world_base.Lossy.{Account, Drives, Takes}
 use Rattle.node_moves.specs.world_base.Reading.{changes}
 use Rattle.node_moves.specs.world_base.Turns.{has_room, heard}
-use Rattle.node_moves.specs.LossyMoves.{LossyMoves, given_in, inputs_in, turn_of}
+use Rattle.node_moves.specs.LossyMoves.{LossyMoves, turn_of}
+use Rattle.node_moves.specs.LossyParts.{given_in, inputs_in}
 use Rattle.node_moves.specs.LossyRuns.{Freezes}
 use Rattle.node_moves.specs.LossyMoves.LossyMoves.{exactly, hears_losing, first_losing, later_losing, tells_losing, expels_losing, forgets, halts, fails, unheard, drops}
 use Rattle.node_moves.specs.Moves.{is_proposal}

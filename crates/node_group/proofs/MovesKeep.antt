@@ -27,7 +27,8 @@ use Rattle.node_moves.specs.Closed.{listed_named}
 use Rattle.node_moves.specs.Ends.{IsEnd, IsGiven, IsOrderly, commands_of, open_named, stream_of}
 use Rattle.node_moves.specs.Ends.IsEnd.{not_yet}
 use Rattle.node_moves.specs.LossyLaws.{ReadsOn}
-use Rattle.node_moves.specs.LossyMoves.{LossyMoves, came_on, given_in, proposal_of, refusal_in}
+use Rattle.node_moves.specs.LossyMoves.{LossyMoves}
+use Rattle.node_moves.specs.LossyParts.{came_on, given_in, proposal_of, refusal_in}
 use Rattle.node_moves.specs.Puts.{outputs_of, spelled}
 use Rattle.node_moves.proofs.Kept.{live}
 use Rattle.node_moves.proofs.NamesInOrder.{not_both}

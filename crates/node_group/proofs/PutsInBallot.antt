@@ -18,7 +18,8 @@ use Rattle.node_moves.specs.world_base.Reading.{changes}
 use Rattle.node_moves.specs.Ends.{IsOrderly}
 use Rattle.node_moves.specs.Keeping.{AreOfTheBallot}
 use Rattle.node_moves.specs.LossyLaws.{AreWhereItServes}
-use Rattle.node_moves.specs.LossyMoves.{LossyMoves, proposal_of}
+use Rattle.node_moves.specs.LossyMoves.{LossyMoves}
+use Rattle.node_moves.specs.LossyParts.{proposal_of}
 use Rattle.node_moves.specs.LossyRuns.{HearsAtFirst, IsCalm, LossyRuns}
 use Rattle.node_moves.specs.LossyMoves.LossyMoves.{exactly, first_losing, later_losing, tells_losing, expels_losing}
 use Rattle.node_moves.specs.LossyRuns.LossyRuns.{rests, goes_on}

@@ -6,7 +6,8 @@ use Rattle.packet_world.specs.broker_base.Command.{Command}
 use Rattle.packet_world.specs.snapshots.World.{recorded}
 use Rattle.node_moves.specs.world_base.Core.{CoreState, Turn}
 use Rattle.node_moves.specs.Keeping.{moves_replica}
-use Rattle.node_moves.specs.LossyMoves.{LossyMoves, hears_in, inputs_in, inputs_of}
+use Rattle.node_moves.specs.LossyMoves.{LossyMoves}
+use Rattle.node_moves.specs.LossyParts.{hears_in, inputs_in, inputs_of}
 use Rattle.node_moves.specs.LossyMoves.LossyMoves.{exactly, hears_losing}
 use Rattle.node_moves.specs.LossyRuns.{CutsNothing, HearsAtFirst, LossyRuns, all_inputs, cuts_in, exactly_cuts}
 use Rattle.node_moves.specs.LossyRuns.LossyRuns.{rests, goes_on}

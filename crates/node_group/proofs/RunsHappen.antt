@@ -13,7 +13,7 @@ use Rattle.packet_world.specs.snapshots.Past.{Moment, Past}
 use Rattle.packet_world.specs.snapshots.Proposals.{proposals_of, taken_of}
 use Rattle.packet_world.specs.snapshots.World.{messages, outputs}
 use Rattle.node_moves.specs.world_base.Core.{CoreState, Turn, rules}
-use Rattle.node_moves.specs.LossyMoves.{given_in, inputs_in}
+use Rattle.node_moves.specs.LossyParts.{given_in, inputs_in}
 use Rattle.node_moves.specs.LossyRuns.{AllFreeze, LossyRuns, all_inputs}
 use Rattle.node_moves.specs.LossyRuns.LossyRuns.{rests, goes_on}
 use Rattle.node_moves.specs.Moves.{and_then}

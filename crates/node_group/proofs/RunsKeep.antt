@@ -20,7 +20,8 @@ use Rattle.node_moves.specs.world_base.Core.{CoreState, Turn, rules}
 use Rattle.node_moves.specs.world_base.Turns.{quiet}
 use Rattle.node_moves.specs.Ends.{IsOrderly}
 use Rattle.node_moves.specs.Keeping.{AreOfTheBallot}
-use Rattle.node_moves.specs.LossyMoves.{LossyMoves, came_on, given_in, hears_in, inputs_in}
+use Rattle.node_moves.specs.LossyMoves.{LossyMoves}
+use Rattle.node_moves.specs.LossyParts.{came_on, given_in, hears_in, inputs_in}
 use Rattle.node_moves.specs.LossyRuns.{AllFreeze, Freezes, HearsAtFirst, IsCalm, LossyRuns, all_inputs, bytes_on}
 use Rattle.node_moves.specs.LossyRuns.LossyRuns.{rests, goes_on}
 use Rattle.node_moves.specs.Moves.{and_then}

@@ -6,7 +6,8 @@ use Rattle.node_moves.specs.ballot.Protocol.{Input}
 use Rattle.packet_world.specs.broker_base.Command.{Command}
 use Rattle.packet_world.specs.broker_base.Output.{Output}
 use Rattle.node_moves.specs.world_base.Core.{CoreState, Turn}
-use Rattle.node_moves.specs.LossyMoves.{LossyMoves, given_in, proposal_of}
+use Rattle.node_moves.specs.LossyMoves.{LossyMoves}
+use Rattle.node_moves.specs.LossyParts.{given_in, proposal_of}
 use Rattle.node_moves.specs.LossyRuns.{LossyRuns}
 use Rattle.node_moves.specs.LossyMoves.LossyMoves.{exactly}
 use Rattle.node_moves.specs.LossyRuns.LossyRuns.{rests, goes_on}

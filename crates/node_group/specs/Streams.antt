@@ -6,7 +6,7 @@ use Rattle.packet_world.specs.broker_base.Connection.{ConnectionName, same_conne
 use Rattle.node_moves.specs.world_base.declared.Connection.{Connection}
 use Rattle.node_moves.specs.world_base.Core.{CoreState, Turn}
 use Rattle.node_moves.specs.world_base.Handing.{listed_at}
-use Rattle.node_moves.specs.Ends.{bytes_on}
+use Rattle.node_moves.specs.RunProposals.{bytes_on}
 use Rattle.node_moves.specs.LossyRuns.{came_with}
 use Rattle.node_moves.specs.Moves.{Moves, Runs}
 use Rattle.node_moves.specs.Moves.Moves.{hands}

@@ -12,7 +12,8 @@ use Rattle.world_base.specs.Core.{CoreState, Turn}
 use Rattle.world_base.specs.Reading.{changes}
 use Rattle.world_base.specs.Step.{node_step}
 use Rattle.world_base.specs.declared.item.Item.TheVariants.{Cut}
-use Rattle.node_moves.specs.LossyMoves.{LossyMoves, hears_in}
+use Rattle.node_moves.specs.LossyMoves.{LossyMoves}
+use Rattle.node_moves.specs.LossyParts.{hears_in}
 use Rattle.node_moves.specs.LossyMoves.LossyMoves.{exactly, hears_losing, first_losing, later_losing, tells_losing, expels_losing, forgets, halts, fails, unheard, drops}
 use Rattle.node_moves.specs.LossyRuns.{IsCalm, LossyRuns}
 use Rattle.node_moves.specs.LossyRuns.LossyRuns.{rests, goes_on}

@@ -11,9 +11,10 @@ use Rattle.world_base.specs.declared.item.Item.TheVariants.{Peer, Tick, Opened, 
 use Rattle.world_base.specs.Connections.{closed, holding}
 use Rattle.world_base.specs.Core.{CoreState, Turn}
 use Rattle.world_base.specs.Lossy.{Account, joined, quietly}
-use Rattle.world_base.specs.LossyStep.{Cuts, EndsSilent, Holds, LosesAllFailed, Opens, ReadsNext, TakesIn}
+use Rattle.world_base.specs.LossyStep.{Cuts, Holds, LosesAllFailed, Opens, TakesIn}
+use Rattle.world_base.specs.LossyReading.{EndsSilent, ReadsNext}
 use Rattle.world_base.specs.LossyStep.Cuts.{nothing_to_cut, cuts_log as cuts_log_at, forgets_cut}
-use Rattle.world_base.specs.LossyStep.Ends.{none_open, untold, told}
+use Rattle.world_base.specs.LossyReading.Ends.{none_open, untold, told}
 use Rattle.world_base.specs.Reading.{changes, open_at, unread_of}
 use Rattle.world_base.specs.Step.{crashed, opens, settled, with_cut}
 use Rattle.node_moves.specs.Ends.{piece_on}

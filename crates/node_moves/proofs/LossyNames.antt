@@ -24,7 +24,8 @@ use Rattle.node_moves.specs.Closed.{listed_named}
 use Rattle.node_moves.specs.Ends.{IsOrderly}
 use Rattle.node_moves.specs.Keeping.{AreOfTheBallot, moves_replica}
 use Rattle.node_moves.specs.LossyLaws.{AreWhereItServes, LossyNamesKeepTheirBallot}
-use Rattle.node_moves.specs.LossyMoves.{LossyMoves, halting, hears_in, proposal_of}
+use Rattle.node_moves.specs.LossyMoves.{LossyMoves, halting}
+use Rattle.node_moves.specs.LossyParts.{hears_in, proposal_of}
 use Rattle.node_moves.specs.LossyMoves.LossyMoves.{exactly, hears_losing, first_losing, later_losing, tells_losing, expels_losing, forgets, halts, fails, unheard, drops}
 use Rattle.node_moves.specs.Moves.{Moves, is_proposal}
 use Rattle.node_moves.specs.Moves.Moves.{hears, opens_one, holds, reads_first, reads_later, closes, refuses, loses_one, loses_next, expels_one, cuts_log, crashes, settles, hands}

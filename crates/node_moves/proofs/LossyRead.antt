@@ -17,7 +17,8 @@ use Rattle.world_base.specs.Reading.{changes}
 use Rattle.node_moves.specs.Ends.{IsEnd, IsOrderly, commands_of}
 use Rattle.node_moves.specs.Ends.IsEnd.{not_yet}
 use Rattle.node_moves.specs.LossyLaws.{LossesAreTaken, LossesProposeInOrder, ReadsOn}
-use Rattle.node_moves.specs.LossyMoves.{LossyMoves, came_on, proposal_of}
+use Rattle.node_moves.specs.LossyMoves.{LossyMoves}
+use Rattle.node_moves.specs.LossyParts.{came_on, proposal_of}
 use Rattle.node_moves.specs.LossyRuns.{LossyRuns, bytes_on, proposals_of}
 use Rattle.node_moves.specs.LossyMoves.LossyMoves.{exactly, hears_losing, first_losing, later_losing, tells_losing, expels_losing, forgets, halts, fails, unheard, drops}
 use Rattle.node_moves.specs.LossyRuns.LossyRuns.{rests, goes_on}

@@ -25,7 +25,8 @@ use Rattle.node_moves.specs.Ends.{IsEnd, IsGiven, IsOrderly, commands_of, is_not
 use Rattle.node_moves.specs.Ends.IsEnd.{is_over}
 use Rattle.node_moves.specs.LossyLaws.{LossesReadInOrder, ReadsOn}
 use Rattle.node_moves.specs.Moves.{Moves}
-use Rattle.node_moves.specs.LossyMoves.{LossyMoves, came_on, proposal_of}
+use Rattle.node_moves.specs.LossyMoves.{LossyMoves}
+use Rattle.node_moves.specs.LossyParts.{came_on, proposal_of}
 use Rattle.node_moves.specs.LossyMoves.LossyMoves.{exactly, hears_losing, first_losing, later_losing, tells_losing, expels_losing, forgets, halts, fails, unheard, drops}
 use Rattle.node_moves.proofs.Kept.{Stays, changed_orderly, closed_is_mild, heard_up, kept_same, left_true, live, named, named_kept, stays_at, stays_failed, stays_joined}
 use Rattle.node_moves.proofs.LossyOutputs.{failing_is_mild, stays_delivers}

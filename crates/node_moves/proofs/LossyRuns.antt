@@ -18,14 +18,16 @@ use Rattle.world_base.specs.Core.{CoreState, Turn}
 use Rattle.world_base.specs.Failing.{closes_failed}
 use Rattle.world_base.specs.Lossy.{Account, Declines, Proposes, Repeated, Then, quietly}
 use Rattle.world_base.specs.Lossy.Declines.{no_room, forgets as forgets_it, stops}
-use Rattle.world_base.specs.LossyStep.{Asks, Begins, Closes, Ends, EndsSilent, LosesAllFailed, LosesFailed, ReadsNext, Shuts}
-use Rattle.world_base.specs.LossyStep.Ends.{none_open, untold, told}
-use Rattle.world_base.specs.LossyStep.EndsSilent.{none_silent, ends_one}
-use Rattle.world_base.specs.LossyStep.LosesFailed.{none_failed, tells_one}
-use Rattle.world_base.specs.LossyStep.ReadsNext.{waits, first, later, refuses as refuses_it, ends}
+use Rattle.world_base.specs.LossyStep.{LosesAllFailed}
+use Rattle.world_base.specs.LossyReading.{Asks, Begins, Closes, Ends, EndsSilent, LosesFailed, ReadsNext, Shuts}
+use Rattle.world_base.specs.LossyReading.Ends.{none_open, untold, told}
+use Rattle.world_base.specs.LossyReading.EndsSilent.{none_silent, ends_one}
+use Rattle.world_base.specs.LossyReading.LosesFailed.{none_failed, tells_one}
+use Rattle.world_base.specs.LossyReading.ReadsNext.{waits, first, later, refuses as refuses_it, ends}
 use Rattle.world_base.specs.Reading.{changes, open_at, refused}
 use Rattle.world_base.specs.Turns.{quiet}
-use Rattle.node_moves.specs.LossyMoves.{LossyMoves, came_on, forgetful, halting, hears_in, inputs_in, is_handing, turn_of}
+use Rattle.node_moves.specs.LossyMoves.{LossyMoves, forgetful, halting, turn_of}
+use Rattle.node_moves.specs.LossyParts.{came_on, hears_in, inputs_in, is_handing}
 use Rattle.node_moves.specs.LossyRuns.{AllFreeze, CutsNothing, Freezes, HandsNothing, HearsAtFirst, IsCalm, LossyRuns, all_inputs, bytes_on, cuts_in, exactly_cuts}
 use Rattle.node_moves.specs.LossyMoves.LossyMoves.{exactly, hears_losing, first_losing, later_losing, tells_losing, expels_losing, forgets, halts, fails, unheard, drops}
 use Rattle.node_moves.specs.LossyRuns.LossyRuns.{rests, goes_on}

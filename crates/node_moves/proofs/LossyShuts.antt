@@ -15,7 +15,8 @@ use Rattle.world_base.specs.Turns.{heard}
 use Rattle.node_moves.specs.Closed.{listed_named}
 use Rattle.node_moves.specs.Ends.{IsOrderly, open_named}
 use Rattle.node_moves.specs.LossyLaws.{LossesPutInOrder}
-use Rattle.node_moves.specs.LossyMoves.{LossyMoves, given_in, refusal_in}
+use Rattle.node_moves.specs.LossyMoves.{LossyMoves}
+use Rattle.node_moves.specs.LossyParts.{given_in, refusal_in}
 use Rattle.node_moves.specs.LossyMoves.LossyMoves.{exactly, hears_losing, first_losing, later_losing, tells_losing, expels_losing, forgets, halts, fails, unheard, drops}
 use Rattle.node_moves.specs.Puts.{outputs_of, spelled}
 use Rattle.node_moves.proofs.Kept.{heard_up, left_true, live, named}

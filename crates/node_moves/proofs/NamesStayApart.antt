@@ -27,11 +27,12 @@ use Rattle.world_base.specs.Handing.{hands_over}
 use Rattle.world_base.specs.Lossy.{Account, Declines, Delivers, Drives, Moves, Proposes, Repeated, Serves, Takes, Then, quietly}
 use Rattle.world_base.specs.Lossy.Declines.{no_room, forgets, stops}
 use Rattle.world_base.specs.Lossy.Delivers.{nothing, does, tells, loses}
-use Rattle.world_base.specs.LossyStep.{ActsOn, Asks, Begins, Closes, Ends, EndsSilent, Holds, LosesFailed, ReadsNext, RunsOn, Shuts, TakesIn}
-use Rattle.world_base.specs.LossyStep.Ends.{none_open, untold, told}
-use Rattle.world_base.specs.LossyStep.EndsSilent.{none_silent, ends_one}
-use Rattle.world_base.specs.LossyStep.LosesFailed.{none_failed, tells_one}
-use Rattle.world_base.specs.LossyStep.ReadsNext.{waits, first, later, refuses, ends}
+use Rattle.world_base.specs.LossyStep.{ActsOn, Holds, RunsOn, TakesIn}
+use Rattle.world_base.specs.LossyReading.{Asks, Begins, Closes, Ends, EndsSilent, LosesFailed, ReadsNext, Shuts}
+use Rattle.world_base.specs.LossyReading.Ends.{none_open, untold, told}
+use Rattle.world_base.specs.LossyReading.EndsSilent.{none_silent, ends_one}
+use Rattle.world_base.specs.LossyReading.LosesFailed.{none_failed, tells_one}
+use Rattle.world_base.specs.LossyReading.ReadsNext.{waits, first, later, refuses, ends}
 use Rattle.world_base.specs.Reading.{changes, open_at, refused, unread_of}
 use Rattle.world_base.specs.Step.{crashed, next_name, opens, settled, with_cut}
 use Rattle.world_base.specs.LossyStep.Cuts.{nothing_to_cut, cuts_log, forgets_cut}

@@ -21,7 +21,7 @@ use Rattle.world_base.specs.Core.{CoreState, rules, serves}
 use Rattle.world_base.specs.Reading.{changes}
 use Rattle.world_base.specs.Turns.{moved, served, proposes, has_room, changes_named}
 use Rattle.node_moves.specs.Moves.Moves.{hears, opens_one, holds, reads_first, reads_later, closes, refuses, loses_one, loses_next, expels_one, cuts_log, crashes, settles, hands}
-use Rattle.node_moves.specs.Ends.{ReadsAreTaken}
+use Rattle.node_moves.specs.RunProposals.{ReadsAreTaken}
 use Rattle.node_moves.proofs.Kept.{left_true}
 
 right_true : (a b : Bool) → (a && b) ≡ true → b ≡ true

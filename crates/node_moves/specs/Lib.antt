@@ -1,5 +1,6 @@
 pub mod Moves
 pub mod Ends
+pub mod RunProposals
 pub mod Puts
 pub mod Closed
 pub mod Names
@@ -8,6 +9,7 @@ pub mod Behind
 pub mod Keeping
 pub mod Hearing
 pub mod LossyMoves
+pub mod LossyParts
 pub mod LossyRuns
 pub mod LossyLaws
 pub use Rattle.world_base.specs.ballot as ballot

@@ -13,9 +13,11 @@ use Rattle.world_base.specs.declared.Connection.{Connection}
 use Rattle.world_base.specs.Connections.{is_over}
 use Rattle.world_base.specs.Core.{CoreState, Turn, opening_core, serves}
 use Rattle.node_moves.specs.Closed.{listed_named}
-use Rattle.node_moves.specs.Ends.{IsEnd, IsOrderly, Proposes, commands_of, open_named}
+use Rattle.node_moves.specs.Ends.{IsEnd, IsOrderly, commands_of, open_named}
+use Rattle.node_moves.specs.RunProposals.{Proposes}
 use Rattle.node_moves.specs.Keeping.{AreOfTheBallot}
-use Rattle.node_moves.specs.LossyMoves.{LossyMoves, came_on, given_in, hears_in, is_handing, is_read, proposal_of, refusal_in}
+use Rattle.node_moves.specs.LossyMoves.{LossyMoves}
+use Rattle.node_moves.specs.LossyParts.{came_on, given_in, hears_in, is_handing, is_read, proposal_of, refusal_in}
 use Rattle.node_moves.specs.LossyRuns.{LossyRuns, bytes_on, proposals_of}
 use Rattle.node_moves.specs.Names.{IsNextName}
 use Rattle.node_moves.specs.Puts.{outputs_of, spelled}

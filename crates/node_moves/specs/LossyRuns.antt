@@ -13,7 +13,8 @@ use Rattle.world_base.specs.LossyStep.{RunsOn}
 use Rattle.world_base.specs.Reading.{open_at}
 use Rattle.world_base.specs.Turns.{quiet}
 use Rattle.node_moves.specs.Ends.{piece_on}
-use Rattle.node_moves.specs.LossyMoves.{LossyMoves, came_on, hears_in, inputs_in, is_handing, proposal_of}
+use Rattle.node_moves.specs.LossyMoves.{LossyMoves}
+use Rattle.node_moves.specs.LossyParts.{came_on, hears_in, inputs_in, is_handing, proposal_of}
 use Rattle.node_moves.specs.LossyMoves.LossyMoves.{exactly}
 use Rattle.node_moves.specs.Moves.{Moves, and_then}
 use Rattle.node_moves.specs.Moves.Moves.{cuts_log}

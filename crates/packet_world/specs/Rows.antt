@@ -2,7 +2,7 @@
 -- transit.
 use Rattle.std.specs.Prelude.{◌≡◌, List, [], ◌∷◌, map, reverse}
 use Rattle.exactly_once.specs.session_base.declared.publication.Publication.{Publication}
-use Rattle.exactly_once.specs.Headline.{accepted_on}
+use Rattle.exactly_once.specs.Acceptance.{accepted_on}
 use Rattle.exactly_once.specs.Rows.{writer, news, commands_there}
 use Rattle.packet_world.specs.World.{ClientEnds, World}
 use Rattle.packet_world.specs.Goes.{Reached}

@@ -24,7 +24,7 @@ use Rattle.world_events.specs.world_pipes.Piped.{Calls, Piped, TakesLeave}
 use Rattle.world_events.specs.declared.event.Event.TheVariants as events
 use Rattle.world.specs.declared.world.WorldClient.{WorldClient}
 use Rattle.world.specs.Found.{core_named, is_named, with_piped}
-use Rattle.world.specs.Doing.{Asks, ClientDoes, Leaves, Loses, LosesAsking, LosesLeaving}
+use Rattle.world.specs.ClientCalls.{Asks, ClientDoes, Leaves, Loses, LosesAsking, LosesLeaving}
 use Rattle.world.specs.Cannot.{HoldsNone, Refuses}
 use Rattle.world.specs.Inside.Calling.{Counts, IsCall, forgetful}
 use Rattle.world.specs.Inside.Steps.{IsDone, Meets}

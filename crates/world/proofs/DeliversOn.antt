@@ -21,7 +21,8 @@ use Rattle.escaping_client.specs.lists.Lists.{In}
 use Rattle.escaping_client.proofs.of_lists.Members.{in_at}
 use Rattle.headline.specs.world_base.Core.{CoreState, CountedCore, rules}
 use Rattle.headline.specs.world_base.declared.item.Item.TheVariants.{Peer}
-use Rattle.escaping_nodes.specs.world_nodes.Goes.{Comes, ComesToNobody, TakesExactly, behind_answer, behind_deed, running, unless_stopped}
+use Rattle.escaping_nodes.specs.world_nodes.Goes.{Comes, ComesToNobody, TakesExactly, behind_answer, behind_deed}
+use Rattle.escaping_nodes.specs.world_nodes.Running.{running, unless_stopped}
 use Rattle.escaping_nodes.specs.world_nodes.Nodes.{NodesState, cores_of}
 use Rattle.escaping_nodes.proofs.of_world_nodes.Acts.{acts}
 use Rattle.escaping_nodes.proofs.of_world_nodes.MasterActs.{answers_exactly}

@@ -1,6 +1,6 @@
 -- Gathered.antt: connections are asked one after another, from the newest to the oldest.
 use Rattle.std.proofs.Common.{◌≡◌, inl, inr, ◌<◌, ◌-◌, ℕ, zero, suc, Bool, true, false, List, ◌++◌, Some, length, set, slice_get, refl, sym, ap, ◌∙◌, subst, arith}
-use Rattle.escaping_nodes.specs.world_nodes.Goes.{node_of}
+use Rattle.escaping_nodes.specs.world_nodes.Running.{node_of}
 use Rattle.escaping_nodes.specs.world_nodes.Steps.{forgetful}
 use Rattle.world.specs.declared.connection_slot.ConnectionSlot.{ConnectionSlot}
 use Rattle.world.specs.Found.{place_numbered, port_of, with_down, with_piped}

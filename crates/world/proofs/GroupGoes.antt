@@ -17,7 +17,8 @@ use Rattle.headline.specs.byte_world.Goes.{is_apart}
 use Rattle.headline.specs.byte_world.Goes.WorldStep.{goes_on as group_goes}
 use Rattle.escaping_nodes.specs.world_nodes.Nodes.{NodesState, StandsFor as NodesStand}
 use Rattle.escaping_nodes.specs.world_nodes.Goes.{Acts, GoesBy}
-use Rattle.escaping_nodes.specs.world_nodes.Steps.{ActsOrRests, ComesOrRests, MasterGoesOrRests, MasterHears, forgetful}
+use Rattle.escaping_nodes.specs.world_nodes.Steps.{forgetful}
+use Rattle.escaping_nodes.specs.world_nodes.GroupSteps.{ActsOrRests, ComesOrRests, MasterGoesOrRests, MasterHears}
 use Rattle.world.specs.Goes.{NodesGo, NodesGoOn}
 use Rattle.world.specs.Goes.Goes.{rests as stands_still, goes_on as then_goes}
 use Rattle.world.specs.Inside.Steps.{GoesOn, NodesStay}

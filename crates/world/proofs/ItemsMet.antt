@@ -11,7 +11,8 @@ use Rattle.headline.specs.ballot.Losses.{one_more}
 use Rattle.escaping_nodes.specs.master.declared.event.Idle.{Idle}
 use Rattle.headline.specs.world_base.declared.item.Item.{Item}
 use Rattle.headline.specs.world_base.declared.item.Item.TheVariants.{Bytes, Crash, Ended, Expel, Tick}
-use Rattle.escaping_nodes.specs.world_nodes.Goes.{Comes, ComesToNobody, CutsExactly, TakesExactly, cutting, proposing, running}
+use Rattle.escaping_nodes.specs.world_nodes.Goes.{Comes, ComesToNobody, CutsExactly, TakesExactly}
+use Rattle.escaping_nodes.specs.world_nodes.Running.{cutting, proposing, running}
 use Rattle.escaping_nodes.specs.world_nodes.Nodes.{NodesState}
 use Rattle.escaping_nodes.specs.world_nodes.Steps.{ComesIn, CutsIn, ExpelsIn, GivesIn, LosesNothing as NodesLoseNothing, TakesIn}
 use Rattle.world_events.specs.world_pipes.declared.way.Way.{Way}
@@ -23,7 +24,8 @@ use Rattle.world.specs.declared.world.WorldClient.{WorldClient}
 use Rattle.world.specs.Found.{Connected, is_named, place_numbered, port_of, with_less, with_piped}
 use Rattle.world.specs.Gathering.{Gathers, TakesItem}
 use Rattle.world.specs.Cannot.{CannotHappen, IsClosed, IsNoPart, down_of, is_held, is_held_by, up_of}
-use Rattle.world.specs.Doing.{Does, HearsThem, LosesAtClient, receiver_of}
+use Rattle.world.specs.Doing.{Does, LosesAtClient, receiver_of}
+use Rattle.world.specs.ClientCalls.{HearsThem}
 use Rattle.world.specs.Happening.{Happens, HappensExactly, HappensLosing, Run}
 use Rattle.world.specs.SlotsAreValid.{AreHoused, leads_of}
 use Rattle.world.specs.Quiet.{TakesNoMemory}

@@ -27,7 +27,7 @@ use Rattle.world_events.specs.world_pipes.Standing.{CanGoOut}
 use Rattle.world_events.specs.declared.event.Event.{Event}
 use Rattle.world_events.specs.declared.event.Event.TheVariants as events
 use Rattle.world.specs.declared.connection_slot.ConnectionSlot.{ConnectionSlot}
-use Rattle.world.specs.Doing.{next_number}
+use Rattle.world.specs.Opening.{next_number}
 use Rattle.world.specs.Escaping.{CanEscape, HasEscaped, LeadsOut}
 use Rattle.world.specs.Found.{port_of}
 use Rattle.world.specs.Goes.{AreReached, LosesNothing, NodesGo}

@@ -5,9 +5,9 @@ use Rattle.std.proofs.lemmas.Bool.{eq-eqb, lt-ltb, le-leb, ne_eqb}
 use Rattle.headline.specs.broker_base.Connection.{ConnectionName, is_connection_name}
 use Rattle.headline.specs.world_base.Core.{CountedCore}
 use Rattle.headline.specs.world_base.Step.{accepted}
-use Rattle.escaping_nodes.specs.world_nodes.Goes.{node_of}
+use Rattle.escaping_nodes.specs.world_nodes.Running.{node_of}
 use Rattle.world_events.specs.declared.event.Event.TheVariants as events
-use Rattle.world.specs.Doing.{OpensUnless, is_full}
+use Rattle.world.specs.Opening.{OpensUnless, is_full}
 use Rattle.world.specs.Happening.{Happens}
 use Rattle.world.specs.World.{WorldState}
 

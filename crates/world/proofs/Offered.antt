@@ -14,7 +14,8 @@ use Rattle.headline.specs.world_base.Core.{CountedCore}
 use Rattle.headline.specs.world_base.Handing.{listed_at}
 use Rattle.headline.specs.node_moves.Moves.NodeCall.{takes}
 use Rattle.headline.proofs.of_node_group.Placed.{get_of_set}
-use Rattle.escaping_nodes.specs.world_nodes.Goes.{Acts, behind_deed, node_of, running, unless_stopped}
+use Rattle.escaping_nodes.specs.world_nodes.Goes.{Acts, behind_deed}
+use Rattle.escaping_nodes.specs.world_nodes.Running.{node_of, running, unless_stopped}
 use Rattle.escaping_nodes.specs.world_nodes.Nodes.{NodesState}
 use Rattle.escaping_nodes.specs.world_nodes.Steps.{ActsWithLosses, TakesIn}
 use Rattle.escaping_client.specs.client_base.Steps.{Call, keeper_step}

@@ -13,7 +13,8 @@ use Rattle.headline.specs.node_moves.Moves.NodeCall.{takes}
 use Rattle.headline.proofs.of_node_group.Placed.{get_mapped}
 use Rattle.headline.specs.byte_world.World.{World}
 use Rattle.headline.specs.byte_world.Goes.WorldStep.{is_turned_away}
-use Rattle.escaping_nodes.specs.world_nodes.Goes.{Acts, node_of}
+use Rattle.escaping_nodes.specs.world_nodes.Goes.{Acts}
+use Rattle.escaping_nodes.specs.world_nodes.Running.{node_of}
 use Rattle.escaping_nodes.specs.world_nodes.Nodes.{NodesState}
 use Rattle.escaping_nodes.specs.world_nodes.Steps.{LosesNothing as NodesLoseNothing}
 use Rattle.world_events.specs.world_pipes.Following.{FollowsAll}
@@ -24,7 +25,8 @@ use Rattle.world_events.specs.declared.event.Event.TheVariants as events
 use Rattle.world.specs.declared.world.WorldClient.{WorldClient}
 use Rattle.world.specs.declared.connection_slot.ConnectionSlot.{ConnectionSlot}
 use Rattle.world.specs.Found.{Named, core_named, is_named, port_of, with_piped}
-use Rattle.world.specs.Doing.{Does as HappenDoes, NoneOpens, OpensNone, OpensOne, OpensUnless, is_full, next_number, with_connection}
+use Rattle.world.specs.Doing.{Does as HappenDoes}
+use Rattle.world.specs.Opening.{NoneOpens, OpensNone, OpensOne, OpensUnless, is_full, next_number, with_connection}
 use Rattle.world.specs.Happening.{HappensLosing}
 use Rattle.world.specs.Cannot.{IsTaken, is_serving}
 use Rattle.world.specs.Gathering.{Gathers, TakesItem}

@@ -24,7 +24,8 @@ use Rattle.escaping_client.proofs.of_lists.Places.{get_pushed, get_set}
 use Rattle.headline.specs.world_base.Core.{CountedCore}
 use Rattle.headline.specs.world_base.declared.item.Item.{Item}
 use Rattle.headline.specs.world_base.declared.item.Item.TheVariants.{Opened}
-use Rattle.escaping_nodes.specs.world_nodes.Goes.{behind_deed, node_of}
+use Rattle.escaping_nodes.specs.world_nodes.Goes.{behind_deed}
+use Rattle.escaping_nodes.specs.world_nodes.Running.{node_of}
 use Rattle.escaping_nodes.specs.world_nodes.Nodes.{NodesState}
 use Rattle.escaping_nodes.proofs.of_world_nodes.Acts.{acts}
 use Rattle.world_events.specs.world_pipes.declared.way.Way.{Way}
@@ -34,7 +35,7 @@ use Rattle.world_events.specs.declared.event.Event.TheVariants as events
 use Rattle.world.specs.declared.connection_slot.ConnectionSlot.{ConnectionSlot}
 use Rattle.world.specs.declared.world.WorldClient.{WorldClient}
 use Rattle.world.specs.Cannot.{IsTaken, is_serving}
-use Rattle.world.specs.Doing.{OpensOne, OpensUnless, is_full, next_number, with_connection}
+use Rattle.world.specs.Opening.{OpensOne, OpensUnless, is_full, next_number, with_connection}
 use Rattle.world.specs.Found.{Named, core_named, is_named, port_of}
 use Rattle.world.specs.Gathering.{Gathers}
 use Rattle.world.specs.Goes.{LosesNothing, NodesGo}

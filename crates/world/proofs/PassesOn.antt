@@ -11,7 +11,7 @@ use Rattle.headline.proofs.of_node_group.Placed.{get_mapped}
 use Rattle.headline.specs.world_base.Core.{CountedCore}
 use Rattle.headline.specs.world_base.Handing.{bytes_of, listed_at}
 use Rattle.headline.specs.world_base.declared.Port.{Port}
-use Rattle.escaping_nodes.specs.world_nodes.Goes.{node_of}
+use Rattle.escaping_nodes.specs.world_nodes.Running.{node_of}
 use Rattle.escaping_nodes.specs.world_nodes.Nodes.{NodesState}
 use Rattle.escaping_nodes.proofs.of_world_nodes.Exactly.{at_place, gives_acts}
 use Rattle.world_events.specs.world_pipes.declared.way.Way.{Way}

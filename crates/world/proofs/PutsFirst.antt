@@ -19,7 +19,8 @@ use Rattle.headline.specs.world_base.Core.{CountedCore}
 use Rattle.headline.specs.world_base.declared.item.Item.TheVariants.{Peer}
 use Rattle.headline.specs.world_base.Handing.{bytes_of}
 use Rattle.headline.specs.world_base.Step.{node_step}
-use Rattle.escaping_nodes.specs.world_nodes.Goes.{ComesToNobody, behind_deed, node_of, running}
+use Rattle.escaping_nodes.specs.world_nodes.Goes.{ComesToNobody, behind_deed}
+use Rattle.escaping_nodes.specs.world_nodes.Running.{node_of, running}
 use Rattle.escaping_nodes.specs.world_nodes.Nodes.{NodesState}
 use Rattle.world_events.specs.declared.event.Event.{Event}
 use Rattle.world_events.specs.declared.event.Event.TheVariants as events

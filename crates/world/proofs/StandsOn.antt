@@ -9,7 +9,7 @@ use Rattle.escaping_client.specs.client.Core.{Core}
 use Rattle.headline.proofs.of_packet_world.Lists.{same_or_other}
 use Rattle.headline.specs.world_base.Core.{CountedCore}
 use Rattle.headline.specs.world_base.declared.Port.{Port}
-use Rattle.escaping_nodes.specs.world_nodes.Goes.{node_of}
+use Rattle.escaping_nodes.specs.world_nodes.Running.{node_of}
 use Rattle.world_events.specs.world_pipes.declared.way.Way.{Way}
 use Rattle.world.specs.declared.connection_slot.ConnectionSlot.{ConnectionSlot}
 use Rattle.world.specs.declared.world.WorldClient.{WorldClient}

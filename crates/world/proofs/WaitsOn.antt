@@ -28,7 +28,8 @@ use Rattle.headline.specs.world_base.declared.item.Item.TheVariants.{Peer}
 use Rattle.headline.specs.world_base.Connections.{is_open_named, is_over}
 use Rattle.headline.specs.world_base.Core.{CountedCore, rules}
 use Rattle.headline.specs.world_base.Handing.{answer_of, bytes_of}
-use Rattle.escaping_nodes.specs.world_nodes.Goes.{behind_answer, behind_deed, node_of}
+use Rattle.escaping_nodes.specs.world_nodes.Goes.{behind_answer, behind_deed}
+use Rattle.escaping_nodes.specs.world_nodes.Running.{node_of}
 use Rattle.escaping_nodes.specs.world_nodes.Nodes.{NodesState}
 use Rattle.world_events.specs.declared.event.Event.TheVariants as events
 use Rattle.world.specs.Found.{port_of}

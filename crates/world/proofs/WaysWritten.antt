@@ -18,7 +18,7 @@ use Rattle.escaping_nodes.proofs.WelcomedKept.{welcomed_are_kept}
 use Rattle.escaping_nodes.specs.ways_out.Lengths.{WaysAreShort}
 use Rattle.headline.specs.world_base.Core.{CountedCore}
 use Rattle.escaping_nodes.specs.world_nodes.Asking.{log_in, log_of, welcomes_back}
-use Rattle.escaping_nodes.specs.world_nodes.Goes.{node_of}
+use Rattle.escaping_nodes.specs.world_nodes.Running.{node_of}
 use Rattle.escaping_nodes.specs.world_nodes.Nodes.{NodesState}
 use Rattle.world_events.specs.declared.event.Event.{Event}
 use Rattle.world_events.specs.declared.event.Event.TheVariants as events

@@ -8,7 +8,7 @@ use Rattle.world_events.specs.world_pipes.Piped.{Piped}
 use Rattle.world_events.specs.declared.event.Event.{Event}
 use Rattle.world_events.specs.declared.event.Event.TheVariants as events
 use Rattle.world.specs.Found.{Named, with_piped}
-use Rattle.world.specs.Doing.{Asks}
+use Rattle.world.specs.ClientCalls.{Asks}
 use Rattle.world.specs.Happening.{Happens}
 use Rattle.world.specs.World.{WorldState}
 

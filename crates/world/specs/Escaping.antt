@@ -15,7 +15,7 @@ use Rattle.escaping_client.specs.client_base.State.{is_online}
 use Rattle.headline.specs.world_base.Core.{CountedCore}
 use Rattle.escaping_nodes.specs.world_nodes.Agreed.{AgreeOn}
 use Rattle.escaping_nodes.specs.world_nodes.Asking.{log_of}
-use Rattle.escaping_nodes.specs.world_nodes.Goes.{node_of}
+use Rattle.escaping_nodes.specs.world_nodes.Running.{node_of}
 use Rattle.world_events.specs.declared.event.Event.{Event}
 use Rattle.world.specs.Found.{core_named}
 use Rattle.world.specs.Goes.{LosesNothing}

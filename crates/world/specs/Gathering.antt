@@ -8,7 +8,8 @@ use Rattle.headline.specs.world_base.declared.Handed.{Handed}
 use Rattle.headline.specs.world_base.declared.Handed.TheVariants as answers
 use Rattle.headline.specs.world_base.declared.item.Item.{Item}
 use Rattle.headline.specs.world_base.declared.Port.{Port}
-use Rattle.escaping_nodes.specs.world_nodes.Goes.{TakesExactly, behind_deed, node_of}
+use Rattle.escaping_nodes.specs.world_nodes.Goes.{TakesExactly, behind_deed}
+use Rattle.escaping_nodes.specs.world_nodes.Running.{node_of}
 use Rattle.escaping_nodes.specs.world_nodes.Nodes.{NodesState}
 use Rattle.escaping_nodes.specs.world_nodes.Steps.{TakesIn, forgetful}
 use Rattle.world.specs.declared.connection_slot.ConnectionSlot.{ConnectionSlot}

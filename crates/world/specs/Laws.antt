@@ -1,10 +1,10 @@
 -- Laws about what events do. The calls of `laws.rt` prove them.
 use Rattle.std.specs.Prelude.{◌≡◌, ◌<◌, ◌≤◌, ◌^◌, ◌-◌, ℕ, false, List, Some, Ok}
 use Rattle.headline.specs.world_base.Core.{CountedCore}
-use Rattle.escaping_nodes.specs.world_nodes.Goes.{node_of}
+use Rattle.escaping_nodes.specs.world_nodes.Running.{node_of}
 use Rattle.world_events.specs.declared.event.Event.{Event}
 use Rattle.world_events.specs.declared.event.Event.TheVariants as events
-use Rattle.world.specs.Doing.{is_full}
+use Rattle.world.specs.Opening.{is_full}
 use Rattle.world.specs.Goes.{LosesNothing}
 use Rattle.world.specs.Happening.{Happens, HappensExactly}
 use Rattle.world.specs.World.{WorldState}

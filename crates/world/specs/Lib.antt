@@ -6,6 +6,8 @@ pub mod Inside
 pub mod Found
 pub mod Gathering
 pub mod Cannot
+pub mod ClientCalls
+pub mod Opening
 pub mod Doing
 pub mod Quiet
 pub mod Happening

@@ -1,7 +1,7 @@
 // Bytes reach a node, or a client.
 
 ghost use Rattle.std.specs.Prelude.{◌≡◌, ◌⊎◌, ◌≤◌, ◌<◌, ◌-◌, ◌↔◌, true, false, Some, None, length, slice_get, if◌then◌else◌, IfOk, OnErr};
-ghost use Rattle.escaping_nodes.specs.world_nodes.Goes.{running};
+ghost use Rattle.escaping_nodes.specs.world_nodes.Running.{running};
 ghost use Rattle.world_events.specs.world_pipes.Following.{FollowsAll};
 ghost use Rattle.world.specs.Goes.{CountsOnce, NodesGoOn};
 ghost use Rattle.world.specs.SlotsAreValid.{leads};

@@ -8,7 +8,7 @@ ghost use Rattle.headline.specs.broker_base.Past.{session_of};
 ghost use Rattle.escaping_nodes.specs.world_nodes.Asking.{log_of};
 ghost use Rattle.world_events.specs.world_pipes.Piped.{is_holding};
 ghost use Rattle.world.specs.declared.world.WorldClient.{WorldClient};
-ghost use Rattle.escaping_nodes.specs.world_nodes.Goes.{node_of};
+ghost use Rattle.escaping_nodes.specs.world_nodes.Running.{node_of};
 ghost use Rattle.world.specs.Escaping.{CanEscape, LeadsOut, configuration_of, held_in, is_running};
 ghost use Rattle.world.specs.Inside.Escaping.{IsFetchedFrom, escaping_events};
 

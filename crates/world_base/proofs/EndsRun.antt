@@ -14,10 +14,11 @@ use Rattle.world_base.specs.Failing.{closes_failed}
 use Rattle.world_base.specs.Inside.{ProposedBy, Ran, Running, TellsLost}
 use Rattle.world_base.specs.KeepAlive.{lowest_silent}
 use Rattle.world_base.specs.Lossy.{Account, Declines, Proposes, Then, quietly}
-use Rattle.world_base.specs.LossyStep.{Asks, Ends, EndsSilent, Holds, LosesFailed, Shuts}
-use Rattle.world_base.specs.LossyStep.Ends.{none_open, untold, told}
-use Rattle.world_base.specs.LossyStep.EndsSilent.{none_silent, ends_one}
-use Rattle.world_base.specs.LossyStep.LosesFailed.{none_failed, tells_one}
+use Rattle.world_base.specs.LossyStep.{Holds}
+use Rattle.world_base.specs.LossyReading.{Asks, Ends, EndsSilent, LosesFailed, Shuts}
+use Rattle.world_base.specs.LossyReading.Ends.{none_open, untold, told}
+use Rattle.world_base.specs.LossyReading.EndsSilent.{none_silent, ends_one}
+use Rattle.world_base.specs.LossyReading.LosesFailed.{none_failed, tells_one}
 use Rattle.world_base.specs.Reading.{changes, open_at}
 use Rattle.world_base.proofs.Accounts.{ran_as, ran_quietly, ran_then}
 use Rattle.world_base.proofs.Answering.{as_proposes}

@@ -20,9 +20,9 @@ use Rattle.world_base.specs.Core.{CoreState}
 use Rattle.node_connections.specs.Inside.{TakesFront}
 use Rattle.world_base.specs.Inside.{BeginsOrSays, Ran, TellsLost}
 use Rattle.world_base.specs.Lossy.{quietly}
-use Rattle.world_base.specs.LossyStep.{Begins, Connects, Ends, ReadsNext, Says}
-use Rattle.world_base.specs.LossyStep.Ends.{none_open}
-use Rattle.world_base.specs.LossyStep.ReadsNext.{waits, first, later, refuses, ends}
+use Rattle.world_base.specs.LossyReading.{Begins, Connects, Ends, ReadsNext, Says}
+use Rattle.world_base.specs.LossyReading.Ends.{none_open}
+use Rattle.world_base.specs.LossyReading.ReadsNext.{waits, first, later, refuses, ends}
 use Rattle.world_base.specs.Reading.{changes, open_at, refused}
 use Rattle.world_base.proofs.Accounts.{ran_as, ran_quietly}
 use Rattle.world_base.proofs.EndsRun.{ran_lost, ran_none_open}

@@ -23,12 +23,13 @@ use Rattle.world_base.specs.Failing.{closes_failed}
 use Rattle.world_base.specs.Going.{AGapIsClosed, AreNamedApart, EachGoesOn, GoOn, GoesOn, IsNew}
 use Rattle.world_base.specs.Lossy.{Account, Declines, Drives, Moves, Proposes, Repeated, Takes, Then, quietly}
 use Rattle.world_base.specs.Lossy.Declines.{no_room, forgets, stops}
-use Rattle.world_base.specs.LossyStep.{ActsOn, Asks, Begins, Closes, Cuts, Ends, EndsSilent, Holds, LosesFailed, Opens, ReadsNext, Shuts, TakesIn}
+use Rattle.world_base.specs.LossyStep.{ActsOn, Cuts, Holds, Opens, TakesIn}
+use Rattle.world_base.specs.LossyReading.{Asks, Begins, Closes, Ends, EndsSilent, LosesFailed, ReadsNext, Shuts}
 use Rattle.world_base.specs.LossyStep.Cuts.{nothing_to_cut, cuts_log, forgets_cut}
-use Rattle.world_base.specs.LossyStep.Ends.{none_open, untold, told}
-use Rattle.world_base.specs.LossyStep.EndsSilent.{none_silent, ends_one}
-use Rattle.world_base.specs.LossyStep.LosesFailed.{none_failed, tells_one}
-use Rattle.world_base.specs.LossyStep.ReadsNext.{waits, first, later, refuses, ends}
+use Rattle.world_base.specs.LossyReading.Ends.{none_open, untold, told}
+use Rattle.world_base.specs.LossyReading.EndsSilent.{none_silent, ends_one}
+use Rattle.world_base.specs.LossyReading.LosesFailed.{none_failed, tells_one}
+use Rattle.world_base.specs.LossyReading.ReadsNext.{waits, first, later, refuses, ends}
 use Rattle.world_base.specs.Reading.{changes, open_at, refused, unread_of}
 use Rattle.world_base.specs.Step.{next_name, opens}
 use Rattle.world_base.proofs.ConnectionsGoOn.{apart_on, changed_on, delivers_on, each_both, each_itself, goes_closed, goes_failing, goes_refused, goes_still}

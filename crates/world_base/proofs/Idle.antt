@@ -22,12 +22,13 @@ use Rattle.world_base.specs.KeepAlive.{ends_all_silent, ends_silent}
 use Rattle.world_base.specs.Losses.{DoesNothing, IsHeardQuietly, IsIgnored, ReadsNone, TakesNoMemory, is_told}
 use Rattle.world_base.specs.Lossy.{Account, Drives, Repeated, quietly}
 use Rattle.world_base.specs.Lossy.Delivers.{nothing}
-use Rattle.world_base.specs.LossyStep.{ActsOn, EndsSilent, LosesAllFailed, ReadsAll, ReadsNext, TakesIn}
+use Rattle.world_base.specs.LossyStep.{ActsOn, LosesAllFailed, ReadsAll, TakesIn}
+use Rattle.world_base.specs.LossyReading.{EndsSilent, ReadsNext}
 use Rattle.ballot.specs.Cutting.{can_cut}
 use Rattle.world_base.specs.Lossy.Declines.{no_room}
 use Rattle.world_base.specs.LossyStep.Cuts.{nothing_to_cut}
-use Rattle.world_base.specs.LossyStep.Ends.{none_open}
-use Rattle.world_base.specs.LossyStep.EndsSilent.{none_silent}
+use Rattle.world_base.specs.LossyReading.Ends.{none_open}
+use Rattle.world_base.specs.LossyReading.EndsSilent.{none_silent}
 use Rattle.world_base.specs.Reading.{changes, ends, open_at, reads_all, reads_next, unread_of}
 use Rattle.world_base.specs.Step.{accepts, acts_on, cuts, opens, takes_in}
 use Rattle.world_base.specs.Turns.{drives, moved, quiet, repeated, then_also}

@@ -15,7 +15,7 @@ use Rattle.node_connections.specs.packet.declared.packet.Packet.{Packet}
 use Rattle.world_base.specs.Core.{CoreState, Turn, rules}
 use Rattle.node_connections.specs.declared.port.Port.{Port}
 use Rattle.node_connections.specs.Connections.{has_failed}
-use Rattle.world_base.specs.LossyStep.{Begins, Says}
+use Rattle.world_base.specs.LossyReading.{Begins, Says}
 use Rattle.world_base.specs.Lossy.{Account, Declines, Delivers, Proposes, Takes, quietly}
 use Rattle.world_base.specs.Turns.{has_room}
 

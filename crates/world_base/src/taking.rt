@@ -9,7 +9,8 @@ ghost use Rattle.world_base.specs.Inside.{BeginsOrSays, IsCalm, Ran, TellsLost, 
 ghost use Rattle.world_base.specs.declared.item.Item.TheVariants as items;
 ghost use Rattle.world_base.specs.Losses.{DoesNothing, IsHeardQuietly, ReadsNone, TakesNoMemory, is_told};
 ghost use Rattle.world_base.specs.Lossy.{Proposes, quietly};
-ghost use Rattle.world_base.specs.LossyStep.{ActsOn, Connects, Ends, EndsAllSilent, Holds, LosesAllFailed, LosesFailed, ReadsAll, ReadsNext, Says, TakesIn};
+ghost use Rattle.world_base.specs.LossyStep.{ActsOn, EndsAllSilent, Holds, LosesAllFailed, ReadsAll, TakesIn};
+ghost use Rattle.world_base.specs.LossyReading.{Connects, Ends, LosesFailed, ReadsNext, Says};
 ghost use Rattle.world_base.specs.Failing.{loses_all_failed, loses_failed};
 ghost use Rattle.world_base.specs.KeepAlive.{ends_all_silent};
 ghost use Rattle.world_base.specs.Reading.{asks, begins, changes, ends, open_at, reads_all, reads_next, says};

@@ -7,7 +7,8 @@ use Rattle.byte_world.specs.world_base.declared.item.Item.TheVariants.{Expel}
 use Rattle.byte_world.specs.node_moves.Moves.NodeCall.{takes}
 use Rattle.world_nodes.specs.Nodes.{NodesState}
 use Rattle.world_nodes.specs.Goes.{Acts, TakesExactly}
-use Rattle.world_nodes.specs.Steps.{ActsOrRests, ExpelsIn, LosesNothing, TakesIn, forgetful}
+use Rattle.world_nodes.specs.Steps.{ExpelsIn, LosesNothing, TakesIn, forgetful}
+use Rattle.world_nodes.specs.GroupSteps.{ActsOrRests}
 use Rattle.world_nodes.proofs.Exactly.{exactly}
 use Rattle.world_nodes.proofs.MasterActs.{counts}
 

@@ -21,7 +21,8 @@ use Rattle.byte_world.specs.node_group.Goes.MayGo.{master_assigns, master_hears,
 use Rattle.byte_world.specs.Goes.{Does, IsFaithful, deed_of}
 use Rattle.world_nodes.specs.Nodes.{NodesState, StandsFor}
 use Rattle.world_nodes.specs.Goes.{Acts, Comes, GoesBy, HeardByMaster, behind_answer, behind_giving}
-use Rattle.world_nodes.specs.Steps.{ActsOrRests, ComesIn, ComesOrRests, GivesIn, HearsIn, LosesNothing, MasterGoes, MasterHears, TakesIn, forgetful, unheard}
+use Rattle.world_nodes.specs.Steps.{ComesIn, GivesIn, HearsIn, LosesNothing, TakesIn, forgetful, unheard}
+use Rattle.world_nodes.specs.GroupSteps.{ActsOrRests, ComesOrRests, MasterGoes, MasterHears}
 use Rattle.master.specs.Inside.{asks_for}
 use Rattle.master.specs.declared.event.Idle.{Idle}
 use Rattle.world_nodes.proofs.Acts.{not_one_more}

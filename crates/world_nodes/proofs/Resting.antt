@@ -31,9 +31,11 @@ use Rattle.byte_world.proofs.of_world_base.Calmly.{says_nothing}
 use Rattle.byte_world.specs.node_group.Group.{moment_of}
 use Rattle.byte_world.specs.node_moves.Moves.NodeCall.{takes}
 use Rattle.world_nodes.specs.Nodes.{NodesState}
-use Rattle.world_nodes.specs.Goes.{Acts, Comes, HeardByMaster, TakesExactly, behind_deed, running}
+use Rattle.world_nodes.specs.Goes.{Acts, Comes, HeardByMaster, TakesExactly, behind_deed}
+use Rattle.world_nodes.specs.Running.{running}
 use Rattle.world_nodes.specs.Quiet.{ComesUnheeded, IsUnheeded, RestsAt}
-use Rattle.world_nodes.specs.Steps.{ActsOrRests, ComesIn, ComesOrRests, LosesNothing, TakesIn}
+use Rattle.world_nodes.specs.Steps.{ComesIn, LosesNothing, TakesIn}
+use Rattle.world_nodes.specs.GroupSteps.{ActsOrRests, ComesOrRests}
 use Rattle.world_nodes.specs.Inside.{HaveCounted, IsPassedOver, Keeps, RunsAt, TookItem}
 use Rattle.world_nodes.proofs.Acts.{behind_turn_of, not_one_more, same_core, took_by, whole_turn}
 use Rattle.world_nodes.proofs.Exactly.{exactly}

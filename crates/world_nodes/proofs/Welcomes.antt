@@ -17,7 +17,7 @@ use Rattle.byte_world.specs.world_base.Core.{CoreState, CountedCore, rules}
 use Rattle.byte_world.specs.node_group.Group.{moment_of, replica_of}
 use Rattle.byte_world.proofs.of_node_group.Placed.{get_mapped}
 use Rattle.world_nodes.specs.Asking.{first_connection, is_welcome, log_in, log_of, welcomes_back}
-use Rattle.world_nodes.specs.Goes.{node_of}
+use Rattle.world_nodes.specs.Running.{node_of}
 use Rattle.world_nodes.specs.Inside.{HaveCounted}
 use Rattle.world_nodes.specs.Nodes.{NodesState}
 use Rattle.world_nodes.proofs.Acts.{core_in}

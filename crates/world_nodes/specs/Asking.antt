@@ -12,7 +12,7 @@ use Rattle.byte_world.specs.broker_base.Output.{Output}
 use Rattle.byte_world.specs.broker_base.Output.TheVariants.{Send}
 use Rattle.byte_world.specs.broker_base.Place.{Client}
 use Rattle.byte_world.specs.world_base.Core.{CountedCore, rules}
-use Rattle.world_nodes.specs.Goes.{node_of}
+use Rattle.world_nodes.specs.Running.{node_of}
 use Rattle.world_nodes.specs.Nodes.{NodesState}
 
 -- the record up to the base of a node's log, then the rest

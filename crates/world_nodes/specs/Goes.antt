@@ -1,11 +1,10 @@
 -- What nodes and their master do, exactly, and how a group that corresponds to them then moves.
-use Rattle.std.specs.Prelude.{◌≡◌, ℕ, zero, suc, ◌-◌, [], ◌∷◌, ◌++◌, if◌then◌else◌, List, Option, Some, None, slice_get, slice_set}
+use Rattle.std.specs.Prelude.{◌≡◌, ℕ, zero, suc, ◌-◌, [], ◌∷◌, ◌++◌, List, Option, Some, None, slice_set}
 use Rattle.master.specs.ballot.Body.{Body}
 use Rattle.master.specs.ballot.Body.TheVariants.{Activate}
 use Rattle.master.specs.ballot.Config.{Config}
 use Rattle.master.specs.ballot.Message.{Message}
 use Rattle.master.specs.ballot.Sending.{master}
-use Rattle.master.specs.ballot.Cutting.{can_cut}
 use Rattle.master.specs.snapshots.Masters.{MasterOutcome, activated, assigned}
 use Rattle.master.specs.snapshots.World.{messages, recorded}
 use Rattle.byte_world.specs.broker_base.Command.{Command}
@@ -15,36 +14,12 @@ use Rattle.byte_world.specs.world_base.declared.item.Item.{Item}
 use Rattle.byte_world.specs.world_base.declared.item.Item.TheVariants.{Cut, Peer}
 use Rattle.byte_world.specs.world_base.declared.Port.{Port}
 use Rattle.byte_world.specs.world_base.Handing.{answer_of, bytes_of, listed_at}
-use Rattle.byte_world.specs.world_base.Turns.{has_room}
 use Rattle.byte_world.specs.node_moves.Moves.{NodeCall, done}
 use Rattle.byte_world.specs.node_moves.Moves.NodeCall.{takes, gives}
 use Rattle.byte_world.specs.node_group.Group.{Group}
 use Rattle.byte_world.specs.Goes.{Does}
 use Rattle.world_nodes.specs.Nodes.{NodesState, StandsFor}
-
--- ---- which nodes run
-
-abbrev pub unless_stopped : Option CountedCore → Option CountedCore
-unless_stopped None = None
-unless_stopped (Some c) = if c.core.replica.state.stopped then None else Some c
-
--- the node of a number, if it exists and has not stopped
-abbrev pub running : List CountedCore → ℕ → Option CountedCore
-running nodes zero = None
-running nodes (suc at) = unless_stopped (slice_get nodes at)
-
--- .. and if it exists
-abbrev pub node_of : List CountedCore → ℕ → Option CountedCore
-node_of nodes zero = None
-node_of nodes (suc at) = slice_get nodes at
-
--- .. and if it runs and has something to cut
-abbrev pub unless_whole : Option CountedCore → Option CountedCore
-unless_whole None = None
-unless_whole (Some c) = if can_cut c.core.replica.state then Some c else None
-
-abbrev pub cutting : List CountedCore → ℕ → Option CountedCore
-cutting nodes node = unless_whole (running nodes node)
+use Rattle.world_nodes.specs.Running.{running, node_of, cutting}
 
 -- ---- a call of a node
 
@@ -62,14 +37,6 @@ pub record TakesExactly (node : ℕ) (item : Item) (old new : NodesState) : Type
   pub core : CountedCore
   pub runs : running old.nodes node ≡ Some core
   pub is : new ≡ behind_deed (node - 1) core (takes item) old
-
--- .. and if it serves clients and its log has room
-abbrev pub unless_full : Option CountedCore → Option CountedCore
-unless_full None = None
-unless_full (Some c) = if has_room c.core then Some c else None
-
-abbrev pub proposing : List CountedCore → ℕ → Option CountedCore
-proposing nodes node = unless_full (running nodes node)
 
 -- The node of this number had something to cut, and took just that item; what it had applied is in
 -- the record.

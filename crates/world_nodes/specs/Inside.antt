@@ -19,7 +19,7 @@ use Rattle.byte_world.specs.world_base.LossyStep.{RunsOn}
 use Rattle.byte_world.specs.world_base.Step.{node_step}
 use Rattle.master.specs.Inside.{IsGroup, ToldIn, held_by}
 use Rattle.byte_world.specs.node_group.Group.{Group, moment_of, replica_of}
-use Rattle.world_nodes.specs.Goes.{running}
+use Rattle.world_nodes.specs.Running.{running}
 use Rattle.world_nodes.specs.Nodes.{NodesState, StandsFor, cores_of}
 
 -- messages were kept after those that were sent, except some that were lost

@@ -1,6 +1,8 @@
 pub mod Nodes
+pub mod Running
 pub mod Goes
 pub mod Steps
+pub mod GroupSteps
 pub mod Quiet
 pub mod Agreed
 pub mod Asking

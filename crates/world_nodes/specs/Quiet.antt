@@ -12,7 +12,7 @@ use Rattle.byte_world.specs.world_base.declared.Port.{Port}
 use Rattle.byte_world.specs.world_base.Core.{CountedCore}
 use Rattle.byte_world.specs.world_base.Handing.{bytes_of, listed_at}
 use Rattle.byte_world.specs.world_base.Losses.{TakesNoMemory}
-use Rattle.world_nodes.specs.Goes.{node_of, running}
+use Rattle.world_nodes.specs.Running.{node_of, running}
 use Rattle.world_nodes.specs.Nodes.{NodesState}
 
 -- The node of this number runs, and the item takes no memory there. It has no failed connection

@@ -16,11 +16,10 @@ use Rattle.byte_world.specs.world_base.declared.item.Item.TheVariants.{Cut, Expe
 use Rattle.byte_world.specs.world_base.declared.Port.{Port}
 use Rattle.byte_world.specs.world_base.Core.{CountedCore}
 use Rattle.byte_world.specs.world_base.LossyStep.{RunsOn}
-use Rattle.byte_world.specs.node_moves.Moves.{NodeCall}
 use Rattle.byte_world.specs.node_moves.Moves.NodeCall.{takes}
-use Rattle.byte_world.specs.node_group.Group.{Group}
-use Rattle.world_nodes.specs.Goes.{Acts, AnswersFor, GivesExactly, GoesBy, HandsOver, behind_answer, behind_deed, behind_giving, cutting, running}
-use Rattle.world_nodes.specs.Nodes.{NodesState, StandsFor}
+use Rattle.world_nodes.specs.Goes.{AnswersFor, GivesExactly, HandsOver, behind_answer, behind_deed, behind_giving}
+use Rattle.world_nodes.specs.Running.{cutting, running}
+use Rattle.world_nodes.specs.Nodes.{NodesState}
 
 -- the count is exact as long as it is below its greatest number
 abbrev pub LosesNothing : NodesState → NodesState → Type 0
@@ -118,27 +117,3 @@ abbrev pub HandsIn : ℕ → Port → NodesState → NodesState → List ℕ →
 HandsIn node port old new before behind handed =
     (GivesExactly node port old new × HandsOver node port old before behind × AnswersFor node port old handed)
     ⊎ ((new ≡ forgetful old) × (behind ≡ before) × (handed ≡ answers.Open))
-
--- ---- even if memory runs out, each group that corresponds to the nodes continues in this way, and
--- then corresponds to the nodes after
-
--- by a call of the node at this place; or nothing happened
-abbrev pub ActsOrRests : ℕ → NodeCall → NodesState → NodesState → Type 0
-ActsOrRests at deed old new = Acts at deed old new ⊎ (new ≡ forgetful old)
-
--- by a step of the master, whose message may be lost; or nothing happened
-abbrev pub MasterGoes : NodesState → NodesState → Type 0
-MasterGoes old new = (g : Group) → StandsFor g old → GoesBy None g new
-
-abbrev pub MasterGoesOrRests : NodesState → NodesState → Type 0
-MasterGoesOrRests old new = MasterGoes old new ⊎ (new ≡ forgetful old)
-
--- by a message that reaches the master, or a node
-abbrev pub MasterHears : Body Command → NodesState → NodesState → Type 0
-MasterHears (Activate ballot) old new = MasterGoes old new
-MasterHears _ old new = new ≡ old
-
-abbrev pub ComesOrRests : Option (ℕ × Message Command) → NodesState → NodesState → Type 0
-ComesOrRests None old new = ⊥
-ComesOrRests (Some (zero, message)) old new = MasterHears message.body old new
-ComesOrRests (Some (suc at, message)) old new = ActsOrRests at (takes (Peer message)) old new

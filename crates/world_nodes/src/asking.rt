@@ -5,7 +5,7 @@ ghost use Rattle.master.specs.agreement.MasterState.{refusal};
 ghost use Rattle.master.specs.ballot.Machine.{replay_from};
 ghost use Rattle.byte_world.specs.world_base.Core.{CountedCore, rules};
 ghost use Rattle.world_nodes.specs.Asking.{first_connection, is_present, is_welcome, log_of, welcomes_back};
-ghost use Rattle.world_nodes.specs.Goes.{node_of};
+ghost use Rattle.world_nodes.specs.Running.{node_of};
 
 use crate::nodes::Nodes;
 use byte_world::packet::{ClientId, Connack, Packet};

@@ -7,7 +7,7 @@ use Rattle.client.specs.lists.Lists.{Each, IsPrefixOf}
 use Rattle.client.specs.client_base.declared.kept_publication.KeptPublication.{KeptPublication}
 use Rattle.client.specs.client_base.State.{ClientState, publish_kept}
 use Rattle.client.specs.client_base.History as history
-use Rattle.byte_world.specs.exactly_once.Headline.{accepted_on}
+use Rattle.byte_world.specs.exactly_once.Acceptance.{accepted_on}
 use Rattle.byte_world.specs.exactly_once.Sides.{Connection}
 use Rattle.byte_world.specs.Accepted.{accepted_once}
 use Rattle.byte_world.specs.World.{ClientPipes, Pipe}

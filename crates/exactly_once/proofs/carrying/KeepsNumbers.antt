@@ -10,7 +10,8 @@ use Rattle.client_base.specs.Handled.{handled}
 use Rattle.exactly_once.specs.Sides.{Connection}
 use Rattle.exactly_once.specs.Story.{Story, Happens, count_of}
 use Rattle.exactly_once.specs.Story.Happens.{takes, others_take, receives, opens_anew, loses, disconnects, publishes_one, subscribes, unsubscribes}
-use Rattle.exactly_once.specs.Inside.Shape.{ConnectionInShape, HasShape}
+use Rattle.exactly_once.specs.Inside.Shape.{HasShape}
+use Rattle.exactly_once.specs.Inside.ConnectionShape.{ConnectionInShape}
 use Rattle.exactly_once.proofs.publishing.First.{counted_within}
 use Rattle.exactly_once.proofs.publishing.Grown.{handled_grows}
 use Rattle.exactly_once.proofs.publishing.kept.Numbers.{SameNumbers, same_written, same_counted, same_opened}

@@ -11,8 +11,9 @@ use Rattle.broker_base.proofs.MarksOfPlaces.{AreMarked, past_is_marked}
 use Rattle.client_base.specs.lists.Lists.{Each}
 use Rattle.client_base.proofs.of_lists.Tests.{or_none}
 use Rattle.exactly_once.specs.Sides.{Connection}
-use Rattle.exactly_once.specs.Story.{Story, Told, Happens, any_named, is_packet_of, counted_at, command_of}
-use Rattle.exactly_once.specs.Story.Told.{begins, goes_on, begins_at}
+use Rattle.exactly_once.specs.Story.{Story, Happens, any_named, is_packet_of, counted_at, command_of}
+use Rattle.exactly_once.specs.Told.{Told}
+use Rattle.exactly_once.specs.Told.Told.{begins, goes_on, begins_at}
 use Rattle.exactly_once.specs.Story.Happens.{takes, others_take, receives, opens_anew, loses, disconnects, publishes_one, subscribes, unsubscribes}
 use Rattle.exactly_once.specs.Carried.{carries, connection_named, number_at, publications_of}
 use Rattle.exactly_once.specs.Inside.Shape.{IsSoundStory}

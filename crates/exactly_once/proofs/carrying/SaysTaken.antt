@@ -28,7 +28,8 @@ use Rattle.exactly_once.specs.Sides.{Connection}
 use Rattle.exactly_once.specs.Story.{counted_at, count_of, command_of}
 use Rattle.exactly_once.specs.Carried.{connection_named, number_at, new_numbers}
 use Rattle.exactly_once.specs.Inside.Projections.{forward_of_own, forward_of_one, backward_of_own, to_come, is_current, link_of_own, as_publisher}
-use Rattle.exactly_once.specs.Inside.Shape.{ConnectionInShape, HasShape}
+use Rattle.exactly_once.specs.Inside.Shape.{HasShape}
+use Rattle.exactly_once.specs.Inside.ConnectionShape.{ConnectionInShape}
 use Rattle.broker_base.proofs.ConnectionNames.{same_itself}
 use Rattle.exactly_once.proofs.places.Owned.{own_owner, none_owns}
 use Rattle.exactly_once.proofs.publishing.First.{story_by}

@@ -22,7 +22,7 @@ use Rattle.broker_base.specs.Output.{Output}
 use Rattle.broker_base.specs.Output.TheVariants.{Send, Close}
 use Rattle.client_base.proofs.of_lists.OfEach.{each_append}
 use Rattle.exactly_once.specs.Story.{is_packet_of}
-use Rattle.exactly_once.specs.Inside.Shape.{is_connack}
+use Rattle.exactly_once.specs.Inside.ConnectionShape.{is_connack}
 
 -- a Connect on this connection
 abbrev pub is_connect_of : Command → ConnectionName → Bool

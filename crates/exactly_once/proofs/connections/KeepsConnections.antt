@@ -5,7 +5,8 @@ use Rattle.client_base.specs.lists.Lists.{Each}
 use Rattle.client_base.proofs.of_lists.OfEach.{each_then}
 use Rattle.exactly_once.specs.Sides.{Connection}
 use Rattle.exactly_once.specs.Story.{Story, Happens}
-use Rattle.exactly_once.specs.Inside.Shape.{ConnectionInShape, HasShape}
+use Rattle.exactly_once.specs.Inside.Shape.{HasShape}
+use Rattle.exactly_once.specs.Inside.ConnectionShape.{ConnectionInShape}
 use Rattle.exactly_once.proofs.publishing.kept.KeepsCounts.{CountsOf, events_keep_counts}
 use Rattle.exactly_once.proofs.publishing.kept.KeepsRows.{RowsOf, events_keep_rows}
 use Rattle.exactly_once.proofs.connections.KeepsWritten.{WritesOf, events_keep_written}

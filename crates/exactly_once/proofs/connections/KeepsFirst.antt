@@ -23,7 +23,8 @@ use Rattle.client_base.specs.Written.{writes_first}
 use Rattle.client_base.specs.Called.{written_for}
 use Rattle.exactly_once.specs.Story.Happens.{takes, others_take, receives, opens_anew, loses, disconnects, publishes_one, subscribes, unsubscribes}
 use Rattle.exactly_once.specs.Inside.Projections.{backward_of_own}
-use Rattle.exactly_once.specs.Inside.Shape.{ConnackFirst, ConnectionInShape, NamesApart, HasShape}
+use Rattle.exactly_once.specs.Inside.Shape.{NamesApart, HasShape}
+use Rattle.exactly_once.specs.Inside.ConnectionShape.{ConnackFirst, ConnectionInShape}
 use Rattle.exactly_once.proofs.publishing.AtPlaces.{put_more}
 use Rattle.exactly_once.proofs.publishing.Elsewhere.{NoneSent, connect_none}
 use Rattle.exactly_once.proofs.publishing.PacketAnswers.{packet_none}

@@ -15,7 +15,8 @@ use Rattle.exactly_once.specs.Story.{Story, Happens, counted_at}
 use Rattle.client_base.specs.Called.{opens}
 use Rattle.client_base.specs.Written.{writes_first}
 use Rattle.exactly_once.specs.Story.Happens.{takes, others_take, receives, opens_anew, loses, disconnects, publishes_one, subscribes, unsubscribes}
-use Rattle.exactly_once.specs.Inside.Shape.{is_connect, ConnectionInShape, HeldInShape, HasShape}
+use Rattle.exactly_once.specs.Inside.Shape.{HeldInShape, HasShape}
+use Rattle.exactly_once.specs.Inside.ConnectionShape.{is_connect, ConnectionInShape}
 use Rattle.exactly_once.proofs.publishing.Grown.{IsLater, Grown, handled_grows}
 use Rattle.exactly_once.proofs.connections.Silent.{StaysSilent, handled_silent}
 

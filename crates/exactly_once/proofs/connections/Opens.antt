@@ -21,7 +21,7 @@ use Rattle.client_base.specs.Keeper.{Written}
 use Rattle.exactly_once.specs.Sides.{Connection}
 use Rattle.exactly_once.specs.Story.{command_of}
 use Rattle.exactly_once.specs.Inside.Projections.{backward_of_own}
-use Rattle.exactly_once.specs.Inside.Shape.{is_connack, no_connacks, ConnackFirst, ConnectionInShape}
+use Rattle.exactly_once.specs.Inside.ConnectionShape.{is_connack, no_connacks, ConnackFirst, ConnectionInShape}
 use Rattle.broker_base.proofs.ConnectionNames.{same_itself}
 use Rattle.exactly_once.proofs.places.Counts.{current_counted}
 use Rattle.exactly_once.proofs.publishing.AtPlaces.{put_more}

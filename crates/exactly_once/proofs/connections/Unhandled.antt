@@ -5,7 +5,7 @@ use Rattle.std.proofs.lemmas.Bool.{both_ways}
 use Rattle.client_base.specs.packet.declared.connack.Connack.{Connack}
 use Rattle.client_base.specs.packet.declared.packet.Packet.{Packet}
 use Rattle.client_base.specs.packet.declared.packet.Packet.TheVariants as packets
-use Rattle.exactly_once.specs.Inside.Shape.{is_connack, no_connacks, ConnackFirst}
+use Rattle.exactly_once.specs.Inside.ConnectionShape.{is_connack, no_connacks, ConnackFirst}
 
 -- none of these is one
 not_there : (put : List Packet) (n : ℕ) (connack : Connack) → no_connacks put → slice_get put n ≡ Some (packets.Connack connack) → ⊥

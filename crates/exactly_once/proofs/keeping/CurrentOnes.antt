@@ -16,7 +16,8 @@ use Rattle.client_base.specs.Keeper.{Written}
 use Rattle.exactly_once.specs.Sides.{Connection}
 use Rattle.exactly_once.specs.Story.{Story, any_named, names_client, command_of, counted_at}
 use Rattle.client_base.specs.Written.{writes_first}
-use Rattle.exactly_once.specs.Inside.Shape.{ConnackFirst, ConnectionInShape, LastIsCurrent, NewestIsServed, NamesApart, HasShape}
+use Rattle.exactly_once.specs.Inside.Shape.{LastIsCurrent, NewestIsServed, NamesApart, HasShape}
+use Rattle.exactly_once.specs.Inside.ConnectionShape.{ConnackFirst, ConnectionInShape}
 use Rattle.broker_base.proofs.ConnectionNames.{same_name}
 use Rattle.exactly_once.proofs.places.After.{current_opens}
 use Rattle.exactly_once.proofs.publishing.Last.{each_there, is_named}

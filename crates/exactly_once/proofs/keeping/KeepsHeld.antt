@@ -25,7 +25,8 @@ use Rattle.exactly_once.specs.Story.{Story, Happens, any_named, is_packet_of, co
 use Rattle.client_base.specs.Written.{writes_first}
 use Rattle.client_base.specs.Called.{written_for, adds_own}
 use Rattle.exactly_once.specs.Story.Happens.{takes, others_take, receives, opens_anew, loses, disconnects, publishes_one, subscribes, unsubscribes}
-use Rattle.exactly_once.specs.Inside.Shape.{is_connack, ConnectionInShape, HeldInShape, IsSoundStory}
+use Rattle.exactly_once.specs.Inside.Shape.{HeldInShape, IsSoundStory}
+use Rattle.exactly_once.specs.Inside.ConnectionShape.{is_connack, ConnectionInShape}
 use Rattle.exactly_once.proofs.publishing.Last.{each_there}
 use Rattle.exactly_once.proofs.subscribing.events.OtherConnects.{at_connect}
 use Rattle.exactly_once.proofs.keeping.Connacks.{IsAsked, own_sends, other_sends, put_each}

@@ -14,7 +14,8 @@ use Rattle.exactly_once.specs.Story.{Story, Happens}
 use Rattle.client_base.specs.Called.{new_connection, written_for}
 use Rattle.client_base.specs.Written.{writes_first}
 use Rattle.exactly_once.specs.Story.Happens.{takes, others_take, receives, opens_anew, loses, disconnects, publishes_one, subscribes, unsubscribes}
-use Rattle.exactly_once.specs.Inside.Shape.{ConnectionInShape, LastIsCurrent, NewestIsServed, NamesApart, HasShape, IsSoundStory}
+use Rattle.exactly_once.specs.Inside.Shape.{LastIsCurrent, NewestIsServed, NamesApart, HasShape, IsSoundStory}
+use Rattle.exactly_once.specs.Inside.ConnectionShape.{ConnectionInShape}
 use Rattle.exactly_once.proofs.subscribing.Newest.{stays_or_none}
 use Rattle.exactly_once.proofs.subscribing.Given.{stays_handled}
 use Rattle.exactly_once.proofs.keeping.CurrentOnes.{IsTopOne, top_one, last_one, top_stays, none_opened, one_written, one_taken, one_handled, some_taken, one_new}

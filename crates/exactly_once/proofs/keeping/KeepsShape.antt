@@ -5,7 +5,8 @@ use Rattle.broker_base.specs.Past.{session_of}
 use Rattle.client_base.specs.lists.Lists.{Each}
 use Rattle.exactly_once.specs.Story.{Story, Happens}
 use Rattle.exactly_once.specs.Story.Happens.{takes, others_take, receives, opens_anew, loses, disconnects, publishes_one, subscribes, unsubscribes}
-use Rattle.exactly_once.specs.Inside.Shape.{ConnectionInShape, HasShape, IsSoundStory}
+use Rattle.exactly_once.specs.Inside.Shape.{HasShape, IsSoundStory}
+use Rattle.exactly_once.specs.Inside.ConnectionShape.{ConnectionInShape}
 use Rattle.exactly_once.proofs.places.After.{IsKeptSession}
 use Rattle.exactly_once.proofs.places.Owned.{NobodyElse}
 use Rattle.exactly_once.proofs.publishing.kept.KeepsCalls.{events_keep_own}

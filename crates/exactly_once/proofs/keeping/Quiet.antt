@@ -21,7 +21,7 @@ use Rattle.broker_base.specs.Output.{Output}
 use Rattle.broker_base.specs.Output.TheVariants.{Send, Close}
 use Rattle.client_base.proofs.of_lists.OfEach.{each_append}
 use Rattle.exactly_once.specs.Sends.{sends_to}
-use Rattle.exactly_once.specs.Inside.Shape.{is_connack}
+use Rattle.exactly_once.specs.Inside.ConnectionShape.{is_connack}
 
 -- an answer that is no CONNACK
 abbrev pub IsQuiet : Output → Type 0

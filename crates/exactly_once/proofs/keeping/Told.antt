@@ -2,8 +2,9 @@
 -- session's entries.
 use Rattle.broker_base.specs.Place.{Client, Limits}
 use Rattle.broker_base.specs.QuietLaws.{IsSteady}
-use Rattle.exactly_once.specs.Story.{Story, Told}
-use Rattle.exactly_once.specs.Headline.{AcceptedInOrder}
+use Rattle.exactly_once.specs.Story.{Story}
+use Rattle.exactly_once.specs.Told.{Told}
+use Rattle.exactly_once.specs.Acceptance.{AcceptedInOrder}
 use Rattle.exactly_once.specs.Inside.Shape.{EventKeepsShape, IsSoundStory}
 use Rattle.exactly_once.proofs.connections.KeepsConnections.{events_keep_connections}
 use Rattle.exactly_once.proofs.keeping.KeepsShape.{events_keep_rest}

@@ -23,7 +23,8 @@ use Rattle.exactly_once.specs.Story.{Story, Happens, any_named, is_packet_of, co
 use Rattle.client_base.specs.Written.{writes_first}
 use Rattle.client_base.specs.Called.{written_for}
 use Rattle.exactly_once.specs.Story.Happens.{takes, others_take, receives, opens_anew, loses, disconnects, publishes_one, subscribes, unsubscribes}
-use Rattle.exactly_once.specs.Inside.Shape.{is_connack, IsMeant, IsWelcomed, AreWelcomed, ConnectionInShape, IsSoundStory}
+use Rattle.exactly_once.specs.Inside.Shape.{IsMeant, IsWelcomed, AreWelcomed, IsSoundStory}
+use Rattle.exactly_once.specs.Inside.ConnectionShape.{is_connack, ConnectionInShape}
 use Rattle.exactly_once.proofs.places.After.{IsKeptSession, IsSpared, session_spared, session_opens}
 use Rattle.exactly_once.proofs.publishing.kept.KeepsNames.{events_keep_session}
 use Rattle.exactly_once.proofs.publishing.Last.{each_there}

@@ -20,7 +20,7 @@ use Rattle.client_base.specs.Handshakes.{at_pubrec, at_pubcomp, is_sent_with}
 use Rattle.client_base.specs.session_base.Identifiers.{without_id}
 use Rattle.exactly_once.specs.Story.{with_side}
 use Rattle.exactly_once.specs.Inside.Projections.{forward_of_own, backward_of_own, to_be_taken, is_current, as_publisher, GoesTo}
-use Rattle.exactly_once.specs.Inside.Shape.{ConnectionInShape}
+use Rattle.exactly_once.specs.Inside.ConnectionShape.{ConnectionInShape}
 use Rattle.exactly_once.proofs.publishing.Links.{link_by, Reaches, hears_one}
 use Rattle.exactly_once.proofs.publishing.Own.{items_released, items_finished, sent_then}
 use Rattle.exactly_once.proofs.publishing.Written.{dropped_next}

@@ -14,7 +14,7 @@ use Rattle.exactly_once.specs.Sides.{Connection}
 use Rattle.client_base.specs.Keeper.{Keeper}
 use Rattle.exactly_once.specs.Carried.{carries, more_by, new_numbers}
 use Rattle.exactly_once.specs.Inside.Projections.{backward_of_own, to_come, last_confirmed, as_publisher, GoesTo}
-use Rattle.exactly_once.specs.Inside.Shape.{ConnectionInShape}
+use Rattle.exactly_once.specs.Inside.ConnectionShape.{ConnectionInShape}
 use Rattle.exactly_once.proofs.publishing.Links.{link_by, current_last, forward_last, backward_last, link_is, Reaches, reaches_itself, receiver_goes, goes_of}
 use Rattle.exactly_once.proofs.publishing.kept.Numbers.{SameNumbers, same_numbers}
 use Rattle.exactly_once.proofs.publishing.Written.{backward_more}

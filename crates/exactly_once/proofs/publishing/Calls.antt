@@ -17,7 +17,8 @@ use Rattle.exactly_once.specs.Story.{Story, count_of}
 use Rattle.client_base.specs.Called.{new_connection}
 use Rattle.client_base.specs.Written.{writes_first}
 use Rattle.exactly_once.specs.Inside.Projections.{items_of_own, forward_of_own, backward_of_own, to_come, to_be_taken, is_current, link_of_own, last_confirmed, as_publisher, GoesTo}
-use Rattle.exactly_once.specs.Inside.Shape.{HeldInShape, ConnectionInShape}
+use Rattle.exactly_once.specs.Inside.Shape.{HeldInShape}
+use Rattle.exactly_once.specs.Inside.ConnectionShape.{ConnectionInShape}
 use Rattle.exactly_once.proofs.publishing.Links.{link_by, current_last, forward_last, backward_last, link_is, reaches_itself, goes_of, sender_goes}
 use Rattle.exactly_once.proofs.publishing.kept.Numbers.{same_numbers, same_opened}
 use Rattle.exactly_once.proofs.publishing.First.{story_by, first_link, goes_first, leaves_first}

@@ -20,7 +20,7 @@ use Rattle.client_base.specs.Handshakes.{at_puback, takes_in}
 use Rattle.client_base.specs.session_base.Identifiers.{without_id}
 use Rattle.exactly_once.specs.Story.{with_side}
 use Rattle.exactly_once.specs.Inside.Projections.{items_of_own, forward_of_own, backward_of_own, as_publisher, GoesTo}
-use Rattle.exactly_once.specs.Inside.Shape.{ConnectionInShape}
+use Rattle.exactly_once.specs.Inside.ConnectionShape.{ConnectionInShape}
 use Rattle.exactly_once.proofs.publishing.Own.{items_acknowledged}
 use Rattle.exactly_once.proofs.publishing.Written.{dropped_next}
 use Rattle.exactly_once.proofs.publishing.First.{story_by, after_by, quiet_first, leaves_first}

@@ -8,7 +8,7 @@ use Rattle.client_base.specs.Keeper.{Written, new_keeper}
 use Rattle.client_base.specs.Written.{writes_first}
 use Rattle.exactly_once.specs.Sides.{Connection}
 use Rattle.exactly_once.specs.Story.{counted_at}
-use Rattle.exactly_once.specs.Headline.{two_entries, accepted_on}
+use Rattle.exactly_once.specs.Acceptance.{two_entries, accepted_on}
 use Rattle.exactly_once.specs.InStep.{is_at, opened_in, entries_in, accepted_in}
 use Rattle.exactly_once.specs.Lives.{AcceptedInSession}
 use Rattle.exactly_once.proofs.sessions.Beside.{kept_of, with_connections}

@@ -18,8 +18,9 @@ use Rattle.client_base.specs.Keeper.{Keeper, ids_in_use}
 use Rattle.client_base.specs.Called.{opens}
 use Rattle.exactly_once.specs.Sides.{Connection}
 use Rattle.exactly_once.specs.Sends.{sends_to, put_to}
-use Rattle.exactly_once.specs.Story.{Told, command_of, unserved}
-use Rattle.exactly_once.specs.Story.Told.{goes_on}
+use Rattle.exactly_once.specs.Story.{command_of}
+use Rattle.exactly_once.specs.Told.{Told, unserved}
+use Rattle.exactly_once.specs.Told.Told.{goes_on}
 use Rattle.exactly_once.specs.Story.Happens.{takes}
 use Rattle.exactly_once.specs.InStep.{opens_on, has_begun, began_again}
 use Rattle.exactly_once.specs.Inside.Shape.{NamesApart}

@@ -14,8 +14,9 @@ use Rattle.client_base.specs.Called.{new_connection}
 use Rattle.client_base.specs.Handled.{handled}
 use Rattle.exactly_once.specs.Sides.{Connection, Side}
 use Rattle.exactly_once.specs.Sends.{put_to}
-use Rattle.exactly_once.specs.Story.{Told, AreUnsent, unserved, count_of, any_named}
-use Rattle.exactly_once.specs.Story.Told.{begins_at, goes_on}
+use Rattle.exactly_once.specs.Story.{count_of, any_named}
+use Rattle.exactly_once.specs.Told.{Told, AreUnsent, unserved}
+use Rattle.exactly_once.specs.Told.Told.{begins_at, goes_on}
 use Rattle.exactly_once.specs.Story.Happens.{opens_anew, loses}
 use Rattle.exactly_once.specs.Inside.Shape.{NamesApart}
 use Rattle.exactly_once.proofs.sessions.Beside.{kept_of, with_connections, none_kept}

@@ -13,8 +13,9 @@ use Rattle.client_base.specs.Handled.{handled, lost}
 use Rattle.client_base.specs.Written.{plain, writes_first, publishes}
 use Rattle.exactly_once.specs.Sides.{Connection, Side}
 use Rattle.exactly_once.specs.Sends.{sends_to, put_to}
-use Rattle.exactly_once.specs.Story.{Story, Told, Happens, command_of, counted_at, any_named, is_packet_of, with_side, names_client}
-use Rattle.exactly_once.specs.Story.Told.{goes_on}
+use Rattle.exactly_once.specs.Story.{Story, Happens, command_of, counted_at, any_named, is_packet_of, with_side, names_client}
+use Rattle.exactly_once.specs.Told.{Told}
+use Rattle.exactly_once.specs.Told.Told.{goes_on}
 use Rattle.exactly_once.specs.Story.Happens.{takes, others_take, receives, opens_anew, loses, disconnects, publishes_one, subscribes, unsubscribes}
 use Rattle.exactly_once.specs.InStep.{began_again, IsInStep, WasWelcome}
 use Rattle.exactly_once.specs.Inside.Shape.{NamesApart}

@@ -17,10 +17,11 @@ use Rattle.broker_base.proofs.ConnectionsOfSessions.{same_turned}
 use Rattle.client_base.specs.Keeper.{Keeper}
 use Rattle.client_base.specs.Called.{opens}
 use Rattle.exactly_once.specs.Sides.{Connection}
-use Rattle.exactly_once.specs.Story.{Told, any_named, command_of, Story}
-use Rattle.exactly_once.specs.Story.Told.{goes_on}
+use Rattle.exactly_once.specs.Story.{any_named, command_of, Story}
+use Rattle.exactly_once.specs.Told.{Told}
+use Rattle.exactly_once.specs.Told.Told.{goes_on}
 use Rattle.exactly_once.specs.Story.Happens.{takes}
-use Rattle.exactly_once.specs.Headline.{accepted_on}
+use Rattle.exactly_once.specs.Acceptance.{accepted_on}
 use Rattle.exactly_once.specs.InStep.{has_begun, opens_on, is_at, opened_in, accepted_in}
 use Rattle.exactly_once.specs.Inside.Shape.{NamesApart}
 use Rattle.exactly_once.proofs.Takes.{same_name_self}

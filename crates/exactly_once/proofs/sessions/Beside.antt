@@ -13,8 +13,9 @@ use Rattle.client_base.specs.Keeper.{Written, Keeper}
 use Rattle.client_base.specs.Called.{written_for}
 use Rattle.client_base.specs.Written.{plain, writes_first}
 use Rattle.exactly_once.specs.Sides.{Connection}
-use Rattle.exactly_once.specs.Story.{Story, Told, Happens, command_of, counted_at, names_client, any_named, is_packet_of, with_side}
-use Rattle.exactly_once.specs.Story.Told.{goes_on}
+use Rattle.exactly_once.specs.Story.{Story, Happens, command_of, counted_at, names_client, any_named, is_packet_of, with_side}
+use Rattle.exactly_once.specs.Told.{Told}
+use Rattle.exactly_once.specs.Told.Told.{goes_on}
 use Rattle.exactly_once.specs.Story.Happens.{takes, others_take, receives, opens_anew, loses, disconnects, publishes_one, subscribes, unsubscribes}
 use Rattle.exactly_once.specs.Inside.Shape.{NamesApart}
 use Rattle.client_base.specs.Handled.{handled, lost}

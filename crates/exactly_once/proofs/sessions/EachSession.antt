@@ -7,9 +7,9 @@ use Rattle.broker_base.specs.QuietLaws.{IsSteady}
 use Rattle.broker_base.specs.Commands.{place_of, past_from}
 use Rattle.broker_base.specs.Command.TheVariants as commands
 use Rattle.exactly_once.specs.Story.{Story, Happens, no_story}
-use Rattle.exactly_once.specs.Story.Told.{begins}
+use Rattle.exactly_once.specs.Told.Told.{begins}
 use Rattle.exactly_once.specs.InStep.{IsInStep, entries_in, accepted_in}
-use Rattle.exactly_once.specs.Headline.{two_entries}
+use Rattle.exactly_once.specs.Acceptance.{two_entries}
 use Rattle.exactly_once.specs.Lives.{Lived, AcceptsInEachSession}
 use Rattle.exactly_once.specs.Lives.Lived.{opens, goes_on, is_expelled}
 use Rattle.exactly_once.proofs.sessions.StepsBefore.{in_step_before, in_step_expelled}

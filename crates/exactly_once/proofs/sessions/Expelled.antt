@@ -15,7 +15,7 @@ use Rattle.client_base.specs.Keeper.{Keeper}
 use Rattle.exactly_once.specs.Sides.{Connection}
 use Rattle.exactly_once.specs.Sends.{put_to}
 use Rattle.exactly_once.specs.Story.{Story}
-use Rattle.exactly_once.specs.Story.Told.{goes_on}
+use Rattle.exactly_once.specs.Told.Told.{goes_on}
 use Rattle.exactly_once.specs.Story.Happens.{others_take}
 use Rattle.exactly_once.specs.InStep.{has_begun, began_again, AreWelcome, IsInStep, opens_on, opened_in}
 use Rattle.exactly_once.proofs.places.After.{IsKeptSession}

@@ -13,7 +13,7 @@ use Rattle.client_base.specs.Keeper.{Own, Keeper, ids_in_use}
 use Rattle.client_base.specs.Called.{adds_own}
 use Rattle.client_base.specs.Handled.{handled, handled_online, handled_first, lost}
 use Rattle.exactly_once.specs.Sides.{Side}
-use Rattle.exactly_once.specs.Story.{AreUnsent, unserved}
+use Rattle.exactly_once.specs.Told.{AreUnsent, unserved}
 use Rattle.exactly_once.proofs.publishing.kept.KeepsCalls.{ids_next}
 use Rattle.exactly_once.proofs.subscribing.Given.{one_handled}
 use Rattle.exactly_once.proofs.keeping.Settled.{leaves_online}

@@ -11,7 +11,7 @@ use Rattle.broker_base.specs.Past.{accepts, session_of, session_start, begins}
 use Rattle.broker_base.specs.Times.{entries_of}
 use Rattle.exactly_once.specs.Sides.{Connection}
 use Rattle.exactly_once.specs.Story.{counted_at}
-use Rattle.exactly_once.specs.Headline.{accepted_on}
+use Rattle.exactly_once.specs.Acceptance.{accepted_on}
 use Rattle.exactly_once.specs.InStep.{has_begun, opens_on, is_at, opened_in, entries_in, accepted_in}
 use Rattle.exactly_once.proofs.places.After.{IsKeptSession, IsSpared}
 use Rattle.exactly_once.proofs.publishing.kept.KeepsNames.{OpensKept}

@@ -8,8 +8,9 @@ use Rattle.broker_base.specs.QuietLaws.{IsSteady}
 use Rattle.broker_base.specs.Times.{entries_of}
 use Rattle.client_base.specs.Keeper.{Keeper}
 use Rattle.exactly_once.specs.Sides.{Connection}
-use Rattle.exactly_once.specs.Story.{Story, Told}
-use Rattle.exactly_once.specs.Headline.{two_entries}
+use Rattle.exactly_once.specs.Story.{Story}
+use Rattle.exactly_once.specs.Told.{Told}
+use Rattle.exactly_once.specs.Acceptance.{two_entries}
 use Rattle.exactly_once.specs.InStep.{is_at, entries_in}
 use Rattle.exactly_once.proofs.keeping.Told.{told_stories_accept}
 use Rattle.exactly_once.proofs.sessions.Beside.{kept_of, IsHeadKept, with_connections}

@@ -10,8 +10,8 @@ use Rattle.client_base.specs.Keeper.{all_own}
 use Rattle.exactly_once.specs.Sides.{Connection}
 use Rattle.exactly_once.specs.Story.{Story, Happens, no_story, counted_at, command_of}
 use Rattle.exactly_once.specs.Story.Happens.{takes, others_take, receives, opens_anew, loses, disconnects, publishes_one, subscribes, unsubscribes}
-use Rattle.exactly_once.specs.Story.{Told}
-use Rattle.exactly_once.specs.Story.Told.{begins}
+use Rattle.exactly_once.specs.Told.{Told}
+use Rattle.exactly_once.specs.Told.Told.{begins}
 use Rattle.exactly_once.specs.Carried.{publications_of, new_numbers}
 use Rattle.exactly_once.specs.InStep.{IsInStep, AreWelcome, IsFirstSession, has_begun, sessions_begun}
 use Rattle.exactly_once.specs.Lives.{Lived, PublishedOverSessions, LivesAreExact}

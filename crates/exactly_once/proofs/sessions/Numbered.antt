@@ -9,7 +9,8 @@ use Rattle.client_base.specs.Keeper.{Own, Keeper, all_own, next_number}
 use Rattle.client_base.specs.OrderLaws.{AreNumbered}
 use Rattle.std.proofs.lemmas.List.{append-nil}
 use Rattle.exactly_once.specs.Sides.{Connection}
-use Rattle.exactly_once.specs.Story.{Story, Told}
+use Rattle.exactly_once.specs.Story.{Story}
+use Rattle.exactly_once.specs.Told.{Told}
 use Rattle.exactly_once.specs.Carried.{new_numbers, published}
 use Rattle.exactly_once.specs.InStep.{sessions_begun}
 use Rattle.exactly_once.specs.Lives.{IsRising}

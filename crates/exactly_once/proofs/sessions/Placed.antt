@@ -14,7 +14,7 @@ use Rattle.exactly_once.specs.Sides.{Connection}
 use Rattle.exactly_once.specs.Sends.{sends_to, put_to}
 use Rattle.exactly_once.specs.Story.{count_of, is_packet_of}
 use Rattle.exactly_once.specs.InStep.{opens_on, opened_in}
-use Rattle.exactly_once.specs.Inside.Shape.{no_connacks}
+use Rattle.exactly_once.specs.Inside.ConnectionShape.{no_connacks}
 use Rattle.exactly_once.proofs.places.After.{session_opens}
 use Rattle.exactly_once.proofs.connections.Answers.{is_connect_of}
 use Rattle.exactly_once.proofs.connections.GoRight.{not_its_connect, place_no_connack, place_nothing}

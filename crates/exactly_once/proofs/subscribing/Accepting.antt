@@ -15,7 +15,8 @@ use Rattle.exactly_once.specs.Sides.{Connection, Side}
 use Rattle.client_base.specs.Written.{plain, writing}
 use Rattle.client_base.specs.Handshakes.{takes_in}
 use Rattle.exactly_once.specs.Story.{Story, with_side}
-use Rattle.exactly_once.specs.Inside.Projections.{published_in, as_subscriber, IsLike, GoesTo}
+use Rattle.exactly_once.specs.Inside.Projections.{IsLike, GoesTo}
+use Rattle.exactly_once.specs.Inside.AsSubscriber.{published_in, as_subscriber}
 use Rattle.exactly_once.proofs.subscribing.events.Handling.{handles_one}
 use Rattle.exactly_once.proofs.subscribing.events.Receiving.{IsNext, counted, next_quiet, next_other}
 

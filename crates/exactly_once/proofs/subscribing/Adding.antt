@@ -15,7 +15,8 @@ use Rattle.exactly_once.specs.Handshake.Moves.{adds}
 use Rattle.exactly_once.specs.Handshake.Run.{stays, goes_on}
 use Rattle.exactly_once.proofs.Exact.{run_then}
 use Rattle.exactly_once.specs.Carried.{is_two}
-use Rattle.exactly_once.specs.Inside.Projections.{items_of, GoesTo}
+use Rattle.exactly_once.specs.Inside.Projections.{GoesTo}
+use Rattle.exactly_once.specs.Inside.AsSubscriber.{items_of}
 use Rattle.exactly_once.proofs.Items.{items_append}
 use Rattle.exactly_once.proofs.Starts.{Starts, rows_started, sending_all, all_starts}
 

@@ -10,7 +10,8 @@ use Rattle.exactly_once.specs.Handshake.Run.{stays}
 use Rattle.client_base.specs.Keeper.{Written}
 use Rattle.exactly_once.specs.Sides.{Connection}
 use Rattle.exactly_once.specs.Story.{Story, counted_at}
-use Rattle.exactly_once.specs.Inside.Projections.{items_of, left_behind, as_subscriber, GoesTo}
+use Rattle.exactly_once.specs.Inside.Projections.{GoesTo}
+use Rattle.exactly_once.specs.Inside.AsSubscriber.{items_of, left_behind, as_subscriber}
 use Rattle.exactly_once.proofs.Items.{items_pubcomp}
 use Rattle.exactly_once.proofs.subscribing.Written.{backward_one}
 use Rattle.exactly_once.proofs.subscribing.Standing.{Stands, stands}

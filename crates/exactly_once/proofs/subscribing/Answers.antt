@@ -17,7 +17,8 @@ use Rattle.broker_base.proofs.QuietPasts.{no_connection, entries_next}
 use Rattle.exactly_once.specs.Handshake.{Forward, publishing}
 use Rattle.exactly_once.specs.Sends.{sends_to}
 use Rattle.exactly_once.specs.Story.{Story}
-use Rattle.exactly_once.specs.Inside.Projections.{forward_of, is_current}
+use Rattle.exactly_once.specs.Inside.Projections.{is_current}
+use Rattle.exactly_once.specs.Inside.AsSubscriber.{forward_of}
 use Rattle.exactly_once.proofs.Deliveries.{started_elsewhere}
 use Rattle.exactly_once.proofs.Packets.{at_packet}
 use Rattle.exactly_once.proofs.Sent.{NoneStartedAt, forward_started}

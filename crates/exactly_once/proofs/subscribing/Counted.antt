@@ -9,8 +9,9 @@ use Rattle.client_base.proofs.of_lists.Tests.{or_right, or_left}
 use Rattle.client_base.specs.Keeper.{Written, Keeper}
 use Rattle.exactly_once.specs.Sides.{Connection}
 use Rattle.exactly_once.specs.Story.{any_named, counted_at}
-use Rattle.exactly_once.specs.Headline.{accepted_on}
-use Rattle.exactly_once.specs.Inside.Projections.{backward_of, to_be_taken, left_behind}
+use Rattle.exactly_once.specs.Acceptance.{accepted_on}
+use Rattle.exactly_once.specs.Inside.Projections.{to_be_taken}
+use Rattle.exactly_once.specs.Inside.AsSubscriber.{backward_of, left_behind}
 use Rattle.exactly_once.specs.Inside.Shape.{NamesApart}
 use Rattle.exactly_once.proofs.subscribing.events.Leaving.{same_name}
 use Rattle.exactly_once.proofs.subscribing.Written.{backward_one, backward_first}

@@ -12,7 +12,8 @@ use Rattle.broker_base.proofs.QueueAfter.{sound_entries}
 use Rattle.broker_base.proofs.QuietPasts.{QuietEntries, quiet_entries}
 use Rattle.exactly_once.specs.Handshake.{publishing}
 use Rattle.exactly_once.specs.Sends.{sends_to}
-use Rattle.exactly_once.specs.Inside.Projections.{forward_of, is_current}
+use Rattle.exactly_once.specs.Inside.Projections.{is_current}
+use Rattle.exactly_once.specs.Inside.AsSubscriber.{forward_of}
 use Rattle.exactly_once.proofs.Deliveries.{deliveries_elsewhere}
 use Rattle.exactly_once.proofs.subscribing.events.Leaving.{same_name}
 use Rattle.exactly_once.proofs.subscribing.Bridge.{forward_made}

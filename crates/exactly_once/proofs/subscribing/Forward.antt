@@ -7,7 +7,7 @@ use Rattle.client_base.specs.packet.declared.packet.Packet.TheVariants as packet
 use Rattle.client_base.specs.session_base.declared.publication.Publication.{Publication}
 use Rattle.client_base.specs.session_base.Publication.{publication_of}
 use Rattle.exactly_once.specs.Handshake.{Forward}
-use Rattle.exactly_once.specs.Inside.Projections.{published_in, forward_of}
+use Rattle.exactly_once.specs.Inside.AsSubscriber.{published_in, forward_of}
 use Rattle.exactly_once.proofs.subscribing.events.Handling.{forward_one, forward_first}
 
 -- one packet in front of two lists

@@ -21,7 +21,8 @@ use Rattle.client_base.specs.Handshakes.{is_sent_with, takes_in, releasing}
 use Rattle.exactly_once.specs.Story.{Story, Happens, counted_at}
 use Rattle.client_base.specs.Written.{writes_first}
 use Rattle.exactly_once.specs.Story.Happens.{takes, others_take, receives, opens_anew, loses, disconnects, publishes_one, subscribes, unsubscribes}
-use Rattle.exactly_once.specs.Inside.Shape.{ConnectionInShape, HasShape}
+use Rattle.exactly_once.specs.Inside.Shape.{HasShape}
+use Rattle.exactly_once.specs.Inside.ConnectionShape.{ConnectionInShape}
 
 -- no more is handled than given
 abbrev pub IsGiven : Limits → Past → Connection → Type 0

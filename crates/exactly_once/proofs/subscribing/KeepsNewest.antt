@@ -22,7 +22,8 @@ use Rattle.exactly_once.specs.Story.{Story, Happens, names_client, command_of, c
 use Rattle.client_base.specs.Called.{new_connection, written_for}
 use Rattle.client_base.specs.Written.{writes_first}
 use Rattle.exactly_once.specs.Story.Happens.{takes, others_take, receives, opens_anew, loses, disconnects, publishes_one, subscribes, unsubscribes}
-use Rattle.exactly_once.specs.Inside.Shape.{ConnectionInShape, NewestIsServed, HasShape}
+use Rattle.exactly_once.specs.Inside.Shape.{NewestIsServed, HasShape}
+use Rattle.exactly_once.specs.Inside.ConnectionShape.{ConnectionInShape}
 use Rattle.exactly_once.proofs.subscribing.Counted.{each_at}
 use Rattle.exactly_once.proofs.subscribing.Given.{stays_handled}
 use Rattle.exactly_once.proofs.subscribing.Newest.{stays_or_none, newest_stays, newest_counted, newest_opened}

@@ -15,9 +15,11 @@ use Rattle.exactly_once.specs.Sends.{sends_to}
 use Rattle.exactly_once.specs.Sides.{Connection}
 use Rattle.client_base.specs.Keeper.{Keeper}
 use Rattle.exactly_once.specs.Story.{Story, any_named}
-use Rattle.exactly_once.specs.Headline.{accepted_on}
-use Rattle.exactly_once.specs.Inside.Projections.{items_of, forward_of, to_come, is_current, held, left_behind, link_to, as_subscriber, GoesTo}
-use Rattle.exactly_once.specs.Inside.Shape.{ConnectionInShape, HasShape}
+use Rattle.exactly_once.specs.Acceptance.{accepted_on}
+use Rattle.exactly_once.specs.Inside.Projections.{to_come, is_current, GoesTo}
+use Rattle.exactly_once.specs.Inside.AsSubscriber.{items_of, forward_of, held, left_behind, link_to, as_subscriber}
+use Rattle.exactly_once.specs.Inside.Shape.{HasShape}
+use Rattle.exactly_once.specs.Inside.ConnectionShape.{ConnectionInShape}
 use Rattle.exactly_once.proofs.Takes.{same_name_self}
 use Rattle.exactly_once.proofs.subscribing.Views.{View, seen, view, link_as, link_is, parted, comes_behind}
 use Rattle.exactly_once.proofs.subscribing.Placed.{placed}

@@ -11,8 +11,9 @@ use Rattle.broker_base.proofs.SoundEntries.{Sound}
 use Rattle.exactly_once.specs.Handshake.{Forward, Backward, Handshake, Run, publishing}
 use Rattle.exactly_once.specs.Sides.{Connection}
 use Rattle.exactly_once.specs.Story.{Story}
-use Rattle.exactly_once.specs.Headline.{accepted_on}
-use Rattle.exactly_once.specs.Inside.Projections.{items_of, held, left_behind, link_to, as_subscriber, GoesTo}
+use Rattle.exactly_once.specs.Acceptance.{accepted_on}
+use Rattle.exactly_once.specs.Inside.Projections.{GoesTo}
+use Rattle.exactly_once.specs.Inside.AsSubscriber.{items_of, held, left_behind, link_to, as_subscriber}
 use Rattle.exactly_once.specs.Inside.Shape.{HasShape}
 use Rattle.exactly_once.proofs.Starts.{sending_all}
 use Rattle.exactly_once.proofs.subscribing.Adding.{rows_at, goes_started}

@@ -18,8 +18,9 @@ use Rattle.exactly_once.specs.Handshake.Run.{stays}
 use Rattle.exactly_once.specs.Sends.{sends_to}
 use Rattle.exactly_once.specs.Sides.{Connection}
 use Rattle.exactly_once.specs.Story.{Story, any_named}
-use Rattle.exactly_once.specs.Headline.{accepted_on}
-use Rattle.exactly_once.specs.Inside.Projections.{forward_of, is_current, left_behind, as_subscriber, GoesTo}
+use Rattle.exactly_once.specs.Acceptance.{accepted_on}
+use Rattle.exactly_once.specs.Inside.Projections.{is_current, GoesTo}
+use Rattle.exactly_once.specs.Inside.AsSubscriber.{forward_of, left_behind, as_subscriber}
 use Rattle.exactly_once.specs.Inside.Shape.{HasShape}
 use Rattle.exactly_once.proofs.subscribing.Adding.{rows_at}
 use Rattle.exactly_once.proofs.subscribing.Views.{View, view, link_as, link_is, grown}

@@ -15,7 +15,7 @@ use Rattle.exactly_once.specs.Items.{Item, has_released}
 use Rattle.client_base.proofs.of_lists.OfEach.{each_append, each_then}
 use Rattle.client_base.proofs.of_lists.Tests.{or_right, or_left, none_or, eq_same}
 use Rattle.exactly_once.specs.Carried.{is_two}
-use Rattle.exactly_once.specs.Inside.Projections.{items_of}
+use Rattle.exactly_once.specs.Inside.AsSubscriber.{items_of}
 use Rattle.exactly_once.proofs.subscribing.Queued.{AreKept}
 
 -- ---- of released items

@@ -18,7 +18,7 @@ use Rattle.exactly_once.specs.Items.{Item, sent}
 use Rattle.client_base.proofs.of_lists.Tests.{eq_same}
 use Rattle.exactly_once.specs.Sends.{sends_to}
 use Rattle.exactly_once.specs.Carried.{is_two}
-use Rattle.exactly_once.specs.Inside.Projections.{items_of, forward_of}
+use Rattle.exactly_once.specs.Inside.AsSubscriber.{items_of, forward_of}
 use Rattle.exactly_once.proofs.Deliveries.{sends_append}
 use Rattle.exactly_once.proofs.Starts.{rows_started}
 use Rattle.exactly_once.proofs.Sent.{NoneStartedAt, forward_publish, sends_publish, forward_started}

@@ -9,8 +9,10 @@ use Rattle.exactly_once.specs.Handshake.{Forward, Backward, Link}
 use Rattle.client_base.specs.Keeper.{Written, Keeper}
 use Rattle.exactly_once.specs.Sides.{Connection}
 use Rattle.client_base.specs.Called.{opens}
-use Rattle.exactly_once.specs.Inside.Projections.{forward_of, backward_of, to_come, to_be_taken, held, if_taken, left_behind, link_to}
-use Rattle.exactly_once.specs.Inside.Shape.{ConnectionInShape, NewestIsServed}
+use Rattle.exactly_once.specs.Inside.Projections.{to_come, to_be_taken}
+use Rattle.exactly_once.specs.Inside.AsSubscriber.{forward_of, backward_of, held, if_taken, left_behind, link_to}
+use Rattle.exactly_once.specs.Inside.Shape.{NewestIsServed}
+use Rattle.exactly_once.specs.Inside.ConnectionShape.{ConnectionInShape}
 
 -- with b still to come on the broker's connection: the client holds none, or that one, or another, and then nothing comes
 abbrev pub Stands : Link Publication → List Backward → Type 0

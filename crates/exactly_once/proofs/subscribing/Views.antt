@@ -11,8 +11,9 @@ use Rattle.exactly_once.specs.Sends.{sends_to, put_to}
 use Rattle.exactly_once.specs.Sides.{Connection}
 use Rattle.client_base.specs.Keeper.{Keeper}
 use Rattle.exactly_once.specs.Story.{any_named}
-use Rattle.exactly_once.specs.Inside.Projections.{forward_of, backward_of, to_come, to_be_taken, held, if_taken, is_current, left_behind, link_to}
-use Rattle.exactly_once.specs.Inside.Shape.{ConnectionInShape}
+use Rattle.exactly_once.specs.Inside.Projections.{to_come, to_be_taken, is_current}
+use Rattle.exactly_once.specs.Inside.AsSubscriber.{forward_of, backward_of, held, if_taken, left_behind, link_to}
+use Rattle.exactly_once.specs.Inside.ConnectionShape.{ConnectionInShape}
 use Rattle.exactly_once.proofs.Starts.{sending_all}
 use Rattle.exactly_once.proofs.Takes.{same_name_self}
 use Rattle.exactly_once.proofs.subscribing.Forward.{forward_append}

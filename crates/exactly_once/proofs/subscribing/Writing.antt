@@ -19,8 +19,10 @@ use Rattle.client_base.specs.Written.{plain, publishes, writes}
 use Rattle.exactly_once.specs.Story.{Story}
 use Rattle.client_base.specs.Called.{adds_own, written_for}
 use Rattle.client_base.specs.Written.{writes_first}
-use Rattle.exactly_once.specs.Inside.Projections.{forward_of, backward_of, to_come, held, if_taken, is_current, link_to, as_subscriber, GoesTo}
-use Rattle.exactly_once.specs.Inside.Shape.{ConnectionInShape, HasShape}
+use Rattle.exactly_once.specs.Inside.Projections.{to_come, is_current, GoesTo}
+use Rattle.exactly_once.specs.Inside.AsSubscriber.{forward_of, backward_of, held, if_taken, link_to, as_subscriber}
+use Rattle.exactly_once.specs.Inside.Shape.{HasShape}
+use Rattle.exactly_once.specs.Inside.ConnectionShape.{ConnectionInShape}
 use Rattle.exactly_once.proofs.subscribing.Written.{taken_same}
 use Rattle.exactly_once.proofs.subscribing.events.Leaving.{left_writes, accepted_writes}
 

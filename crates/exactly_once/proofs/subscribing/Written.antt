@@ -6,7 +6,7 @@ use Rattle.client_base.specs.packet.declared.packet.Packet.TheVariants as packet
 use Rattle.exactly_once.specs.Handshake.{Backward}
 use Rattle.client_base.specs.Keeper.{Own, Written, Keeper}
 use Rattle.client_base.specs.Written.{plain, sent_again, sent_first, resent}
-use Rattle.exactly_once.specs.Inside.Projections.{backward_of}
+use Rattle.exactly_once.specs.Inside.AsSubscriber.{backward_of}
 
 -- one packet in front
 abbrev pub backward_one : Packet → List Backward → List Backward

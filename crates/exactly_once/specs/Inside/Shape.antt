@@ -1,5 +1,5 @@
 -- What every story keeps besides its two handshakes, and what is left to show for each event.
-use Rattle.std.specs.Prelude.{◌≡◌, ◌≤◌, ◌⊎◌, ℕ, zero, suc, Bool, true, false, List, [], ◌∷◌, length, Option, Some, None}
+use Rattle.std.specs.Prelude.{◌≡◌, ◌≤◌, ◌⊎◌, ℕ, suc, Bool, true, false, List, [], ◌∷◌, length, Option, Some, None}
 use Rattle.client_base.specs.packet.declared.connack.Connack.TheVariants as connacks
 use Rattle.client_base.specs.packet.declared.packet.Packet.{Packet}
 use Rattle.client_base.specs.packet.declared.packet.Packet.TheVariants as packets
@@ -7,17 +7,17 @@ use Rattle.client_base.specs.lists.Lists.{has_id, IsDistinct, Each}
 use Rattle.broker_base.specs.Connection.{ConnectionName, same_connection}
 use Rattle.broker_base.specs.Place.{Client, Past, Limits, same_client}
 use Rattle.broker_base.specs.Past.{current_connection, session_of}
-use Rattle.broker_base.specs.Received.{is_exactly_once}
 use Rattle.broker_base.specs.QuietLaws.{IsSteady}
 use Rattle.exactly_once.specs.Items.{has_released}
 use Rattle.exactly_once.specs.HandshakeSides.{IsGood}
 use Rattle.exactly_once.specs.Sends.{put_to}
-use Rattle.client_base.specs.Keeper.{Own, Written, Keeper, ids_in_use}
+use Rattle.client_base.specs.Keeper.{Own, Keeper, ids_in_use}
 use Rattle.exactly_once.specs.Sides.{Connection}
-use Rattle.exactly_once.specs.Story.{Story, Happens, any_named, count_of}
-use Rattle.client_base.specs.Called.{opens}
+use Rattle.exactly_once.specs.Story.{Story, Happens, any_named}
 use Rattle.exactly_once.specs.Carried.{is_two}
-use Rattle.exactly_once.specs.Inside.Projections.{items_of_own, backward_of_own, last_confirmed, as_publisher, as_subscriber, GoesTo}
+use Rattle.exactly_once.specs.Inside.Projections.{items_of_own, last_confirmed, as_publisher, GoesTo}
+use Rattle.exactly_once.specs.Inside.AsSubscriber.{as_subscriber}
+use Rattle.exactly_once.specs.Inside.ConnectionShape.{ConnectionInShape}
 
 -- ---- the client's publications
 
@@ -40,46 +40,6 @@ pub record OwnInShape (keeper : Keeper) : Type 0 where
   pub releases_apart : IsDistinct keeper.releases
   pub releases_are : (id : ℕ) → has_id id keeper.releases ≡ has_released id (items_of_own keeper.own)
   pub online_sent : keeper.is_online ≡ true → none_unsent keeper.own ≡ true
-
--- ---- one connection
-
-abbrev pub is_connack : Packet → Bool
-is_connack (packets.Connack c) = true
-is_connack _ = false
-
-abbrev pub no_connacks : List Packet → Type 0
-no_connacks = Each (λ packet. is_connack packet ≡ false)
-
--- its answers begin with a CONNACK, and have no other; before its Connect is taken there are none
-abbrev pub ConnackFirst : ℕ → List Packet → Type 0
-ConnackFirst zero put = put ≡ []
-ConnackFirst (suc taken) [] = ⊥
-ConnackFirst (suc taken) (first ∷ put) = (is_connack first ≡ true) × no_connacks put
-
-abbrev pub is_connect : Written → Bool
-is_connect w = by w.packet
-  where
-    by : Packet → Bool
-    by (packets.Connect c) = true
-    by _ = false
-
--- a PUBLISH of QoS 2 for which it is not known which publication it carries
-abbrev pub is_two_unnumbered : Packet → Option ℕ → Bool
-is_two_unnumbered (packets.Publish p) None = is_exactly_once p.delivery
-is_two_unnumbered _ _ = false
-
-pub record ConnectionInShape (limits : Limits) (past : Past) (c : Client) (κ : Connection) : Type 0 where
-  pub more : List Written
-  pub written : κ.written ≡ opens c ∷ more
-  pub one_connect : Each (λ w. is_connect w ≡ false) more
-  pub silent : κ.confirmed ≡ false → more ≡ []
-  pub counted : count_of κ.name past ≡ κ.taken
-  pub within : κ.taken ≤ length κ.written
-  pub handled_within : κ.handled ≤ length (put_to limits past κ.name)
-  pub numbers_known : Each (λ w. is_two_unnumbered w.packet w.number ≡ false) κ.written
-  pub connack_first : ConnackFirst κ.taken (put_to limits past κ.name)
-  pub asks_first : κ.taken ≤ 1 → backward_of_own (put_to limits past κ.name) ≡ []
-  pub handled_some : κ.confirmed ≡ true → 1 ≤ κ.handled
 
 -- ---- all of them
 

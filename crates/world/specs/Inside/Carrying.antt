@@ -3,7 +3,8 @@ use Rattle.std.specs.Prelude.{◌≡◌, ◌⊎◌, ◌-◌, ◌==◌, ◌&&◌,
 use Rattle.headline.specs.world_base.declared.Port.{Port}
 use Rattle.headline.specs.world_base.declared.item.Item.TheVariants.{Bytes}
 use Rattle.headline.specs.node_moves.Moves.NodeCall.{takes}
-use Rattle.escaping_nodes.specs.world_nodes.Goes.{Acts, running}
+use Rattle.escaping_nodes.specs.world_nodes.Goes.{Acts}
+use Rattle.escaping_nodes.specs.world_nodes.Running.{running}
 use Rattle.escaping_nodes.specs.world_nodes.Nodes.{NodesState}
 use Rattle.escaping_nodes.specs.world_nodes.Steps.{TakesIn}
 use Rattle.world_events.specs.world_pipes.declared.way.Way.{Way}
@@ -13,7 +14,7 @@ use Rattle.world.specs.declared.connection_slot.ConnectionSlot.{ConnectionSlot}
 use Rattle.world.specs.declared.world.WorldClient.{WorldClient}
 use Rattle.world.specs.Found.{port_of, with_less, with_piped}
 use Rattle.world.specs.Cannot.{IsNoPart}
-use Rattle.world.specs.Doing.{HearsThem}
+use Rattle.world.specs.ClientCalls.{HearsThem}
 use Rattle.world.specs.World.{WorldState}
 
 -- ---- bytes reach a node

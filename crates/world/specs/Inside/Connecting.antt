@@ -8,7 +8,8 @@ use Rattle.headline.specs.world_base.Handing.{listed_at}
 use Rattle.headline.specs.world_base.declared.Port.{Port}
 use Rattle.headline.specs.world_base.declared.item.Item.TheVariants.{Opened}
 use Rattle.headline.specs.node_moves.Moves.NodeCall.{takes}
-use Rattle.escaping_nodes.specs.world_nodes.Goes.{Acts, node_of}
+use Rattle.escaping_nodes.specs.world_nodes.Goes.{Acts}
+use Rattle.escaping_nodes.specs.world_nodes.Running.{node_of}
 use Rattle.escaping_nodes.specs.world_nodes.Nodes.{NodesState}
 use Rattle.escaping_nodes.specs.world_nodes.Steps.{LosesNothing as NodesLoseNothing, TakesIn}
 use Rattle.world_events.specs.world_pipes.Following.{ConnectingFollows, FollowsAll}
@@ -16,7 +17,7 @@ use Rattle.world_events.specs.world_pipes.Piped.{Connects as Opens, Piped}
 use Rattle.world.specs.declared.world.WorldClient.{WorldClient}
 use Rattle.world.specs.Found.{port_of, with_piped}
 use Rattle.world.specs.Gathering.{Gathers}
-use Rattle.world.specs.Doing.{NoneOpens, next_number}
+use Rattle.world.specs.Opening.{NoneOpens, next_number}
 use Rattle.world.specs.World.{WorldState}
 
 -- the node of this number exists, and has a connection at this port or not

@@ -3,7 +3,7 @@ use Rattle.std.specs.Prelude.{◌≡◌, ◌≤◌, ℕ, suc, ◌+◌, ◌-◌, 
 use Rattle.std.specs.List.{position}
 use Rattle.headline.specs.ballot.Serving.{most_places}
 use Rattle.escaping_nodes.specs.ways_out.Deliveries.{way_out}
-use Rattle.escaping_nodes.specs.world_nodes.Goes.{node_of}
+use Rattle.escaping_nodes.specs.world_nodes.Running.{node_of}
 use Rattle.world_events.specs.declared.event.Event.{Event}
 use Rattle.world_events.specs.declared.event.Event.TheVariants as events
 use Rattle.world_events.specs.EscapeEvents.{answer_events, client_events}

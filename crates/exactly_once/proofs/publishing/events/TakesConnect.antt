@@ -17,7 +17,8 @@ use Rattle.exactly_once.specs.Sides.{Connection}
 use Rattle.exactly_once.specs.Story.{counted_at, command_of}
 use Rattle.client_base.specs.Called.{opens}
 use Rattle.exactly_once.specs.Inside.Projections.{last_confirmed, as_publisher, GoesTo}
-use Rattle.exactly_once.specs.Inside.Shape.{ConnackFirst, ConnectionInShape, HasShape}
+use Rattle.exactly_once.specs.Inside.Shape.{HasShape}
+use Rattle.exactly_once.specs.Inside.ConnectionShape.{ConnackFirst, ConnectionInShape}
 use Rattle.broker_base.proofs.ConnectionNames.{same_name}
 use Rattle.exactly_once.proofs.places.Counts.{current_counted}
 use Rattle.exactly_once.proofs.places.After.{current_stays, current_opens, received_stays, received_opens}

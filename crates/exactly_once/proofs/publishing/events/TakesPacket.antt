@@ -18,7 +18,8 @@ use Rattle.exactly_once.specs.Sides.{Connection}
 use Rattle.exactly_once.specs.Story.{counted_at}
 use Rattle.client_base.specs.Called.{opens}
 use Rattle.exactly_once.specs.Inside.Projections.{forward_of_one, last_confirmed, as_publisher, GoesTo}
-use Rattle.exactly_once.specs.Inside.Shape.{ConnectionInShape, HasShape, LastIsCurrent, is_two_unnumbered}
+use Rattle.exactly_once.specs.Inside.Shape.{HasShape, LastIsCurrent}
+use Rattle.exactly_once.specs.Inside.ConnectionShape.{ConnectionInShape, is_two_unnumbered}
 use Rattle.exactly_once.proofs.Packets.{at_packet}
 use Rattle.broker_base.proofs.ConnectionNames.{same_itself}
 use Rattle.exactly_once.proofs.places.Sessions.{current_has_session}

@@ -18,7 +18,8 @@ use Rattle.exactly_once.specs.Story.{Story, Happens, any_named, counted_at, comm
 use Rattle.client_base.specs.Called.{opens, written_for}
 use Rattle.client_base.specs.Written.{writes_first}
 use Rattle.exactly_once.specs.Story.Happens.{takes, others_take, receives, opens_anew, loses, disconnects, publishes_one, subscribes, unsubscribes}
-use Rattle.exactly_once.specs.Inside.Shape.{NamesApart, ConnectionInShape, IsSoundStory}
+use Rattle.exactly_once.specs.Inside.Shape.{NamesApart, IsSoundStory}
+use Rattle.exactly_once.specs.Inside.ConnectionShape.{ConnectionInShape}
 use Rattle.exactly_once.proofs.places.Counts.{only_there}
 use Rattle.exactly_once.proofs.places.After.{IsKeptSession, IsSpared, session_spared, session_opens}
 use Rattle.exactly_once.proofs.publishing.Grown.{handled_grows}

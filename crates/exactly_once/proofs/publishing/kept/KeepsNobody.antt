@@ -19,7 +19,8 @@ use Rattle.exactly_once.specs.Story.{Story, Happens, any_named, is_packet_of, co
 use Rattle.client_base.specs.Called.{opens, written_for, new_connection}
 use Rattle.client_base.specs.Written.{writes_first}
 use Rattle.exactly_once.specs.Story.Happens.{takes, others_take, receives, opens_anew, loses, disconnects, publishes_one, subscribes, unsubscribes}
-use Rattle.exactly_once.specs.Inside.Shape.{ConnectionInShape, IsSoundStory}
+use Rattle.exactly_once.specs.Inside.Shape.{IsSoundStory}
+use Rattle.exactly_once.specs.Inside.ConnectionShape.{ConnectionInShape}
 use Rattle.broker_base.proofs.ConnectionNames.{same_name}
 use Rattle.exactly_once.proofs.places.Counts.{only_there, current_counted}
 use Rattle.exactly_once.proofs.places.Owned.{NobodyElse}

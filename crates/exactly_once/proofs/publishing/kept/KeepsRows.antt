@@ -20,7 +20,7 @@ use Rattle.exactly_once.specs.Story.{Story, Happens, counted_at}
 use Rattle.client_base.specs.Written.{writes_first}
 use Rattle.client_base.specs.Called.{written_for}
 use Rattle.exactly_once.specs.Story.Happens.{takes, others_take, receives, opens_anew, loses, disconnects, publishes_one, subscribes, unsubscribes}
-use Rattle.exactly_once.specs.Inside.Shape.{is_two_unnumbered}
+use Rattle.exactly_once.specs.Inside.ConnectionShape.{is_two_unnumbered}
 use Rattle.exactly_once.proofs.publishing.AtPlaces.{put_more}
 use Rattle.exactly_once.proofs.publishing.Grown.{IsLater, Grown, handled_grows}
 

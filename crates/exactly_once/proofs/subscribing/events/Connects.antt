@@ -18,8 +18,10 @@ use Rattle.exactly_once.specs.Handshake.Run.{stays, goes_on}
 use Rattle.client_base.specs.Keeper.{Written}
 use Rattle.exactly_once.specs.Sides.{Connection}
 use Rattle.exactly_once.specs.Story.{Story, counted_at}
-use Rattle.exactly_once.specs.Inside.Projections.{items_of, held, left_behind, link_to, as_subscriber, GoesTo}
-use Rattle.exactly_once.specs.Inside.Shape.{ConnectionInShape, HasShape}
+use Rattle.exactly_once.specs.Inside.Projections.{GoesTo}
+use Rattle.exactly_once.specs.Inside.AsSubscriber.{items_of, held, left_behind, link_to, as_subscriber}
+use Rattle.exactly_once.specs.Inside.Shape.{HasShape}
+use Rattle.exactly_once.specs.Inside.ConnectionShape.{ConnectionInShape}
 use Rattle.exactly_once.proofs.Starts.{sending_all}
 use Rattle.exactly_once.proofs.Takes.{same_name_self}
 use Rattle.exactly_once.proofs.subscribing.Queued.{kept_entries}

@@ -18,9 +18,10 @@ use Rattle.exactly_once.specs.Sends.{put_to}
 use Rattle.client_base.specs.Keeper.{Written, Keeper}
 use Rattle.exactly_once.specs.Sides.{Connection, Side}
 use Rattle.exactly_once.specs.Story.{Story, with_side}
-use Rattle.exactly_once.specs.Headline.{accepted_on}
-use Rattle.exactly_once.specs.Inside.Projections.{items_of, published_in, forward_of, backward_of, to_come, to_be_taken, held, is_current, link_to, as_subscriber, IsLike, GoesTo}
-use Rattle.exactly_once.specs.Inside.Shape.{ConnectionInShape}
+use Rattle.exactly_once.specs.Acceptance.{accepted_on}
+use Rattle.exactly_once.specs.Inside.Projections.{to_come, to_be_taken, is_current, IsLike, GoesTo}
+use Rattle.exactly_once.specs.Inside.AsSubscriber.{items_of, published_in, forward_of, backward_of, held, link_to, as_subscriber}
+use Rattle.exactly_once.specs.Inside.ConnectionShape.{ConnectionInShape}
 use Rattle.exactly_once.proofs.subscribing.Written.{taken_behind}
 
 -- one packet in front

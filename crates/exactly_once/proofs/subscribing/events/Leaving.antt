@@ -16,9 +16,11 @@ use Rattle.client_base.specs.Handled.{lost}
 use Rattle.exactly_once.specs.Story.{Story, any_named}
 use Rattle.client_base.specs.Called.{new_connection}
 use Rattle.client_base.specs.Written.{writes_first}
-use Rattle.exactly_once.specs.Headline.{accepted_on}
-use Rattle.exactly_once.specs.Inside.Projections.{items_of, backward_of, to_be_taken, held, left_behind, link_to, as_subscriber, GoesTo}
-use Rattle.exactly_once.specs.Inside.Shape.{ConnectionInShape, LastIsCurrent, HasShape}
+use Rattle.exactly_once.specs.Acceptance.{accepted_on}
+use Rattle.exactly_once.specs.Inside.Projections.{to_be_taken, GoesTo}
+use Rattle.exactly_once.specs.Inside.AsSubscriber.{items_of, backward_of, held, left_behind, link_to, as_subscriber}
+use Rattle.exactly_once.specs.Inside.Shape.{LastIsCurrent, HasShape}
+use Rattle.exactly_once.specs.Inside.ConnectionShape.{ConnectionInShape}
 use Rattle.exactly_once.proofs.subscribing.Written.{taken_same}
 use Rattle.exactly_once.proofs.subscribing.Standing.{stands}
 use Rattle.exactly_once.proofs.subscribing.Gone.{gone}

@@ -15,8 +15,10 @@ use Rattle.client_base.specs.Keeper.{Written, Keeper}
 use Rattle.exactly_once.specs.Sides.{Connection}
 use Rattle.exactly_once.specs.Story.{any_named, counted_at}
 use Rattle.client_base.specs.Called.{opens}
-use Rattle.exactly_once.specs.Inside.Projections.{forward_of, backward_of, to_come, is_current, left_behind}
-use Rattle.exactly_once.specs.Inside.Shape.{ConnackFirst, ConnectionInShape, NamesApart}
+use Rattle.exactly_once.specs.Inside.Projections.{to_come, is_current}
+use Rattle.exactly_once.specs.Inside.AsSubscriber.{forward_of, backward_of, left_behind}
+use Rattle.exactly_once.specs.Inside.Shape.{NamesApart}
+use Rattle.exactly_once.specs.Inside.ConnectionShape.{ConnackFirst, ConnectionInShape}
 use Rattle.exactly_once.proofs.Takes.{same_name_self}
 use Rattle.exactly_once.proofs.subscribing.Counted.{named_at, left_own}
 use Rattle.exactly_once.proofs.subscribing.Views.{seen, view, parted, comes_behind}

@@ -20,7 +20,7 @@ use Rattle.broker_base.proofs.ClientsInOrder.{same_is}
 use Rattle.broker_base.proofs.ConnectionsOfSessions.{same_turned}
 use Rattle.exactly_once.specs.Sends.{sends_to}
 use Rattle.exactly_once.specs.Story.{Story, any_named}
-use Rattle.exactly_once.specs.Inside.Projections.{forward_of}
+use Rattle.exactly_once.specs.Inside.AsSubscriber.{forward_of}
 use Rattle.exactly_once.specs.Inside.Shape.{HasShape}
 use Rattle.exactly_once.proofs.Deliveries.{sends_append, started_elsewhere}
 use Rattle.exactly_once.proofs.subscribing.Plain.{IsPlain}

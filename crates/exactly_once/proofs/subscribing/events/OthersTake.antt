@@ -12,7 +12,8 @@ use Rattle.broker_base.specs.Command.{Command}
 use Rattle.broker_base.specs.Command.TheVariants as commands
 use Rattle.exactly_once.specs.Sends.{sends_to}
 use Rattle.exactly_once.specs.Story.{Story, names_client, is_packet_of, any_named}
-use Rattle.exactly_once.specs.Inside.Projections.{forward_of, as_subscriber, GoesTo}
+use Rattle.exactly_once.specs.Inside.Projections.{GoesTo}
+use Rattle.exactly_once.specs.Inside.AsSubscriber.{forward_of, as_subscriber}
 use Rattle.exactly_once.specs.Inside.Shape.{HasShape}
 use Rattle.exactly_once.proofs.subscribing.Placed.{placed}
 use Rattle.exactly_once.proofs.subscribing.Plain.{IsPlain, plain_goes}

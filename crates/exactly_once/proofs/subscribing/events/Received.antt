@@ -17,9 +17,11 @@ use Rattle.client_base.specs.Handled.{not_subscribes, not_unsubscribes, discarde
 use Rattle.client_base.specs.Handshakes.{at_puback, at_pubrec, at_pubcomp, is_sent_with, releasing}
 use Rattle.client_base.specs.session_base.Identifiers.{without_id}
 use Rattle.exactly_once.specs.Story.{Story, with_side}
-use Rattle.exactly_once.specs.Headline.{accepted_on}
-use Rattle.exactly_once.specs.Inside.Projections.{left_behind, as_subscriber, GoesTo}
-use Rattle.exactly_once.specs.Inside.Shape.{ConnackFirst, ConnectionInShape, HeldInShape, HasShape}
+use Rattle.exactly_once.specs.Acceptance.{accepted_on}
+use Rattle.exactly_once.specs.Inside.Projections.{GoesTo}
+use Rattle.exactly_once.specs.Inside.AsSubscriber.{left_behind, as_subscriber}
+use Rattle.exactly_once.specs.Inside.Shape.{HeldInShape, HasShape}
+use Rattle.exactly_once.specs.Inside.ConnectionShape.{ConnackFirst, ConnectionInShape}
 use Rattle.exactly_once.proofs.subscribing.Written.{none_resent}
 use Rattle.exactly_once.proofs.subscribing.events.Leaving.{leaves}
 use Rattle.exactly_once.proofs.subscribing.events.Handling.{handles_other}

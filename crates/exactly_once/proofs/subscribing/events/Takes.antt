@@ -9,8 +9,10 @@ use Rattle.exactly_once.specs.HandshakeSides.{IsGood}
 use Rattle.client_base.specs.Keeper.{Written}
 use Rattle.exactly_once.specs.Sides.{Connection}
 use Rattle.exactly_once.specs.Story.{Story, command_of, counted_at}
-use Rattle.exactly_once.specs.Inside.Projections.{as_subscriber, GoesTo}
-use Rattle.exactly_once.specs.Inside.Shape.{ConnectionInShape, HasShape}
+use Rattle.exactly_once.specs.Inside.Projections.{GoesTo}
+use Rattle.exactly_once.specs.Inside.AsSubscriber.{as_subscriber}
+use Rattle.exactly_once.specs.Inside.Shape.{HasShape}
+use Rattle.exactly_once.specs.Inside.ConnectionShape.{ConnectionInShape}
 use Rattle.exactly_once.proofs.subscribing.Placed.{placed}
 use Rattle.exactly_once.proofs.subscribing.Counted.{each_at}
 use Rattle.exactly_once.proofs.subscribing.events.OwnPacket.{takes_packet}

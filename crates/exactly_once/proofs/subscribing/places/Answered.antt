@@ -13,7 +13,7 @@ use Rattle.broker_base.proofs.NothingWaits.{IsFull}
 use Rattle.exactly_once.specs.Items.{Item, has_sent}
 use Rattle.client_base.proofs.of_lists.Tests.{or_right, or_left, eq_same}
 use Rattle.exactly_once.specs.Carried.{is_two}
-use Rattle.exactly_once.specs.Inside.Projections.{items_of, two_item}
+use Rattle.exactly_once.specs.Inside.AsSubscriber.{items_of, two_item}
 use Rattle.exactly_once.proofs.Items.{AllQueued}
 use Rattle.exactly_once.proofs.subscribing.Queued.{AreKept, two_answered}
 

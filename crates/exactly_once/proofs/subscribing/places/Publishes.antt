@@ -23,7 +23,7 @@ use Rattle.broker_base.specs.Output.TheVariants.{Send}
 use Rattle.broker_base.proofs.ClientsInOrder.{same_self, same_is}
 use Rattle.exactly_once.specs.Handshake.{Forward}
 use Rattle.exactly_once.specs.Sends.{sends_to}
-use Rattle.exactly_once.specs.Inside.Projections.{forward_of}
+use Rattle.exactly_once.specs.Inside.AsSubscriber.{forward_of}
 use Rattle.exactly_once.proofs.Deliveries.{sends_append, deliveries_elsewhere}
 use Rattle.exactly_once.proofs.Packets.{at_packet}
 use Rattle.exactly_once.proofs.subscribing.Forward.{forward_append}

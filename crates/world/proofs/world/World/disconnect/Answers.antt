@@ -5,7 +5,7 @@ use Rattle.world_events.specs.world_pipes.Piped.{is_holding}
 use Rattle.world.specs.declared.world.WorldClient.{WorldClient}
 use Rattle.escaping_nodes.proofs.of_master.Counting.{get_there}
 use Rattle.world.specs.Cannot.{HoldsNone}
-use Rattle.world.specs.Doing.{Leaves, LosesLeaving}
+use Rattle.world.specs.ClientCalls.{Leaves, LosesLeaving}
 use Rattle.world.specs.Inside.Calling.{forgetful}
 use Rattle.world.specs.World.{WorldState}
 use Rattle.world.proofs.CallsCounted.{call_counted}

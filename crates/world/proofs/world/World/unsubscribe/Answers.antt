@@ -7,7 +7,7 @@ use Rattle.escaping_client.specs.packet.declared.qos.QoS.TheVariants as levels
 use Rattle.world.specs.declared.world.WorldClient.{WorldClient}
 use Rattle.escaping_nodes.proofs.of_master.Counting.{get_there}
 use Rattle.escaping_client.specs.client_base.Steps.{Call}
-use Rattle.world.specs.Doing.{Asks, LosesAsking}
+use Rattle.world.specs.ClientCalls.{Asks, LosesAsking}
 use Rattle.world.specs.Cannot.{Refuses}
 use Rattle.world.specs.Inside.Calling.{forgetful}
 use Rattle.world.specs.World.{WorldState}

@@ -3,7 +3,7 @@ use Rattle.node_connections.specs.broker_spec.declared.command.Command.TheVarian
 use Rattle.world_base.specs.Inside.{Running}
 use Rattle.world_base.proofs.Closes.{closes_refused}
 use Rattle.world_base.specs.Lossy.{quietly}
-use Rattle.world_base.specs.LossyStep.{Closes}
+use Rattle.world_base.specs.LossyReading.{Closes}
 use Rattle.world_base.proofs.EndsRun.{core_of, ran_asked, ran_otherwise}
 use Rattle.world_base.proofs.node_in_step.NodeInStep.connect.Goals as goal
 

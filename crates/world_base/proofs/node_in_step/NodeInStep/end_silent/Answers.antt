@@ -2,7 +2,8 @@ use Rattle.std.proofs.Common.{◌≡◌, ◌≤◌, ℕ, suc, ◌+◌, length, s
 use Rattle.world_base.specs.Inside.{Ran, Turns}
 use Rattle.world_base.specs.KeepAlive.{ends_silent}
 use Rattle.world_base.specs.Lossy.{Repeated}
-use Rattle.world_base.specs.LossyStep.{EndsAllSilent, EndsSilent}
+use Rattle.world_base.specs.LossyStep.{EndsAllSilent}
+use Rattle.world_base.specs.LossyReading.{EndsSilent}
 use Rattle.world_base.specs.Turns.{repeated}
 use Rattle.world_base.proofs.Accounts.{ran_as, ran_enough, ran_more, ran_none}
 use Rattle.world_base.proofs.EndsRun.{idle_silent, ran_silent}

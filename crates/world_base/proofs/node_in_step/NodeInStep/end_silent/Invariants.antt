@@ -1,7 +1,7 @@
 use Rattle.world_base.specs.Inside.{Ran, Turns}
 use Rattle.world_base.specs.KeepAlive.{ends_silent}
 use Rattle.world_base.specs.Lossy.{Repeated}
-use Rattle.world_base.specs.LossyStep.{EndsSilent}
+use Rattle.world_base.specs.LossyReading.{EndsSilent}
 use Rattle.world_base.specs.Turns.{repeated}
 use Rattle.world_base.proofs.node_in_step.NodeInStep.end_silent.Given as goal
 

@@ -2,7 +2,8 @@ use Rattle.std.proofs.Common.{◌≡◌, ◌≤◌, ℕ, suc, ◌+◌, length, r
 use Rattle.world_base.specs.Failing.{loses_failed}
 use Rattle.world_base.specs.Inside.{Ran, Turns}
 use Rattle.world_base.specs.Lossy.{Repeated}
-use Rattle.world_base.specs.LossyStep.{LosesAllFailed, LosesFailed}
+use Rattle.world_base.specs.LossyStep.{LosesAllFailed}
+use Rattle.world_base.specs.LossyReading.{LosesFailed}
 use Rattle.world_base.specs.Turns.{repeated}
 use Rattle.world_base.proofs.Accounts.{ran_as, ran_enough, ran_more, ran_none}
 use Rattle.world_base.proofs.Failures.{none_again}

@@ -4,7 +4,7 @@ use Rattle.node_connections.specs.Connections.{has_failed}
 use Rattle.world_base.specs.Failing.{loses_failed}
 use Rattle.world_base.specs.Inside.{Ran, Turns}
 use Rattle.world_base.specs.Lossy.{Repeated}
-use Rattle.world_base.specs.LossyStep.{LosesFailed}
+use Rattle.world_base.specs.LossyReading.{LosesFailed}
 use Rattle.world_base.specs.Turns.{repeated}
 use Rattle.world_base.proofs.node_in_step.NodeInStep.lose_failed.Given as goal
 

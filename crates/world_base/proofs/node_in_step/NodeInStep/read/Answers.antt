@@ -1,7 +1,8 @@
 use Rattle.std.proofs.Common.{◌≡◌, ◌≤◌, ℕ, suc, ◌+◌, subst, arith}
 use Rattle.world_base.specs.Inside.{Ran, Turns}
 use Rattle.world_base.specs.Lossy.{Repeated}
-use Rattle.world_base.specs.LossyStep.{ReadsAll, ReadsNext}
+use Rattle.world_base.specs.LossyStep.{ReadsAll}
+use Rattle.world_base.specs.LossyReading.{ReadsNext}
 use Rattle.world_base.specs.Reading.{open_at, reads_next, unread_of}
 use Rattle.world_base.specs.Turns.{repeated}
 use Rattle.world_base.proofs.Accounts.{ran_as, ran_enough, ran_more, ran_none}

@@ -1,7 +1,7 @@
 use Rattle.world_base.specs.Inside.{Ran, Turns}
 use Rattle.world_base.specs.Reading.{reads_next}
 use Rattle.world_base.specs.Lossy.{Repeated}
-use Rattle.world_base.specs.LossyStep.{ReadsNext}
+use Rattle.world_base.specs.LossyReading.{ReadsNext}
 use Rattle.world_base.specs.Turns.{repeated}
 use Rattle.world_base.proofs.node_in_step.NodeInStep.read.Given as goal
 

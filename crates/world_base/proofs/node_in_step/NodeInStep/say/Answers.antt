@@ -2,7 +2,7 @@ use Rattle.std.proofs.Common.{sym, ap, ◌∙◌}
 use Rattle.node_connections.specs.broker_spec.declared.command.Command.TheVariants as commands
 use Rattle.world_base.specs.Inside.{Running}
 use Rattle.world_base.proofs.Closes.{closes_refused}
-use Rattle.world_base.specs.LossyStep.{Shuts}
+use Rattle.world_base.specs.LossyReading.{Shuts}
 use Rattle.world_base.proofs.EndsRun.{ran_asked, ran_otherwise, shuts_by}
 use Rattle.world_base.proofs.node_in_step.NodeInStep.say.Goals as goal
 

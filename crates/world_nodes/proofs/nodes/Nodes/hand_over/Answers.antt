@@ -1,6 +1,6 @@
 use Rattle.std.proofs.Common.{◌≡◌, ◌≤◌, ◌-◌, ◌∙◌, inl, inr, length, Some, refl, ap, arith}
 use Rattle.byte_world.specs.node_moves.Moves.NodeCall.{gives}
-use Rattle.world_nodes.specs.Goes.{node_of}
+use Rattle.world_nodes.specs.Running.{node_of}
 use Rattle.world_nodes.specs.Nodes.{NodesState}
 use Rattle.world_nodes.specs.Steps.{forgetful}
 use Rattle.world_nodes.proofs.CountsGoOn.{acts_counting}

@@ -1,0 +1,39 @@
+-- What holds for a client as a subscriber, whatever happens: what it accepts, and in which order.
+use Rattle.std.specs.Prelude.{◌≡◌, ℕ, Bool, true, false, List, [], ◌∷◌, ◌++◌, map, filter, Option, Some, None}
+use Rattle.client_base.specs.session_base.declared.publication.Publication.{Publication}
+use Rattle.broker_base.specs.Place.{Limits}
+use Rattle.broker_base.specs.Entries.{Entry}
+use Rattle.broker_base.specs.Readings.{publication_in, release_place}
+use Rattle.broker_base.specs.Times.{entries_of}
+use Rattle.client_base.specs.lists.Lists.{Each}
+use Rattle.exactly_once.specs.Sides.{Connection}
+use Rattle.exactly_once.specs.Story.{Story}
+use Rattle.exactly_once.specs.Carried.{is_two}
+
+abbrev pub is_two_entry : Entry → Bool
+is_two_entry entry = is_two (publication_in entry).qos
+
+-- the QoS 2 entries of a session
+abbrev pub two_entries : List Entry → List Entry
+two_entries = filter is_two_entry
+
+-- what the client accepted, connection by connection, the oldest first
+abbrev pub accepted_on : List Connection → List Publication
+accepted_on (κ ∷ connections) = accepted_on connections ++ κ.accepted
+accepted_on [] = []
+
+abbrev pub is_released : Entry → Bool
+is_released entry = is_there (release_place entry)
+  where
+    is_there : Option ℕ → Bool
+    is_there (Some n) = true
+    is_there None = false
+
+-- the client accepted a prefix of the QoS 2 entries of its session, and each that is released is
+-- among them
+pub record AcceptedInOrder (limits : Limits) (s : Story) : Type 0 where
+  pub old : List Entry
+  pub new : List Entry
+  pub is : two_entries (entries_of limits s.past s.keeper.client) ≡ old ++ new
+  pub accepted : accepted_on s.connections ≡ map publication_in old
+  pub rest : Each (λ entry. is_released entry ≡ false) new

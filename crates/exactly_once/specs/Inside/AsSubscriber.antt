@@ -1,0 +1,86 @@
+-- A story as the handshake in which the broker sends entries and the client, the subscriber, accepts
+-- publications.
+use Rattle.std.specs.Prelude.{ℕ, zero, suc, if◌then◌else◌, List, [], ◌∷◌, Option, Some, None}
+use Rattle.client_base.specs.packet.declared.delivery.Delivery.{Delivery}
+use Rattle.client_base.specs.packet.declared.delivery.Delivery.TheVariants as deliveries
+use Rattle.client_base.specs.packet.declared.packet.Packet.{Packet}
+use Rattle.client_base.specs.packet.declared.packet.Packet.TheVariants as packets
+use Rattle.client_base.specs.session_base.declared.publication.Publication.{Publication}
+use Rattle.client_base.specs.session_base.Publication.{publication_of}
+use Rattle.client_base.specs.lists.Lists.{has_id}
+use Rattle.broker_base.specs.Connection.{ConnectionName, same_connection}
+use Rattle.broker_base.specs.Place.{Past, Limits}
+use Rattle.broker_base.specs.Past.{current_connection}
+use Rattle.broker_base.specs.Entries.{Entry}
+use Rattle.broker_base.specs.Times.{entries_of}
+use Rattle.exactly_once.specs.Items.{Item}
+use Rattle.exactly_once.specs.Handshake.{Forward, Backward, Link, Handshake}
+use Rattle.client_base.specs.Keeper.{Written, Keeper}
+use Rattle.exactly_once.specs.Sides.{Connection}
+use Rattle.exactly_once.specs.Story.{Story}
+use Rattle.exactly_once.specs.Carried.{is_two}
+use Rattle.exactly_once.specs.Acceptance.{accepted_on}
+use Rattle.exactly_once.specs.Inside.Projections.{to_come, to_be_taken, is_current}
+
+abbrev pub two_item : Publication → Item Publication → List (Item Publication) → List (Item Publication)
+two_item p item items = if is_two p.qos then item ∷ items else items
+
+abbrev pub items_of : List Entry → List (Item Publication)
+items_of (Entry.Waits made p ∷ entries) = two_item p (Item.Waits p) (items_of entries)
+items_of (Entry.Started made p id start ∷ entries) = two_item p (Item.Sent p id) (items_of entries)
+items_of (Entry.Released made p id start release ∷ entries) = two_item p (Item.Released p id) (items_of entries)
+items_of (Entry.Finished made p id start release finish ∷ entries) = two_item p (Item.Finished p) (items_of entries)
+items_of [] = []
+
+abbrev pub published_in : Delivery → Publication → List (Forward Publication) → List (Forward Publication)
+published_in (deliveries.ExactlyOnce dup id) p f = Forward.Publish id p ∷ f
+published_in _ p f = f
+
+-- the part of the broker's packets that belongs to the handshake
+abbrev pub forward_of : List Packet → List (Forward Publication)
+forward_of (packets.Publish p ∷ more) = published_in p.delivery (publication_of p) (forward_of more)
+forward_of (packets.Pubrel id ∷ more) = Forward.Pubrel id ∷ forward_of more
+forward_of (_ ∷ more) = forward_of more
+forward_of [] = []
+
+-- and of the client's packets
+abbrev pub backward_of : List Written → List Backward
+backward_of (w ∷ more) = by w.packet (backward_of more)
+  where
+    by : Packet → List Backward → List Backward
+    by (packets.Pubrec id) b = Backward.Pubrec id ∷ b
+    by (packets.Pubcomp id) b = Backward.Pubcomp id ∷ b
+    by _ b = b
+backward_of [] = []
+
+-- the connection that the client holds, if the list has its Connect
+abbrev pub if_taken : ℕ → Connection → Option Connection
+if_taken zero κ = None
+if_taken (suc n) κ = Some κ
+
+abbrev pub held : Keeper → List Connection → Option Connection
+held keeper (κ ∷ connections) = if keeper.is_open then if_taken κ.taken κ else None
+held keeper [] = None
+
+-- what may still come to the broker on its connection
+abbrev pub left_behind : Option ConnectionName → List Connection → List Backward
+left_behind (Some x) (κ ∷ connections) =
+    if same_connection x κ.name then backward_of (to_be_taken κ) else left_behind (Some x) connections
+left_behind _ _ = []
+
+abbrev pub link_to : Limits → Past → Option ConnectionName → List Connection → Option Connection → Link Publication
+link_to limits past current connections (Some κ) =
+    if is_current current κ.name
+    then Link.Joined (forward_of (to_come limits past κ)) (backward_of (to_be_taken κ))
+    else Link.Ahead (forward_of (to_come limits past κ))
+link_to limits past current connections None = Link.Behind (left_behind current connections)
+
+-- the broker sends, the client accepts
+abbrev pub as_subscriber : Limits → Story → Handshake Publication
+as_subscriber limits s =
+    record {
+      items = items_of (entries_of limits s.past s.keeper.client);
+      accepted = accepted_on s.connections;
+      received = λ id. has_id id s.keeper.received;
+      link = link_to limits s.past (current_connection s.past s.keeper.client) s.connections (held s.keeper s.connections);
+    }

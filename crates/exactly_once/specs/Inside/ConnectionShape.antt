@@ -1,0 +1,51 @@
+-- What one connection of every story keeps, besides the two handshakes.
+use Rattle.std.specs.Prelude.{◌≡◌, ◌≤◌, ℕ, zero, suc, Bool, true, false, List, [], ◌∷◌, length, Option, None}
+use Rattle.client_base.specs.packet.declared.packet.Packet.{Packet}
+use Rattle.client_base.specs.packet.declared.packet.Packet.TheVariants as packets
+use Rattle.client_base.specs.lists.Lists.{Each}
+use Rattle.broker_base.specs.Place.{Client, Past, Limits}
+use Rattle.broker_base.specs.Received.{is_exactly_once}
+use Rattle.exactly_once.specs.Sends.{put_to}
+use Rattle.client_base.specs.Keeper.{Written}
+use Rattle.exactly_once.specs.Sides.{Connection}
+use Rattle.exactly_once.specs.Story.{count_of}
+use Rattle.client_base.specs.Called.{opens}
+use Rattle.exactly_once.specs.Inside.Projections.{backward_of_own}
+
+abbrev pub is_connack : Packet → Bool
+is_connack (packets.Connack c) = true
+is_connack _ = false
+
+abbrev pub no_connacks : List Packet → Type 0
+no_connacks = Each (λ packet. is_connack packet ≡ false)
+
+-- its answers begin with a CONNACK, and have no other; before its Connect is taken there are none
+abbrev pub ConnackFirst : ℕ → List Packet → Type 0
+ConnackFirst zero put = put ≡ []
+ConnackFirst (suc taken) [] = ⊥
+ConnackFirst (suc taken) (first ∷ put) = (is_connack first ≡ true) × no_connacks put
+
+abbrev pub is_connect : Written → Bool
+is_connect w = by w.packet
+  where
+    by : Packet → Bool
+    by (packets.Connect c) = true
+    by _ = false
+
+-- a PUBLISH of QoS 2 for which it is not known which publication it carries
+abbrev pub is_two_unnumbered : Packet → Option ℕ → Bool
+is_two_unnumbered (packets.Publish p) None = is_exactly_once p.delivery
+is_two_unnumbered _ _ = false
+
+pub record ConnectionInShape (limits : Limits) (past : Past) (c : Client) (κ : Connection) : Type 0 where
+  pub more : List Written
+  pub written : κ.written ≡ opens c ∷ more
+  pub one_connect : Each (λ w. is_connect w ≡ false) more
+  pub silent : κ.confirmed ≡ false → more ≡ []
+  pub counted : count_of κ.name past ≡ κ.taken
+  pub within : κ.taken ≤ length κ.written
+  pub handled_within : κ.handled ≤ length (put_to limits past κ.name)
+  pub numbers_known : Each (λ w. is_two_unnumbered w.packet w.number ≡ false) κ.written
+  pub connack_first : ConnackFirst κ.taken (put_to limits past κ.name)
+  pub asks_first : κ.taken ≤ 1 → backward_of_own (put_to limits past κ.name) ≡ []
+  pub handled_some : κ.confirmed ≡ true → 1 ≤ κ.handled

@@ -1,0 +1,52 @@
+-- What a node proposes in all that it ever does: for each connection a prefix of the packets that its
+-- client writes, once and in order.
+use Rattle.std.specs.Prelude.{◌≡◌, ◌<◌, ℕ, Bool, true, false, List, [], ◌++◌, filter}
+use Rattle.exactly_once.specs.packet.declared.packet.Packet.{Packet}
+use Rattle.exactly_once.specs.broker_base.Connection.{ConnectionName}
+use Rattle.exactly_once.specs.broker_base.Command.{Command}
+use Rattle.world_base.specs.ballot.Config.{Config}
+use Rattle.exactly_once.specs.lists.Lists.{IsPrefixOf}
+use Rattle.world_base.specs.cutter.Pipe.{Joins}
+use Rattle.exactly_once.specs.Story.{is_packet_of}
+use Rattle.world_base.specs.Core.{CoreState, Turn, opening_core}
+use Rattle.node_moves.specs.Moves.Moves.{reads_first, reads_later}
+use Rattle.node_moves.specs.Moves.{Moves, Runs}
+use Rattle.node_moves.specs.Moves.Runs.{rests, goes_on}
+use Rattle.node_moves.specs.Ends.{proposal_of, came_on, IsEnd, commands_of}
+
+-- the commands that it proposes, in order, and the bytes that come on the connection of a name
+abbrev pub proposals_of : {core : CoreState} {turn : Turn} → Runs core turn → List Command
+proposals_of rests = []
+proposals_of (goes_on m run) = proposal_of m ++ proposals_of run
+
+abbrev pub bytes_on : ConnectionName → {core : CoreState} {turn : Turn} → Runs core turn → List ℕ
+bytes_on x rests = []
+bytes_on x (goes_on m run) = came_on x m ++ bytes_on x run
+
+-- The client of a connection writes packets, and of their bytes, joined, some came and some are
+-- still to come. Then what the node proposed under the name are the commands of a prefix of those
+-- packets, each once and in order.
+pub record Proposes (x : ConnectionName) (core : CoreState) (proposals : List Command) (written : List Packet) (later : List ℕ) : Type 0 where
+  pub read : List Packet
+  pub end : IsEnd x core written read later
+  pub front : IsPrefixOf read written
+  pub proposed : filter (λ command. is_packet_of command x) proposals ≡ commands_of x 0 read
+
+-- that holds in each run of a node from its opening on, and for each name that a connection can
+-- have
+abbrev pub NodesProposeInOrder : Type 0
+NodesProposeInOrder = (id : ℕ) (config : Config) (turn : Turn) (run : Runs (opening_core id config) turn) (x : ConnectionName)
+    (written : List Packet) (later : List ℕ) → 0 < x.count → Joins written (bytes_on x run ++ later) → Proposes x turn.core (proposals_of run) written later
+
+-- whether a move reads a packet
+abbrev pub is_read : {core : CoreState} {turn : Turn} → Moves core turn → Bool
+is_read (reads_first now port c connect rest at first is room) = true
+is_read (reads_later now port c packet rest at later is room) = true
+is_read _ = false
+
+-- Each packet that is read is in the node's log at once, after everything that was there, and
+-- nothing is removed from it: so none is read after one that was not taken.
+abbrev pub ReadsAreTaken : Type 0
+ReadsAreTaken = (core : CoreState) (turn : Turn) (m : Moves core turn) → is_read m ≡ true →
+    turn.core.replica.state.log
+    ≡ record core.replica.state.log { rest = core.replica.state.log.rest ++ proposal_of m }

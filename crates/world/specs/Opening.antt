@@ -1,0 +1,64 @@
+-- What an Open does: a new connection, at its client and at its node, or none.
+use Rattle.std.specs.Prelude.{◌≡◌, ◌⊎◌, ℕ, suc, ◌-◌, Bool, true, false, not, List, [], ◌∷◌, ◌++◌, Option, Some, None, Ok, Err, length}
+use Rattle.headline.specs.broker_base.Connection.{is_connection_name}
+use Rattle.escaping_client.specs.client_base.Steps.{Call, keeper_step}
+use Rattle.escaping_client.specs.client_base.declared.error.ClientError.{ClientError}
+use Rattle.headline.specs.world_base.Core.{CountedCore}
+use Rattle.headline.specs.world_base.Step.{next_name}
+use Rattle.headline.specs.world_base.declared.item.Item.TheVariants as items
+use Rattle.headline.specs.world_base.declared.Port.{Port}
+use Rattle.escaping_nodes.specs.world_nodes.Running.{node_of}
+use Rattle.escaping_nodes.specs.world_nodes.Nodes.{NodesState}
+use Rattle.escaping_nodes.specs.world_nodes.Steps.{TakesIn}
+use Rattle.world_events.specs.world_pipes.Piped.{Connects, Piped, taken_back}
+use Rattle.world.specs.Found.{Named, port_of, with_piped}
+use Rattle.world.specs.Gathering.{TakesItem}
+use Rattle.world.specs.World.{WorldState}
+
+-- a client has a new connection to a node: its CONNECT is in transit on it, under the next number
+abbrev pub next_number : WorldState → ℕ
+next_number w = suc (length w.connections)
+
+abbrev pub ConnectsTo : ℕ → ℕ → Piped → Piped → Type 0
+ConnectsTo node number old new = Connects (node - 1) (port_of number) (keeper_step Call.Opens old.core.state) old (Ok tt) new
+
+abbrev pub with_connection : {name : List ℕ} {w : WorldState} → Named name w → Piped → ℕ → WorldState
+with_connection {w = w} c piped node =
+    record (with_piped c.at c.client piped w) {
+      connections = w.connections
+          ++ record { client = c.at; at = length c.client.piped.ways; node = node; is_open = true } ∷ [];
+    }
+
+-- its node takes the connection, and what the node queued then goes down
+abbrev pub OpensOne : Bool → List ℕ → ℕ → WorldState → WorldState → Type 0
+OpensOne whole name node old new =
+    (c : Named name old) × (piped : Piped) × ConnectsTo node (next_number old) c.client.piped piped
+    × TakesItem whole node (items.Opened (port_of (next_number old)) 0) (with_connection c piped node) new
+
+-- There is no new connection: the client runs out of memory, or its node does not take the
+-- connection, and it is removed.
+abbrev pub NoneOpens : ℕ → Port → NodesState → Piped → NodesState → Piped → Type 0
+NoneOpens node port old client new later =
+    ((cause : ClientError) × Connects (node - 1) port (keeper_step Call.Opens client.core.state) client (Err cause) later × (new ≡ old))
+    ⊎ ((opened : Piped) × Connects (node - 1) port (keeper_step Call.Opens client.core.state) client (Ok tt) opened
+    × (later ≡ taken_back opened) × ((new ≡ old) ⊎ TakesIn node (items.Opened port 0) old new))
+
+abbrev pub OpensNone : List ℕ → ℕ → WorldState → WorldState → Type 0
+OpensNone name node old new =
+    (c : Named name old) × (piped : Piped) × (between : NodesState)
+    × NoneOpens node (port_of (next_number old)) old.nodes c.client.piped between piped
+    × (new ≡ record (with_piped c.at c.client piped old) { nodes = between })
+
+-- Whether the names of the node's ballot are used up. Then the connection is closed at once,
+-- without a byte: nothing is left of it.
+abbrev pub is_full : Option CountedCore → Bool
+is_full None = false
+is_full (Some node) = not (is_connection_name (next_name node.core))
+
+abbrev pub OpensUnless : Bool → Bool → List ℕ → ℕ → WorldState → WorldState → Type 0
+OpensUnless true whole name node old new = new ≡ old
+OpensUnless false whole name node old new = OpensOne whole name node old new
+
+abbrev pub OpensWhere : Bool → List ℕ → ℕ → WorldState → WorldState → Type 0
+OpensWhere true name node old new = OpensUnless (is_full (node_of old.nodes.nodes node)) true name node old new
+OpensWhere false name node old new = OpensUnless (is_full (node_of old.nodes.nodes node)) false name node old new ⊎ OpensNone name node old new

@@ -1,0 +1,83 @@
+-- How a connection ends, and how its next packet is read, if memory may run out.
+use Rattle.std.specs.Prelude.{◌≡◌, ◌⊎◌, ℕ, true, false, List, Some, None, Ok, Err}
+use Rattle.std.specs.List.{find}
+use Rattle.node_connections.specs.packet.Stop.TheVariants as stops
+use Rattle.node_connections.specs.packet.RefusalCode.{RefusalCode}
+use Rattle.node_connections.specs.packet.declared.packet.Packet.{Packet}
+use Rattle.node_connections.specs.packet.declared.packet.Packet.TheVariants as packets
+use Rattle.node_connections.specs.packet.declared.connect.Connect.{Connect}
+use Rattle.node_connections.specs.packet.Verdict.{verdict}
+use Rattle.node_connections.specs.broker_spec.Connection.{ConnectionName}
+use Rattle.node_connections.specs.broker_spec.declared.command.Command.{Command}
+use Rattle.node_connections.specs.broker_spec.declared.command.Command.TheVariants as commands
+use Rattle.node_connections.specs.declared.port.Port.{Port}
+use Rattle.node_connections.specs.declared.connection.Connection.{Connection}
+use Rattle.node_connections.specs.Connections.{asked, closed, failing, has_failed, is_first, is_proposed, left_with}
+use Rattle.world_base.specs.Core.{CoreState}
+use Rattle.world_base.specs.Failing.{closes_failed}
+use Rattle.world_base.specs.KeepAlive.{lowest_silent}
+use Rattle.world_base.specs.Lossy.{Account, Declines, Proposes, Takes, Then, quietly}
+use Rattle.world_base.specs.Reading.{changes, open_at, refused}
+
+-- the connection of a port is closed as lost, and reported to the broker if its Connect was
+-- proposed
+pub data Ends (port : Port) (core : CoreState) (did : Account) : Type 0 where
+  none_open : open_at port core ≡ None → did ≡ quietly core → Ends port core did
+  untold : (c : Connection) → open_at port core ≡ Some c → is_proposed c.stage ≡ false →
+      did ≡ quietly (changes port closed core) → Ends port core did
+  told : (c : Connection) → open_at port core ≡ Some c → is_proposed c.stage ≡ true →
+      Proposes (commands.Lost c.name) (changes port closed core) did → Ends port core did
+
+-- the silent connection with the lowest port ends
+pub data EndsSilent (now : ℕ) (core : CoreState) (did : Account) : Type 0 where
+  none_silent : lowest_silent now core.connections ≡ None → did ≡ quietly core → EndsSilent now core did
+  ends_one : (port : Port) → lowest_silent now core.connections ≡ Some port →
+      Ends port core did → EndsSilent now core did
+
+-- the first connection that failed is reported to the broker
+pub data LosesFailed (core : CoreState) (did : Account) : Type 0 where
+  none_failed : find has_failed core.connections ≡ None → did ≡ quietly core → LosesFailed core did
+  tells_one : (c : Connection) → find has_failed core.connections ≡ Some c →
+      Proposes (commands.Lost c.name) (closes_failed core) did → LosesFailed core did
+
+-- a command is taken, or otherwise this is done
+abbrev pub Asks : Command → (CoreState → Account → Type 0) → CoreState → Account → Type 0
+Asks command Otherwise core did = Takes command core did ⊎ Then Declines Otherwise core did
+
+-- a connection is closed; or it is closed as lost, and the loss is still to be reported to the
+-- broker
+abbrev pub Closes : Port → CoreState → Account → Type 0
+Closes port core did = did ≡ quietly (changes port closed core)
+
+abbrev pub Shuts : Port → CoreState → Account → Type 0
+Shuts port core did = Closes port core did ⊎ (did ≡ quietly (changes port failing core))
+
+-- a connection is closed if one of its packets is not taken
+abbrev pub Connects : Port → ConnectionName → Connect → CoreState → Account → Type 0
+Connects port name connect core did = Asks (commands.Connect name connect.client connect.clean) (Closes port) core did
+
+-- the first must be a CONNECT
+abbrev pub Begins : Port → ConnectionName → Packet → CoreState → Account → Type 0
+Begins port name (packets.Connect connect) core did =
+    Connects port name connect (changes port (asked connect.keep_alive) core) did
+Begins port name _ core did = Closes port core did
+
+abbrev pub Says : Port → ConnectionName → Packet → CoreState → Account → Type 0
+Says port name packet core did = Asks (commands.Packet name packet) (Shuts port) core did
+
+-- The packet at the front of a port's bytes is removed and proposed; or there is less than a
+-- packet; or the connection ends, because there is no packet, or because there is no memory to read
+-- it.
+pub data ReadsNext (now : ℕ) (port : Port) (core : CoreState) (did : Account) : Type 0 where
+  waits : (c : Connection) → open_at port core ≡ Some c →
+      verdict c.unread ≡ Err stops.More → did ≡ quietly core → ReadsNext now port core did
+  first : (c : Connection) (packet : Packet) (rest : List ℕ) → open_at port core ≡ Some c →
+      is_first c.stage ≡ true → verdict c.unread ≡ Ok (packet, rest) →
+      Begins port c.name packet (changes port (left_with now rest) core) did → ReadsNext now port core did
+  later : (c : Connection) (packet : Packet) (rest : List ℕ) → open_at port core ≡ Some c →
+      is_first c.stage ≡ false → verdict c.unread ≡ Ok (packet, rest) →
+      Says port c.name packet (changes port (left_with now rest) core) did → ReadsNext now port core did
+  refuses : (c : Connection) (code : RefusalCode) → open_at port core ≡ Some c →
+      is_first c.stage ≡ true → verdict c.unread ≡ Err (stops.Refused code) →
+      did ≡ quietly (changes port (refused code) core) → ReadsNext now port core did
+  ends : Ends port core did → ReadsNext now port core did

@@ -1,0 +1,35 @@
+-- How each group that corresponds to the nodes goes on, even if memory runs out: it then corresponds to
+-- the nodes after.
+use Rattle.std.specs.Prelude.{◌≡◌, ◌⊎◌, ℕ, zero, suc, Option, Some, None}
+use Rattle.master.specs.ballot.Body.{Body}
+use Rattle.master.specs.ballot.Body.TheVariants.{Activate}
+use Rattle.master.specs.ballot.Message.{Message}
+use Rattle.byte_world.specs.broker_base.Command.{Command}
+use Rattle.byte_world.specs.world_base.declared.item.Item.TheVariants.{Peer}
+use Rattle.byte_world.specs.node_moves.Moves.{NodeCall}
+use Rattle.byte_world.specs.node_moves.Moves.NodeCall.{takes}
+use Rattle.byte_world.specs.node_group.Group.{Group}
+use Rattle.world_nodes.specs.Goes.{Acts, GoesBy}
+use Rattle.world_nodes.specs.Nodes.{NodesState, StandsFor}
+use Rattle.world_nodes.specs.Steps.{forgetful}
+
+-- by a call of the node at this place; or nothing happened
+abbrev pub ActsOrRests : ℕ → NodeCall → NodesState → NodesState → Type 0
+ActsOrRests at deed old new = Acts at deed old new ⊎ (new ≡ forgetful old)
+
+-- by a step of the master, whose message may be lost; or nothing happened
+abbrev pub MasterGoes : NodesState → NodesState → Type 0
+MasterGoes old new = (g : Group) → StandsFor g old → GoesBy None g new
+
+abbrev pub MasterGoesOrRests : NodesState → NodesState → Type 0
+MasterGoesOrRests old new = MasterGoes old new ⊎ (new ≡ forgetful old)
+
+-- by a message that reaches the master, or a node
+abbrev pub MasterHears : Body Command → NodesState → NodesState → Type 0
+MasterHears (Activate ballot) old new = MasterGoes old new
+MasterHears _ old new = new ≡ old
+
+abbrev pub ComesOrRests : Option (ℕ × Message Command) → NodesState → NodesState → Type 0
+ComesOrRests None old new = ⊥
+ComesOrRests (Some (zero, message)) old new = MasterHears message.body old new
+ComesOrRests (Some (suc at, message)) old new = ActsOrRests at (takes (Peer message)) old new
