@@ -1,7 +1,7 @@
 -- What a client writes on each of its connections begins with a CONNECT that asks for its session to be kept.
 use Rattle.std.proofs.Common.{◌≡◌, ℕ, List, [], ◌∷◌, ◌++◌, map, refl, sym, ap, ◌∙◌, subst}
 use Rattle.node_group.specs.ballot.Config.{Config}
-use Rattle.node_group.specs.broker_base.Place.{Client}
+use Rattle.node_group.specs.broker_spec.Place.{Client}
 use Rattle.node_group.specs.client_base.Called.{opens}
 use Rattle.node_group.specs.client_base.Keeper.{Written}
 use Rattle.node_group.specs.client_base.Written.{writes_first}
@@ -36,14 +36,14 @@ new_clients [] = tt
 new_clients (c ∷ cs) = (tt, new_clients cs)
 
 step_begins : (v w : World) → Each AllBeginKept v.clients → WorldStep v w → Each AllBeginKept w.clients
-step_begins v w each (group_goes deed d apart) = each
+step_begins v w each (group_goes node_call d apart) = each
 step_begins v w each (calls i c t happens at call spelled) =
     let new = call_writes happens call in
     each_set AllBeginKept v.clients i _ each
     (subst (Each BeginsKept) (sym new.1) (writes_still new.0 c.connections (each_get AllBeginKept v.clients i c each at)))
-step_begins v w each (connects i n c port now d core end at unused behind there_so spelled) =
+step_begins v w each (connects i n c port now d core end at unused after there_so spelled) =
     each_set AllBeginKept v.clients i _ each (record { client = c.keeper.client; more = []; written = refl }, each_get AllBeginKept v.clients i c each at)
-step_begins v w each (is_turned_away n port now d core unused behind none) = each
+step_begins v w each (is_turned_away n port now d core unused after none) = each
 step_begins v w each (comes_up i j c κ p piece rest now d has is) = each_set AllBeginKept v.clients i _ each (each_get AllBeginKept v.clients i c each has.client)
 step_begins v w each (goes_down i j c κ p d has) = each_set AllBeginKept v.clients i _ each (each_get AllBeginKept v.clients i c each has.client)
 step_begins v w each (arrives i j c κ p piece rest has is) = each_set AllBeginKept v.clients i _ each (each_get AllBeginKept v.clients i c each has.client)

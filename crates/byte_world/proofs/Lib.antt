@@ -15,7 +15,7 @@ pub mod NodesHoused
 pub mod BeginsKept
 pub mod NoneClean
 pub mod SessionsKept
-pub mod DeedsCarry
+pub mod NodeCallsCarry
 pub use Rattle.node_group.proofs.of_broker_base as of_broker_base
 pub use Rattle.node_group.proofs.of_broker_form as of_broker_form
 pub use Rattle.node_group.proofs.of_broker_spec as of_broker_spec

@@ -7,9 +7,9 @@ use Rattle.node_group.specs.lists.Lists.In.{here, there}
 use Rattle.node_group.specs.ballot.Config.{Config}
 use Rattle.node_group.specs.ballot.Losses.{Thinned}
 use Rattle.node_group.specs.broker_base.State.{State}
-use Rattle.node_group.specs.broker_base.Command.{Command}
-use Rattle.node_group.specs.broker_base.Output.{Output}
-use Rattle.node_group.specs.broker_base.Connection.{ConnectionName}
+use Rattle.node_group.specs.broker_spec.declared.command.Command.{Command}
+use Rattle.node_group.specs.broker_spec.declared.command.Output.{Output}
+use Rattle.node_group.specs.broker_spec.Connection.{ConnectionName}
 use Rattle.node_group.specs.agreement.MasterState.{refusal}
 use Rattle.node_group.specs.snapshots.Past.{Moment, Past}
 use Rattle.node_group.proofs.of_snapshots.PastsAgree.{one_primary_a_ballot}
@@ -27,12 +27,12 @@ use Rattle.node_group.proofs.of_node_moves.LossyClosed.{lossy_names_are_of_the_b
 use Rattle.node_group.proofs.of_node_moves.LossyReads.{losses_read_in_order}
 use Rattle.node_group.proofs.of_node_moves.Views.{some_none}
 use Rattle.byte_world.specs.Apart.{HasName, NamesStayApart}
-use Rattle.node_group.specs.Group.{Group, behind_turn, moment_of, opening_cores, with_record}
+use Rattle.node_group.specs.Group.{Group, after_turn, moment_of, opening_cores, with_record}
 use Rattle.node_group.specs.Putting.{recorded_in as recorded_exactly}
-use Rattle.node_group.specs.Goes.{MayGo, Went, groups_of, keeping, put_in_step}
+use Rattle.node_group.specs.Goes.{GroupStep, GroupTrace, groups_of, keeping, put_in_step}
 use Rattle.node_group.specs.Losing.{WereSent, all_given, put_in_move, put_in_run, recorded_by, recorded_in}
-use Rattle.node_group.specs.Goes.MayGo.{node_acts, node_loses, master_assigns as assigns, master_hears as hears_master, assigns_unheard, answers_unheard}
-use Rattle.node_group.specs.Goes.Went.{opened, then_went}
+use Rattle.node_group.specs.Goes.GroupStep.{node_acts, node_loses, master_assigns as assigns, master_hears as hears_master, assigns_unheard, answers_unheard}
+use Rattle.node_group.specs.Goes.GroupTrace.{opened, then_went}
 use Rattle.node_group.proofs.GroupsArePasts.{goes_on as step_goes_on, groups_are_pasts}
 use Rattle.node_group.proofs.LosingNone.{frozen_losing, losing_none, same_given, same_put, same_recorded, sent_losing}
 use Rattle.node_group.proofs.LossesHappen.{losses_happen}
@@ -60,7 +60,7 @@ record LedOn {config : Config} (g : Group) {earlier : List (Moment State Command
 
 move_led : {config : Config} (g : Group) (n : ℕ) (core : CoreState) (turn : Turn) (m : LossyMoves core turn) (kept : Given) → slice_get g.nodes n ≡ Some core → WereSent g n (inputs_in m)
     → Freezes m → Thinned kept turn.messages → IsOrderly core → {earlier : List (Moment State Command Output)} (came : Past rules config (moment_of g ∷ earlier))
-    → LedOn g came (behind_turn (with_record g (recorded_by g.archive m)) n (keeping kept turn) (given_in m)) (put_in_move m)
+    → LedOn g came (after_turn (with_record g (recorded_by g.archive m)) n (keeping kept turn) (given_in m)) (put_in_move m)
 move_led {config = config} g n core turn m kept at sent frozen t o {earlier = earlier} came =
     let f = (losses_happen g n core turn m kept at sent frozen t config earlier came).further in
     record { further = f; led = λ before x k has. led_later f.kept (on before x k has (set_back g.nodes n k turn.core has.core has.stands)) }
@@ -70,7 +70,7 @@ move_led {config = config} g n core turn m kept at sent frozen t o {earlier = ea
     here_now before x d now None none = leads_now g n core x earlier at (lossy_names_are_of_the_ballot core turn m o x d none now)
     here_now before x d now (Some c) was = before x n (record { core = core; stands = at; connection = c; listed = was })
 
-    on : AreLed g (moment_of g ∷ earlier) → (x : ConnectionName) (k : ℕ) (has : HasName x (behind_turn (with_record g (recorded_by g.archive m)) n (keeping kept turn) (given_in m)) k)
+    on : AreLed g (moment_of g ∷ earlier) → (x : ConnectionName) (k : ℕ) (has : HasName x (after_turn (with_record g (recorded_by g.archive m)) n (keeping kept turn) (given_in m)) k)
         → ((k ≡ n) × (has.core ≡ turn.core)) ⊎ (slice_get g.nodes k ≡ Some has.core) → Led (moment_of g ∷ earlier) k x.ballot
     on before x k has (inl (same, is)) =
         subst (λ i. Led (moment_of g ∷ earlier) i x.ballot) (sym same)
@@ -79,18 +79,18 @@ move_led {config = config} g n core turn m kept at sent frozen t o {earlier = ea
 
 run_led : {config : Config} (g : Group) (n : ℕ) (core : CoreState) (turn : Turn) (run : LossyRuns core turn) (kept : Given) → IsOrderly core → slice_get g.nodes n ≡ Some core
     → WereSent g n (all_inputs run) → AllFreeze run → Thinned kept turn.messages → {earlier : List (Moment State Command Output)} (came : Past rules config (moment_of g ∷ earlier))
-    → LedOn g came (behind_turn (with_record g (recorded_in g.archive run)) n (keeping kept turn) (all_given run)) (put_in_run run)
+    → LedOn g came (after_turn (with_record g (recorded_in g.archive run)) n (keeping kept turn) (all_given run)) (put_in_run run)
 run_led g n core turn rests kept o at sent frozen t came =
     subst (λ (h : Group). LedOn g came h [])
-    (same_group g n core at ∙ ap (λ (l : Given). behind_turn g n (keeping l (quiet core)) []) (sym (nothing_kept kept t))) (record { further = unchanged came; led = λ before. before })
+    (same_group g n core at ∙ ap (λ (l : Given). after_turn g n (keeping l (quiet core)) []) (sym (nothing_kept kept t))) (record { further = unchanged came; led = λ before. before })
 run_led g n core turn (goes_on {first = first} {next = next} m run) kept o at sent frozen t came =
     let k = kept_of_both first.messages next.messages kept t in
     let s = were_both g n (inputs_in m) (all_inputs run) sent in
     let one : Turn = keeping k.front first in
     let step = move_led g n core first m k.front at s.0 frozen.0 k.first o came in
-    let behind : Group = behind_turn (with_record g (recorded_by g.archive m)) n one (given_in m) in
-    let rest = subst (λ (h : Group). LedOn behind step.further.past h (put_in_run run)) (kept_turns (with_record g (recorded_in (recorded_by g.archive m) run)) n first next (given_in m) (all_given run) kept k)
-    (run_led behind n first.core next run k.rest (losses_read_in_order core first m o).0 (get_of_set g.nodes n core first.core at)
+    let after : Group = after_turn (with_record g (recorded_by g.archive m)) n one (given_in m) in
+    let rest = subst (λ (h : Group). LedOn after step.further.past h (put_in_run run)) (kept_turns (with_record g (recorded_in (recorded_by g.archive m) run)) n first next (given_in m) (all_given run) kept k)
+    (run_led after n first.core next run k.rest (losses_read_in_order core first m o).0 (get_of_set g.nodes n core first.core at)
     (were_still g (recorded_by g.archive m) n one (given_in m) (all_inputs run) s.1) frozen.1 k.next step.further.past) in
     record { further = both came (put_in_move m) (put_in_run run) step.further rest.further; led = λ before. rest.led (step.led before) }
 
@@ -101,12 +101,12 @@ nodes_led : {moments more : List (Moment State Command Output)} (g h : Group) �
 nodes_led g h same kept before x n has =
     led_later kept (before x n (record { core = has.core; stands = ap (λ l. slice_get l n) (sym same) ∙ has.stands; connection = has.connection; listed = has.listed }))
 
-step_led : {nodes : ℕ} {config : Config} (g h : Group) → Went nodes config g → (step : MayGo g h) → {earlier : List (Moment State Command Output)}
+step_led : {nodes : ℕ} {config : Config} (g h : Group) → GroupTrace nodes config g → (step : GroupStep g h) → {earlier : List (Moment State Command Output)}
     (came : Past rules config (moment_of g ∷ earlier)) → LedOn g came h (put_in_step step)
-step_led {nodes = nodes} {config = config} g h went (node_acts n core deed turn run at is first sent) came =
+step_led {nodes = nodes} {config = config} g h went (node_acts n core node_call turn run at is first sent) came =
     subst (λ l. LedOn g came h l) (same_put run)
-    (subst (λ l. LedOn g came (behind_turn (with_record g (recorded_exactly g.archive run)) n turn l) (put_in_run (losing_none run))) (same_given run)
-    (subst (λ us. LedOn g came (behind_turn (with_record g us) n turn (all_given (losing_none run))) (put_in_run (losing_none run))) (same_recorded g.archive run)
+    (subst (λ l. LedOn g came (after_turn (with_record g (recorded_exactly g.archive run)) n turn l) (put_in_run (losing_none run))) (same_given run)
+    (subst (λ us. LedOn g came (after_turn (with_record g us) n turn (all_given (losing_none run))) (put_in_run (losing_none run))) (same_recorded g.archive run)
     (run_led g n core turn (losing_none run) turn.messages (each_got _ g.nodes n core (all_well nodes config g went).0 at).orderly at (sent_losing g n run sent)
     (frozen_losing g n run sent) (all_kept turn.messages) came)))
 step_led {nodes = nodes} {config = config} g h went (node_loses n core item turn kept by at runs sent thinned) came =
@@ -125,13 +125,13 @@ step_led {config = config} g h went (answers_unheard from ballot sent) {earlier 
     record { further = f; led = nodes_led g h refl f.kept }
 
 -- a past of the group, and in it each earlier group's nodes led the ballots of their names
-record SoFar {nodes : ℕ} {config : Config} {g : Group} (went : Went nodes config g) : Type 0 where
+record SoFar {nodes : ℕ} {config : Config} {g : Group} (went : GroupTrace nodes config g) : Type 0 where
   earlier : List (Moment State Command Output)
   past : Past rules config (moment_of g ∷ earlier)
   now : AreLed g (moment_of g ∷ earlier)
   ever : (e : Group) → In e (groups_of went) → AreLed e (moment_of g ∷ earlier)
 
-names_so_far : {nodes : ℕ} {config : Config} {g : Group} (went : Went nodes config g) → SoFar went
+names_so_far : {nodes : ℕ} {config : Config} {g : Group} (went : GroupTrace nodes config g) → SoFar went
 names_so_far {nodes = nodes} {config = config} {g = g} (opened can) =
     let of = groups_are_pasts nodes config g (opened can) in
     record { earlier = of.earlier; past = of.past; now = none (moment_of g ∷ of.earlier); ever = λ e i. only e i (moment_of g ∷ of.earlier) }

@@ -1,10 +1,10 @@
 -- No Connect in a list on which the nodes of a world agree is clean: a client wrote it, as the first packet of a connection.
 use Rattle.std.proofs.Common.{◌≡◌, ◌⊎◌, inl, inr, ℕ, suc, Bool, true, false, if◌then◌else◌, List, [], ◌∷◌, ◌++◌, filter, refl, sym, ap, ◌∙◌, subst}
 use Rattle.node_group.specs.ballot.Config.{Config}
-use Rattle.node_group.specs.broker_base.Command.{Command}
-use Rattle.node_group.specs.broker_base.Command.TheVariants as commands
-use Rattle.node_group.specs.broker_base.Connection.{ConnectionName}
-use Rattle.node_group.specs.broker_base.Place.{Client}
+use Rattle.node_group.specs.broker_spec.declared.command.Command.{Command}
+use Rattle.node_group.specs.broker_spec.declared.command.Command.TheVariants as commands
+use Rattle.node_group.specs.broker_spec.Connection.{ConnectionName}
+use Rattle.node_group.specs.broker_spec.Place.{Client}
 use Rattle.node_group.specs.client_base.Called.{opens}
 use Rattle.node_group.specs.client_base.Keeper.{Written}
 use Rattle.node_group.specs.lists.Lists.{Each, In, IsPrefixOf}
@@ -15,7 +15,7 @@ use Rattle.node_group.specs.exactly_once.Story.{is_packet_of}
 use Rattle.node_group.proofs.of_exactly_once.Takes.{same_name_self}
 use Rattle.node_group.specs.packet.declared.packet.Packet.{Packet}
 use Rattle.node_group.specs.node_moves.Ends.{commands_of}
-use Rattle.node_group.specs.Goes.{Went}
+use Rattle.node_group.specs.Goes.{GroupTrace}
 use Rattle.node_group.specs.Order.{packets_of as packets_in_list}
 use Rattle.node_group.proofs.CarriedInOrder.{CarriedSo, IsAgreedSo, carried_so, carries_each}
 use Rattle.byte_world.specs.Carried.{went_of}
@@ -63,7 +63,7 @@ none_in : {X : Type 0} (x : X) (xs : List X) → IsPrefixOf xs [] → In x xs �
 none_in x (y ∷ xs) front i = let e = front.is in cc
 none_in x [] front i = elim i [ ]
 
-module _ {nodes : ℕ} {config : Config} (w : World) (went : Went nodes config w.group) (holds : Holds w went) (begin : Each AllBeginKept w.clients) (so : CarriedSo went)
+module _ {nodes : ℕ} {config : Config} (w : World) (went : GroupTrace nodes config w.group) (holds : Holds w went) (begin : Each AllBeginKept w.clients) (so : CarriedSo went)
     (agreed : List Command) (is : IsAgreedSo so agreed) where
   -- of a connection of a client
   of_known : (x : ConnectionName) (c : Client) (clean : Bool) → In (commands.Connect x c clean) agreed → IsKnown w x → clean ≡ false

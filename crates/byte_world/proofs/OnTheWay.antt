@@ -102,5 +102,5 @@ pub newly_is : (κ later : Connection) (others more : List Connection) (new : Li
     → newly_written (κ ∷ others) (later ∷ more) ≡ packets_of new
 newly_is κ later others more new e = ap packets_of (ap (drop (length κ.written)) e ∙ dropped κ.written new)
 
-pub packets_behind : (κ later : Connection) (new : List Written) → later.written ≡ κ.written ++ new → packets_of later.written ≡ packets_of κ.written ++ packets_of new
-packets_behind κ later new e = ap packets_of e ∙ packets_joined κ.written new
+pub packets_after : (κ later : Connection) (new : List Written) → later.written ≡ κ.written ++ new → packets_of later.written ≡ packets_of κ.written ++ packets_of new
+packets_after κ later new e = ap packets_of e ∙ packets_joined κ.written new

@@ -4,7 +4,7 @@ use Rattle.std.proofs.Common.{◌≡◌, ℕ, zero, suc, Bool, true, false, ◌&
 use Rattle.std.specs.List.{list_any}
 use Rattle.std.proofs.lemmas.Bool.{both_ways}
 use Rattle.node_group.specs.ballot.Config.{Config}
-use Rattle.node_group.specs.broker_base.Connection.{ConnectionName}
+use Rattle.node_group.specs.broker_spec.Connection.{ConnectionName}
 use Rattle.node_group.proofs.of_lists.Tests.{eq_same}
 use Rattle.node_group.specs.exactly_once.Sides.{Connection}
 use Rattle.node_group.specs.world_base.declared.Connection.{Connection as NodesEnd}
@@ -13,10 +13,10 @@ use Rattle.node_group.specs.world_base.declared.Port.{Port}
 use Rattle.node_group.specs.world_base.Core.{CoreState}
 use Rattle.node_group.specs.node_moves.Moves.{NodeCall}
 use Rattle.node_group.specs.node_moves.Moves.NodeCall.{takes}
-use Rattle.node_group.specs.Goes.{Went}
-use Rattle.node_group.specs.Goes.Went.{then_went}
+use Rattle.node_group.specs.Goes.{GroupTrace}
+use Rattle.node_group.specs.Goes.GroupTrace.{then_went}
 use Rattle.node_group.specs.Streams.{comes_up, goes_down}
-use Rattle.byte_world.specs.Goes.{Does, deed_of}
+use Rattle.byte_world.specs.Goes.{Does, node_call_of}
 use Rattle.byte_world.specs.World.{ClientPipes, HasPipe, Pipe, World, is_used, leads_to}
 use Rattle.byte_world.proofs.NodesGoOn.{IsOpened, carries_with}
 use Rattle.byte_world.proofs.PipesHold.{PipeHolds, apart_on}
@@ -53,15 +53,15 @@ opened_port _ = 0
 
 -- what holds if one is reported to a node there: each connection that was there has its pipe, and
 -- the pipes continue
-pub record OpensUnused {nodes : ℕ} {config : Config} (v : World) (went : Went nodes config v.group) (n : ℕ) (port : Port) (now : ℕ)
+pub record OpensUnused {nodes : ℕ} {config : Config} (v : World) (went : GroupTrace nodes config v.group) (n : ℕ) (port : Port) (now : ℕ)
     (d : Does v.group (Some (n, takes (Opened port now)))) : Type 0 where
   pub no_lead : Leads v n port → ⊥
   pub old_led : (m : ℕ) (old : CoreState) (e : NodesEnd) → slice_get v.group.nodes m ≡ Some old → IsOfOld old.connections e → Leads v m e.port
-  pub opened_there : (m : ℕ) (old : CoreState) (e : NodesEnd) → IsOpened (deed_of d.step) m old e → (m ≡ n) × (e.port.0 ≡ port.0)
+  pub opened_there : (m : ℕ) (old : CoreState) (e : NodesEnd) → IsOpened (node_call_of d.step) m old e → (m ≡ n) × (e.port.0 ≡ port.0)
   pub still_unheard : (x : ConnectionName) → IsUnheard went x → IsUnheard (then_went went d.step) x
   pub old_holds : (i : ℕ) (c : ClientPipes) (j : ℕ) (κ : Connection) (p : Pipe) → HasPipe v i c j κ p → PipeHolds (then_went went d.step) κ p
 
-module _ {nodes : ℕ} {config : Config} (v : World) (went : Went nodes config v.group) (h : Holds v went) (n : ℕ) (port : Port) (now : ℕ) (d : Does v.group (Some (n, takes (Opened port now))))
+module _ {nodes : ℕ} {config : Config} (v : World) (went : GroupTrace nodes config v.group) (h : Holds v went) (n : ℕ) (port : Port) (now : ℕ) (d : Does v.group (Some (n, takes (Opened port now))))
     (unused : is_used n port v.clients ≡ false) where
   no_lead : Leads v n port → ⊥
   no_lead l = both_ways (is_used n port v.clients) unused (leads_used v n port l)
@@ -72,11 +72,11 @@ module _ {nodes : ℕ} {config : Config} (v : World) (went : Went nodes config v
       let l = h.used m old o.was at o.among in
       record { i = l.i; c = l.c; j = l.j; κ = l.κ; p = l.p; has = l.has; node = l.node; at = l.at ∙ sym (ap (λ (z : Port). z.0) o.later.port) }
 
-  opened_there : (m : ℕ) (old : CoreState) (e : NodesEnd) → IsOpened (deed_of d.step) m old e → (m ≡ n) × (e.port.0 ≡ port.0)
+  opened_there : (m : ℕ) (old : CoreState) (e : NodesEnd) → IsOpened (node_call_of d.step) m old e → (m ≡ n) × (e.port.0 ≡ port.0)
   opened_there m old e o = (ap opened_place (sym o.is ∙ d.is), ap (λ (z : Port). z.0) o.new.port_is ∙ ap opened_port (sym o.is ∙ d.is))
 
   quiet : (x : ConnectionName) → (comes_up x d.step ≡ []) × (goes_down x d.step ≡ [])
-  quiet x = let c = carries_with v.group d.behind d.step n (takes (Opened port now)) d.faithful d.is in (c.up x, c.down x)
+  quiet x = let c = carries_with v.group d.after d.step n (takes (Opened port now)) d.faithful d.is in (c.up x, c.down x)
 
   still_unheard : (x : ConnectionName) → IsUnheard went x → IsUnheard (then_went went d.step) x
   still_unheard x none = (ap (λ l. l ++ comes_up x d.step) none.0 ∙ (quiet x).0, ap (λ l. l ++ goes_down x d.step) none.1 ∙ (quiet x).1)

@@ -6,7 +6,7 @@ use Rattle.std.proofs.lemmas.List.{append-nil}
 use Rattle.node_group.specs.packet.Spelling.{IsPacket}
 use Rattle.node_group.specs.packet.declared.packet.Packet.{Packet}
 use Rattle.node_group.specs.ballot.Config.{Config}
-use Rattle.node_group.specs.broker_base.Connection.{ConnectionName, same_connection}
+use Rattle.node_group.specs.broker_spec.Connection.{ConnectionName, same_connection}
 use Rattle.node_group.proofs.of_broker_spec.ConnectionNames.{same_name}
 use Rattle.node_group.specs.lists.Lists.{Each, In}
 use Rattle.node_group.specs.lists.Lists.In.{here, there}
@@ -28,18 +28,18 @@ use Rattle.node_group.specs.node_moves.Puts.{spelled}
 use Rattle.node_group.proofs.of_node_moves.Kept.{left_true, live}
 use Rattle.node_group.proofs.of_node_moves.Views.{found_each, found_passes, some_none}
 use Rattle.node_group.specs.Group.{Group}
-use Rattle.node_group.specs.Goes.{MayGo, Went, groups_of}
-use Rattle.node_group.specs.Goes.Went.{then_went}
+use Rattle.node_group.specs.Goes.{GroupStep, GroupTrace, groups_of}
+use Rattle.node_group.specs.Goes.GroupTrace.{then_went}
 use Rattle.node_group.specs.Streams.{bytes_named, came_up, comes_up, goes_down, went_down}
 use Rattle.byte_world.specs.Apart.{HasName}
-use Rattle.byte_world.specs.Goes.{coming_with, deed_of, going_with}
+use Rattle.byte_world.specs.Goes.{coming_with, node_call_of, going_with}
 use Rattle.byte_world.specs.World.{Pipe, packets_of}
 use Rattle.byte_world.proofs.NodesGoOn.{CarriesWith, IsOpened, StoodAs, of_each, stands_as, stood_as}
 use Rattle.byte_world.proofs.OnTheWay.{IsHandled, piece_up, written_up}
 use Rattle.byte_world.proofs.PortsKept.{IsOfOld}
 
 -- the name was given by this node, which had it then, and at this port it has no connection of another name
-pub record IsPlaced {nodes : ℕ} {config : Config} {g : Group} (went : Went nodes config g) (x : ConnectionName) (n : ℕ) (port : Port) : Type 0 where
+pub record IsPlaced {nodes : ℕ} {config : Config} {g : Group} (went : GroupTrace nodes config g) (x : ConnectionName) (n : ℕ) (port : Port) : Type 0 where
   pub core : CoreState
   pub stands : slice_get g.nodes n ≡ Some core
   pub given : IsGiven core.last_name x
@@ -55,15 +55,15 @@ pub record IsUp (g : Group) (written : List Packet) (came : List ℕ) (n : ℕ) 
   pub joined : Joins written (came ++ later)
   pub still : (core : CoreState) (d : NodesEnd) → slice_get g.nodes n ≡ Some core → In d core.connections → d.port.0 ≡ port.0 → live d ≡ true → later ≡ up
 
-pub record PipeHolds {nodes : ℕ} {config : Config} {g : Group} (went : Went nodes config g) (κ : Connection) (p : Pipe) : Type 0 where
+pub record PipeHolds {nodes : ℕ} {config : Config} {g : Group} (went : GroupTrace nodes config g) (κ : Connection) (p : Pipe) : Type 0 where
   pub placed : IsPlaced went κ.name p.node p.port
   pub up : IsUp g (packets_of κ.written) (came_up κ.name went) p.node p.port p.up
   pub down : IsHandled κ.handled p.came p.down (went_down κ.name went)
 
 -- ---- a step opens no connection at this port
 
-abbrev pub OpensNone : {g h : Group} → MayGo g h → ℕ → Port → Type 0
-OpensNone {g = g} step n port = (core : CoreState) (d : NodesEnd) → slice_get g.nodes n ≡ Some core → IsOpened (deed_of step) n core d → d.port.0 ≡ port.0 → ⊥
+abbrev pub OpensNone : {g h : Group} → GroupStep g h → ℕ → Port → Type 0
+OpensNone {g = g} step n port = (core : CoreState) (d : NodesEnd) → slice_get g.nodes n ≡ Some core → IsOpened (node_call_of step) n core d → d.port.0 ≡ port.0 → ⊥
 
 abbrev pub opens_in : Option (ℕ × NodeCall) → Bool
 opens_in None = false
@@ -77,31 +77,31 @@ opens_in (Some (n, takes Cut)) = false
 opens_in (Some (n, takes Crash)) = false
 opens_in (Some (n, gives port)) = false
 
-pub none_opens : {g h : Group} (step : MayGo g h) (n : ℕ) (port : Port) → opens_in (deed_of step) ≡ false → OpensNone step n port
-none_opens step n port none core d at opened same = both_ways (opens_in (deed_of step)) none (ap opens_in opened.is)
+pub none_opens : {g h : Group} (step : GroupStep g h) (n : ℕ) (port : Port) → opens_in (node_call_of step) ≡ false → OpensNone step n port
+none_opens step n port none core d at opened same = both_ways (opens_in (node_call_of step)) none (ap opens_in opened.is)
 
-pub placed_on : {nodes : ℕ} {config : Config} {g h : Group} (went : Went nodes config g) (step : MayGo g h) (x : ConnectionName) (n : ℕ) (port : Port) → OpensNone step n port
+pub placed_on : {nodes : ℕ} {config : Config} {g h : Group} (went : GroupTrace nodes config g) (step : GroupStep g h) (x : ConnectionName) (n : ℕ) (port : Port) → OpensNone step n port
     → IsPlaced went x n port → IsPlaced (then_went went step) x n port
 placed_on {g = g} {h = h} went step x n port none p =
     let s = stands_as g h went step n p.core p.stands in
     record {
       core = s.later;
       stands = s.stands;
-      given = s.behind.given x p.given;
-      ports = λ d i e. by d e (s.behind.was d i);
+      given = s.after.given x p.given;
+      ports = λ d i e. by d e (s.after.was d i);
       earlier = p.earlier;
       among = there p.among;
       had = p.had;
     }
   where
-    by : (d : NodesEnd) → d.port.0 ≡ port.0 → IsOfOld p.core.connections d ⊎ IsOpened (deed_of step) n p.core d → d.name ≡ x
+    by : (d : NodesEnd) → d.port.0 ≡ port.0 → IsOfOld p.core.connections d ⊎ IsOpened (node_call_of step) n p.core d → d.name ≡ x
     by d e (inl o) = o.later.name ∙ p.ports o.was o.among (sym (ap (λ (q : Port). q.0) o.later.port) ∙ e)
     by d e (inr opened) = absurd (none p.core d p.stands opened e)
 
 -- ---- up
 
 -- no bytes come up
-pub up_on : {nodes : ℕ} {config : Config} {g h : Group} (went : Went nodes config g) (step : MayGo g h) (n : ℕ) (port : Port) {written : List Packet} {came up : List ℕ} (more : List ℕ)
+pub up_on : {nodes : ℕ} {config : Config} {g h : Group} (went : GroupTrace nodes config g) (step : GroupStep g h) (n : ℕ) (port : Port) {written : List Packet} {came up : List ℕ} (more : List ℕ)
     → OpensNone step n port → more ≡ [] → IsUp g written came n port up → IsUp h written (came ++ more) n port up
 up_on {g = g} {h = h} went step n port {written = written} {came = came} {up = up} more none empty u =
     record {
@@ -110,12 +110,12 @@ up_on {g = g} {h = h} went step n port {written = written} {came = came} {up = u
       still = λ core d at i same lives. by core d same lives (stood_as g h went step n core at) i;
     }
   where
-    on : (core : CoreState) (d : NodesEnd) → slice_get g.nodes n ≡ Some core → d.port.0 ≡ port.0 → live d ≡ true → IsOfOld core.connections d ⊎ IsOpened (deed_of step) n core d → u.later ≡ up
+    on : (core : CoreState) (d : NodesEnd) → slice_get g.nodes n ≡ Some core → d.port.0 ≡ port.0 → live d ≡ true → IsOfOld core.connections d ⊎ IsOpened (node_call_of step) n core d → u.later ≡ up
     on core d at same lives (inl o) = u.still core o.was at o.among (sym (ap (λ (q : Port). q.0) o.later.port) ∙ same) (o.later.lives lives)
     on core d at same lives (inr opened) = absurd (none core d at opened same)
 
-    by : (core : CoreState) (d : NodesEnd) → d.port.0 ≡ port.0 → live d ≡ true → StoodAs g h (deed_of step) n core → In d core.connections → u.later ≡ up
-    by core d same lives s i = on s.core d s.stands same lives (s.behind.was d i)
+    by : (core : CoreState) (d : NodesEnd) → d.port.0 ≡ port.0 → live d ≡ true → StoodAs g h (node_call_of step) n core → In d core.connections → u.later ≡ up
+    by core d same lives s i = on s.core d s.stands same lives (s.after.was d i)
 
 -- the client writes
 pub up_written : (g : Group) (written qs : List Packet) (came : List ℕ) (n : ℕ) (port : Port) (up : List ℕ) → Each IsPacket qs → IsUp g written came n port up
@@ -184,8 +184,8 @@ found_there port core d e =
 
 -- ---- a piece comes up
 
-pub up_piece : {nodes : ℕ} {config : Config} {g h : Group} (went : Went nodes config g) (step : MayGo g h) (x : ConnectionName) (n : ℕ) (port : Port) (now : ℕ) {written : List Packet}
-    {came up : List ℕ} (piece rest : List ℕ) → deed_of step ≡ Some (n, takes (Bytes port piece now)) → CarriesWith g h step n (takes (Bytes port piece now)) → IsPlaced went x n port
+pub up_piece : {nodes : ℕ} {config : Config} {g h : Group} (went : GroupTrace nodes config g) (step : GroupStep g h) (x : ConnectionName) (n : ℕ) (port : Port) (now : ℕ) {written : List Packet}
+    {came up : List ℕ} (piece rest : List ℕ) → node_call_of step ≡ Some (n, takes (Bytes port piece now)) → CarriesWith g h step n (takes (Bytes port piece now)) → IsPlaced went x n port
     → up ≡ piece ++ rest → IsUp g written came n port up → IsUp h written (came ++ comes_up x step) n port rest
 up_piece {g = g} {h = h} went step x n port now {written = written} {came = came} {up = up} piece rest is c placed cut u = by (open_at port c.core) refl
   where
@@ -194,7 +194,7 @@ up_piece {g = g} {h = h} went step x n port now {written = written} {came = came
 
     -- the node has it closed, and nothing is open there after
     was_shut : open_at port c.core ≡ None → (old : CoreState) (d : NodesEnd) → slice_get g.nodes n ≡ Some old → d.port.0 ≡ port.0 → live d ≡ true
-        → IsOfOld old.connections d ⊎ IsOpened (deed_of step) n old d → ⊥
+        → IsOfOld old.connections d ⊎ IsOpened (node_call_of step) n old d → ⊥
     was_shut e old d stood same lives (inl o) =
         both_ways (is_open_at port o.was)
         (of_each (λ (z : NodesEnd). is_open_at port z ≡ false) (none_found (is_open_at port) c.core.connections e)
@@ -202,8 +202,8 @@ up_piece {g = g} {h = h} went step x n port now {written = written} {came = came
         (both_true (live o.was) (is_at port o.was) (o.later.lives lives) (is_the_port port o.was (sym (ap (λ (q : Port). q.0) o.later.port) ∙ same)))
     was_shut e old d stood same lives (inr opened) = none old d stood opened same
 
-    shut : open_at port c.core ≡ None → (core : CoreState) (d : NodesEnd) → In d core.connections → d.port.0 ≡ port.0 → live d ≡ true → StoodAs g h (deed_of step) n core → ⊥
-    shut e core d i same lives s = was_shut e s.core d s.stands same lives (s.behind.was d i)
+    shut : open_at port c.core ≡ None → (core : CoreState) (d : NodesEnd) → In d core.connections → d.port.0 ≡ port.0 → live d ≡ true → StoodAs g h (node_call_of step) n core → ⊥
+    shut e core d i same lives s = was_shut e s.core d s.stands same lives (s.after.was d i)
 
     by : (o : Option NodesEnd) → open_at port c.core ≡ o → IsUp h written (came ++ comes_up x step) n port rest
     by None e =
@@ -227,7 +227,7 @@ up_piece {g = g} {h = h} went step x n port now {written = written} {came = came
 
 -- ---- a connection that has no part in a step
 
-pub apart_on : {nodes : ℕ} {config : Config} {g h : Group} (went : Went nodes config g) (step : MayGo g h) (κ : Connection) (p : Pipe) → OpensNone step p.node p.port
+pub apart_on : {nodes : ℕ} {config : Config} {g h : Group} (went : GroupTrace nodes config g) (step : GroupStep g h) (κ : Connection) (p : Pipe) → OpensNone step p.node p.port
     → comes_up κ.name step ≡ [] → goes_down κ.name step ≡ [] → PipeHolds went κ p → PipeHolds (then_went went step) κ p
 apart_on went step κ p none up down h =
     record {

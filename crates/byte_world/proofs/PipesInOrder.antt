@@ -1,17 +1,17 @@
 -- The pipes of a world carry in order.
 use Rattle.std.proofs.Common.{◌≡◌, inl, ℕ, zero, suc, List, [], ◌∷◌, ◌++◌, map, Option, Some, slice_get, refl, sym, ap, ◌∙◌, subst}
 use Rattle.node_group.specs.ballot.Config.{Config}
-use Rattle.node_group.specs.broker_base.Command.{Command}
-use Rattle.node_group.specs.broker_base.Place.{Client}
+use Rattle.node_group.specs.broker_spec.declared.command.Command.{Command}
+use Rattle.node_group.specs.broker_spec.Place.{Client}
 use Rattle.node_group.specs.lists.Lists.{In, IsPrefixOf}
 use Rattle.node_group.specs.exactly_once.Sides.{Connection}
 use Rattle.node_group.specs.world_base.declared.Connection.{Connection as NodesEnd}
 use Rattle.node_group.specs.world_base.Core.{CoreState}
 use Rattle.node_group.specs.Group.{opening_cores}
-use Rattle.node_group.specs.Goes.{Went}
-use Rattle.node_group.specs.Goes.Went.{opened}
+use Rattle.node_group.specs.Goes.{GroupTrace}
+use Rattle.node_group.specs.Goes.GroupTrace.{opened}
 use Rattle.node_group.proofs.NamesInGroups.{each_got}
-use Rattle.node_group.specs.broker_base.Connection.{ConnectionName}
+use Rattle.node_group.specs.broker_spec.Connection.{ConnectionName}
 use Rattle.node_group.specs.Carried.{answers_to}
 use Rattle.node_group.specs.Streams.{came_up, went_down}
 use Rattle.node_group.proofs.CarriedInOrder.{CarriedSo, IsAgreedSo, carried_so, carries_each, no_connections}
@@ -39,7 +39,7 @@ opens_bare (d ∷ cs) zero c j κ e f = nowhere j (ap (λ (z : ClientPipes). sli
     nowhere k g = cc
 opens_bare (d ∷ cs) (suc i) c j κ e f = opens_bare cs i c j κ e f
 
-pub opens_hold : (nodes : ℕ) (config : Config) (cs : List Client) (went : Went nodes config (opening nodes config cs).group) → ((x : ConnectionName) → (came_up x went ≡ []) × (went_down x went ≡ []))
+pub opens_hold : (nodes : ℕ) (config : Config) (cs : List Client) (went : GroupTrace nodes config (opening nodes config cs).group) → ((x : ConnectionName) → (came_up x went ≡ []) × (went_down x went ≡ []))
     → Holds (opening nodes config cs) went
 opens_hold nodes config cs went silent =
     record {
@@ -58,13 +58,13 @@ opens_hold nodes config cs went silent =
 
 -- ---- each step
 
-pub step_holds : {nodes : ℕ} {config : Config} (v w : World) (went : Went nodes config v.group) → Holds v went → (step : WorldStep v w) → Holds w (went_on went step)
-step_holds v w went h (group_goes deed d apart) = group_holds v went deed d apart h
+pub step_holds : {nodes : ℕ} {config : Config} (v w : World) (went : GroupTrace nodes config v.group) → Holds v went → (step : WorldStep v w) → Holds w (went_on went step)
+step_holds v w went h (group_goes node_call d apart) = group_holds v went node_call d apart h
 step_holds v w went h (calls i c t happens at call spelled) =
     let new = call_writes happens call in calls_hold v went i c t.keeper t.connections new.0 at new.1 spelled h
-step_holds v w went h (connects i n c port now d core end at unused behind there_so spelled) =
-    connects_holds v went h n port now d core end behind there_so unused i c at spelled
-step_holds v w went h (is_turned_away n port now d core unused behind none) = turned_holds v went h n port now d unused core behind none
+step_holds v w went h (connects i n c port now d core end at unused after there_so spelled) =
+    connects_holds v went h n port now d core end after there_so unused i c at spelled
+step_holds v w went h (is_turned_away n port now d core unused after none) = turned_holds v went h n port now d unused core after none
 step_holds v w went h (comes_up i j c κ p piece rest now d has is) = comes_holds v went i j c κ p piece rest now d has is h
 step_holds v w went h (goes_down i j c κ p d has) = goes_holds v went i j c κ p d has h
 step_holds v w went h (arrives i j c κ p piece rest has is) =
@@ -80,7 +80,7 @@ reached_holds w (goes_on {v = v} before step) = step_holds v w (went_of before) 
 -- ---- the law
 
 -- what is carried on each connection, by each list that is agreed
-pub in_order : {nodes : ℕ} {config : Config} (w : World) (went : Went nodes config w.group) → Holds w went → (so : CarriedSo went) (agreed : List Command) → IsAgreedSo so agreed
+pub in_order : {nodes : ℕ} {config : Config} (w : World) (went : GroupTrace nodes config w.group) → Holds w went → (so : CarriedSo went) (agreed : List Command) → IsAgreedSo so agreed
     → (i : ℕ) (c : ClientPipes) (j : ℕ) (κ : Connection) (p : Pipe) → HasPipe w i c j κ p → IsInOrder agreed κ p
 in_order w went holds so agreed is i c j κ p has =
     let h = holds.each i c j κ p has in

@@ -13,11 +13,11 @@ use Rattle.node_group.specs.ballot.Effect.{Effect}
 use Rattle.node_group.specs.ballot.Effect.TheVariants.{To, Out}
 use Rattle.node_group.specs.ballot.Protocol.{Input}
 use Rattle.node_group.specs.ballot.Protocol.Input.{Receives, Ticks}
-use Rattle.node_group.specs.broker_base.Command.{Command}
-use Rattle.node_group.specs.broker_base.Command.TheVariants as commands
-use Rattle.node_group.specs.broker_base.Connection.{ConnectionName, is_connection_name}
-use Rattle.node_group.specs.broker_base.Output.{Output}
-use Rattle.node_group.specs.broker_base.Output.TheVariants as outputs
+use Rattle.node_group.specs.broker_spec.declared.command.Command.{Command}
+use Rattle.node_group.specs.broker_spec.declared.command.Command.TheVariants as commands
+use Rattle.node_group.specs.broker_spec.Connection.{ConnectionName, is_connection_name}
+use Rattle.node_group.specs.broker_spec.declared.command.Output.{Output}
+use Rattle.node_group.specs.broker_spec.declared.command.Output.TheVariants as outputs
 use Rattle.node_group.specs.lists.Lists.{Each, In}
 use Rattle.node_group.specs.lists.Lists.In.{here, there}
 use Rattle.node_group.proofs.of_lists.OfEach.{each_append, each_then}
@@ -234,7 +234,7 @@ module _ (P : Connection → Type 0) (follows : IsFollowed P) where
   unfolding hands_over
   each_handed port core all = each_left port core (listed_at port core) all
 
-  pub each_done : (deed : NodeCall) (core : CoreState) → IsNewOf deed core → AllOf core → AllOf (done deed core).core
+  pub each_done : (node_call : NodeCall) (core : CoreState) → IsNewOf node_call core → AllOf core → AllOf (done node_call core).core
   each_done (takes item) core new all =
       each_settled P kept.shut (acts_on item core).core
       (each_repeated P kept (length (takes_in item core).core.connections) (takes_in item core).core (each_taken item core new all))
@@ -269,9 +269,9 @@ all_old old (c ∷ cs) among =
 pub old_later : (old : List Connection) → IsFollowed (IsOfOld old)
 old_later old c d later o = record { was = o.was; among = o.among; later = later_still o.later later }
 
-pub each_was : (deed : NodeCall) (core : CoreState) → IsNewOf (IsOfOld core.connections) (old_later core.connections) deed core
-    → Each (IsOfOld core.connections) (done deed core).core.connections
-each_was deed core new = each_done (IsOfOld core.connections) (old_later core.connections) deed core new (all_old core.connections core.connections (λ c i. i))
+pub each_was : (node_call : NodeCall) (core : CoreState) → IsNewOf (IsOfOld core.connections) (old_later core.connections) node_call core
+    → Each (IsOfOld core.connections) (done node_call core).core.connections
+each_was node_call core new = each_done (IsOfOld core.connections) (old_later core.connections) node_call core new (all_old core.connections core.connections (λ c i. i))
 
 -- after an opening it was there, or is new
 abbrev pub Comes : CoreState → Port → Connection → Type 0

@@ -7,11 +7,11 @@ use Rattle.node_group.specs.packet.declared.packet.Packet.TheVariants as packets
 use Rattle.node_group.specs.ballot.Effect.{Effect}
 use Rattle.node_group.specs.ballot.Protocol.{Input}
 use Rattle.node_group.specs.ballot.Protocol.Input.{Receives, Ticks}
-use Rattle.node_group.specs.broker_base.Command.{Command}
-use Rattle.node_group.specs.broker_base.Command.TheVariants as commands
-use Rattle.node_group.specs.broker_base.Connection.{ConnectionName}
-use Rattle.node_group.specs.broker_base.Output.{Output}
-use Rattle.node_group.specs.broker_base.Output.TheVariants as outputs
+use Rattle.node_group.specs.broker_spec.declared.command.Command.{Command}
+use Rattle.node_group.specs.broker_spec.declared.command.Command.TheVariants as commands
+use Rattle.node_group.specs.broker_spec.Connection.{ConnectionName}
+use Rattle.node_group.specs.broker_spec.declared.command.Output.{Output}
+use Rattle.node_group.specs.broker_spec.declared.command.Output.TheVariants as outputs
 use Rattle.node_group.specs.lists.Lists.{Each}
 use Rattle.node_group.proofs.of_lists.OfEach.{each_then}
 use Rattle.node_group.specs.world_base.declared.Connection.{Connection}

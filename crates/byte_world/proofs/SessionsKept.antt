@@ -4,12 +4,12 @@ use Rattle.std.specs.Prelude.{not, ◌&&◌, ◌||◌}
 use Rattle.node_group.specs.lists.Lists.{Each, In}
 use Rattle.node_group.specs.lists.Lists.In.{here, there}
 use Rattle.node_group.proofs.of_lists.Members.{in_left}
-use Rattle.node_group.specs.broker_base.Command.{Command}
-use Rattle.node_group.specs.broker_base.Command.TheVariants as commands
-use Rattle.node_group.specs.broker_base.Commands.{past_from, past_of, place_of, usual_limits}
-use Rattle.node_group.specs.broker_base.Connection.{ConnectionName}
-use Rattle.node_group.specs.broker_base.Past.{accepts, current_connection, ends_any, expels, newest_session, session_of}
-use Rattle.node_group.specs.broker_base.Place.{Client, Limits, Mark, Past, Place, only_if, same_client}
+use Rattle.node_group.specs.broker_spec.declared.command.Command.{Command}
+use Rattle.node_group.specs.broker_spec.declared.command.Command.TheVariants as commands
+use Rattle.node_group.specs.broker_spec.Commands.{past_from, past_of, place_of, usual_limits}
+use Rattle.node_group.specs.broker_spec.Connection.{ConnectionName}
+use Rattle.node_group.specs.broker_spec.Past.{accepts, current_connection, ends_any, expels, newest_session, session_of}
+use Rattle.node_group.specs.broker_spec.Place.{Client, Limits, Mark, Past, Place, only_if, same_client}
 use Rattle.byte_world.specs.Kept.{NoSessionIsClean, NoneIsClean}
 
 -- a command that asks for no clean session

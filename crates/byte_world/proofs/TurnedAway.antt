@@ -3,7 +3,7 @@
 use Rattle.std.proofs.Common.{◌≡◌, ◌⊎◌, inl, inr, ℕ, false, Option, Some, None, slice_get, refl, sym, ap, ◌∙◌, subst}
 use Rattle.std.proofs.lemmas.Bool.{both_ways}
 use Rattle.node_group.specs.ballot.Config.{Config}
-use Rattle.node_group.specs.broker_base.Connection.{ConnectionName}
+use Rattle.node_group.specs.broker_spec.Connection.{ConnectionName}
 use Rattle.node_group.specs.lists.Lists.{In}
 use Rattle.node_group.specs.world_base.declared.Connection.{Connection as NodesEnd}
 use Rattle.node_group.specs.world_base.declared.item.Item.TheVariants.{Opened}
@@ -12,9 +12,9 @@ use Rattle.node_group.specs.world_base.Core.{CoreState}
 use Rattle.node_group.specs.world_base.Connections.{is_at}
 use Rattle.node_group.specs.world_base.Handing.{listed_at}
 use Rattle.node_group.specs.node_moves.Moves.NodeCall.{takes}
-use Rattle.node_group.specs.Goes.{Went}
-use Rattle.node_group.specs.Goes.Went.{then_went}
-use Rattle.byte_world.specs.Goes.{Does, deed_of}
+use Rattle.node_group.specs.Goes.{GroupTrace}
+use Rattle.node_group.specs.Goes.GroupTrace.{then_went}
+use Rattle.byte_world.specs.Goes.{Does, node_call_of}
 use Rattle.byte_world.specs.World.{HasPipe, World, is_used}
 use Rattle.byte_world.proofs.NodesGoOn.{IsOpened, of_each, stood_as}
 use Rattle.byte_world.proofs.PipesHold.{is_the_port, none_found}
@@ -25,8 +25,8 @@ use Rattle.byte_world.proofs.WorldsHold.{Holds, IsKnown, IsUnheard, Leads, holds
 same_core : (a b : CoreState) → (let o : Option CoreState = Some a in o) ≡ Some b → a ≡ b
 same_core a b e = cc
 
-module _ {nodes : ℕ} {config : Config} (v : World) (went : Went nodes config v.group) (h : Holds v went) (n : ℕ) (port : Port) (now : ℕ) (d : Does v.group (Some (n, takes (Opened port now))))
-    (unused : is_used n port v.clients ≡ false) (core : CoreState) (stands : slice_get d.behind.nodes n ≡ Some core) (none : listed_at port core ≡ None) where
+module _ {nodes : ℕ} {config : Config} (v : World) (went : GroupTrace nodes config v.group) (h : Holds v went) (n : ℕ) (port : Port) (now : ℕ) (d : Does v.group (Some (n, takes (Opened port now))))
+    (unused : is_used n port v.clients ≡ false) (core : CoreState) (stands : slice_get d.after.nodes n ≡ Some core) (none : listed_at port core ≡ None) where
   facts : OpensUnused v went n port now d
   facts = opens_unused v went h n port now d unused
 
@@ -34,23 +34,23 @@ module _ {nodes : ℕ} {config : Config} (v : World) (went : Went nodes config v
   not_there : (e : NodesEnd) → In e core.connections → e.port.0 ≡ port.0 → ⊥
   not_there e i same = both_ways (is_at port e) (of_each (λ (z : NodesEnd). is_at port z ≡ false) (none_found (is_at port) core.connections none) i) (is_the_port port e same)
 
-  each_led : (m : ℕ) (z : CoreState) (e : NodesEnd) → slice_get d.behind.nodes m ≡ Some z → In e z.connections → Leads v m e.port
-  each_led m z e stood j = by (stood_as v.group d.behind went d.step m z stood).core (stood_as v.group d.behind went d.step m z stood).stands ((stood_as v.group d.behind went d.step m z stood).behind.was e j)
+  each_led : (m : ℕ) (z : CoreState) (e : NodesEnd) → slice_get d.after.nodes m ≡ Some z → In e z.connections → Leads v m e.port
+  each_led m z e stood j = by (stood_as v.group d.after went d.step m z stood).core (stood_as v.group d.after went d.step m z stood).stands ((stood_as v.group d.after went d.step m z stood).after.was e j)
     where
-      by : (before : CoreState) → slice_get v.group.nodes m ≡ Some before → IsOfOld before.connections e ⊎ IsOpened (deed_of d.step) m before e → Leads v m e.port
+      by : (before : CoreState) → slice_get v.group.nodes m ≡ Some before → IsOfOld before.connections e ⊎ IsOpened (node_call_of d.step) m before e → Leads v m e.port
       by before at (inl o) = facts.old_led m before e at o
       by before at (inr o) =
           let f = facts.opened_there m before e o in
-          let one : z ≡ core = same_core z core (sym stood ∙ ap (slice_get d.behind.nodes) f.0 ∙ stands) in
+          let one : z ≡ core = same_core z core (sym stood ∙ ap (slice_get d.after.nodes) f.0 ∙ stands) in
           absurd (not_there e (subst (λ (k : CoreState). In e k.connections) one j) f.1)
 
   each_known : (x : ConnectionName) → IsUnheard went x ⊎ IsKnown v x → IsUnheard (then_went went d.step) x ⊎ IsKnown v x
   each_known x (inl silent) = inl (facts.still_unheard x silent)
   each_known x (inr k) = inr k
 
-  pub turned_holds : Holds (record v { group = d.behind }) (then_went went d.step)
+  pub turned_holds : Holds (record v { group = d.after }) (then_went went d.step)
   turned_holds =
-      holds_on v (record v { group = d.behind }) went (then_went went d.step) h
+      holds_on v (record v { group = d.after }) went (then_went went d.step) h
       (λ k c l κ p has.
       let old : HasPipe v k c l κ p = record { client = has.client; connection = has.connection; pipe = has.pipe } in
       record { c = c; κ = κ; p = p; has = old; name = refl; holds = facts.old_holds k c l κ p old })

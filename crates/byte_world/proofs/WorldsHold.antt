@@ -4,7 +4,7 @@ use Rattle.std.proofs.Common.{◌≡◌, ◌⊎◌, inl, inr, ℕ, zero, suc, Li
 use Rattle.node_group.specs.packet.Spelling.{IsPacket}
 use Rattle.node_group.specs.packet.declared.packet.Packet.{Packet}
 use Rattle.node_group.specs.ballot.Config.{Config}
-use Rattle.node_group.specs.broker_base.Connection.{ConnectionName}
+use Rattle.node_group.specs.broker_spec.Connection.{ConnectionName}
 use Rattle.node_group.specs.client_base.Keeper.{Written}
 use Rattle.node_group.specs.cutter.Stream.{Stream}
 use Rattle.node_group.specs.lists.Lists.{Each, In}
@@ -16,11 +16,11 @@ use Rattle.node_group.specs.world_base.declared.Port.{Port}
 use Rattle.node_group.specs.world_base.Core.{CoreState}
 use Rattle.node_group.specs.node_moves.Puts.{spelled}
 use Rattle.node_group.specs.Group.{Group}
-use Rattle.node_group.specs.Goes.{Went}
+use Rattle.node_group.specs.Goes.{GroupTrace}
 use Rattle.node_group.specs.Streams.{came_up, went_down}
 use Rattle.byte_world.specs.World.{ClientPipes, HasPipe, Pipe, World, packets_of, with_client, with_pipe}
 pub use Rattle.byte_world.specs.AtNodes.{Leads}
-use Rattle.byte_world.proofs.OnTheWay.{IsHandled, packets_behind, piece_down}
+use Rattle.byte_world.proofs.OnTheWay.{IsHandled, packets_after, piece_down}
 use Rattle.byte_world.proofs.PipesHold.{IsPlaced, IsUp, PipeHolds, up_written}
 
 -- a client has a connection of this name
@@ -34,10 +34,10 @@ pub record IsKnown (w : World) (x : ConnectionName) : Type 0 where
   pub name : κ.name ≡ x
 
 -- nothing came on it or was sent
-abbrev pub IsUnheard : {nodes : ℕ} {config : Config} {g : Group} → Went nodes config g → ConnectionName → Type 0
+abbrev pub IsUnheard : {nodes : ℕ} {config : Config} {g : Group} → GroupTrace nodes config g → ConnectionName → Type 0
 IsUnheard went x = (came_up x went ≡ []) × (went_down x went ≡ [])
 
-pub record Holds {nodes : ℕ} {config : Config} (w : World) (went : Went nodes config w.group) : Type 0 where
+pub record Holds {nodes : ℕ} {config : Config} (w : World) (went : GroupTrace nodes config w.group) : Type 0 where
   pub each : (i : ℕ) (c : ClientPipes) (j : ℕ) (κ : Connection) (p : Pipe) → HasPipe w i c j κ p → PipeHolds went κ p
   pub one : (i : ℕ) (c : ClientPipes) (j : ℕ) (κ : Connection) (p : Pipe) (k : ℕ) (d : ClientPipes) (l : ℕ) (μ : Connection) (q : Pipe) → HasPipe w i c j κ p → HasPipe w k d l μ q
       → κ.name ≡ μ.name → (i ≡ k) × (j ≡ l)
@@ -47,7 +47,7 @@ pub record Holds {nodes : ℕ} {config : Config} (w : World) (went : Went nodes 
 -- ---- a step that opens nothing
 
 -- a connection after a step, and the same one before
-pub record Came {nodes : ℕ} {config : Config} (v : World) {g : Group} (went : Went nodes config g) (k l : ℕ) (later : Connection) (q : Pipe) : Type 0 where
+pub record Came {nodes : ℕ} {config : Config} (v : World) {g : Group} (went : GroupTrace nodes config g) (k l : ℕ) (later : Connection) (q : Pipe) : Type 0 where
   pub c : ClientPipes
   pub κ : Connection
   pub p : Pipe
@@ -65,12 +65,12 @@ pub record Stays (w : World) (k l : ℕ) (κ : Connection) (p : Pipe) : Type 0 w
   pub node : q.node ≡ p.node
   pub port : q.port ≡ p.port
 
-pub holds_on : {nodes : ℕ} {config : Config} (v w : World) (went : Went nodes config v.group) (behind : Went nodes config w.group) → Holds v went
-    → ((k : ℕ) (c : ClientPipes) (l : ℕ) (κ : Connection) (p : Pipe) → HasPipe w k c l κ p → Came v behind k l κ p)
+pub holds_on : {nodes : ℕ} {config : Config} (v w : World) (went : GroupTrace nodes config v.group) (after : GroupTrace nodes config w.group) → Holds v went
+    → ((k : ℕ) (c : ClientPipes) (l : ℕ) (κ : Connection) (p : Pipe) → HasPipe w k c l κ p → Came v after k l κ p)
     → ((k : ℕ) (c : ClientPipes) (l : ℕ) (κ : Connection) (p : Pipe) → HasPipe v k c l κ p → Stays w k l κ p)
     → ((n : ℕ) (core : CoreState) (d : NodesEnd) → slice_get w.group.nodes n ≡ Some core → In d core.connections → Leads v n d.port)
-    → ((x : ConnectionName) → IsUnheard behind x ⊎ IsKnown v x) → Holds w behind
-holds_on v w went behind h back forth olds knows =
+    → ((x : ConnectionName) → IsUnheard after x ⊎ IsKnown v x) → Holds w after
+holds_on v w went after h back forth olds knows =
     record {
       each = λ i c j κ p has. (back i c j κ p has).holds;
       one = λ i c j κ p k d l μ q has other same.
@@ -86,7 +86,7 @@ holds_on v w went behind h back forth olds knows =
         let s = forth l.i l.c l.j l.κ l.p l.has in
         record { i = l.i; c = s.c; j = l.j; κ = s.later; p = s.q; has = s.has; node = s.node ∙ l.node; at = ap (λ (z : Port). z.0) s.port ∙ l.at }
 
-    by : (x : ConnectionName) → IsUnheard behind x ⊎ IsKnown v x → IsUnheard behind x ⊎ IsKnown w x
+    by : (x : ConnectionName) → IsUnheard after x ⊎ IsKnown v x → IsUnheard after x ⊎ IsKnown w x
     by x (inl none) = inl none
     by x (inr k) = let s = forth k.i k.c k.j k.κ k.p k.has in inr (record { i = k.i; c = s.c; j = k.j; κ = s.later; p = s.q; has = s.has; name = s.name ∙ k.name })
 
@@ -181,7 +181,7 @@ place_forth v g i j c later κ μ p q has change k d l ν r was = by (same_or_ot
 
 -- ---- the group rests
 
-pub client_holds : {nodes : ℕ} {config : Config} (v : World) (went : Went nodes config v.group) (i j : ℕ) (c later : ClientPipes) (κ μ : Connection) (p q : Pipe) → HasPipe v i c j κ p
+pub client_holds : {nodes : ℕ} {config : Config} (v : World) (went : GroupTrace nodes config v.group) (i j : ℕ) (c later : ClientPipes) (κ μ : Connection) (p q : Pipe) → HasPipe v i c j κ p
     → ChangedAt c later j κ μ p q → PipeHolds went μ q → Holds v went → Holds (with_client i later v) went
 client_holds v went i j c later κ μ p q has change holds h =
     holds_on v (with_client i later v) went went h
@@ -234,19 +234,19 @@ first_at c later κ μ others p q pipes are piped now now_piped name node port =
 
 -- ---- what a client does with one
 
-pub arrives_holds : {nodes : ℕ} {config : Config} {g : Group} (went : Went nodes config g) (κ : Connection) (p : Pipe) (piece rest : List ℕ) → p.down ≡ piece ++ rest → PipeHolds went κ p
+pub arrives_holds : {nodes : ℕ} {config : Config} {g : Group} (went : GroupTrace nodes config g) (κ : Connection) (p : Pipe) (piece rest : List ℕ) → p.down ≡ piece ++ rest → PipeHolds went κ p
     → PipeHolds went κ (record p { down = rest; came = record p.came { held = p.came.held ++ piece } })
 arrives_holds went κ p piece rest cut h = record { placed = h.placed; up = h.up; down = piece_down κ.handled p.came p.down piece rest (went_down κ.name went) cut h.down }
 
 -- it writes, and may have handled a packet
-pub does_holds : {nodes : ℕ} {config : Config} {g : Group} (went : Went nodes config g) (κ μ : Connection) (p : Pipe) (came : Stream) (new : List Written) → μ.name ≡ κ.name
+pub does_holds : {nodes : ℕ} {config : Config} {g : Group} (went : GroupTrace nodes config g) (κ μ : Connection) (p : Pipe) (came : Stream) (new : List Written) → μ.name ≡ κ.name
     → μ.written ≡ κ.written ++ new → Each IsPacket (packets_of new) → IsHandled μ.handled came p.down (went_down κ.name went) → PipeHolds went κ p
     → PipeHolds went μ (record p { up = p.up ++ spelled (packets_of new); came = came })
 does_holds {g = g} went κ μ p came new name written whole down h =
     record {
       placed = subst (λ (x : ConnectionName). IsPlaced went x p.node p.port) (sym name) h.placed;
       up = subst (λ (x : ConnectionName). IsUp g (packets_of μ.written) (came_up x went) p.node p.port (p.up ++ spelled (packets_of new))) (sym name)
-          (subst (λ (ps : List Packet). IsUp g ps (came_up κ.name went) p.node p.port (p.up ++ spelled (packets_of new))) (sym (packets_behind κ μ new written))
+          (subst (λ (ps : List Packet). IsUp g ps (came_up κ.name went) p.node p.port (p.up ++ spelled (packets_of new))) (sym (packets_after κ μ new written))
           (up_written g (packets_of κ.written) (packets_of new) (came_up κ.name went) p.node p.port p.up whole h.up));
       down = subst (λ (x : ConnectionName). IsHandled μ.handled came p.down (went_down x went)) (sym name) down;
     }

@@ -6,8 +6,8 @@ use Rattle.node_group.specs.packet.Spelling.{IsPacket}
 use Rattle.node_group.specs.packet.declared.packet.Packet.{Packet}
 use Rattle.node_group.specs.packet.declared.packet.Packet.TheVariants as packets
 use Rattle.node_group.specs.ballot.Config.{Config}
-use Rattle.node_group.specs.broker_base.Connection.{ConnectionName, same_connection}
-use Rattle.node_group.specs.broker_base.Place.{Limits}
+use Rattle.node_group.specs.broker_spec.Connection.{ConnectionName, same_connection}
+use Rattle.node_group.specs.broker_spec.Place.{Limits}
 use Rattle.node_group.proofs.of_broker_spec.ConnectionNames.{same_name}
 use Rattle.node_group.specs.client_base.Called.{written_for}
 use Rattle.node_group.specs.client_base.Handled.{handled}
@@ -20,8 +20,8 @@ use Rattle.node_group.proofs.of_packet_world.Lists.{same_or_other, set_get}
 use Rattle.node_group.specs.world_base.declared.Port.{Port}
 use Rattle.node_group.specs.packet_world.Goes.{is_call}
 use Rattle.node_group.specs.exactly_once.Sides.{Connection, Side}
-use Rattle.node_group.specs.exactly_once.Story.{Happens, Story}
-use Rattle.node_group.specs.exactly_once.Story.Happens.{takes as takes_next, others_take, receives, opens_anew, loses, disconnects, publishes_one, subscribes, unsubscribes}
+use Rattle.node_group.specs.exactly_once.Story.{StoryStep, Story}
+use Rattle.node_group.specs.exactly_once.Story.StoryStep.{takes as takes_next, others_take, receives, opens_anew, loses, disconnects, publishes_one, subscribes, unsubscribes}
 use Rattle.node_group.proofs.of_exactly_once.Takes.{same_name_self}
 use Rattle.node_group.proofs.of_exactly_once.publishing.Grown.{handled_grows}
 use Rattle.node_group.specs.world_base.declared.Connection.{Connection as NodesEnd}
@@ -31,10 +31,10 @@ use Rattle.node_group.specs.node_moves.Moves.{NodeCall}
 use Rattle.node_group.specs.node_moves.Moves.NodeCall.{takes, gives}
 use Rattle.node_group.specs.node_moves.Puts.{spelled}
 use Rattle.node_group.specs.Group.{Group}
-use Rattle.node_group.specs.Goes.{MayGo, Went}
-use Rattle.node_group.specs.Goes.Went.{then_went}
+use Rattle.node_group.specs.Goes.{GroupStep, GroupTrace}
+use Rattle.node_group.specs.Goes.GroupTrace.{then_went}
 use Rattle.node_group.specs.Streams.{comes_up, goes_down, went_down}
-use Rattle.byte_world.specs.Goes.{CanBeSpelled, Does, after_packet, deed_of, is_apart}
+use Rattle.byte_world.specs.Goes.{CanBeSpelled, Does, after_packet, node_call_of, is_apart}
 use Rattle.byte_world.specs.World.{ClientPipes, HasPipe, Pipe, World, after_writing, newly_written, packets_of, sent_up, with_client, with_pipe}
 use Rattle.byte_world.proofs.NodesGoOn.{IsOpened, carries_with, is_quiet, stood_as}
 use Rattle.byte_world.proofs.OnTheWay.{IsHandled, more_down, newly_is, one_handled}
@@ -50,7 +50,7 @@ writes_none [] = refl
 writes_none (κ ∷ others) = ap (λ (l : List Written). record κ { written = l } ∷ others) (sym (append-nil κ.written))
 
 -- it writes only on the newest connection
-pub call_writes : {limits : Limits} {s t : Story} (h : Happens limits s t) → is_call h ≡ true → (new : List Written) × (t.connections ≡ writes_first new s.connections)
+pub call_writes : {limits : Limits} {s t : Story} (h : StoryStep limits s t) → is_call h ≡ true → (new : List Written) × (t.connections ≡ writes_first new s.connections)
 call_writes (takes_next i κ w stands next) e = absurd (both_ways false refl e)
 call_writes (others_take command other none) e = absurd (both_ways false refl e)
 call_writes (receives κ others packet are opened next) e = absurd (both_ways false refl e)
@@ -66,7 +66,7 @@ call_writes (subscribes p on id) e = (plain (packets.Subscribe p) ∷ [], refl)
 call_writes (unsubscribes p on id) e = (plain (packets.Unsubscribe p) ∷ [], refl)
 
 -- a client that has no connection with a pipe changes no pipe
-no_pipe_holds : {nodes : ℕ} {config : Config} (v : World) (went : Went nodes config v.group) (i : ℕ) (c later : ClientPipes) → slice_get v.clients i ≡ Some c
+no_pipe_holds : {nodes : ℕ} {config : Config} (v : World) (went : GroupTrace nodes config v.group) (i : ℕ) (c later : ClientPipes) → slice_get v.clients i ≡ Some c
     → ((j : ℕ) (κ : Connection) (p : Pipe) → slice_get c.connections j ≡ Some κ → slice_get c.pipes j ≡ Some p → ⊥)
     → ((j : ℕ) (κ : Connection) (p : Pipe) → slice_get later.connections j ≡ Some κ → slice_get later.pipes j ≡ Some p → ⊥) → Holds v went → Holds (with_client i later v) went
 no_pipe_holds v went i c later at none none_later h = holds_on v (with_client i later v) went went h back forth h.used h.known
@@ -108,7 +108,7 @@ no_place xs j x none at = nowhere j (sym (ap (λ l. slice_get l j) none) ∙ at)
     nowhere : (k : ℕ) → slice_get (let l : List _ = [] in l) k ≡ Some x → ⊥
     nowhere k e = cc
 
-pub calls_hold : {nodes : ℕ} {config : Config} (v : World) (went : Went nodes config v.group) (i : ℕ) (c : ClientPipes) (keeper : Keeper) (connections : List Connection) (new : List Written)
+pub calls_hold : {nodes : ℕ} {config : Config} (v : World) (went : GroupTrace nodes config v.group) (i : ℕ) (c : ClientPipes) (keeper : Keeper) (connections : List Connection) (new : List Written)
     → slice_get v.clients i ≡ Some c → connections ≡ writes_first new c.connections → CanBeSpelled c.connections connections → Holds v went
     → Holds (with_client i (after_writing keeper connections c) v) went
 calls_hold v went i c keeper connections new at is whole h = by c.connections c.pipes refl refl
@@ -137,7 +137,7 @@ calls_hold v went i c keeper connections new at is whole h = by c.connections c.
 
 -- ---- a client handles a packet
 
-pub handles_hold : {nodes : ℕ} {config : Config} (v : World) (went : Went nodes config v.group) (i : ℕ) (c : ClientPipes) (κ : Connection) (others : List Connection) (p : Pipe)
+pub handles_hold : {nodes : ℕ} {config : Config} (v : World) (went : GroupTrace nodes config v.group) (i : ℕ) (c : ClientPipes) (κ : Connection) (others : List Connection) (p : Pipe)
     (pipes : List Pipe) (packet : Packet) (left : Stream) → slice_get v.clients i ≡ Some c → c.connections ≡ κ ∷ others → c.pipes ≡ p ∷ pipes → Takes p.came (Ok (Some packet)) left
     → CanBeSpelled c.connections ((handled packet (record { keeper = c.keeper; connection = κ })).connection ∷ others) → Holds v went
     → Holds (with_client i (after_packet others pipes p left (handled packet (record { keeper = c.keeper; connection = κ })) c) v) went
@@ -158,15 +158,15 @@ handles_hold v went i c κ others p pipes packet left at are piped cut whole h =
 -- ---- the group continues
 
 -- after a step that opens nothing each connection of a node has a pipe
-still_used : {nodes : ℕ} {config : Config} (v : World) (g : Group) (went : Went nodes config v.group) (step : MayGo v.group g) → opens_in (deed_of step) ≡ false → Holds v went
+still_used : {nodes : ℕ} {config : Config} (v : World) (g : Group) (went : GroupTrace nodes config v.group) (step : GroupStep v.group g) → opens_in (node_call_of step) ≡ false → Holds v went
     → (n : ℕ) (core : CoreState) (d : NodesEnd) → slice_get g.nodes n ≡ Some core → In d core.connections → Leads v n d.port
-still_used v g went step none h n core d at i = by (stood_as v.group g went step n core at).core (stood_as v.group g went step n core at).stands ((stood_as v.group g went step n core at).behind.was d i)
+still_used v g went step none h n core d at i = by (stood_as v.group g went step n core at).core (stood_as v.group g went step n core at).stands ((stood_as v.group g went step n core at).after.was d i)
   where
-    by : (old : CoreState) → slice_get v.group.nodes n ≡ Some old → IsOfOld old.connections d ⊎ IsOpened (deed_of step) n old d → Leads v n d.port
+    by : (old : CoreState) → slice_get v.group.nodes n ≡ Some old → IsOfOld old.connections d ⊎ IsOpened (node_call_of step) n old d → Leads v n d.port
     by old stood (inl o) =
         let l = h.used n old o.was stood o.among in
         record { i = l.i; c = l.c; j = l.j; κ = l.κ; p = l.p; has = l.has; node = l.node; at = l.at ∙ sym (ap (λ (z : Port). z.0) o.later.port) }
-    by old stood (inr opened) = absurd (both_ways (opens_in (deed_of step)) none (ap opens_in opened.is))
+    by old stood (inr opened) = absurd (both_ways (opens_in (node_call_of step)) none (ap opens_in opened.is))
 
 apart_opens_none : (o : Option (ℕ × NodeCall)) → is_apart o ≡ true → opens_in o ≡ false
 apart_opens_none None e = refl
@@ -180,16 +180,16 @@ apart_opens_none (Some (n, takes (Opened port now))) e = absurd (both_ways false
 apart_opens_none (Some (n, takes (Bytes port piece now))) e = refl
 apart_opens_none (Some (n, gives port)) e = refl
 
-unheard_on : {nodes : ℕ} {config : Config} {g h : Group} (went : Went nodes config g) (step : MayGo g h) (x : ConnectionName) → (comes_up x step ≡ []) × (goes_down x step ≡ [])
+unheard_on : {nodes : ℕ} {config : Config} {g h : Group} (went : GroupTrace nodes config g) (step : GroupStep g h) (x : ConnectionName) → (comes_up x step ≡ []) × (goes_down x step ≡ [])
     → IsUnheard went x → IsUnheard (then_went went step) x
 unheard_on went step x quiet none = (ap (λ l. l ++ comes_up x step) none.0 ∙ quiet.0, ap (λ l. l ++ goes_down x step) none.1 ∙ quiet.1)
 
-pub group_holds : {nodes : ℕ} {config : Config} (v : World) (went : Went nodes config v.group) (deed : Option (ℕ × NodeCall)) (d : Does v.group deed) → is_apart deed ≡ true → Holds v went
-    → Holds (record v { group = d.behind }) (then_went went d.step)
-group_holds v went deed d apart h =
-    let quiet = is_quiet v.group d.behind d.step d.faithful (ap is_apart d.is ∙ apart) in
-    let none = apart_opens_none (deed_of d.step) (ap is_apart d.is ∙ apart) in
-    holds_on v (record v { group = d.behind }) went (then_went went d.step) h
+pub group_holds : {nodes : ℕ} {config : Config} (v : World) (went : GroupTrace nodes config v.group) (node_call : Option (ℕ × NodeCall)) (d : Does v.group node_call) → is_apart node_call ≡ true → Holds v went
+    → Holds (record v { group = d.after }) (then_went went d.step)
+group_holds v went node_call d apart h =
+    let quiet = is_quiet v.group d.after d.step d.faithful (ap is_apart d.is ∙ apart) in
+    let none = apart_opens_none (node_call_of d.step) (ap is_apart d.is ∙ apart) in
+    holds_on v (record v { group = d.after }) went (then_went went d.step) h
     (λ k c l κ p has.
     let old : HasPipe v k c l κ p = record { client = has.client; connection = has.connection; pipe = has.pipe } in
     record {
@@ -202,7 +202,7 @@ group_holds v went deed d apart h =
     })
     (λ k c l κ p has.
     record { c = c; later = κ; q = p; has = record { client = has.client; connection = has.connection; pipe = has.pipe }; name = refl; node = refl; port = refl })
-    (still_used v d.behind went d.step none h) (λ x. by x (quiet x) (h.known x))
+    (still_used v d.after went d.step none h) (λ x. by x (quiet x) (h.known x))
   where
     by : (x : ConnectionName) → (comes_up x d.step ≡ []) × (goes_down x d.step ≡ []) → IsUnheard went x ⊎ IsKnown v x → IsUnheard (then_went went d.step) x ⊎ IsKnown v x
     by x quiet (inl none) = inl (unheard_on went d.step x quiet none)
@@ -210,8 +210,8 @@ group_holds v went deed d apart h =
 
 -- ---- bytes of one connection are carried
 
-port_holds : {nodes : ℕ} {config : Config} (v : World) (g : Group) (went : Went nodes config v.group) (step : MayGo v.group g) (i j : ℕ) (c later : ClientPipes) (κ : Connection) (p q : Pipe)
-    → HasPipe v i c j κ p → ChangedAt c later j κ κ p q → opens_in (deed_of step) ≡ false
+port_holds : {nodes : ℕ} {config : Config} (v : World) (g : Group) (went : GroupTrace nodes config v.group) (step : GroupStep v.group g) (i j : ℕ) (c later : ClientPipes) (κ : Connection) (p q : Pipe)
+    → HasPipe v i c j κ p → ChangedAt c later j κ κ p q → opens_in (node_call_of step) ≡ false
     → ((y : ConnectionName) → (κ.name ≡ y → ⊥) → (comes_up y step ≡ []) × (goes_down y step ≡ [])) → PipeHolds (then_went went step) κ q → Holds v went
     → Holds (with_client i later (record v { group = g })) (then_went went step)
 port_holds v g went step i j c later κ p q has change none quiet holds h =
@@ -254,15 +254,15 @@ port_holds v g went step i j c later κ p q has change none quiet holds h =
 same_core : (a b : CoreState) → (let o : Option CoreState = Some a in o) ≡ Some b → a ≡ b
 same_core a b e = cc
 
-pub comes_holds : {nodes : ℕ} {config : Config} (v : World) (went : Went nodes config v.group) (i j : ℕ) (c : ClientPipes) (κ : Connection) (p : Pipe) (piece rest : List ℕ) (now : ℕ)
+pub comes_holds : {nodes : ℕ} {config : Config} (v : World) (went : GroupTrace nodes config v.group) (i j : ℕ) (c : ClientPipes) (κ : Connection) (p : Pipe) (piece rest : List ℕ) (now : ℕ)
     (d : Does v.group (Some (p.node, takes (Bytes p.port piece now)))) → HasPipe v i c j κ p → p.up ≡ piece ++ rest → Holds v went
-    → Holds (with_client i (with_pipe j (record p { up = rest }) c) (record v { group = d.behind })) (then_went went d.step)
+    → Holds (with_client i (with_pipe j (record p { up = rest }) c) (record v { group = d.after })) (then_went went d.step)
 comes_holds v went i j c κ p piece rest now d has cut h =
-    let carried = carries_with v.group d.behind d.step p.node (takes (Bytes p.port piece now)) d.faithful d.is in
+    let carried = carries_with v.group d.after d.step p.node (takes (Bytes p.port piece now)) d.faithful d.is in
     let old = h.each i c j κ p has in
     let one = same_core old.placed.core carried.core (sym old.placed.stands ∙ carried.stands) in
-    let none : opens_in (deed_of d.step) ≡ false = ap opens_in d.is in
-    port_holds v d.behind went d.step i j c (with_pipe j (record p { up = rest }) c) κ p (record p { up = rest }) has
+    let none : opens_in (node_call_of d.step) ≡ false = ap opens_in d.is in
+    port_holds v d.after went d.step i j c (with_pipe j (record p { up = rest }) c) κ p (record p { up = rest }) has
     (set_at c j κ p (record p { up = rest }) has.connection has.pipe refl refl) none
     (λ y other. (carried.up y ∙ others_up κ.name p.port piece now carried.core y (λ e i. old.placed.ports e (subst (λ (k : CoreState). In e k.connections) (sym one) i)) other, carried.down y))
     (record {
@@ -271,16 +271,16 @@ comes_holds v went i j c κ p piece rest now d has cut h =
       down = subst (IsHandled κ.handled p.came p.down) (sym (ap (λ l. went_down κ.name went ++ l) (carried.down κ.name) ∙ append-nil (went_down κ.name went))) old.down;
     }) h
 
-pub goes_holds : {nodes : ℕ} {config : Config} (v : World) (went : Went nodes config v.group) (i j : ℕ) (c : ClientPipes) (κ : Connection) (p : Pipe)
+pub goes_holds : {nodes : ℕ} {config : Config} (v : World) (went : GroupTrace nodes config v.group) (i j : ℕ) (c : ClientPipes) (κ : Connection) (p : Pipe)
     (d : Does v.group (Some (p.node, gives p.port))) → HasPipe v i c j κ p → Holds v went
-    → Holds (with_client i (with_pipe j (record p { down = p.down ++ goes_down κ.name d.step }) c) (record v { group = d.behind })) (then_went went d.step)
+    → Holds (with_client i (with_pipe j (record p { down = p.down ++ goes_down κ.name d.step }) c) (record v { group = d.after })) (then_went went d.step)
 goes_holds v went i j c κ p d has h =
-    let carried = carries_with v.group d.behind d.step p.node (gives p.port) d.faithful d.is in
+    let carried = carries_with v.group d.after d.step p.node (gives p.port) d.faithful d.is in
     let old = h.each i c j κ p has in
     let one = same_core old.placed.core carried.core (sym old.placed.stands ∙ carried.stands) in
-    let none : opens_in (deed_of d.step) ≡ false = ap opens_in d.is in
+    let none : opens_in (node_call_of d.step) ≡ false = ap opens_in d.is in
     let q : Pipe = record p { down = p.down ++ goes_down κ.name d.step } in
-    port_holds v d.behind went d.step i j c (with_pipe j q c) κ p q has (set_at c j κ p q has.connection has.pipe refl refl) none
+    port_holds v d.after went d.step i j c (with_pipe j q c) κ p q has (set_at c j κ p q has.connection has.pipe refl refl) none
     (λ y other. (carried.up y, carried.down y ∙ others_down κ.name p.port carried.core y (λ e i. old.placed.ports e (subst (λ (k : CoreState). In e k.connections) (sym one) i)) other))
     (record {
       placed = placed_on went d.step κ.name p.node p.port (none_opens d.step p.node p.port none) old.placed;

@@ -6,7 +6,7 @@ use Rattle.std.proofs.lemmas.Bool.{both_ways}
 use Rattle.node_group.specs.packet.Spelling.{IsPacket}
 use Rattle.node_group.specs.packet.declared.packet.Packet.TheVariants as packets
 use Rattle.node_group.specs.ballot.Config.{Config}
-use Rattle.node_group.specs.broker_base.Connection.{ConnectionName, same_connection}
+use Rattle.node_group.specs.broker_spec.Connection.{ConnectionName, same_connection}
 use Rattle.node_group.specs.client_base.Called.{new_connection}
 use Rattle.node_group.specs.lists.Lists.{In}
 use Rattle.node_group.specs.lists.Lists.In.{here, there}
@@ -26,11 +26,11 @@ use Rattle.node_group.specs.node_moves.Moves.NodeCall.{takes}
 use Rattle.node_group.specs.node_moves.Puts.{spelled}
 use Rattle.node_group.proofs.of_node_moves.Kept.{named}
 use Rattle.node_group.proofs.of_node_moves.NamesInOrder.{next_precedes, not_both}
-use Rattle.node_group.specs.Goes.{Went}
-use Rattle.node_group.specs.Goes.Went.{then_went}
+use Rattle.node_group.specs.Goes.{GroupTrace}
+use Rattle.node_group.specs.Goes.GroupTrace.{then_went}
 use Rattle.node_group.proofs.NamesInGroups.{all_well, each_got}
 use Rattle.byte_world.specs.Apart.{HasName}
-use Rattle.byte_world.specs.Goes.{Does, after_connecting, deed_of}
+use Rattle.byte_world.specs.Goes.{Does, after_connecting, node_call_of}
 use Rattle.byte_world.specs.World.{ClientPipes, HasPipe, Pipe, World, is_used, packets_of, with_client}
 use Rattle.byte_world.proofs.NamesApart.{names_stay_apart}
 use Rattle.byte_world.proofs.NodesGoOn.{IsOpened, StoodAs, of_each, stood_as}
@@ -54,10 +54,10 @@ named_there x cs d i is = by (find (named x) cs) refl
 same_core : (a b : CoreState) → (let o : Option CoreState = Some a in o) ≡ Some b → a ≡ b
 same_core a b e = cc
 
-module _ {nodes : ℕ} {config : Config} (v : World) (went : Went nodes config v.group) (h : Holds v went) (n : ℕ) (port : Port) (now : ℕ) (d : Does v.group (Some (n, takes (Opened port now))))
-    (core : CoreState) (end : NodesEnd) (stands : slice_get d.behind.nodes n ≡ Some core) (found : listed_at port core ≡ Some end) (unused : is_used n port v.clients ≡ false) where
-  abbrev behind : Went nodes config d.behind
-  behind = then_went went d.step
+module _ {nodes : ℕ} {config : Config} (v : World) (went : GroupTrace nodes config v.group) (h : Holds v went) (n : ℕ) (port : Port) (now : ℕ) (d : Does v.group (Some (n, takes (Opened port now))))
+    (core : CoreState) (end : NodesEnd) (stands : slice_get d.after.nodes n ≡ Some core) (found : listed_at port core ≡ Some end) (unused : is_used n port v.clients ≡ false) where
+  abbrev after : GroupTrace nodes config d.after
+  after = then_went went d.step
 
   facts : OpensUnused v went n port now d
   facts = opens_unused v went h n port now d unused
@@ -65,38 +65,38 @@ module _ {nodes : ℕ} {config : Config} (v : World) (went : Went nodes config v
   led_at : (m : ℕ) (p q : Port) → p.0 ≡ q.0 → Leads v m p → Leads v m q
   led_at m p q same l = record { i = l.i; c = l.c; j = l.j; κ = l.κ; p = l.p; has = l.has; node = l.node; at = l.at ∙ same }
 
-  was : StoodAs v.group d.behind (deed_of d.step) n core
-  was = stood_as v.group d.behind went d.step n core stands
+  was : StoodAs v.group d.after (node_call_of d.step) n core
+  was = stood_as v.group d.after went d.step n core stands
 
   -- at the port there is only that connection, with the next name
   named_next : (e : NodesEnd) → In e core.connections → e.port.0 ≡ port.0 → e.name ≡ next_name was.core
-  named_next e i same = by (was.behind.was e i)
+  named_next e i same = by (was.after.was e i)
     where
-      by : IsOfOld was.core.connections e ⊎ IsOpened (deed_of d.step) n was.core e → e.name ≡ next_name was.core
+      by : IsOfOld was.core.connections e ⊎ IsOpened (node_call_of d.step) n was.core e → e.name ≡ next_name was.core
       by (inl o) = absurd (facts.no_lead (led_at n e.port port same (facts.old_led n was.core e was.stands o)))
       by (inr o) = o.new.name_is
 
   end_there : IsListed port core end
   end_there = listed_there port core end found
 
-  has_name : HasName end.name d.behind n
+  has_name : HasName end.name d.after n
   has_name = let z = named_there end.name core.connections end end_there.among refl in record { core = core; stands = stands; connection = z.0; listed = z.1 }
 
   -- no client had a connection of its name
   fresh : IsKnown v end.name → ⊥
   fresh k =
       let placed = (h.each k.i k.c k.j k.κ k.p k.has).placed in
-      let same = names_stay_apart nodes config d.behind behind end.name placed.earlier d.behind k.p.node n (there placed.among) here
+      let same = names_stay_apart nodes config d.after after end.name placed.earlier d.after k.p.node n (there placed.among) here
       (subst (λ (x : ConnectionName). HasName x placed.earlier k.p.node) k.name placed.had) has_name in
       let one = same_core placed.core was.core (sym placed.stands ∙ ap (slice_get v.group.nodes) same ∙ was.stands) in
       let o = (each_got _ v.group.nodes n was.core (all_well nodes config v.group went).0 was.stands).orderly in
       not_both was.core.last_name end.name (subst (Precedes was.core.last_name) (sym (named_next end end_there.among end_there.at)) (next_precedes was.core o.within))
       (subst (λ (z : CoreState). IsGiven z.last_name end.name) one (subst (IsGiven placed.core.last_name) k.name placed.given))
 
-  unheard : IsUnheard behind end.name
+  unheard : IsUnheard after end.name
   unheard = by (h.known end.name)
     where
-      by : IsUnheard went end.name ⊎ IsKnown v end.name → IsUnheard behind end.name
+      by : IsUnheard went end.name ⊎ IsKnown v end.name → IsUnheard after end.name
       by (inl none) = facts.still_unheard end.name none
       by (inr k) = absurd (fresh k)
 
@@ -113,18 +113,18 @@ module _ {nodes : ℕ} {config : Config} (v : World) (went : Went nodes config v
     later = after_connecting end.name n port c
 
     abbrev w : World
-    w = with_client i later (record v { group = d.behind })
+    w = with_client i later (record v { group = d.after })
 
-    new_holds : PipeHolds behind κ_new p_new
+    new_holds : PipeHolds after κ_new p_new
     new_holds =
-        let o = (each_got _ d.behind.nodes n core (all_well nodes config d.behind behind).0 stands).orderly in
+        let o = (each_got _ d.after.nodes n core (all_well nodes config d.after after).0 stands).orderly in
         record {
           placed = record {
             core = core;
             stands = stands;
             given = of_each (λ (z : NodesEnd). IsGiven core.last_name z.name) o.given end_there.among;
             ports = λ e j same. named_next e j same ∙ sym (named_next end end_there.among end_there.at);
-            earlier = d.behind;
+            earlier = d.after;
             among = here;
             had = has_name;
           };
@@ -177,8 +177,8 @@ module _ {nodes : ℕ} {config : Config} (v : World) (went : Went nodes config v
     new_there : HasPipe w i later 0 κ_new p_new
     new_there = record { client = get_set v.clients i c later at; connection = refl; pipe = refl }
 
-    each_holds : (k : ℕ) (l : ℕ) (κ : Connection) (p : Pipe) → Place k l κ p → PipeHolds behind κ p
-    each_holds k l κ p (new same is one two) = subst (λ (z : Connection). PipeHolds behind z p) (sym one) (subst (λ (z : Pipe). PipeHolds behind κ_new z) (sym two) new_holds)
+    each_holds : (k : ℕ) (l : ℕ) (κ : Connection) (p : Pipe) → Place k l κ p → PipeHolds after κ p
+    each_holds k l κ p (new same is one two) = subst (λ (z : Connection). PipeHolds after z p) (sym one) (subst (λ (z : Pipe). PipeHolds after κ_new z) (sym two) new_holds)
     each_holds k l κ p (old m e has is) = facts.old_holds k e m κ p has
 
     known_of : (k : ℕ) (e : ClientPipes) (m : ℕ) (κ : Connection) (p : Pipe) → HasPipe v k e m κ p → κ.name ≡ end.name → IsKnown v end.name
@@ -199,19 +199,19 @@ module _ {nodes : ℕ} {config : Config} (v : World) (went : Went nodes config v
     led_on : (m : ℕ) (q : Port) → Leads v m q → Leads w m q
     led_on m q l = let s = forth l.i l.c l.j l.κ l.p l.has in record { i = l.i; c = s.0; j = s.1; κ = l.κ; p = l.p; has = s.2; node = l.node; at = l.at }
 
-    each_led : (m : ℕ) (z : CoreState) (e : NodesEnd) → slice_get d.behind.nodes m ≡ Some z → In e z.connections → Leads w m e.port
-    each_led m z e stood j = by (stood_as v.group d.behind went d.step m z stood).core (stood_as v.group d.behind went d.step m z stood).stands ((stood_as v.group d.behind went d.step m z stood).behind.was e j)
+    each_led : (m : ℕ) (z : CoreState) (e : NodesEnd) → slice_get d.after.nodes m ≡ Some z → In e z.connections → Leads w m e.port
+    each_led m z e stood j = by (stood_as v.group d.after went d.step m z stood).core (stood_as v.group d.after went d.step m z stood).stands ((stood_as v.group d.after went d.step m z stood).after.was e j)
       where
-        by : (before : CoreState) → slice_get v.group.nodes m ≡ Some before → IsOfOld before.connections e ⊎ IsOpened (deed_of d.step) m before e → Leads w m e.port
+        by : (before : CoreState) → slice_get v.group.nodes m ≡ Some before → IsOfOld before.connections e ⊎ IsOpened (node_call_of d.step) m before e → Leads w m e.port
         by before at_before (inl o) = led_on m e.port (facts.old_led m before e at_before o)
         by before at_before (inr o) =
             let f = facts.opened_there m before e o in record { i = i; c = later; j = 0; κ = κ_new; p = p_new; has = new_there; node = sym f.0; at = sym f.1 }
 
-    each_known : (x : ConnectionName) → IsUnheard went x ⊎ IsKnown v x → IsUnheard behind x ⊎ IsKnown w x
+    each_known : (x : ConnectionName) → IsUnheard went x ⊎ IsKnown v x → IsUnheard after x ⊎ IsKnown w x
     each_known x (inl none) = inl (facts.still_unheard x none)
     each_known x (inr k) = let s = forth k.i k.c k.j k.κ k.p k.has in inr (record { i = k.i; c = s.0; j = s.1; κ = k.κ; p = k.p; has = s.2; name = k.name })
 
-    pub connects_holds : Holds (with_client i (after_connecting end.name n port c) (record v { group = d.behind })) (then_went went d.step)
+    pub connects_holds : Holds (with_client i (after_connecting end.name n port c) (record v { group = d.after })) (then_went went d.step)
     connects_holds =
         record {
           each = λ k e l κ p has. each_holds k l κ p (place k e l κ p has);

@@ -2,12 +2,12 @@
 use Rattle.std.specs.Prelude.{◌≡◌, ℕ, slice_get, Some}
 use Rattle.node_group.specs.lists.Lists.{In}
 use Rattle.node_group.specs.ballot.Config.{Config}
-use Rattle.node_group.specs.broker_base.Connection.{ConnectionName}
+use Rattle.node_group.specs.broker_spec.Connection.{ConnectionName}
 use Rattle.node_group.specs.world_base.declared.Connection.{Connection}
 use Rattle.node_group.specs.world_base.Core.{CoreState}
 use Rattle.node_group.specs.node_moves.Closed.{listed_named}
 use Rattle.node_group.specs.Group.{Group}
-use Rattle.node_group.specs.Goes.{Went, groups_of}
+use Rattle.node_group.specs.Goes.{GroupTrace, groups_of}
 
 -- a node has a connection of this name, open or with bytes to hand over
 pub record HasName (x : ConnectionName) (g : Group) (n : ℕ) : Type 0 where
@@ -18,5 +18,5 @@ pub record HasName (x : ConnectionName) (g : Group) (n : ℕ) : Type 0 where
 
 -- if nodes have connections of one name, at any times, they are one node
 abbrev pub NamesStayApart : Type 0
-NamesStayApart = (nodes : ℕ) (config : Config) (g : Group) (went : Went nodes config g) (x : ConnectionName) (e h : Group) (m n : ℕ) →
+NamesStayApart = (nodes : ℕ) (config : Config) (g : Group) (went : GroupTrace nodes config g) (x : ConnectionName) (e h : Group) (m n : ℕ) →
     In e (groups_of went) → In h (groups_of went) → HasName x e m → HasName x h n → m ≡ n

@@ -2,7 +2,7 @@
 -- given in a ballot that its node had joined.
 use Rattle.std.specs.Prelude.{◌≡◌, ℕ, List, slice_get, Some}
 use Rattle.node_group.specs.ballot.Config.{Config}
-use Rattle.node_group.specs.broker_base.Place.{Client}
+use Rattle.node_group.specs.broker_spec.Place.{Client}
 use Rattle.node_group.specs.lists.Lists.{In}
 use Rattle.node_group.specs.exactly_once.Sides.{Connection}
 use Rattle.node_group.specs.world_base.declared.Connection.{Connection as NodesEnd}

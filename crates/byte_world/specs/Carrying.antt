@@ -1,6 +1,6 @@
 -- What a step of a group carries for connections: for a call of a node just its bytes.
 use Rattle.std.specs.Prelude.{◌≡◌, ℕ, Bool, true, false, List, [], Option, Some, None}
-use Rattle.node_group.specs.broker_base.Connection.{ConnectionName}
+use Rattle.node_group.specs.broker_spec.Connection.{ConnectionName}
 use Rattle.node_group.specs.world_base.declared.item.Item.TheVariants.{Peer, Tick, Opened, Bytes, Ended, Expel, Cut, Crash}
 use Rattle.node_group.specs.world_base.Core.{CoreState, Turn}
 use Rattle.node_group.specs.world_base.Handing.{listed_at}
@@ -10,8 +10,8 @@ use Rattle.node_group.specs.node_moves.RunProposals.{bytes_on}
 use Rattle.node_group.specs.node_moves.Moves.{NodeCall, Runs}
 use Rattle.node_group.specs.node_moves.Moves.NodeCall.{takes, gives}
 use Rattle.node_group.specs.Group.{Group}
-use Rattle.node_group.specs.Goes.{MayGo}
-use Rattle.node_group.specs.Goes.MayGo.{node_acts, node_loses, master_assigns, master_hears, assigns_unheard, answers_unheard}
+use Rattle.node_group.specs.Goes.{GroupStep}
+use Rattle.node_group.specs.Goes.GroupStep.{node_acts, node_loses, master_assigns, master_hears, assigns_unheard, answers_unheard}
 use Rattle.node_group.specs.Streams.{bytes_named, handed_in_run}
 
 -- the bytes that arrive on the connection of a name with a call, and those that are handed over on
@@ -26,11 +26,11 @@ going_with x _ core = []
 
 -- the moves of a node carry just the bytes of its call
 abbrev pub CarriesItsBytes : {core : CoreState} {turn : Turn} → NodeCall → Runs core turn → Type 0
-CarriesItsBytes {core = core} deed run = (x : ConnectionName) → (bytes_on x run ≡ coming_with x deed core) × (handed_in_run x run ≡ going_with x deed core)
+CarriesItsBytes {core = core} node_call run = (x : ConnectionName) → (bytes_on x run ≡ coming_with x node_call core) × (handed_in_run x run ≡ going_with x node_call core)
 
 -- if an item is taken with losses they do in any case
-abbrev pub IsFaithful : {g h : Group} → MayGo g h → Type 0
-IsFaithful (node_acts n core deed turn run at is first sent) = CarriesItsBytes deed run
+abbrev pub IsFaithful : {g h : Group} → GroupStep g h → Type 0
+IsFaithful (node_acts n core node_call turn run at is first sent) = CarriesItsBytes node_call run
 IsFaithful (node_loses n core item turn kept by at runs sent thinned) = Unit {0}
 IsFaithful (master_assigns config) = Unit {0}
 IsFaithful (master_hears from ballot sent) = Unit {0}
@@ -38,13 +38,13 @@ IsFaithful (assigns_unheard config) = Unit {0}
 IsFaithful (answers_unheard from ballot sent) = Unit {0}
 
 -- the call of a step, at a node
-abbrev pub deed_of : {g h : Group} → MayGo g h → Option (ℕ × NodeCall)
-deed_of (node_acts n core deed turn run at is first sent) = Some (n, deed)
-deed_of (node_loses n core item turn kept by at runs sent thinned) = Some (n, takes item)
-deed_of (master_assigns config) = None
-deed_of (master_hears from ballot sent) = None
-deed_of (assigns_unheard config) = None
-deed_of (answers_unheard from ballot sent) = None
+abbrev pub node_call_of : {g h : Group} → GroupStep g h → Option (ℕ × NodeCall)
+node_call_of (node_acts n core node_call turn run at is first sent) = Some (n, node_call)
+node_call_of (node_loses n core item turn kept by at runs sent thinned) = Some (n, takes item)
+node_call_of (master_assigns config) = None
+node_call_of (master_hears from ballot sent) = None
+node_call_of (assigns_unheard config) = None
+node_call_of (answers_unheard from ballot sent) = None
 
 -- a call that has nothing to do with a client's connection, except that it may end it
 abbrev pub is_apart : Option (ℕ × NodeCall) → Bool
@@ -60,8 +60,8 @@ is_apart (Some (n, takes (Bytes port piece now))) = false
 is_apart (Some (n, gives port)) = false
 
 -- a step of the group with this call, in which just the bytes of the call are carried
-pub record Does (g : Group) (deed : Option (ℕ × NodeCall)) : Type 0 where
-  pub behind : Group
-  pub step : MayGo g behind
-  pub is : deed_of step ≡ deed
+pub record Does (g : Group) (node_call : Option (ℕ × NodeCall)) : Type 0 where
+  pub after : Group
+  pub step : GroupStep g after
+  pub is : node_call_of step ≡ node_call
   pub faithful : IsFaithful step

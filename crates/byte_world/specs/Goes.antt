@@ -6,14 +6,14 @@ use Rattle.node_group.specs.packet.declared.packet.Packet.TheVariants as packets
 use Rattle.node_group.specs.cutter.Stream.{Stream, Takes}
 use Rattle.node_group.specs.ballot.Config.{Config}
 use Rattle.node_group.specs.agreement.World.{can_open}
-use Rattle.node_group.specs.broker_base.Commands.{usual_limits}
-use Rattle.node_group.specs.broker_base.Connection.{ConnectionName}
-use Rattle.node_group.specs.broker_base.Place.{Client}
+use Rattle.node_group.specs.broker_spec.Commands.{usual_limits}
+use Rattle.node_group.specs.broker_spec.Connection.{ConnectionName}
+use Rattle.node_group.specs.broker_spec.Place.{Client}
 use Rattle.node_group.specs.client_base.Called.{new_connection}
 use Rattle.node_group.specs.client_base.Handled.{handled, lost}
 use Rattle.node_group.specs.lists.Lists.{Each}
 use Rattle.node_group.specs.exactly_once.Sides.{Connection, Side}
-use Rattle.node_group.specs.exactly_once.Story.{Story, Happens}
+use Rattle.node_group.specs.exactly_once.Story.{Story, StoryStep}
 use Rattle.node_group.specs.packet_world.Goes.{is_call}
 use Rattle.node_group.specs.world_base.declared.Connection.{Connection as NodesEnd}
 use Rattle.node_group.specs.world_base.declared.Port.{Port}
@@ -24,7 +24,7 @@ use Rattle.node_group.specs.node_moves.Moves.{NodeCall}
 use Rattle.node_group.specs.node_moves.Moves.NodeCall.{takes, gives}
 use Rattle.node_group.specs.node_moves.Puts.{spelled}
 use Rattle.node_group.specs.Streams.{goes_down as goes_down_in}
-pub use Rattle.byte_world.specs.Carrying.{CarriesItsBytes, Does, IsFaithful, coming_with, deed_of, going_with, is_apart}
+pub use Rattle.byte_world.specs.Carrying.{CarriesItsBytes, Does, IsFaithful, coming_with, node_call_of, going_with, is_apart}
 use Rattle.byte_world.specs.World.{ClientPipes, HasPipe, Pipe, World, after_writing, is_used, newly_written, opening, packets_of, sent_up, with_client, with_pipe}
 
 -- ---- what a client does
@@ -68,26 +68,26 @@ CanBeSpelled before after = Each IsPacket (newly_written before after)
 pub data WorldStep (w : World) : World → Type 0 where
   -- the nodes and the master move by themselves: messages come late, again or never, a node ticks
   -- or crashes, a stream ends at its node, an administrator asks for a configuration
-  goes_on : (deed : Option (ℕ × NodeCall)) (d : Does w.group deed) → is_apart deed ≡ true → WorldStep w (record w { group = d.behind })
+  goes_on : (node_call : Option (ℕ × NodeCall)) (d : Does w.group node_call) → is_apart node_call ≡ true → WorldStep w (record w { group = d.after })
   -- a client calls, or loses its connection
-  calls : (i : ℕ) (c : ClientPipes) (t : Story) (h : Happens usual_limits (story_alone c) t) → slice_get w.clients i ≡ Some c → is_call h ≡ true →
+  calls : (i : ℕ) (c : ClientPipes) (t : Story) (h : StoryStep usual_limits (story_alone c) t) → slice_get w.clients i ≡ Some c → is_call h ≡ true →
       CanBeSpelled c.connections t.connections → WorldStep w (with_client i (after_writing t.keeper t.connections c) w)
   -- a client opens a connection to a node, at a port that was never used there, and the node takes
   -- it
   connects : (i n : ℕ) (c : ClientPipes) (port : Port) (now : ℕ) (d : Does w.group (Some (n, takes (Opened port now)))) (core : CoreState) (end : NodesEnd) →
-      slice_get w.clients i ≡ Some c → is_used n port w.clients ≡ false → slice_get d.behind.nodes n ≡ Some core → listed_at port core ≡ Some end →
+      slice_get w.clients i ≡ Some c → is_used n port w.clients ≡ false → slice_get d.after.nodes n ≡ Some core → listed_at port core ≡ Some end →
       IsPacket (packets.Connect (record { client = c.keeper.client; clean = false; keep_alive = 0 })) →
-      WorldStep w (with_client i (after_connecting end.name n port c) (record w { group = d.behind }))
+      WorldStep w (with_client i (after_connecting end.name n port c) (record w { group = d.after }))
   -- the node does not take it, because memory ran out, and then the client has none
   is_turned_away : (n : ℕ) (port : Port) (now : ℕ) (d : Does w.group (Some (n, takes (Opened port now)))) (core : CoreState) → is_used n port w.clients ≡ false →
-      slice_get d.behind.nodes n ≡ Some core → listed_at port core ≡ None → WorldStep w (record w { group = d.behind })
+      slice_get d.after.nodes n ≡ Some core → listed_at port core ≡ None → WorldStep w (record w { group = d.after })
   -- a prefix of the bytes in transit reaches the node
   comes_up : (i j : ℕ) (c : ClientPipes) (κ : Connection) (p : Pipe) (piece rest : List ℕ) (now : ℕ) (d : Does w.group (Some (p.node, takes (Bytes p.port piece now)))) →
       HasPipe w i c j κ p → p.up ≡ piece ++ rest →
-      WorldStep w (with_client i (with_pipe j (record p { up = rest }) c) (record w { group = d.behind }))
+      WorldStep w (with_client i (with_pipe j (record p { up = rest }) c) (record w { group = d.after }))
   -- a node hands over what it queued
   goes_down : (i j : ℕ) (c : ClientPipes) (κ : Connection) (p : Pipe) (d : Does w.group (Some (p.node, gives p.port))) → HasPipe w i c j κ p →
-      WorldStep w (with_client i (with_pipe j (record p { down = p.down ++ goes_down_in κ.name d.step }) c) (record w { group = d.behind }))
+      WorldStep w (with_client i (with_pipe j (record p { down = p.down ++ goes_down_in κ.name d.step }) c) (record w { group = d.after }))
   -- a prefix of the bytes in transit reaches the client
   arrives : (i j : ℕ) (c : ClientPipes) (κ : Connection) (p : Pipe) (piece rest : List ℕ) → HasPipe w i c j κ p → p.down ≡ piece ++ rest →
       WorldStep w (with_client i (with_pipe j (record p { down = rest; came = record p.came { held = p.came.held ++ piece } }) c) w)

@@ -4,8 +4,8 @@ use Rattle.std.specs.Prelude.{◌≡◌, ℕ, false, List, ◌∷◌, ◌++◌, 
 use Rattle.node_group.specs.packet.declared.packet.Packet.{Packet}
 use Rattle.node_group.specs.packet.Spelling.{IsPacket}
 use Rattle.node_group.specs.ballot.Config.{Config}
-use Rattle.node_group.specs.broker_base.Command.{Command}
-use Rattle.node_group.specs.broker_base.Place.{Client}
+use Rattle.node_group.specs.broker_spec.declared.command.Command.{Command}
+use Rattle.node_group.specs.broker_spec.Place.{Client}
 use Rattle.node_group.specs.lists.Lists.{Each, IsPrefixOf}
 use Rattle.node_group.specs.exactly_once.Sides.{Connection}
 use Rattle.node_group.specs.snapshots.Past.{IsAgreed}

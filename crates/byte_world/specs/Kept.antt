@@ -3,12 +3,12 @@
 use Rattle.std.specs.Prelude.{◌≡◌, Bool, false, ℕ, List, ◌∷◌, Some}
 use Rattle.node_group.specs.ballot.Config.{Config}
 use Rattle.node_group.specs.lists.Lists.{In, IsPrefixOf}
-use Rattle.node_group.specs.broker_base.Command.{Command}
-use Rattle.node_group.specs.broker_base.Command.TheVariants as commands
-use Rattle.node_group.specs.broker_base.Commands.{past_of, usual_limits}
-use Rattle.node_group.specs.broker_base.Connection.{ConnectionName}
-use Rattle.node_group.specs.broker_base.Past.{session_of}
-use Rattle.node_group.specs.broker_base.Place.{Client}
+use Rattle.node_group.specs.broker_spec.declared.command.Command.{Command}
+use Rattle.node_group.specs.broker_spec.declared.command.Command.TheVariants as commands
+use Rattle.node_group.specs.broker_spec.Commands.{past_of, usual_limits}
+use Rattle.node_group.specs.broker_spec.Connection.{ConnectionName}
+use Rattle.node_group.specs.broker_spec.Past.{session_of}
+use Rattle.node_group.specs.broker_spec.Place.{Client}
 use Rattle.node_group.specs.snapshots.Past.{IsAgreed}
 use Rattle.node_group.specs.Group.{moment_of}
 use Rattle.node_group.specs.Goes.{all_put, groups_of}

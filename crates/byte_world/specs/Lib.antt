@@ -8,7 +8,7 @@ pub mod InPipes
 pub mod Apart
 pub mod AtNodes
 pub mod Kept
-pub mod Deeds
+pub mod NodeCalls
 pub use Rattle.node_group.specs.agreement as agreement
 pub use Rattle.node_group.specs.ballot as ballot
 pub use Rattle.node_group.specs.broker_base as broker_base

@@ -1,17 +1,17 @@
 -- What clients publish in a world, step by step.
 use Rattle.std.specs.Prelude.{ℕ, ◌==◌, if◌then◌else◌, List, [], ◌∷◌, ◌++◌, map}
 use Rattle.node_group.specs.ballot.Config.{Config}
-use Rattle.node_group.specs.broker_base.Place.{Client, Limits}
+use Rattle.node_group.specs.broker_spec.Place.{Client, Limits}
 use Rattle.node_group.specs.session_base.declared.publication.Publication.{Publication}
-use Rattle.node_group.specs.exactly_once.Story.{Story, Happens}
-use Rattle.node_group.specs.exactly_once.Story.Happens.{takes, others_take, receives, opens_anew, loses, disconnects, publishes_one, subscribes, unsubscribes}
+use Rattle.node_group.specs.exactly_once.Story.{Story, StoryStep}
+use Rattle.node_group.specs.exactly_once.Story.StoryStep.{takes, others_take, receives, opens_anew, loses, disconnects, publishes_one, subscribes, unsubscribes}
 use Rattle.byte_world.specs.World.{World}
 use Rattle.byte_world.specs.Goes.{Reached, WorldStep}
 use Rattle.byte_world.specs.Goes.Reached.{begins, goes_on}
 use Rattle.byte_world.specs.Goes.WorldStep.{goes_on as group_goes, calls, connects, is_turned_away, comes_up, goes_down, arrives, handles}
 
 -- what a client publishes with a call
-abbrev pub published_by : {limits : Limits} {s t : Story} → Happens limits s t → List Publication
+abbrev pub published_by : {limits : Limits} {s t : Story} → StoryStep limits s t → List Publication
 published_by (takes i κ w stands next) = []
 published_by (others_take command other none) = []
 published_by (receives κ others packet are opened next) = []
@@ -28,10 +28,10 @@ from_client i = map (λ (p : Publication). (i, p))
 
 -- in a step only a call of a client publishes
 abbrev pub published_in : {v w : World} → WorldStep v w → List (ℕ × Publication)
-published_in (group_goes deed d apart) = []
+published_in (group_goes node_call d apart) = []
 published_in (calls i c t h at call spelled) = from_client i (published_by h)
-published_in (connects i n c port now d core end at unused behind there spelled) = []
-published_in (is_turned_away n port now d core unused behind none) = []
+published_in (connects i n c port now d core end at unused after there spelled) = []
+published_in (is_turned_away n port now d core unused after none) = []
 published_in (comes_up i j c κ p piece rest now d pipe is) = []
 published_in (goes_down i j c κ p d pipe) = []
 published_in (arrives i j c κ p piece rest pipe is) = []

@@ -4,7 +4,7 @@ use Rattle.std.specs.List.{list_any}
 use Rattle.node_group.specs.packet.declared.packet.Packet.{Packet}
 use Rattle.node_group.specs.cutter.Stream.{Stream}
 use Rattle.node_group.specs.ballot.Config.{Config}
-use Rattle.node_group.specs.broker_base.Place.{Client}
+use Rattle.node_group.specs.broker_spec.Place.{Client}
 use Rattle.node_group.specs.client_base.Keeper.{Keeper, Written, new_keeper}
 use Rattle.node_group.specs.exactly_once.Sides.{Connection}
 use Rattle.node_group.specs.world_base.declared.Port.{Port}

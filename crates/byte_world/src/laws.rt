@@ -3,7 +3,7 @@
 
 ghost use Rattle.byte_world.specs.Apart.{NamesStayApart};
 ghost use Rattle.byte_world.specs.Carried.{WorldsCarryInOrder};
-ghost use Rattle.byte_world.specs.Deeds.{DeedsCarryTheirBytes, GroupsDoEachDeed};
+ghost use Rattle.byte_world.specs.NodeCalls.{NodeCallsCarryTheirBytes, GroupsDoEachNodeCall};
 ghost use Rattle.byte_world.specs.InPipes.{PipesCarryInOrder};
 
 /// Whatever happens in a world of clients and nodes, its nodes and master do what may happen in a
@@ -29,13 +29,13 @@ pub fn pipes_carry_in_order()
 
 /// Each call of a node, in any state of the node, is a run of moves that carries just the bytes of
 /// the call, both ways, and in which the replica first receives just what was sent.
-pub fn deeds_carry_their_bytes()
-    ensures { DeedsCarryTheirBytes }
+pub fn node_calls_carry_their_bytes()
+    ensures { NodeCallsCarryTheirBytes }
 {}
 
 /// In any group a node can do each call, if the message that it takes was sent: there is a step of
 /// the group that carries just the call's bytes, after which the node is as its own turn leaves it.
 /// So no step that a world may need from its nodes is impossible.
-pub fn groups_do_each_deed()
-    ensures { GroupsDoEachDeed }
+pub fn groups_do_each_node_call()
+    ensures { GroupsDoEachNodeCall }
 {}

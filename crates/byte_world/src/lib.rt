@@ -8,7 +8,7 @@ mod node_laws;
 
 pub use kept_laws::{no_connect_is_clean, no_session_is_clean};
 pub use laws::{
-    deeds_carry_their_bytes, groups_do_each_deed, names_stay_apart, pipes_carry_in_order,
+    groups_do_each_node_call, names_stay_apart, node_calls_carry_their_bytes, pipes_carry_in_order,
     worlds_carry_in_order,
 };
 pub use node_group::{ballot, packet, world_base};

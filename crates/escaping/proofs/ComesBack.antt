@@ -4,22 +4,22 @@ use Rattle.std.specs.Prelude.{◌==◌, flat_map, is_some, nat_lt}
 use Rattle.packet_world.specs.lists.Lists.{Each}
 use Rattle.packet_world.proofs.of_lists.OfEach.{each_append}
 use Rattle.packet_world.specs.packet.declared.packet.Packet.TheVariants as packets
-use Rattle.packet_world.specs.broker_base.Answers.{answers_of, closed, connect_answers, welcome}
+use Rattle.packet_world.specs.broker_spec.Answers.{answers_of, closed, connect_answers, welcome}
 use Rattle.node_moves.specs.ballot.Machine.{replay}
-use Rattle.packet_world.specs.broker_base.Command.{Command}
-use Rattle.packet_world.specs.broker_base.Command.TheVariants as commands
-use Rattle.packet_world.specs.broker_base.Commands.{past_of, place_of, usual_limits}
-use Rattle.packet_world.specs.broker_base.Connection.{ConnectionName, same_connection}
-use Rattle.packet_world.specs.broker_base.Entries.{Entry}
-use Rattle.packet_world.specs.broker_base.Marks.{connect_mark, mark_of}
-use Rattle.packet_world.specs.broker_base.Output.{Output}
-use Rattle.packet_world.specs.broker_base.Output.TheVariants.{Send}
-use Rattle.packet_world.specs.broker_base.Owner.{clients, first_client, owner_of}
-use Rattle.packet_world.specs.broker_base.Past.{any_connection, begins_session, current_connection, ends, ends_any, is_beginning, newest_connection, newest_session, session_of}
-use Rattle.packet_world.specs.broker_base.Place.{Client, Limits, Mark, Past, Place, only_if, same_client}
-use Rattle.packet_world.specs.broker_base.Readings.{released_below}
-use Rattle.packet_world.specs.broker_base.Sends.{all_started, publish, resent, sent_again, sent_first}
-use Rattle.packet_world.specs.broker_base.Times.{entries_of}
+use Rattle.packet_world.specs.broker_spec.declared.command.Command.{Command}
+use Rattle.packet_world.specs.broker_spec.declared.command.Command.TheVariants as commands
+use Rattle.packet_world.specs.broker_spec.Commands.{past_of, place_of, usual_limits}
+use Rattle.packet_world.specs.broker_spec.Connection.{ConnectionName, same_connection}
+use Rattle.packet_world.specs.broker_spec.Entries.{Entry}
+use Rattle.packet_world.specs.broker_spec.Marks.{connect_mark, mark_of}
+use Rattle.packet_world.specs.broker_spec.declared.command.Output.{Output}
+use Rattle.packet_world.specs.broker_spec.declared.command.Output.TheVariants.{Send}
+use Rattle.packet_world.specs.broker_spec.Owner.{clients, first_client, owner_of}
+use Rattle.packet_world.specs.broker_spec.Past.{any_connection, begins_session, current_connection, ends, ends_any, is_beginning, newest_connection, newest_session, session_of}
+use Rattle.packet_world.specs.broker_spec.Place.{Client, Limits, Mark, Past, Place, only_if, same_client}
+use Rattle.packet_world.specs.broker_spec.Readings.{released_below}
+use Rattle.packet_world.specs.broker_spec.Sends.{all_started, publish, resent, sent_again, sent_first}
+use Rattle.packet_world.specs.broker_spec.Times.{entries_of}
 use Rattle.packet_world.proofs.of_broker_base.ClientsInOrder.{same_self}
 use Rattle.node_moves.specs.world_base.Core.{rules}
 use Rattle.packet_world.proofs.Answers.{past_push}
@@ -120,21 +120,21 @@ each_resent x n es =
 -- ---- the law
 
 -- what the machine gives then is what the model answers
-pub gives_behind : (list : List Command) (ballot : ℕ) (x : ConnectionName) (c : Client) → rules.gives (replay rules (list ++ commands.Start ballot ∷ [])) (commands.Connect x c false)
+pub gives_after : (list : List Command) (ballot : ℕ) (x : ConnectionName) (c : Client) → rules.gives (replay rules (list ++ commands.Start ballot ∷ [])) (commands.Connect x c false)
     ≡ answers_of usual_limits (place_of usual_limits (past_of usual_limits list) (commands.Start ballot) ∷ past_of usual_limits list) (commands.Connect x c false)
-gives_behind list ballot x c =
+gives_after list ballot x c =
     gives_answers (list ++ commands.Start ballot ∷ []) (commands.Connect x c false)
     ∙ ap (λ (past : Past). answers_of usual_limits past (commands.Connect x c false)) (past_push usual_limits list (commands.Start ballot))
 
 pub kept_sessions_are_welcomed : KeptSessionsAreWelcomed
 kept_sessions_are_welcomed list ballot x c there =
     record {
-      rest = resent x (length behind) (entries_of usual_limits (at_connect x c Mark.Accepted ∷ behind) c);
-      gives = gives_behind list ballot x c
-          ∙ answers_are usual_limits behind x c (λ d. none_current usual_limits (past_of usual_limits list) ballot d)
+      rest = resent x (length after) (entries_of usual_limits (at_connect x c Mark.Accepted ∷ after) c);
+      gives = gives_after list ballot x c
+          ∙ answers_are usual_limits after x c (λ d. none_current usual_limits (past_of usual_limits list) ballot d)
           (still_there usual_limits (past_of usual_limits list) ballot c there);
-      sent = each_resent x (length behind) (entries_of usual_limits (at_connect x c Mark.Accepted ∷ behind) c);
+      sent = each_resent x (length after) (entries_of usual_limits (at_connect x c Mark.Accepted ∷ after) c);
     }
   where
-    behind : Past
-    behind = place_of usual_limits (past_of usual_limits list) (commands.Start ballot) ∷ past_of usual_limits list
+    after : Past
+    after = place_of usual_limits (past_of usual_limits list) (commands.Start ballot) ∷ past_of usual_limits list

@@ -17,9 +17,9 @@ use Rattle.node_moves.specs.ballot.Body.TheVariants.{Append}
 use Rattle.node_moves.specs.ballot.Serving.{added, least, most_places, proposed}
 use Rattle.node_moves.proofs.of_ballot.StepRows.{added-is, commit_at-goes, commit_at-stays}
 use Rattle.packet_world.specs.snapshots.World.{outputs}
-use Rattle.packet_world.specs.broker_base.Command.{Command}
-use Rattle.packet_world.specs.broker_base.Command.TheVariants as commands
-use Rattle.packet_world.specs.broker_base.Output.{Output}
+use Rattle.packet_world.specs.broker_spec.declared.command.Command.{Command}
+use Rattle.packet_world.specs.broker_spec.declared.command.Command.TheVariants as commands
+use Rattle.packet_world.specs.broker_spec.declared.command.Output.{Output}
 use Rattle.packet_world.specs.broker_base.State.{State}
 use Rattle.node_moves.specs.world_base.declared.Connection.{Connection}
 use Rattle.node_moves.specs.world_base.declared.item.Item.TheVariants.{Bytes}

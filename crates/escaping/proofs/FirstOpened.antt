@@ -5,7 +5,7 @@ use Rattle.std.specs.List.{list_any}
 use Rattle.std.proofs.lemmas.Bool.{le-leb, lt-ltb, ne_eqb}
 use Rattle.std.proofs.lemmas.List.Elements.{filter-append}
 use Rattle.packet_world.proofs.of_lists.OfEach.{each_append}
-use Rattle.packet_world.specs.broker_base.Connection.{ConnectionName, is_connection_name}
+use Rattle.packet_world.specs.broker_spec.Connection.{ConnectionName, is_connection_name}
 use Rattle.node_moves.specs.world_base.declared.Connection.{Connection}
 use Rattle.node_moves.specs.world_base.declared.Port.{Port}
 use Rattle.node_moves.specs.world_base.Connections.{closed, fresh, has_failed, is_at, is_listed}

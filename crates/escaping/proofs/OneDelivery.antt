@@ -11,8 +11,8 @@ use Rattle.node_moves.specs.ballot.Protocol.Input.{Receives}
 use Rattle.node_moves.specs.ballot.Replica.{CountedReplica, ReplicaState, is_active}
 use Rattle.node_moves.specs.ballot.Sending.{Outcome}
 use Rattle.packet_world.specs.snapshots.World.{outputs}
-use Rattle.packet_world.specs.broker_base.Command.{Command}
-use Rattle.packet_world.specs.broker_base.Output.{Output}
+use Rattle.packet_world.specs.broker_spec.declared.command.Command.{Command}
+use Rattle.packet_world.specs.broker_spec.declared.command.Output.{Output}
 use Rattle.packet_world.specs.broker_base.State.{State}
 use Rattle.node_moves.specs.world_base.declared.Connection.{Connection}
 use Rattle.node_moves.specs.world_base.declared.item.Item.TheVariants.{Peer}
@@ -119,13 +119,13 @@ a_step_is_a_delivery core message runs silent calm =
     o : Outcome State Command Output
     o = heard_by core message
 
-    behind : CoreState
-    behind = with_replica o.state core
+    after : CoreState
+    after = with_replica o.state core
 
-    does : Does core o (end_of core (record { core = behind; messages = o.effects }))
+    does : Does core o (end_of core (record { core = after; messages = o.effects }))
     does =
-        let k = all_keep behind calm in
-        let s = settled_keeps (loses_all_failed behind).core in
+        let k = all_keep after calm in
+        let s = settled_keeps (loses_all_failed after).core in
         record {
           replica = s.0 ∙ k.replica;
           last_name = s.1 ∙ k.last_name;

@@ -11,11 +11,11 @@ use Rattle.packet_world.specs.packet.Verdict.{verdict}
 use Rattle.node_moves.specs.ballot.Effect.{Effect}
 use Rattle.node_moves.specs.ballot.Effect.TheVariants.{Out}
 use Rattle.node_moves.specs.ballot.Message.{Message}
-use Rattle.packet_world.specs.broker_base.Command.{Command}
-use Rattle.packet_world.specs.broker_base.Command.TheVariants as commands
-use Rattle.packet_world.specs.broker_base.Connection.{ConnectionName}
-use Rattle.packet_world.specs.broker_base.Output.{Output}
-use Rattle.packet_world.specs.broker_base.Output.TheVariants.{Send}
+use Rattle.packet_world.specs.broker_spec.declared.command.Command.{Command}
+use Rattle.packet_world.specs.broker_spec.declared.command.Command.TheVariants as commands
+use Rattle.packet_world.specs.broker_spec.Connection.{ConnectionName}
+use Rattle.packet_world.specs.broker_spec.declared.command.Output.{Output}
+use Rattle.packet_world.specs.broker_spec.declared.command.Output.TheVariants.{Send}
 use Rattle.node_moves.specs.world_base.declared.Connection.{Connection}
 use Rattle.node_moves.specs.world_base.declared.item.Item.TheVariants.{Bytes, Peer}
 use Rattle.node_moves.specs.world_base.declared.Port.{Port}

@@ -6,9 +6,9 @@ use Rattle.packet_world.specs.packet.Verdict.{verdict}
 use Rattle.node_moves.specs.ballot.Sending.{Outcome}
 use Rattle.node_moves.specs.ballot.Serving.{proposed}
 use Rattle.packet_world.specs.snapshots.World.{outputs}
-use Rattle.packet_world.specs.broker_base.Command.{Command}
-use Rattle.packet_world.specs.broker_base.Command.TheVariants as commands
-use Rattle.packet_world.specs.broker_base.Output.{Output}
+use Rattle.packet_world.specs.broker_spec.declared.command.Command.{Command}
+use Rattle.packet_world.specs.broker_spec.declared.command.Command.TheVariants as commands
+use Rattle.packet_world.specs.broker_spec.declared.command.Output.{Output}
 use Rattle.packet_world.specs.broker_base.State.{State}
 use Rattle.node_moves.specs.world_base.declared.Connection.{Connection}
 use Rattle.node_moves.specs.world_base.declared.Stage.TheVariants.{Proposed}

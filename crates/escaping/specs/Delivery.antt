@@ -6,8 +6,8 @@ use Rattle.node_moves.specs.ballot.Protocol.{received}
 use Rattle.node_moves.specs.ballot.Replica.{is_active}
 use Rattle.node_moves.specs.ballot.Sending.{Outcome}
 use Rattle.packet_world.specs.snapshots.World.{outputs}
-use Rattle.packet_world.specs.broker_base.Command.{Command}
-use Rattle.packet_world.specs.broker_base.Output.{Output}
+use Rattle.packet_world.specs.broker_spec.declared.command.Command.{Command}
+use Rattle.packet_world.specs.broker_spec.declared.command.Output.{Output}
 use Rattle.packet_world.specs.broker_base.State.{State}
 use Rattle.node_moves.specs.world_base.declared.Connection.{Connection}
 use Rattle.node_moves.specs.world_base.declared.item.Item.TheVariants.{Peer}

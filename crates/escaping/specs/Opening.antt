@@ -1,7 +1,7 @@
 -- The first connection that a new primary opens in its ballot.
 use Rattle.std.specs.Prelude.{◌≡◌, ◌<◌, ◌≤◌, ◌^◌, ℕ, true, false, [], ◌∷◌, ◌++◌, filter}
 use Rattle.std.specs.List.{list_any}
-use Rattle.packet_world.specs.broker_base.Connection.{ConnectionName}
+use Rattle.packet_world.specs.broker_spec.Connection.{ConnectionName}
 use Rattle.node_moves.specs.world_base.declared.item.Item.TheVariants.{Opened}
 use Rattle.node_moves.specs.world_base.declared.Port.{Port}
 use Rattle.node_moves.specs.world_base.Connections.{fresh, is_at, is_listed}

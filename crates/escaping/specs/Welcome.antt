@@ -3,15 +3,15 @@
 use Rattle.std.specs.Prelude.{◌≡◌, ℕ, true, false, List, [], ◌∷◌, ◌++◌, Some}
 use Rattle.packet_world.specs.lists.Lists.{Each}
 use Rattle.node_moves.specs.ballot.Machine.{replay}
-use Rattle.packet_world.specs.broker_base.Answers.{welcome}
-use Rattle.packet_world.specs.broker_base.Command.{Command}
-use Rattle.packet_world.specs.broker_base.Command.TheVariants as commands
-use Rattle.packet_world.specs.broker_base.Commands.{past_of, usual_limits}
-use Rattle.packet_world.specs.broker_base.Connection.{ConnectionName}
-use Rattle.packet_world.specs.broker_base.Output.{Output}
-use Rattle.packet_world.specs.broker_base.Output.TheVariants.{Send, Close}
-use Rattle.packet_world.specs.broker_base.Past.{session_of}
-use Rattle.packet_world.specs.broker_base.Place.{Client}
+use Rattle.packet_world.specs.broker_spec.Answers.{welcome}
+use Rattle.packet_world.specs.broker_spec.declared.command.Command.{Command}
+use Rattle.packet_world.specs.broker_spec.declared.command.Command.TheVariants as commands
+use Rattle.packet_world.specs.broker_spec.Commands.{past_of, usual_limits}
+use Rattle.packet_world.specs.broker_spec.Connection.{ConnectionName}
+use Rattle.packet_world.specs.broker_spec.declared.command.Output.{Output}
+use Rattle.packet_world.specs.broker_spec.declared.command.Output.TheVariants.{Send, Close}
+use Rattle.packet_world.specs.broker_spec.Past.{session_of}
+use Rattle.packet_world.specs.broker_spec.Place.{Client}
 use Rattle.node_moves.specs.world_base.Core.{rules}
 
 -- an output that is a packet for this connection

@@ -15,11 +15,11 @@ use Rattle.escaping.specs.ballot.Sending.{Outcome}
 use Rattle.escaping.specs.ballot.Serving.{most_places}
 use Rattle.escaping.specs.packet.declared.connect.Connect.{Connect}
 use Rattle.escaping.specs.packet.Spelling.{spelling}
-use Rattle.escaping.specs.broker_base.Command.{Command}
-use Rattle.escaping.specs.broker_base.Command.TheVariants as commands
-use Rattle.escaping.specs.broker_base.Connection.{ConnectionName}
-use Rattle.escaping.specs.broker_base.Output.{Output}
-use Rattle.escaping.specs.broker_base.Output.TheVariants.{Send}
+use Rattle.escaping.specs.broker_spec.declared.command.Command.{Command}
+use Rattle.escaping.specs.broker_spec.declared.command.Command.TheVariants as commands
+use Rattle.escaping.specs.broker_spec.Connection.{ConnectionName}
+use Rattle.escaping.specs.broker_spec.declared.command.Output.{Output}
+use Rattle.escaping.specs.broker_spec.declared.command.Output.TheVariants.{Send}
 use Rattle.escaping.specs.ballot.Effect.TheVariants.{Out}
 use Rattle.escaping.specs.broker_base.State.{State}
 use Rattle.escaping.specs.ballot.Config.{Config}
@@ -48,7 +48,7 @@ use Rattle.escaping.proofs.AnswerAwaited.{asked_awaits_answer, handing_keeps_it_
 use Rattle.escaping.proofs.AnswerPutOut.{answer_is_put_out}
 use Rattle.escaping.proofs.ComesBack.{kept_sessions_are_welcomed}
 use Rattle.escaping.proofs.ConnectProposed.{connect_is_proposed}
-use Rattle.world_nodes.specs.Goes.{behind_deed}
+use Rattle.world_nodes.specs.Goes.{after_node_call}
 use Rattle.world_nodes.specs.Nodes.{NodesState, cores_of}
 use Rattle.ways_out.specs.CutWaysDeliveries.{Delivered, after_outcome}
 use Rattle.ways_out.specs.Deliveries.{AreApart, NodeIs, numbers_from}
@@ -104,10 +104,10 @@ calm_now ballot node l (inr low) = absurd (let e = l.joined in omega (arith, e, 
 message_kept : (ballot place : ℕ) (port : Port) (x : ConnectionName) (n : NodesState) (node : CountedCore) (m : Message Command) → slice_get n.nodes place ≡ Some node →
     IsCalm node.core → outputs (heard_by node.core m).effects ≡ [] → (heard_by node.core m).state.joined ≡ ballot →
     (node_step (Peer m) node.core).core.replica ≡ record node.core.replica { state = (heard_by node.core m).state } → LeadsAt ballot (replica_of node.core) → AwaitsAnswer port x node.core →
-    StillWaits ballot place port x (behind_deed place node (takes (Peer m)) n)
+    StillWaits ballot place port x (after_node_call place node (takes (Peer m)) n)
 message_kept ballot place port x n node m there calm silent joined replica leads waits =
     let on = leads_on {O = Output} rules ballot (replica_of node.core) leads m.from m.body joined in
-    itself ballot place port x n (behind_deed place node (takes (Peer m)) n) node (record node { core = (node_step (Peer m) node.core).core }) there refl
+    itself ballot place port x n (after_node_call place node (takes (Peer m)) n) node (record node { core = (node_step (Peer m) node.core).core }) there refl
     (leads_with ballot (record node.core.replica { state = (heard_by node.core m).state }) (node_step (Peer m) node.core).core.replica replica on)
     (messages_keep_it_waiting port x node.core m waits calm leads.runs silent (ap is_active on.role) on.runs)
 
@@ -120,10 +120,10 @@ waits_on ballot place port x a b ks d n new (comes_to_node k at node message cam
   where
     by : (place ≡ at) ⊎ (place ≡ at → ⊥) → outputs (heard_by node.core message).effects ≡ [] → (heard_by node.core message).state.joined ≡ ballot →
         (node_step (Peer message) node.core).core.replica ≡ record node.core.replica { state = (heard_by node.core message).state } →
-        StillWaits ballot place port x (behind_deed at node (takes (Peer message)) n)
-    by (inr other) silent joined replica = elsewhere ballot place port x n (behind_deed at node (takes (Peer message)) n) at (record node { core = (node_step (Peer message) node.core).core }) other refl w
+        StillWaits ballot place port x (after_node_call at node (takes (Peer message)) n)
+    by (inr other) silent joined replica = elsewhere ballot place port x n (after_node_call at node (takes (Peer message)) n) at (record node { core = (node_step (Peer message) node.core).core }) other refl w
     by (inl same) silent joined replica =
-        subst (λ i. StillWaits ballot place port x (behind_deed i node (takes (Peer message)) n)) same
+        subst (λ i. StillWaits ballot place port x (after_node_call i node (takes (Peer message)) n)) same
         (message_kept ballot place port x n node message here (calm_now ballot node leads (calm at node there)) silent joined replica leads
         (subst (λ (c : CountedCore). AwaitsAnswer port x c.core) one w.waits))
       where
@@ -141,11 +141,11 @@ waits_on ballot place port x a b ks d n new (comes_to_master k from asked came m
 waits_on ballot place port x a b ks d n new (hands at node other there more) s calm w =
     waits_on ballot place port x a b ks d _ new more (hands_seen a n at node other there s) (hands_calm ballot n at node other there calm) (by (cases_eq place at))
   where
-    by : (place ≡ at) ⊎ (place ≡ at → ⊥) → StillWaits ballot place port x (behind_deed at node (gives other) n)
-    by (inr apart) = elsewhere ballot place port x n (behind_deed at node (gives other) n) at (record node { core = hands_over other node.core }) apart refl w
+    by : (place ≡ at) ⊎ (place ≡ at → ⊥) → StillWaits ballot place port x (after_node_call at node (gives other) n)
+    by (inr apart) = elsewhere ballot place port x n (after_node_call at node (gives other) n) at (record node { core = hands_over other node.core }) apart refl w
     by (inl same) =
-        subst (λ i. StillWaits ballot place port x (behind_deed i node (gives other) n)) same
-        (itself ballot place port x n (behind_deed place node (gives other) n) node (record node { core = hands_over other node.core }) here refl
+        subst (λ i. StillWaits ballot place port x (after_node_call i node (gives other) n)) same
+        (itself ballot place port x n (after_node_call place node (gives other) n) node (record node { core = hands_over other node.core }) here refl
         (leads_with ballot node.core.replica (hands_over other node.core).replica (hands_keep other node.core).0 (subst (λ (c : CountedCore). LeadsAt ballot (replica_of c.core)) one w.leads))
         (handing_keeps_it_waiting port other x node.core (subst (λ (c : CountedCore). AwaitsAnswer port x c.core) one w.waits)))
       where
@@ -236,7 +236,7 @@ module _ (config : Config) (a : Moment State Command Output) (past : List (Momen
     o = replica_step rules r (Proposes c)
 
     abbrev first : NodesState
-    first = behind_deed place node (takes (Bytes port piece now)) n
+    first = after_node_call place node (takes (Bytes port piece now)) n
 
     stepped : turn ≡ record { core = with_asked now port connect c core; messages = (proposal_at core c).effects }
     stepped =
@@ -323,7 +323,7 @@ pub others_are_awaited : (config : Config) (a : Moment State Command Output) (pa
     CanAsk a n ballot place node (front ++ last ∷ []) port x list start piece connect → AreApart (front ++ last ∷ []) → (In (place + 1) (front ++ last ∷ []) → ⊥) →
     ((m : ℕ) → In m (front ++ last ∷ []) → NodeIs (Follows ballot (begun list start)) (whole_moment a).world.nodes m) →
     AwaitsOthers ballot place port x (numbers_from (length n.sent) (length front + 1) ++ numbers_from (length n.sent + (length front + 1)) (length front))
-    (behind_deed place node (takes (Bytes port piece now)) n)
+    (after_node_call place node (takes (Bytes port piece now)) n)
 others_are_awaited config a past came n ballot place node front last port x list start now piece connect can apart out each =
     let h =
     (cut_groups_answer rules config a past came ballot place (replica_of node.core) (begun list start) (front ++ last ∷ []) (commands.Connect x connect.client false)

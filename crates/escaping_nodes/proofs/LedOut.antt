@@ -3,8 +3,8 @@ use Rattle.std.proofs.Common.{◌≡◌, inr, ◌<◌, ℕ, ◌+◌, ◌-◌, Li
 use Rattle.std.specs.Prelude.{slice_get}
 use Rattle.escaping.specs.ballot.Config.{Config}
 use Rattle.escaping.specs.ballot.Message.{Message}
-use Rattle.escaping.specs.broker_base.Command.{Command}
-use Rattle.escaping.specs.broker_base.Output.{Output}
+use Rattle.escaping.specs.broker_spec.declared.command.Command.{Command}
+use Rattle.escaping.specs.broker_spec.declared.command.Output.{Output}
 use Rattle.escaping.specs.broker_base.State.{State}
 use Rattle.world_nodes.specs.node_group.Group.{replica_of}
 use Rattle.ways_out.specs.agreement.MasterState.{MasterState, assigning}
@@ -14,7 +14,7 @@ use Rattle.ways_out.specs.snapshots.Whole.{whole}
 use Rattle.escaping.specs.world_base.Core.{CountedCore, rules}
 use Rattle.ways_out.proofs.of_snapshots.PastsKept.{StandsFor, past_stands}
 use Rattle.ways_out.proofs.of_snapshots.Views.{get_whole}
-use Rattle.world_nodes.specs.Goes.{behind_giving}
+use Rattle.world_nodes.specs.Goes.{after_giving}
 use Rattle.world_nodes.specs.Nodes.{NodesState}
 use Rattle.ways_out.specs.Deliveries.{way_out}
 use Rattle.ways_out.specs.Laws.{CanBeLed, StartsGiveNothing}
@@ -30,7 +30,7 @@ use Rattle.escaping_nodes.proofs.NodesFollow.{deliveries_are_followed, replica_a
 starts_give_nothing : StartsGiveNothing rules
 starts_give_nothing s b = refl
 
-pub assigned_seen : (a : Moment State Command Output) (n : NodesState) (new : Config) → IsSeen a n → IsSeen (assigned_moment new a) (behind_giving new n)
+pub assigned_seen : (a : Moment State Command Output) (n : NodesState) (new : Config) → IsSeen a n → IsSeen (assigned_moment new a) (after_giving new n)
 assigned_seen a n new s =
     record {
       master = ap (λ (m : MasterState). assigning m new) s.master;
@@ -58,7 +58,7 @@ way_of config a past came new place source log can = cut_groups_have_ways_out ru
 pub nodes_are_led_out : NodesAreLedOut
 nodes_are_led_out config a past came new place source log can n end s comes = by (way_of config a past came new place source log can)
   where
-    fresh : AreCalm (a.master.given + 1) (behind_giving new n)
+    fresh : AreCalm (a.master.given + 1) (after_giving new n)
     fresh at node there = inr (low_before config a past came n s at node there)
 
     same : way_out (length n.sent) (length n.master.members) place (length new.members - 1)
@@ -68,6 +68,6 @@ nodes_are_led_out config a past came new place source log can n end s comes = by
 
     by : LeadsOut rules config (a ∷ past) a new place log → AreLedOut config (a ∷ past) a new place log n end
     by way =
-        let z = deliveries_are_followed (a.master.given + 1) (assigned_moment new a) way.last _ way.delivered (behind_giving new n) end
-        (subst (λ ks. Come (behind_giving new n) ks end) same comes) (assigned_seen a n new s) fresh in
+        let z = deliveries_are_followed (a.master.given + 1) (assigned_moment new a) way.last _ way.delivered (after_giving new n) end
+        (subst (λ ks. Come (after_giving new n) ks end) same comes) (assigned_seen a n new s) fresh in
         record { way = way; seen = z.seen; calm = z.calm; names = z.names }

@@ -12,8 +12,8 @@ use Rattle.escaping.specs.ballot.Protocol.{received}
 use Rattle.escaping.specs.ballot.Protocol.Input.{Receives}
 use Rattle.escaping.specs.ballot.Replica.{CountedReplica, ReplicaState, is_active}
 use Rattle.escaping.specs.ballot.Sending.{Outcome}
-use Rattle.escaping.specs.broker_base.Command.{Command}
-use Rattle.escaping.specs.broker_base.Output.{Output}
+use Rattle.escaping.specs.broker_spec.declared.command.Command.{Command}
+use Rattle.escaping.specs.broker_spec.declared.command.Output.{Output}
 use Rattle.escaping.specs.broker_base.State.{State}
 use Rattle.world_nodes.specs.node_group.Group.{replica_of}
 use Rattle.escaping.specs.node_moves.Moves.{NodeCall, done}
@@ -32,7 +32,7 @@ use Rattle.escaping.specs.world_base.Step.{node_step}
 use Rattle.world_nodes.proofs.of_node_group.Placed.{get_mapped, set_mapped, set_same}
 use Rattle.escaping.proofs.of_node_moves.ReplicaLeads.{StaysOr, step_stays}
 use Rattle.escaping.proofs.of_node_moves.Views.{each_filtered, each_kept}
-use Rattle.world_nodes.specs.Goes.{behind_answer, behind_deed}
+use Rattle.world_nodes.specs.Goes.{after_answer, after_node_call}
 use Rattle.world_nodes.specs.Nodes.{NodesState, cores_of}
 use Rattle.ways_out.specs.CutWaysDeliveries.{Delivered, after_activate, after_outcome}
 use Rattle.ways_out.specs.CutWaysDeliveries.Delivered.{all_came, to_master, to_node}
@@ -99,7 +99,7 @@ hands_keep port core = by (listed_at port core)
     )
 
 pub hands_seen : (a : Moment State Command Output) (n : NodesState) (at : ℕ) (node : CountedCore) (port : Port) → slice_get n.nodes at ≡ Some node → IsSeen a n →
-    IsSeen a (behind_deed at node (gives port) n)
+    IsSeen a (after_node_call at node (gives port) n)
 hands_seen a n at node port there s =
     record {
       master = s.master;
@@ -112,7 +112,7 @@ hands_seen a n at node port there s =
     }
 
 pub hands_calm : (ballot : ℕ) (n : NodesState) (at : ℕ) (node : CountedCore) (port : Port) → slice_get n.nodes at ≡ Some node → AreCalm ballot n →
-    AreCalm ballot (behind_deed at node (gives port) n)
+    AreCalm ballot (after_node_call at node (gives port) n)
 hands_calm ballot n at node port there calm =
     set_calm ballot n.nodes at node (record node { core = hands_over port node.core }) there (now (calm at node there)) calm
   where
@@ -132,7 +132,7 @@ not_active ballot core m joined low = by (step_stays rules core.replica.state (R
     by (inr idle) = idle
 
 step_seen : (a : Moment State Command Output) (n : NodesState) (at : ℕ) (node : CountedCore) (m : Message Command) → IsSeen a n →
-    IsDelivery node.core (heard_by node.core m) (node_step (Peer m) node.core) → IsSeen (after_outcome at (heard_by node.core m) a) (behind_deed at node (takes (Peer m)) n)
+    IsDelivery node.core (heard_by node.core m) (node_step (Peer m) node.core) → IsSeen (after_outcome at (heard_by node.core m) a) (after_node_call at node (takes (Peer m)) n)
 step_seen a n at node m s d =
     record {
       master = s.master;
@@ -179,11 +179,11 @@ module _ (ballot : ℕ) (b : Moment State Command Output) (n : NodesState) (calm
   -- at a node
   pub node_comes : (a : Moment State Command Output) (k : ℕ) (ks : List ℕ) → Delivered rules ballot a (k ∷ ks) b → IsSeen a n → (at : ℕ) (node : CountedCore) (message : Message Command) →
       slice_get n.sent k ≡ Some (at + 1, message) → slice_get n.nodes at ≡ Some node → node.core.replica.state.stopped ≡ false →
-      NextAt ballot ks b node message (behind_deed at node (takes (Peer message)) n)
+      NextAt ballot ks b node message (after_node_call at node (takes (Peer message)) n)
   node_comes a k ks (to_node j place r m sent stands runs silent joined d) s at node message came there going =
       by (let same = same_message (slice_get n.sent k) (place + 1) (at + 1) m message (ap (λ l. slice_get l k) (sym s.sent) ∙ sent) came in same)
     where
-      by : (place + 1 ≡ at + 1) × (m ≡ message) → NextAt ballot ks b node message (behind_deed at node (takes (Peer message)) n)
+      by : (place + 1 ≡ at + 1) × (m ≡ message) → NextAt ballot ks b node message (after_node_call at node (takes (Peer message)) n)
       by (e, f) =
           let at_place : place ≡ at = next_same place at e in
           let one : r ≡ replica_of node.core = some_one (slice_get a.world.nodes at) r (replica_of node.core) (ap (slice_get a.world.nodes) (sym at_place) ∙ stands) (replica_at a n s at node there) in
@@ -212,13 +212,13 @@ module _ (ballot : ℕ) (b : Moment State Command Output) (n : NodesState) (calm
 
   -- at the master
   pub master_comes : (a : Moment State Command Output) (k : ℕ) (ks : List ℕ) → Delivered rules ballot a (k ∷ ks) b → IsSeen a n → (from asked : ℕ) →
-      slice_get n.sent k ≡ Some (0, record { from = from; body = Activate asked }) → Next ballot ks b (behind_answer from asked n)
+      slice_get n.sent k ≡ Some (0, record { from = from; body = Activate asked }) → Next ballot ks b (after_answer from asked n)
   master_comes a k ks (to_node j place r m sent stands runs silent joined d) s from asked came =
       absurd (never_next place (same_message (slice_get n.sent k) (place + 1) 0 m (record { from = from; body = Activate asked }) (ap (λ l. slice_get l k) (sym s.sent) ∙ sent) came).0)
   master_comes a k ks (to_master j other ballot_asked sent d) s from asked came =
       by (same_message (slice_get n.sent k) 0 0 (record { from = other; body = Activate ballot_asked }) (record { from = from; body = Activate asked }) (ap (λ l. slice_get l k) (sym s.sent) ∙ sent) came).1
     where
-      by : ◌≡◌ {A = Message Command} (record { from = other; body = Activate ballot_asked }) (record { from = from; body = Activate asked }) → Next ballot ks b (behind_answer from asked n)
+      by : ◌≡◌ {A = Message Command} (record { from = other; body = Activate ballot_asked }) (record { from = from; body = Activate asked }) → Next ballot ks b (after_answer from asked n)
       by e =
           let f : other ≡ from = ap (λ (m : Message Command). m.from) e in
           let g : ballot_asked ≡ asked = asked_same ballot_asked asked (ap (λ (m : Message Command). m.body) e) in
@@ -248,12 +248,12 @@ nothing_comes ballot a b all_came n s = s
 -- ---- names
 
 -- a call that gives no name, and more that give none
-names_then : (n : NodesState) (at : ℕ) (node : CountedCore) (deed : NodeCall) (new : NodesState) → slice_get n.nodes at ≡ Some node →
-    (done deed node.core).core.last_name ≡ node.core.last_name → KeepNames (behind_deed at node deed n) new → KeepNames n new
-names_then n at node deed new there same more i x later e f = by (cases_eq i at)
+names_then : (n : NodesState) (at : ℕ) (node : CountedCore) (node_call : NodeCall) (new : NodesState) → slice_get n.nodes at ≡ Some node →
+    (done node_call node.core).core.last_name ≡ node.core.last_name → KeepNames (after_node_call at node node_call n) new → KeepNames n new
+names_then n at node node_call new there same more i x later e f = by (cases_eq i at)
   where
     after : CountedCore
-    after = record node { core = (done deed node.core).core }
+    after = record node { core = (done node_call node.core).core }
 
     by : (i ≡ at) ⊎ (i ≡ at → ⊥) → later.core.last_name ≡ x.core.last_name
     by (inl one) =

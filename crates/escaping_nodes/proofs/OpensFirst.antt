@@ -6,9 +6,9 @@ use Rattle.std.proofs.lemmas.Bool.{cases_eq}
 use Rattle.std.proofs.lemmas.List.{append-nil}
 use Rattle.ways_out.proofs.of_lists.Places.{get_set, get_set_other}
 use Rattle.escaping.specs.ballot.Replica.{CountedReplica, is_active}
-use Rattle.escaping.specs.broker_base.Command.{Command}
-use Rattle.escaping.specs.broker_base.Connection.{ConnectionName}
-use Rattle.escaping.specs.broker_base.Output.{Output}
+use Rattle.escaping.specs.broker_spec.declared.command.Command.{Command}
+use Rattle.escaping.specs.broker_spec.Connection.{ConnectionName}
+use Rattle.escaping.specs.broker_spec.declared.command.Output.{Output}
 use Rattle.escaping.specs.broker_base.State.{State}
 use Rattle.escaping.specs.Delivery.{IsCalm}
 use Rattle.escaping.specs.Opening.{first_name, with_first}
@@ -28,7 +28,7 @@ use Rattle.escaping.specs.world_base.Turns.{quiet}
 use Rattle.escaping.proofs.of_node_moves.LossesTold.{each_loss_is_told}
 use Rattle.escaping.proofs.AnswerAwaited.{first_awaits_connect, handing_keeps_the_connect}
 use Rattle.escaping.proofs.FirstOpened.{first_is_opened}
-use Rattle.world_nodes.specs.Goes.{behind_deed}
+use Rattle.world_nodes.specs.Goes.{after_node_call}
 use Rattle.world_nodes.specs.Nodes.{NodesState, cores_of}
 use Rattle.ways_out.specs.Following.{Serves}
 use Rattle.escaping_nodes.specs.Coming.{AreCalm, Come, IsSeen}
@@ -67,7 +67,7 @@ module _ (a : Moment State Command Output) (n : NodesState) (ballot place : ℕ)
   same : after.core.replica ≡ core.replica
   same = ap (λ (t : Turn). t.core.replica) step
 
-  pub opened_first : IsOpened a (behind_deed place node (takes (Opened port now)) n) ballot place others_of log port
+  pub opened_first : IsOpened a (after_node_call place node (takes (Opened port now)) n) ballot place others_of log port
   opened_first =
       record {
         seen = record {
@@ -88,19 +88,19 @@ module _ (a : Moment State Command Output) (n : NodesState) (ballot place : ℕ)
 
 -- it still awaits it when bytes are handed over
 handed : (a : Moment State Command Output) (n : NodesState) (ballot place : ℕ) (others_of : List ℕ) (log : List Command) (port : Port) (at : ℕ) (other : CountedCore) (p : Port) →
-    slice_get n.nodes at ≡ Some other → IsOpened a n ballot place others_of log port → IsOpened a (behind_deed at other (gives p) n) ballot place others_of log port
+    slice_get n.nodes at ≡ Some other → IsOpened a n ballot place others_of log port → IsOpened a (after_node_call at other (gives p) n) ballot place others_of log port
 handed a n ballot place others_of log port at other p there o = by (cases_eq place at)
   where
     after : CountedCore
     after = record other { core = hands_over p other.core }
 
-    seen : IsSeen a (behind_deed at other (gives p) n)
+    seen : IsSeen a (after_node_call at other (gives p) n)
     seen = hands_seen a n at other p there o.seen
 
-    calm : AreCalm ballot (behind_deed at other (gives p) n)
+    calm : AreCalm ballot (after_node_call at other (gives p) n)
     calm = hands_calm ballot n at other p there o.calm
 
-    by : (place ≡ at) ⊎ (place ≡ at → ⊥) → IsOpened a (behind_deed at other (gives p) n) ballot place others_of log port
+    by : (place ≡ at) ⊎ (place ≡ at → ⊥) → IsOpened a (after_node_call at other (gives p) n) ballot place others_of log port
     by (inr apart) =
         record { seen = seen; calm = calm; node = o.node; stands = get_set_other n.nodes at place after apart ∙ o.stands; serves = o.serves; awaits = o.awaits }
     by (inl same) =

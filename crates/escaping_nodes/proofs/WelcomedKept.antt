@@ -1,19 +1,19 @@
 -- Who is welcomed back after the start of a ballot has a session that was kept.
 use Rattle.std.proofs.Common.{◌≡◌, ℕ, Bool, true, false, ◌||◌, if◌then◌else◌, not, List, ◌∷◌, ◌++◌, length, Option, Some, None, refl, sym, ap, ◌∙◌}
 use Rattle.std.specs.Prelude.{is_some, nat_lt}
-use Rattle.escaping.specs.broker_base.Answers.{answers_of, closed, connect_answers, welcome}
-use Rattle.escaping.specs.broker_base.Command.TheVariants as commands
-use Rattle.escaping.specs.broker_base.Commands.{past_of, place_of, usual_limits}
-use Rattle.escaping.specs.broker_base.Connection.{ConnectionName}
-use Rattle.escaping.specs.broker_base.Marks.{connect_mark}
-use Rattle.escaping.specs.broker_base.Output.{Output}
-use Rattle.escaping.specs.broker_base.Owner.{clients}
-use Rattle.escaping.specs.broker_base.Past.{begins_session, current_connection, ends_any, is_beginning, newest_session, session_of}
-use Rattle.escaping.specs.broker_base.Place.{Client, Limits, Mark, Past, only_if, same_client}
-use Rattle.escaping.specs.broker_base.Sends.{resent}
-use Rattle.escaping.specs.broker_base.Times.{entries_of}
+use Rattle.escaping.specs.broker_spec.Answers.{answers_of, closed, connect_answers, welcome}
+use Rattle.escaping.specs.broker_spec.declared.command.Command.TheVariants as commands
+use Rattle.escaping.specs.broker_spec.Commands.{past_of, place_of, usual_limits}
+use Rattle.escaping.specs.broker_spec.Connection.{ConnectionName}
+use Rattle.escaping.specs.broker_spec.Marks.{connect_mark}
+use Rattle.escaping.specs.broker_spec.declared.command.Output.{Output}
+use Rattle.escaping.specs.broker_spec.Owner.{clients}
+use Rattle.escaping.specs.broker_spec.Past.{begins_session, current_connection, ends_any, is_beginning, newest_session, session_of}
+use Rattle.escaping.specs.broker_spec.Place.{Client, Limits, Mark, Past, only_if, same_client}
+use Rattle.escaping.specs.broker_spec.Sends.{resent}
+use Rattle.escaping.specs.broker_spec.Times.{entries_of}
 use Rattle.escaping.proofs.of_broker_base.ClientsInOrder.{same_self}
-use Rattle.escaping.proofs.ComesBack.{at_connect, gives_behind, nobody_owns, none_current}
+use Rattle.escaping.proofs.ComesBack.{at_connect, gives_after, nobody_owns, none_current}
 use Rattle.world_nodes.specs.Asking.{first_connection, is_welcome, welcomes_back}
 use Rattle.escaping_nodes.specs.Opened.{WelcomedAreKept}
 
@@ -71,14 +71,14 @@ tells limits past x c none =
 
 pub welcomed_are_kept : WelcomedAreKept
 welcomed_are_kept client list = (
-  λ welcomed. started usual_limits (past_of usual_limits list) 1 client (kept_is (session_of behind client) (sym told ∙ welcomed)),
-  λ kept. told ∙ is_so (session_of behind client) (still usual_limits (past_of usual_limits list) 1 client kept),
+  λ welcomed. started usual_limits (past_of usual_limits list) 1 client (kept_is (session_of after client) (sym told ∙ welcomed)),
+  λ kept. told ∙ is_so (session_of after client) (still usual_limits (past_of usual_limits list) 1 client kept),
 )
   where
-    behind : Past
-    behind = place_of usual_limits (past_of usual_limits list) (commands.Start 1) ∷ past_of usual_limits list
+    after : Past
+    after = place_of usual_limits (past_of usual_limits list) (commands.Start 1) ∷ past_of usual_limits list
 
-    told : welcomes_back client list ≡ is_kept (session_of behind client)
+    told : welcomes_back client list ≡ is_kept (session_of after client)
     told =
-        ap is_welcome (gives_behind list 1 first_connection client)
-        ∙ tells usual_limits behind first_connection client (λ d. none_current usual_limits (past_of usual_limits list) 1 d)
+        ap is_welcome (gives_after list 1 first_connection client)
+        ∙ tells usual_limits after first_connection client (λ d. none_current usual_limits (past_of usual_limits list) 1 d)

@@ -11,12 +11,12 @@ use Rattle.escaping.specs.packet.declared.packet.Packet.{Packet}
 use Rattle.escaping.specs.packet.declared.packet.Packet.TheVariants as packets
 use Rattle.escaping.specs.packet.Spelling.{spelling}
 use Rattle.escaping.specs.packet.Verdict.{verdict}
-use Rattle.escaping.specs.broker_base.Command.{Command}
-use Rattle.escaping.specs.broker_base.Command.TheVariants as commands
-use Rattle.escaping.specs.broker_base.Commands.{past_of, usual_limits}
-use Rattle.escaping.specs.broker_base.Connection.{ConnectionName}
-use Rattle.escaping.specs.broker_base.Output.{Output}
-use Rattle.escaping.specs.broker_base.Past.{session_of}
+use Rattle.escaping.specs.broker_spec.declared.command.Command.{Command}
+use Rattle.escaping.specs.broker_spec.declared.command.Command.TheVariants as commands
+use Rattle.escaping.specs.broker_spec.Commands.{past_of, usual_limits}
+use Rattle.escaping.specs.broker_spec.Connection.{ConnectionName}
+use Rattle.escaping.specs.broker_spec.declared.command.Output.{Output}
+use Rattle.escaping.specs.broker_spec.Past.{session_of}
 use Rattle.escaping.specs.broker_base.State.{State}
 use Rattle.escaping.specs.Answering.{PutsOutFirst}
 use Rattle.escaping.specs.Waiting.{AwaitsConnect}
@@ -28,7 +28,7 @@ use Rattle.escaping.specs.world_base.declared.item.Item.TheVariants.{Bytes, Peer
 use Rattle.escaping.specs.world_base.declared.Port.{Port}
 use Rattle.escaping.specs.world_base.Core.{CountedCore, rules}
 use Rattle.escaping.specs.world_base.Step.{node_step}
-use Rattle.world_nodes.specs.Goes.{behind_deed}
+use Rattle.world_nodes.specs.Goes.{after_node_call}
 use Rattle.world_nodes.specs.Nodes.{NodesState}
 use Rattle.ways_out.specs.Deliveries.{AreApart, NodeIs, numbers_from}
 use Rattle.ways_out.specs.Following.{Follows, Serves}
@@ -84,6 +84,6 @@ OthersLetTheClientBeAnswered = (config : Config) (a : Moment State Command Outpu
     (n new : NodesState) (ballot place : ℕ) (node : CountedCore) (front : List ℕ) (last : ℕ) (port : Port) (x : ConnectionName) (list : List Command) (start now : ℕ) (piece : List ℕ) (connect : Connect) →
     CanAsk a n ballot place node (front ++ last ∷ []) port x list start piece connect → AreApart (front ++ last ∷ []) → (In (place + 1) (front ++ last ∷ []) → ⊥) →
     ((m : ℕ) → In m (front ++ last ∷ []) → NodeIs (Follows ballot (begun list start)) (whole_moment a).world.nodes m) →
-    Come (behind_deed place node (takes (Bytes port piece now)) n)
+    Come (after_node_call place node (takes (Bytes port piece now)) n)
     (numbers_from (length n.sent) (length front + 1) ++ numbers_from (length n.sent + (length front + 1)) (length front)) new →
     PutsOutAtLast place (length n.sent + 2 * length front + 1) port (last_held last ballot (begun list start)) new

@@ -3,8 +3,8 @@
 use Rattle.std.specs.Prelude.{◌≡◌, ◌⊎◌, ◌<◌, ℕ, ◌+◌, false, List, [], ◌∷◌, map, Some, slice_get}
 use Rattle.escaping.specs.ballot.Body.TheVariants.{Activate}
 use Rattle.escaping.specs.ballot.Message.{Message}
-use Rattle.escaping.specs.broker_base.Command.{Command}
-use Rattle.escaping.specs.broker_base.Output.{Output}
+use Rattle.escaping.specs.broker_spec.declared.command.Command.{Command}
+use Rattle.escaping.specs.broker_spec.declared.command.Output.{Output}
 use Rattle.escaping.specs.broker_base.State.{State}
 use Rattle.world_nodes.specs.node_group.Group.{replica_of}
 use Rattle.escaping.specs.node_moves.Moves.NodeCall.{takes, gives}
@@ -12,7 +12,7 @@ use Rattle.ways_out.specs.snapshots.Past.{Moment}
 use Rattle.escaping.specs.world_base.declared.item.Item.TheVariants.{Peer}
 use Rattle.escaping.specs.world_base.declared.Port.{Port}
 use Rattle.escaping.specs.world_base.Core.{CountedCore, rules}
-use Rattle.world_nodes.specs.Goes.{behind_answer, behind_deed}
+use Rattle.world_nodes.specs.Goes.{after_answer, after_node_call}
 use Rattle.world_nodes.specs.Nodes.{NodesState, cores_of}
 use Rattle.ways_out.specs.CutWaysDeliveries.{Delivered}
 use Rattle.escaping.specs.Delivery.{IsCalm}
@@ -22,12 +22,12 @@ use Rattle.escaping.specs.Delivery.{IsCalm}
 pub data Come : NodesState → List ℕ → NodesState → Type 0 where
   all_came : {n : NodesState} → Come n [] n
   to_node : {n new : NodesState} {ks : List ℕ} (k at : ℕ) (node : CountedCore) (message : Message Command) → slice_get n.sent k ≡ Some (at + 1, message) →
-      slice_get n.nodes at ≡ Some node → node.core.replica.state.stopped ≡ false → Come (behind_deed at node (takes (Peer message)) n) ks new →
+      slice_get n.nodes at ≡ Some node → node.core.replica.state.stopped ≡ false → Come (after_node_call at node (takes (Peer message)) n) ks new →
       Come n (k ∷ ks) new
   to_master : {n new : NodesState} {ks : List ℕ} (k from ballot : ℕ) → slice_get n.sent k ≡ Some (0, record { from = from; body = Activate ballot }) →
-      Come (behind_answer from ballot n) ks new → Come n (k ∷ ks) new
+      Come (after_answer from ballot n) ks new → Come n (k ∷ ks) new
   hands : {n new : NodesState} {ks : List ℕ} (at : ℕ) (node : CountedCore) (port : Port) → slice_get n.nodes at ≡ Some node →
-      Come (behind_deed at node (gives port) n) ks new → Come n ks new
+      Come (after_node_call at node (gives port) n) ks new → Come n ks new
 
 -- the master, the replicas, the messages and the record of the nodes are those of the moment
 pub record IsSeen (a : Moment State Command Output) (n : NodesState) : Type 0 where

@@ -1,12 +1,12 @@
 -- Nodes that are led out: an Assign, and the messages of a way out, by their numbers.
 use Rattle.std.specs.Prelude.{ℕ, ◌+◌, ◌-◌, List, ◌∷◌, length}
 use Rattle.escaping.specs.ballot.Config.{Config}
-use Rattle.escaping.specs.broker_base.Command.{Command}
-use Rattle.escaping.specs.broker_base.Output.{Output}
+use Rattle.escaping.specs.broker_spec.declared.command.Command.{Command}
+use Rattle.escaping.specs.broker_spec.declared.command.Output.{Output}
 use Rattle.escaping.specs.broker_base.State.{State}
 use Rattle.ways_out.specs.snapshots.Past.{Moment, Past, whole_moment}
 use Rattle.escaping.specs.world_base.Core.{rules}
-use Rattle.world_nodes.specs.Goes.{behind_giving}
+use Rattle.world_nodes.specs.Goes.{after_giving}
 use Rattle.world_nodes.specs.Nodes.{NodesState}
 use Rattle.ways_out.specs.Deliveries.{way_out}
 use Rattle.ways_out.specs.Laws.{CanBeLed}
@@ -27,4 +27,4 @@ pub record AreLedOut (config : Config) (past : List (Moment State Command Output
 abbrev pub NodesAreLedOut : Type 0
 NodesAreLedOut = (config : Config) (a : Moment State Command Output) (past : List (Moment State Command Output)) → Past rules config (a ∷ past) →
     (new : Config) (place source : ℕ) (log : List Command) → CanBeLed (whole_moment a) new place source log → (n end : NodesState) → IsSeen a n →
-    Come (behind_giving new n) (way_out (length n.sent) (length n.master.members) place (length new.members - 1)) end → AreLedOut config (a ∷ past) a new place log n end
+    Come (after_giving new n) (way_out (length n.sent) (length n.master.members) place (length new.members - 1)) end → AreLedOut config (a ∷ past) a new place log n end

@@ -1,12 +1,12 @@
 -- A client that comes back: its connection opens at the new primary, and awaits its CONNECT there.
 use Rattle.std.specs.Prelude.{◌≡◌, ◌<◌, ◌≤◌, ◌^◌, ℕ, ◌+◌, true, false, List, [], None, Some, slice_get}
 use Rattle.std.specs.List.{find, list_any}
-use Rattle.escaping.specs.broker_base.Command.{Command}
-use Rattle.escaping.specs.broker_base.Commands.{past_of, usual_limits}
-use Rattle.escaping.specs.broker_base.Connection.{ConnectionName}
-use Rattle.escaping.specs.broker_base.Output.{Output}
-use Rattle.escaping.specs.broker_base.Past.{session_of}
-use Rattle.escaping.specs.broker_base.Place.{Client}
+use Rattle.escaping.specs.broker_spec.declared.command.Command.{Command}
+use Rattle.escaping.specs.broker_spec.Commands.{past_of, usual_limits}
+use Rattle.escaping.specs.broker_spec.Connection.{ConnectionName}
+use Rattle.escaping.specs.broker_spec.declared.command.Output.{Output}
+use Rattle.escaping.specs.broker_spec.Past.{session_of}
+use Rattle.escaping.specs.broker_spec.Place.{Client}
 use Rattle.escaping.specs.broker_base.State.{State}
 use Rattle.escaping.specs.Waiting.{AwaitsConnect}
 use Rattle.world_nodes.specs.node_group.Group.{replica_of}
@@ -18,7 +18,7 @@ use Rattle.escaping.specs.world_base.declared.Port.{Port}
 use Rattle.escaping.specs.world_base.Connections.{is_at, is_open_named}
 use Rattle.escaping.specs.world_base.Core.{CountedCore}
 use Rattle.world_nodes.specs.Asking.{welcomes_back}
-use Rattle.world_nodes.specs.Goes.{behind_deed}
+use Rattle.world_nodes.specs.Goes.{after_node_call}
 use Rattle.world_nodes.specs.Nodes.{NodesState}
 use Rattle.ways_out.specs.Following.{Serves}
 use Rattle.escaping_nodes.specs.Coming.{AreCalm, Come, IsSeen}
@@ -52,7 +52,7 @@ pub record IsOpened (a : Moment State Command Output) (n : NodesState) (ballot p
 -- that holds once the connection was opened, whatever bytes are handed over then
 abbrev pub ConnectionsOpenFirst : Type 0
 ConnectionsOpenFirst = (a : Moment State Command Output) (n new : NodesState) (ballot place : ℕ) (node : CountedCore) (others_of : List ℕ) (log : List Command)
-    (port : Port) (now : ℕ) → CanOpen a n ballot place node others_of log port → Come (behind_deed place node (takes (Opened port now)) n) [] new →
+    (port : Port) (now : ℕ) → CanOpen a n ballot place node others_of log port → Come (after_node_call place node (takes (Opened port now)) n) [] new →
     IsOpened a new ballot place others_of log port
 
 -- a client would be answered with session present after these commands exactly if it has a session

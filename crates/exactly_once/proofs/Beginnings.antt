@@ -2,19 +2,19 @@
 use Rattle.std.proofs.Common.{◌≡◌, ℕ, suc, Bool, true, false, if◌then◌else◌, List, [], ◌∷◌, ◌++◌, Option, Some, None, refl, sym, ◌∙◌, ap, ap₂, subst, inl, length}
 use Rattle.client_base.specs.packet.declared.packet.Packet.TheVariants as packets
 use Rattle.client_base.specs.lists.Lists.{has_id, IsDistinct, Each}
-use Rattle.broker_base.specs.Connection.{ConnectionName}
-use Rattle.broker_base.specs.Place.{Client, Past, Limits}
-use Rattle.broker_base.specs.Past.{current_connection, session_of}
-use Rattle.broker_base.specs.Received.{is_new}
-use Rattle.broker_base.specs.Command.{Command}
-use Rattle.broker_base.specs.Command.TheVariants as commands
+use Rattle.broker_base.specs.broker_spec.Connection.{ConnectionName}
+use Rattle.broker_base.specs.broker_spec.Place.{Client, Past, Limits}
+use Rattle.broker_base.specs.broker_spec.Past.{current_connection, session_of}
+use Rattle.broker_base.specs.broker_spec.Received.{is_new}
+use Rattle.broker_base.specs.broker_spec.declared.command.Command.{Command}
+use Rattle.broker_base.specs.broker_spec.declared.command.Command.TheVariants as commands
 use Rattle.broker_base.proofs.QuietPasts.{no_connection}
 use Rattle.exactly_once.specs.Items.{Item, busy, has_released}
 use Rattle.exactly_once.specs.Handshake.{Backward}
-use Rattle.exactly_once.specs.HandshakeSides.{IsGood, IsBehind, IsNew, IsWaiting, WaitsLast}
+use Rattle.exactly_once.specs.HandshakeInvariant.{IsGood, IsBehind, IsNew, IsWaiting, WaitsLast}
 use Rattle.client_base.specs.Keeper.{Own, ids_in_use}
 use Rattle.exactly_once.specs.Story.{Story}
-use Rattle.exactly_once.specs.Told.{AreUnsent, unserved}
+use Rattle.exactly_once.specs.StoryTrace.{AreUnsent, unserved}
 use Rattle.exactly_once.specs.Carried.{carries, new_numbers, more_by, is_two}
 use Rattle.exactly_once.specs.Inside.Projections.{items_of_own, as_publisher}
 use Rattle.exactly_once.specs.Inside.AsSubscriber.{items_of, as_subscriber, left_behind}

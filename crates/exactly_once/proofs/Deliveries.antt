@@ -4,15 +4,15 @@ use Rattle.std.proofs.lemmas.List.{append-nil}
 use Rattle.std.specs.Prelude.{flat_map}
 use Rattle.client_base.specs.session_base.declared.publication.Publication.{Publication}
 use Rattle.client_base.specs.session_base.Publication.{is_answered}
-use Rattle.broker_base.specs.Connection.{ConnectionName, same_connection}
-use Rattle.broker_base.specs.Place.{Client, Place, Past, Limits}
-use Rattle.broker_base.specs.Past.{any_connection, current_connection}
-use Rattle.broker_base.specs.Entries.{Entry, copies_at}
-use Rattle.broker_base.specs.Readings.{made_at}
-use Rattle.broker_base.specs.Times.{entries_of}
-use Rattle.broker_base.specs.Sends.{publish, sent_first, all_started, handed, handed_to, deliveries_to}
-use Rattle.broker_base.specs.Output.{Output}
-use Rattle.broker_base.specs.Output.TheVariants.{Send, Close}
+use Rattle.broker_base.specs.broker_spec.Connection.{ConnectionName, same_connection}
+use Rattle.broker_base.specs.broker_spec.Place.{Client, Place, Past, Limits}
+use Rattle.broker_base.specs.broker_spec.Past.{any_connection, current_connection}
+use Rattle.broker_base.specs.broker_spec.Entries.{Entry, copies_at}
+use Rattle.broker_base.specs.broker_spec.Readings.{made_at}
+use Rattle.broker_base.specs.broker_spec.Times.{entries_of}
+use Rattle.broker_base.specs.broker_spec.Sends.{publish, sent_first, all_started, handed, handed_to, deliveries_to}
+use Rattle.broker_base.specs.broker_spec.declared.command.Output.{Output}
+use Rattle.broker_base.specs.broker_spec.declared.command.Output.TheVariants.{Send, Close}
 use Rattle.client_base.specs.lists.Lists.{Each}
 use Rattle.exactly_once.specs.Sends.{sends_to}
 

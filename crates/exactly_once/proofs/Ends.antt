@@ -3,15 +3,15 @@ use Rattle.std.proofs.Common.{◌≡◌, ℕ, Bool, true, false, if◌then◌els
 use Rattle.std.proofs.lemmas.List.{map-append}
 use Rattle.std.proofs.lemmas.Bool.{both_ways}
 use Rattle.client_base.specs.session_base.declared.publication.Publication.{Publication}
-use Rattle.broker_base.specs.Place.{Limits}
-use Rattle.broker_base.specs.Entries.{Entry}
-use Rattle.broker_base.specs.Readings.{publication_in}
-use Rattle.broker_base.specs.Times.{entries_of}
+use Rattle.broker_base.specs.broker_spec.Place.{Limits}
+use Rattle.broker_base.specs.broker_spec.Entries.{Entry}
+use Rattle.broker_base.specs.broker_spec.Readings.{publication_in}
+use Rattle.broker_base.specs.broker_spec.Times.{entries_of}
 use Rattle.client_base.specs.lists.Lists.{Each, IsPrefixOf}
 use Rattle.exactly_once.specs.Items.{Item, value_of}
 use Rattle.exactly_once.specs.Exact.{is_over}
 use Rattle.exactly_once.specs.Handshake.{Handshake}
-use Rattle.exactly_once.specs.HandshakeSides.{IsGood}
+use Rattle.exactly_once.specs.HandshakeInvariant.{IsGood}
 use Rattle.exactly_once.proofs.Exact.{good_exact, good_run}
 use Rattle.exactly_once.specs.Carried.{is_two, new_numbers, published}
 use Rattle.client_base.specs.Keeper.{Own}

@@ -7,7 +7,7 @@ use Rattle.exactly_once.specs.Handshake.{Forward, Backward, Link, Handshake, ans
 use Rattle.exactly_once.specs.Exact.{is_over, IsExact}
 use Rattle.exactly_once.specs.Handshake.Moves.{adds, starts, takes, takes_alone, hears, hears_alone, sender_leaves, receiver_leaves, parts, parts_ahead, restarts}
 use Rattle.exactly_once.specs.Handshake.Run.{stays, goes_on}
-use Rattle.exactly_once.specs.HandshakeSides.{IsNew, IsAhead, IsLinked, IsGood}
+use Rattle.exactly_once.specs.HandshakeInvariant.{IsNew, IsAhead, IsLinked, IsGood}
 use Rattle.exactly_once.proofs.SidesStart.{sides_add, sides_start, sent_waits, free_of}
 use Rattle.exactly_once.proofs.SidesHear.{sides_release, sides_finish}
 use Rattle.exactly_once.proofs.Taken.{took}

@@ -5,8 +5,8 @@ use Rattle.client_base.specs.packet.declared.qos.QoS.{QoS}
 use Rattle.client_base.specs.packet.declared.qos.QoS.TheVariants as levels
 use Rattle.client_base.specs.session_base.declared.publication.Publication.{Publication}
 use Rattle.client_base.specs.session_base.Publication.{is_acknowledged, is_answered}
-use Rattle.broker_base.specs.Entries.{Entry}
-use Rattle.broker_base.specs.Times.{at_pubrec, at_pubcomp}
+use Rattle.broker_base.specs.broker_spec.Entries.{Entry}
+use Rattle.broker_base.specs.broker_spec.Times.{at_pubrec, at_pubcomp}
 use Rattle.exactly_once.specs.Items.{Item, releasing, finishing}
 use Rattle.exactly_once.specs.Carried.{is_two}
 use Rattle.exactly_once.specs.Inside.AsSubscriber.{items_of, two_item}

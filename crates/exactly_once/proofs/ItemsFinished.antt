@@ -3,7 +3,7 @@ use Rattle.std.proofs.Common.{◌≡◌, ℕ, Bool, true, false, ◌==◌, if◌
 use Rattle.std.proofs.lemmas.Bool.{cases_Bool}
 use Rattle.client_base.specs.lists.Lists.{has_id, IsDistinct, Each}
 use Rattle.exactly_once.specs.Items.{Item, value_of, busy, has_sent, has_released, finishing}
-use Rattle.exactly_once.specs.HandshakeSides.{IsOld}
+use Rattle.exactly_once.specs.HandshakeInvariant.{IsOld}
 use Rattle.client_base.proofs.of_lists.Tests.{or_then, or_second, or_none, none_or, eq_is}
 
 -- ---- PUBCOMP

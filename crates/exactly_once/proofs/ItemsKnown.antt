@@ -3,7 +3,7 @@ use Rattle.std.proofs.Common.{◌≡◌, ℕ, Bool, true, false, not, ◌&&◌, 
 use Rattle.std.proofs.lemmas.Bool.{or_cases, both_ways, cases_Bool}
 use Rattle.client_base.specs.lists.Lists.{has_id, IsDistinct, Each}
 use Rattle.exactly_once.specs.Items.{Item, busy, sent, has_sent, has_released}
-use Rattle.exactly_once.specs.HandshakeSides.{IsOld, IsNew, WaitsLast}
+use Rattle.exactly_once.specs.HandshakeInvariant.{IsOld, IsNew, WaitsLast}
 use Rattle.client_base.proofs.of_lists.Tests.{or_none, none_or, or_right, eq_is, eq_turn}
 use Rattle.exactly_once.proofs.BusyIdentifiers.{sent_not_released}
 use Rattle.exactly_once.proofs.ItemsStarted.{none_sent}

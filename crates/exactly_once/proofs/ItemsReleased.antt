@@ -3,7 +3,7 @@ use Rattle.std.proofs.Common.{◌≡◌, ℕ, Bool, true, false, ◌||◌, ◌==
 use Rattle.std.proofs.lemmas.Bool.{cases_Bool}
 use Rattle.client_base.specs.lists.Lists.{has_id, Each}
 use Rattle.exactly_once.specs.Items.{Item, value_of, busy, has_sent, has_released, releasing}
-use Rattle.exactly_once.specs.HandshakeSides.{IsOld}
+use Rattle.exactly_once.specs.HandshakeInvariant.{IsOld}
 use Rattle.client_base.proofs.of_lists.Tests.{or_then, or_second, or_none, or_right, or_left, eq_is}
 
 -- ---- PUBREC

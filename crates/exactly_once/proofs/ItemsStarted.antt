@@ -2,7 +2,7 @@
 use Rattle.std.proofs.Common.{◌≡◌, ℕ, Bool, false, List, [], ◌∷◌, ◌++◌, Some, None, refl, ap, ap₂, sym, ◌∙◌}
 use Rattle.client_base.specs.lists.Lists.{Each}
 use Rattle.exactly_once.specs.Items.{Item, busy, sent, start_first, first_waiting}
-use Rattle.exactly_once.specs.HandshakeSides.{IsOld, IsNew, IsWaiting, WaitsLast}
+use Rattle.exactly_once.specs.HandshakeInvariant.{IsOld, IsNew, IsWaiting, WaitsLast}
 
 -- ---- a start
 

@@ -6,7 +6,7 @@ use Rattle.client_base.specs.lists.Lists.{In, has_id, IsDistinct, Each}
 use Rattle.client_base.specs.lists.Lists.In.{here, there}
 use Rattle.exactly_once.specs.Items.{Item, busy, sent, has_sent, has_released}
 use Rattle.exactly_once.specs.Handshake.{Forward, resend, publishing}
-use Rattle.exactly_once.specs.HandshakeSides.{IsNew, AreSides, publishes, forward_id, IsMeant, IsJoined}
+use Rattle.exactly_once.specs.HandshakeInvariant.{IsNew, AreSides, publishes, forward_id, IsMeant, IsJoined}
 use Rattle.client_base.proofs.of_lists.Tests.{or_none, none_or, eq_is}
 use Rattle.client_base.proofs.of_lists.Identifiers.{distinct_joined}
 use Rattle.client_base.proofs.of_lists.OfEach.{each_then}

@@ -4,7 +4,7 @@ use Rattle.std.proofs.lemmas.List.{append-nil}
 use Rattle.client_base.specs.lists.Lists.{has_id, Each}
 use Rattle.exactly_once.specs.Items.{Item, releasing, finishing}
 use Rattle.exactly_once.specs.Handshake.{Forward, Backward}
-use Rattle.exactly_once.specs.HandshakeSides.{forward_id, backward_id, IsMeant, IsDue, IsSent, IsJoined, IsBehind}
+use Rattle.exactly_once.specs.HandshakeInvariant.{forward_id, backward_id, IsMeant, IsDue, IsSent, IsJoined, IsBehind}
 use Rattle.client_base.proofs.of_lists.Tests.{or_none, eq_turn}
 use Rattle.client_base.proofs.of_lists.Identifiers.{distinct_without, distinct_middle}
 use Rattle.client_base.proofs.of_lists.OfEach.{each_then}

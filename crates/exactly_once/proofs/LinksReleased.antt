@@ -4,7 +4,7 @@ use Rattle.std.proofs.lemmas.List.{append-nil, map-append}
 use Rattle.client_base.specs.lists.Lists.{has_id, IsDistinct, Each}
 use Rattle.exactly_once.specs.Items.{Item, sent, releasing}
 use Rattle.exactly_once.specs.Handshake.{Forward, Backward}
-use Rattle.exactly_once.specs.HandshakeSides.{publishes, forward_id, backward_id, IsMeant, IsDue, IsSent, IsJoined}
+use Rattle.exactly_once.specs.HandshakeInvariant.{publishes, forward_id, backward_id, IsMeant, IsDue, IsSent, IsJoined}
 use Rattle.client_base.proofs.of_lists.Tests.{or_none, eq_turn}
 use Rattle.client_base.proofs.of_lists.Identifiers.{distinct_middle}
 use Rattle.client_base.proofs.of_lists.OfEach.{each_append, each_left, each_then}

@@ -4,7 +4,7 @@ use Rattle.std.proofs.lemmas.List.{append-nil, map-append}
 use Rattle.client_base.specs.lists.Lists.{has_id, IsDistinct, Each}
 use Rattle.exactly_once.specs.Items.{Item, busy, sent, start_first}
 use Rattle.exactly_once.specs.Handshake.{Forward, Backward, Link, sending}
-use Rattle.exactly_once.specs.HandshakeSides.{publishes, forward_id, backward_id, IsMeant, IsDue, IsSent, Comes, IsJoined, IsBehind, IsAhead, IsLinked}
+use Rattle.exactly_once.specs.HandshakeInvariant.{publishes, forward_id, backward_id, IsMeant, IsDue, IsSent, Comes, IsJoined, IsBehind, IsAhead, IsLinked}
 use Rattle.client_base.proofs.of_lists.Tests.{or_none, none_or}
 use Rattle.client_base.proofs.of_lists.Identifiers.{other_id, distinct_after, distinct_insert}
 use Rattle.client_base.proofs.of_lists.OfEach.{each_append, each_then}

@@ -4,7 +4,7 @@ use Rattle.std.proofs.lemmas.List.{append-nil, map-append}
 use Rattle.client_base.specs.lists.Lists.{has_id, IsDistinct, Each}
 use Rattle.exactly_once.specs.Items.{Item}
 use Rattle.exactly_once.specs.Handshake.{Forward, Backward, Handshake, answer}
-use Rattle.exactly_once.specs.HandshakeSides.{publishes, forward_id, backward_id, IsDue, Comes, IsJoined}
+use Rattle.exactly_once.specs.HandshakeInvariant.{publishes, forward_id, backward_id, IsDue, Comes, IsJoined}
 use Rattle.client_base.proofs.of_lists.Tests.{or_none}
 use Rattle.client_base.proofs.of_lists.Identifiers.{has_split, distinct_rotate}
 use Rattle.client_base.proofs.of_lists.OfEach.{each_append}

@@ -7,16 +7,16 @@ use Rattle.client_base.specs.packet.declared.packet.Packet.{Packet}
 use Rattle.client_base.specs.packet.declared.packet.Packet.TheVariants as packets
 use Rattle.client_base.specs.session_base.declared.publication.Publication.{Publication}
 use Rattle.client_base.specs.session_base.Publication.{is_answered, publish_of}
-use Rattle.broker_base.specs.Connection.{ConnectionName, same_connection}
-use Rattle.broker_base.specs.Place.{Client, Mark, Place, Past, Limits, only_if}
-use Rattle.broker_base.specs.Past.{is_leaving, ends_any, newest_session, current_connection, session_of, in_session}
-use Rattle.broker_base.specs.Received.{received_by, received_of}
-use Rattle.broker_base.specs.Entries.{Entry, copies_at}
-use Rattle.broker_base.specs.Readings.{made_at}
-use Rattle.broker_base.specs.Times.{entries_of}
-use Rattle.broker_base.specs.Sends.{publish, sent_first, all_started, handed, handed_to, deliveries_to}
-use Rattle.broker_base.specs.Command.TheVariants as commands
-use Rattle.broker_base.specs.Output.{Output}
+use Rattle.broker_base.specs.broker_spec.Connection.{ConnectionName, same_connection}
+use Rattle.broker_base.specs.broker_spec.Place.{Client, Mark, Place, Past, Limits, only_if}
+use Rattle.broker_base.specs.broker_spec.Past.{is_leaving, ends_any, newest_session, current_connection, session_of, in_session}
+use Rattle.broker_base.specs.broker_spec.Received.{received_by, received_of}
+use Rattle.broker_base.specs.broker_spec.Entries.{Entry, copies_at}
+use Rattle.broker_base.specs.broker_spec.Readings.{made_at}
+use Rattle.broker_base.specs.broker_spec.Times.{entries_of}
+use Rattle.broker_base.specs.broker_spec.Sends.{publish, sent_first, all_started, handed, handed_to, deliveries_to}
+use Rattle.broker_base.specs.broker_spec.declared.command.Command.TheVariants as commands
+use Rattle.broker_base.specs.broker_spec.declared.command.Output.{Output}
 use Rattle.exactly_once.specs.Sends.{sends_to}
 use Rattle.exactly_once.specs.Inside.Projections.{backward_of_own}
 use Rattle.exactly_once.proofs.Deliveries.{sends_append}

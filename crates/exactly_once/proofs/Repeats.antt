@@ -6,7 +6,7 @@ use Rattle.client_base.specs.lists.Lists.{In, Each}
 use Rattle.client_base.specs.lists.Lists.In.{here, there}
 use Rattle.exactly_once.specs.Items.{Item, value_of, sent}
 use Rattle.exactly_once.specs.Handshake.{Forward, Link, Handshake, opening}
-use Rattle.exactly_once.specs.HandshakeSides.{IsNew, IsSent, IsLinked, IsGood, Comes, publishes}
+use Rattle.exactly_once.specs.HandshakeInvariant.{IsNew, IsSent, IsLinked, IsGood, Comes, publishes}
 use Rattle.exactly_once.specs.Exact.{next_of, RepeatsWereAccepted}
 use Rattle.exactly_once.proofs.Exact.{good_run, good_opening}
 use Rattle.exactly_once.proofs.ItemsKnown.{cons_is}

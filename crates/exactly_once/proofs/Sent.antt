@@ -7,11 +7,11 @@ use Rattle.client_base.specs.packet.declared.packet.Packet.TheVariants as packet
 use Rattle.client_base.specs.session_base.declared.publication.Publication.{Publication}
 use Rattle.client_base.specs.session_base.Publication.{publish_of}
 use Rattle.client_base.specs.session_base.Identifiers.{least_free}
-use Rattle.broker_base.specs.Connection.{ConnectionName}
-use Rattle.broker_base.specs.Entries.{Entry}
-use Rattle.broker_base.specs.Times.{start_all}
-use Rattle.broker_base.specs.Sends.{publish, sent_first, all_started}
-use Rattle.broker_base.specs.Output.{Output}
+use Rattle.broker_base.specs.broker_spec.Connection.{ConnectionName}
+use Rattle.broker_base.specs.broker_spec.Entries.{Entry}
+use Rattle.broker_base.specs.broker_spec.Times.{start_all}
+use Rattle.broker_base.specs.broker_spec.Sends.{publish, sent_first, all_started}
+use Rattle.broker_base.specs.broker_spec.declared.command.Output.{Output}
 use Rattle.exactly_once.specs.Handshake.{Forward, publishing}
 use Rattle.exactly_once.specs.Sends.{sends_to}
 use Rattle.exactly_once.specs.Carried.{is_two}

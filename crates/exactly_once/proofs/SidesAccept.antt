@@ -4,7 +4,7 @@ use Rattle.std.proofs.lemmas.List.{map-append}
 use Rattle.std.proofs.lemmas.Bool.{or_cases, both_ways}
 use Rattle.client_base.specs.lists.Lists.{has_id, IsDistinct}
 use Rattle.exactly_once.specs.Items.{Item, value_of, busy, has_released}
-use Rattle.exactly_once.specs.HandshakeSides.{IsOld, AreSides}
+use Rattle.exactly_once.specs.HandshakeInvariant.{IsOld, AreSides}
 use Rattle.client_base.proofs.of_lists.Tests.{or_right, or_left, eq_same}
 use Rattle.client_base.proofs.of_lists.Identifiers.{has_append, distinct_front, distinct_middle}
 use Rattle.client_base.proofs.of_lists.OfEach.{each_append}

@@ -4,7 +4,7 @@ use Rattle.std.proofs.lemmas.List.{map-append}
 use Rattle.std.proofs.lemmas.Bool.{both_ways, cases_Bool}
 use Rattle.client_base.specs.lists.Lists.{has_id, IsDistinct}
 use Rattle.exactly_once.specs.Items.{Item, busy, has_sent, has_released, releasing, finishing}
-use Rattle.exactly_once.specs.HandshakeSides.{AreSides}
+use Rattle.exactly_once.specs.HandshakeInvariant.{AreSides}
 use Rattle.client_base.proofs.of_lists.Tests.{eq_is}
 use Rattle.client_base.proofs.of_lists.Identifiers.{distinct_apart}
 use Rattle.exactly_once.proofs.BusyIdentifiers.{busy_append, sent_busy, released_busy}

@@ -4,7 +4,7 @@ use Rattle.std.proofs.lemmas.List.{append-nil}
 use Rattle.std.proofs.lemmas.Bool.{both_ways, cases_Bool}
 use Rattle.client_base.specs.lists.Lists.{has_id, IsDistinct}
 use Rattle.exactly_once.specs.Items.{Item, busy, sent, start_first, first_waiting}
-use Rattle.exactly_once.specs.HandshakeSides.{IsNew, IsWaiting, WaitsLast, AreSides}
+use Rattle.exactly_once.specs.HandshakeInvariant.{IsNew, IsWaiting, WaitsLast, AreSides}
 use Rattle.client_base.proofs.of_lists.Identifiers.{has_join, has_split, distinct_push}
 use Rattle.client_base.proofs.of_lists.OfEach.{each_append}
 use Rattle.exactly_once.proofs.BusyIdentifiers.{busy_append, sent_append}

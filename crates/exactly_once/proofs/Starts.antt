@@ -4,9 +4,9 @@ use Rattle.std.proofs.lemmas.List.{append-nil}
 use Rattle.client_base.specs.session_base.declared.publication.Publication.{Publication}
 use Rattle.client_base.specs.lists.Lists.{has_id}
 use Rattle.client_base.specs.session_base.Identifiers.{least_free}
-use Rattle.broker_base.specs.Entries.{Entry}
-use Rattle.broker_base.specs.Times.{start_all}
-use Rattle.broker_base.specs.IdentifierLaws.{WaitsLast, IsWaiting}
+use Rattle.broker_base.specs.broker_spec.Entries.{Entry}
+use Rattle.broker_base.specs.broker_spec.Times.{start_all}
+use Rattle.broker_base.specs.broker_spec.IdentifierLaws.{WaitsLast, IsWaiting}
 use Rattle.broker_base.proofs.LeastFree.{least-is-free}
 use Rattle.exactly_once.specs.Items.{Item, busy, start_first, first_waiting}
 use Rattle.exactly_once.specs.Handshake.{sending, with_items, Forward, Link, Handshake, Run}

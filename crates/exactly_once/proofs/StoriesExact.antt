@@ -1,13 +1,13 @@
 -- Every story keeps its promises: what is shown of its two handshakes and of the places of its list, in one.
 use Rattle.std.proofs.Common.{length, subst}
-use Rattle.broker_base.specs.Place.{Client, Limits}
-use Rattle.broker_base.specs.QuietLaws.{IsSteady}
+use Rattle.broker_base.specs.broker_spec.Place.{Client, Limits}
+use Rattle.broker_base.specs.broker_spec.QuietLaws.{IsSteady}
 use Rattle.exactly_once.specs.Story.{Story}
-use Rattle.exactly_once.specs.Told.{Told}
+use Rattle.exactly_once.specs.StoryTrace.{StoryTrace}
 use Rattle.exactly_once.specs.Headline.{PublishedOnce, ExactlyOnce}
 use Rattle.exactly_once.proofs.Entering.{entering, entering_as}
 use Rattle.exactly_once.proofs.Ends.{numbers_in_order}
-use Rattle.exactly_once.proofs.keeping.Told.{told_stories_are_sound, told_stories_accept}
+use Rattle.exactly_once.proofs.keeping.StoryTrace.{told_stories_are_sound, told_stories_accept}
 use Rattle.exactly_once.proofs.carrying.KeepsPlaces.{told_carried}
 use Rattle.exactly_once.proofs.carrying.Answered.{answered_is_new, acknowledged_is_taken, new_taken, carried_is_own}
 use Rattle.exactly_once.proofs.carrying.EntersOnce.{publication_enters_once}
@@ -16,7 +16,7 @@ use Rattle.exactly_once.specs.Carried.{new_numbers}
 use Rattle.client_base.specs.lists.Lists.{IsDistinct}
 use Rattle.client_base.proofs.of_lists.Identifiers.{distinct_front}
 
-pub told_stories_publish_once : (limits : Limits) → IsSteady limits → (c : Client) (s : Story) → Told limits c s → PublishedOnce limits s
+pub told_stories_publish_once : (limits : Limits) → IsSteady limits → (c : Client) (s : Story) → StoryTrace limits c s → PublishedOnce limits s
 told_stories_publish_once limits steady c s told =
     let sound = told_stories_are_sound limits steady c s told in
     let carried = told_carried limits steady c s told in
@@ -34,6 +34,6 @@ told_stories_publish_once limits steady c s told =
       acknowledged = acknowledged_is_taken limits s carried;
     }
 
-pub told_stories_are_exact : (limits : Limits) → IsSteady limits → (c : Client) (s : Story) → Told limits c s → ExactlyOnce limits s
+pub told_stories_are_exact : (limits : Limits) → IsSteady limits → (c : Client) (s : Story) → StoryTrace limits c s → ExactlyOnce limits s
 told_stories_are_exact limits steady c s told =
     record { publishers = told_stories_publish_once limits steady c s told; subscribers = told_stories_accept limits steady c s told }

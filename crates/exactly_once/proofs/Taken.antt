@@ -4,7 +4,7 @@ use Rattle.std.proofs.lemmas.Bool.{both_ways}
 use Rattle.client_base.specs.lists.Lists.{Each}
 use Rattle.exactly_once.specs.Items.{Item, sent, has_sent, has_released}
 use Rattle.exactly_once.specs.Handshake.{Forward, Backward, Link, Handshake, answer, accepting, taking}
-use Rattle.exactly_once.specs.HandshakeSides.{AreSides, publishes, forward_id, backward_id, IsMeant, IsDue, IsSent, Comes}
+use Rattle.exactly_once.specs.HandshakeInvariant.{AreSides, publishes, forward_id, backward_id, IsMeant, IsDue, IsSent, Comes}
 use Rattle.client_base.proofs.of_lists.Tests.{none_or, eq_same, eq_turn, or_left, or_right, or_then}
 use Rattle.client_base.proofs.of_lists.OfEach.{each_then}
 use Rattle.exactly_once.proofs.ItemsKnown.{cons_is, pair_is, olds_sent, first_sent, with, without}

@@ -1,20 +1,20 @@
 -- From the three lemmas on one event to every story.
 use Rattle.std.proofs.Common.{[], inl, refl}
-use Rattle.broker_base.specs.Place.{Client, Limits}
-use Rattle.broker_base.specs.Past.{current_connection, session_of}
-use Rattle.broker_base.specs.QuietLaws.{IsSteady}
-use Rattle.broker_base.specs.Received.{received_of}
-use Rattle.broker_base.specs.Times.{entries_of}
-use Rattle.exactly_once.specs.HandshakeSides.{IsGood}
+use Rattle.broker_base.specs.broker_spec.Place.{Client, Limits}
+use Rattle.broker_base.specs.broker_spec.Past.{current_connection, session_of}
+use Rattle.broker_base.specs.broker_spec.QuietLaws.{IsSteady}
+use Rattle.broker_base.specs.broker_spec.Received.{received_of}
+use Rattle.broker_base.specs.broker_spec.Times.{entries_of}
+use Rattle.exactly_once.specs.HandshakeInvariant.{IsGood}
 use Rattle.exactly_once.specs.Story.{Story, no_story}
-use Rattle.exactly_once.specs.Told.{Told}
-use Rattle.exactly_once.specs.Told.Told.{begins, goes_on, begins_at}
+use Rattle.exactly_once.specs.StoryTrace.{StoryTrace}
+use Rattle.exactly_once.specs.StoryTrace.StoryTrace.{begins, goes_on, begins_at}
 use Rattle.exactly_once.specs.Acceptance.{AcceptedInOrder}
 use Rattle.exactly_once.specs.Inside.Projections.{as_publisher}
 use Rattle.exactly_once.specs.Inside.AsSubscriber.{as_subscriber}
 use Rattle.exactly_once.specs.Inside.Shape.{HasShape, IsSoundStory, EventKeepsShape, EventPublishes, EventSubscribes}
 use Rattle.exactly_once.proofs.Ends.{good_goes, accepted_in_order}
-use Rattle.broker_base.specs.Commands.{past_of}
+use Rattle.broker_base.specs.broker_spec.Commands.{past_of}
 use Rattle.exactly_once.proofs.Beginnings.{begun_is_sound}
 
 opening_shape : (limits : Limits) (c : Client) → HasShape limits (no_story c)
@@ -53,7 +53,7 @@ subscriber_opens limits c =
       link = record { due = tt; apart = tt };
     }
 
-pub stories_are_sound : EventKeepsShape → EventPublishes → EventSubscribes → (limits : Limits) → IsSteady limits → (c : Client) (s : Story) → Told limits c s → IsSoundStory limits s
+pub stories_are_sound : EventKeepsShape → EventPublishes → EventSubscribes → (limits : Limits) → IsSteady limits → (c : Client) (s : Story) → StoryTrace limits c s → IsSoundStory limits s
 stories_are_sound keeps publishes subscribes limits steady c s begins =
     record { shape = opening_shape limits c; publisher = publisher_opens limits c; subscriber = subscriber_opens limits c }
 stories_are_sound keeps publishes subscribes limits steady c s (begins_at list earlier own none numbers unsent apart) =
@@ -67,6 +67,6 @@ stories_are_sound keeps publishes subscribes limits steady c s (goes_on {s = r} 
     }
 
 -- so a client accepts a prefix of its entries
-pub stories_accept : EventKeepsShape → EventPublishes → EventSubscribes → (limits : Limits) → IsSteady limits → (c : Client) (s : Story) → Told limits c s → AcceptedInOrder limits s
+pub stories_accept : EventKeepsShape → EventPublishes → EventSubscribes → (limits : Limits) → IsSteady limits → (c : Client) (s : Story) → StoryTrace limits c s → AcceptedInOrder limits s
 stories_accept keeps publishes subscribes limits steady c s told =
     accepted_in_order limits s (stories_are_sound keeps publishes subscribes limits steady c s told).subscriber

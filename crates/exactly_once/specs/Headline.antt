@@ -6,23 +6,23 @@ use Rattle.client_base.specs.packet.declared.publish.Publish.{Publish}
 use Rattle.client_base.specs.packet.declared.packet.Packet.{Packet}
 use Rattle.client_base.specs.packet.declared.packet.Packet.TheVariants as packets
 use Rattle.client_base.specs.session_base.Publication.{publication_of}
-use Rattle.broker_base.specs.Connection.{ConnectionName}
-use Rattle.broker_base.specs.Place.{Client, Place, Past, Limits, Mark}
-use Rattle.broker_base.specs.Subscriptions.{effective_qos}
-use Rattle.broker_base.specs.Marks.{is_queued_at}
-use Rattle.broker_base.specs.Entries.{Entry}
-use Rattle.broker_base.specs.Readings.{publication_in}
-use Rattle.broker_base.specs.Times.{entries_of}
-use Rattle.broker_base.specs.Answers.{answers_at}
-use Rattle.broker_base.specs.OriginLaws.{is_from_publish}
-use Rattle.broker_base.specs.EndingLaws.{StandsAt}
-use Rattle.broker_base.specs.TakenLaws.{queued_at}
-use Rattle.broker_base.specs.Command.TheVariants as commands
-use Rattle.broker_base.specs.Output.TheVariants.{Send}
+use Rattle.broker_base.specs.broker_spec.Connection.{ConnectionName}
+use Rattle.broker_base.specs.broker_spec.Place.{Client, Place, Past, Limits, Mark}
+use Rattle.broker_base.specs.broker_spec.Subscriptions.{effective_qos}
+use Rattle.broker_base.specs.broker_spec.Marks.{is_queued_at}
+use Rattle.broker_base.specs.broker_spec.Entries.{Entry}
+use Rattle.broker_base.specs.broker_spec.Readings.{publication_in}
+use Rattle.broker_base.specs.broker_spec.Times.{entries_of}
+use Rattle.broker_base.specs.broker_spec.Answers.{answers_at}
+use Rattle.broker_base.specs.broker_spec.OriginLaws.{is_from_publish}
+use Rattle.broker_base.specs.broker_spec.EndingLaws.{StandsAt}
+use Rattle.broker_base.specs.broker_spec.TakenLaws.{queued_at}
+use Rattle.broker_base.specs.broker_spec.declared.command.Command.TheVariants as commands
+use Rattle.broker_base.specs.broker_spec.declared.command.Output.TheVariants.{Send}
 use Rattle.client_base.specs.lists.Lists.{In, IsPrefixOf}
 use Rattle.exactly_once.specs.Sides.{Connection}
 use Rattle.exactly_once.specs.Story.{Story}
-use Rattle.exactly_once.specs.Told.{Told}
+use Rattle.exactly_once.specs.StoryTrace.{StoryTrace}
 use Rattle.exactly_once.specs.Carried.{carries, new_numbers, publications_of, published}
 use Rattle.exactly_once.specs.Acceptance.{AcceptedInOrder}
 
@@ -93,4 +93,4 @@ pub record ExactlyOnce (limits : Limits) (s : Story) : Type 0 where
 
 -- every story is exact
 abbrev pub StoriesAreExact : Limits → Type 0
-StoriesAreExact limits = (c : Client) (s : Story) → Told limits c s → ExactlyOnce limits s
+StoriesAreExact limits = (c : Client) (s : Story) → StoryTrace limits c s → ExactlyOnce limits s

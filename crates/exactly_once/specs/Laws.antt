@@ -4,31 +4,31 @@ use Rattle.std.specs.Prelude.{◌≡◌, if◌then◌else◌, ◌∷◌, length,
 use Rattle.client_base.specs.packet.declared.publish.Publish.{Publish}
 use Rattle.client_base.specs.packet.declared.packet.Packet.TheVariants as packets
 use Rattle.client_base.specs.session_base.Publication.{publication_of}
-use Rattle.broker_base.specs.Command.TheVariants as commands
-use Rattle.broker_base.specs.Commands.{usual_limits}
-use Rattle.broker_base.specs.Connection.{ConnectionName}
-use Rattle.broker_base.specs.Marks.{is_queued_at}
-use Rattle.broker_base.specs.OriginLaws.{is_from_publish}
-use Rattle.broker_base.specs.EndingLaws.{StandsAt}
-use Rattle.broker_base.specs.Place.{Client, Limits, Mark, Past, Place}
-use Rattle.broker_base.specs.Subscriptions.{effective_qos}
-use Rattle.broker_base.specs.Times.{entries_of}
-use Rattle.broker_base.specs.QuietLaws.{IsSteady}
+use Rattle.broker_base.specs.broker_spec.declared.command.Command.TheVariants as commands
+use Rattle.broker_base.specs.broker_spec.Commands.{usual_limits}
+use Rattle.broker_base.specs.broker_spec.Connection.{ConnectionName}
+use Rattle.broker_base.specs.broker_spec.Marks.{is_queued_at}
+use Rattle.broker_base.specs.broker_spec.OriginLaws.{is_from_publish}
+use Rattle.broker_base.specs.broker_spec.EndingLaws.{StandsAt}
+use Rattle.broker_base.specs.broker_spec.Place.{Client, Limits, Mark, Past, Place}
+use Rattle.broker_base.specs.broker_spec.Subscriptions.{effective_qos}
+use Rattle.broker_base.specs.broker_spec.Times.{entries_of}
+use Rattle.broker_base.specs.broker_spec.QuietLaws.{IsSteady}
 use Rattle.exactly_once.specs.Headline.{PublishedOnce, StoriesAreExact}
 use Rattle.exactly_once.specs.Acceptance.{AcceptedInOrder}
 use Rattle.exactly_once.specs.Lives.{AcceptsInEachSession, LivesAreExact}
 use Rattle.exactly_once.specs.Story.{Story}
-use Rattle.exactly_once.specs.Told.{Told}
+use Rattle.exactly_once.specs.StoryTrace.{StoryTrace}
 
 -- the client's publications: those at QoS 2 become new in the list in the order of its calls, each
 -- at most once; those that were answered are there; each enters each session at most once
 abbrev pub PublishesOnce : Limits → Type 0
-PublishesOnce limits = (c : Client) (s : Story) → Told limits c s → PublishedOnce limits s
+PublishesOnce limits = (c : Client) (s : Story) → StoryTrace limits c s → PublishedOnce limits s
 
 -- the client accepts a prefix of the QoS 2 entries of its session, in order, each once, and every
 -- one that was released
 abbrev pub AcceptsInOrder : Limits → Type 0
-AcceptsInOrder limits = (c : Client) (s : Story) → Told limits c s → AcceptedInOrder limits s
+AcceptsInOrder limits = (c : Client) (s : Story) → StoryTrace limits c s → AcceptedInOrder limits s
 
 -- at the place where a publication of the client is taken, it enters exactly the sessions with an
 -- effective QoS of 1 or 2, once each

@@ -1,7 +1,7 @@
 pub mod Sends
 pub mod Sides
 pub mod Story
-pub mod Told
+pub mod StoryTrace
 pub mod Carried
 pub mod Acceptance
 pub mod Headline
@@ -13,7 +13,7 @@ pub mod Lives
 pub mod Items
 pub mod Handshake
 pub mod Exact
-pub mod HandshakeSides
+pub mod HandshakeInvariant
 pub use Rattle.broker_base.specs as broker_base
 pub use Rattle.broker_base.specs.broker_spec as broker_spec
 pub use Rattle.client_base.specs as client_base

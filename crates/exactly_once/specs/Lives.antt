@@ -5,21 +5,21 @@ use Rattle.client_base.specs.packet.declared.publish.Publish.{Publish}
 use Rattle.client_base.specs.packet.declared.packet.Packet.TheVariants as packets
 use Rattle.client_base.specs.session_base.Publication.{publication_of}
 use Rattle.client_base.specs.lists.Lists.{In, IsPrefixOf, Each}
-use Rattle.broker_base.specs.Connection.{ConnectionName}
-use Rattle.broker_base.specs.Place.{Client, Place, Past, Limits, Mark}
-use Rattle.broker_base.specs.Past.{expels}
-use Rattle.broker_base.specs.Subscriptions.{effective_qos}
-use Rattle.broker_base.specs.Marks.{is_queued_at}
-use Rattle.broker_base.specs.Commands.{place_of}
-use Rattle.broker_base.specs.Entries.{Entry}
-use Rattle.broker_base.specs.Readings.{publication_in}
-use Rattle.broker_base.specs.Times.{entries_of}
-use Rattle.broker_base.specs.OriginLaws.{is_from_publish}
-use Rattle.broker_base.specs.EndingLaws.{StandsAt}
-use Rattle.broker_base.specs.TakenLaws.{queued_at}
-use Rattle.broker_base.specs.Command.TheVariants as commands
+use Rattle.broker_base.specs.broker_spec.Connection.{ConnectionName}
+use Rattle.broker_base.specs.broker_spec.Place.{Client, Place, Past, Limits, Mark}
+use Rattle.broker_base.specs.broker_spec.Past.{expels}
+use Rattle.broker_base.specs.broker_spec.Subscriptions.{effective_qos}
+use Rattle.broker_base.specs.broker_spec.Marks.{is_queued_at}
+use Rattle.broker_base.specs.broker_spec.Commands.{place_of}
+use Rattle.broker_base.specs.broker_spec.Entries.{Entry}
+use Rattle.broker_base.specs.broker_spec.Readings.{publication_in}
+use Rattle.broker_base.specs.broker_spec.Times.{entries_of}
+use Rattle.broker_base.specs.broker_spec.OriginLaws.{is_from_publish}
+use Rattle.broker_base.specs.broker_spec.EndingLaws.{StandsAt}
+use Rattle.broker_base.specs.broker_spec.TakenLaws.{queued_at}
+use Rattle.broker_base.specs.broker_spec.declared.command.Command.TheVariants as commands
 use Rattle.client_base.specs.Keeper.{all_own}
-use Rattle.exactly_once.specs.Story.{Story, Happens, no_story}
+use Rattle.exactly_once.specs.Story.{Story, StoryStep, no_story}
 use Rattle.exactly_once.specs.Carried.{carries, new_numbers, publications_of, published}
 use Rattle.exactly_once.specs.Headline.{IsAnsweredBy, made_by, IsTakenAt}
 use Rattle.exactly_once.specs.Acceptance.{accepted_on, two_entries, is_released}
@@ -28,7 +28,7 @@ use Rattle.exactly_once.specs.InStep.{IsInStep, sessions_begun, starts_of, IsFir
 -- what may happen in a story of one session, and an Expel of the client at any time
 pub data Lived (limits : Limits) (c : Client) : Story → Type 0 where
   opens : Lived limits c (no_story c)
-  goes_on : {s t : Story} → Lived limits c s → Happens limits s t → Lived limits c t
+  goes_on : {s t : Story} → Lived limits c s → StoryStep limits s t → Lived limits c t
   is_expelled : {s : Story} → Lived limits c s → Lived limits c (record s { past = place_of limits s.past (commands.Expel c) ∷ s.past })
 
 -- of each of its sessions, by the place at which it began, the client accepted a prefix of the QoS

@@ -6,10 +6,10 @@ use Rattle.client_base.specs.packet.declared.subscribe.Subscribe.{Subscribe}
 use Rattle.client_base.specs.packet.declared.packet.Packet.TheVariants as packets
 use Rattle.client_base.specs.session_base.declared.publication.Publication.{Publication}
 use Rattle.client_base.specs.session_base.Publication.{publish_of}
-use Rattle.broker_base.specs.Connection.{ConnectionName}
-use Rattle.broker_base.specs.Place.{Client}
-use Rattle.broker_base.specs.Command.{Command}
-use Rattle.broker_base.specs.Command.TheVariants as commands
+use Rattle.broker_base.specs.broker_spec.Connection.{ConnectionName}
+use Rattle.broker_base.specs.broker_spec.Place.{Client}
+use Rattle.broker_base.specs.broker_spec.declared.command.Command.{Command}
+use Rattle.broker_base.specs.broker_spec.declared.command.Command.TheVariants as commands
 
 -- a client that subscribes to what it publishes
 abbrev pub writer : Client

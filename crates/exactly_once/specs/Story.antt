@@ -8,11 +8,11 @@ use Rattle.client_base.specs.packet.declared.packet.Packet.TheVariants as packet
 use Rattle.client_base.specs.session_base.declared.publication.Publication.{Publication}
 use Rattle.client_base.specs.session_base.Publication.{is_answered}
 use Rattle.client_base.specs.session_base.Identifiers.{least_free}
-use Rattle.broker_base.specs.Connection.{ConnectionName, same_connection}
-use Rattle.broker_base.specs.Place.{Client, Past, Limits}
-use Rattle.broker_base.specs.Commands.{place_of}
-use Rattle.broker_base.specs.Command.{Command}
-use Rattle.broker_base.specs.Command.TheVariants as commands
+use Rattle.broker_base.specs.broker_spec.Connection.{ConnectionName, same_connection}
+use Rattle.broker_base.specs.broker_spec.Place.{Client, Past, Limits}
+use Rattle.broker_base.specs.broker_spec.Commands.{place_of}
+use Rattle.broker_base.specs.broker_spec.declared.command.Command.{Command}
+use Rattle.broker_base.specs.broker_spec.declared.command.Command.TheVariants as commands
 use Rattle.exactly_once.specs.Sends.{put_to}
 use Rattle.client_base.specs.Keeper.{Written, Keeper, new_keeper, ids_in_use}
 use Rattle.client_base.specs.declared.request.Request.TheVariants as requests
@@ -21,7 +21,7 @@ use Rattle.client_base.specs.Written.{plain}
 use Rattle.client_base.specs.Handled.{handled, lost}
 use Rattle.client_base.specs.Called.{new_connection, adds_own, written_for}
 use Rattle.client_base.specs.Written.{writes_first}
-use Rattle.broker_base.specs.Past.{session_of}
+use Rattle.broker_base.specs.broker_spec.Past.{session_of}
 
 -- the connections, the newest first: the client holds the first one while it is open
 pub record Story : Type 0 where
@@ -74,44 +74,44 @@ with_side s others side = record { past = s.past; connections = side.connection 
 
 -- It allows more than a world does: any connection's next packet may come next in the list, and any
 -- client may be lost at any time.
-pub data Happens (limits : Limits) (s : Story) : Story → Type 0 where
+pub data StoryStep (limits : Limits) (s : Story) : Story → Type 0 where
   takes : (i : ℕ) (κ : Connection) (w : Written) → slice_get s.connections i ≡ Some κ → slice_get κ.written κ.taken ≡ Some w →
-      Happens limits s (record {
+      StoryStep limits s (record {
         past = place_of limits s.past (command_of κ.name κ.taken w.packet) ∷ s.past;
         connections = counted_at i s.connections;
         keeper = s.keeper;
       })
   others_take : (command : Command) → (names_client s.past s.keeper.client command → ⊥) → any_named (is_packet_of command) s.connections ≡ false →
-      Happens limits s (record s { past = place_of limits s.past command ∷ s.past })
+      StoryStep limits s (record s { past = place_of limits s.past command ∷ s.past })
   receives : (κ : Connection) (others : List Connection) (packet : Packet) → s.connections ≡ κ ∷ others → s.keeper.is_open ≡ true →
       slice_get (put_to limits s.past κ.name) κ.handled ≡ Some packet →
-      Happens limits s (with_side s others (handled packet (record { keeper = s.keeper; connection = κ })))
+      StoryStep limits s (with_side s others (handled packet (record { keeper = s.keeper; connection = κ })))
   opens_anew : (x : ConnectionName) → any_named (same_connection x) s.connections ≡ false → put_to limits s.past x ≡ [] → count_of x s.past ≡ 0 →
-      Happens limits s (record {
+      StoryStep limits s (record {
         past = s.past;
         connections = new_connection s.keeper.client x ∷ s.connections;
         keeper = record (lost s.keeper) { is_open = true };
       })
-  loses : Happens limits s (record s { keeper = lost s.keeper })
-  disconnects : Happens limits s (record {
+  loses : StoryStep limits s (record s { keeper = lost s.keeper })
+  disconnects : StoryStep limits s (record {
     past = s.past;
     connections = if s.keeper.is_online then writes_first (plain packets.Disconnect ∷ []) s.connections else s.connections;
     keeper = lost s.keeper;
   })
   publishes_one : (p : Publication) → (is_answered p.qos ≡ false → s.keeper.is_online ≡ true) →
-      Happens limits s (record {
+      StoryStep limits s (record {
         past = s.past;
         connections = writes_first (written_for p s.keeper) s.connections;
         keeper = adds_own p s.keeper;
       })
   subscribes : (p : Subscribe) → s.keeper.is_online ≡ true → p.id ≡ least_free (ids_in_use s.keeper) →
-      Happens limits s (record {
+      StoryStep limits s (record {
         past = s.past;
         connections = writes_first (plain (packets.Subscribe p) ∷ []) s.connections;
         keeper = record s.keeper { requests = s.keeper.requests ++ requests.Subscribes p.id ∷ [] };
       })
   unsubscribes : (p : Unsubscribe) → s.keeper.is_online ≡ true → p.id ≡ least_free (ids_in_use s.keeper) →
-      Happens limits s (record {
+      StoryStep limits s (record {
         past = s.past;
         connections = writes_first (plain (packets.Unsubscribe p) ∷ []) s.connections;
         keeper = record s.keeper { requests = s.keeper.requests ++ requests.Unsubscribes p.id ∷ [] };

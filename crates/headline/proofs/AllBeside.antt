@@ -1,15 +1,15 @@
 -- Beside every world that is reached goes one of `model`.
 use Rattle.std.proofs.Common.{◌≡◌, ℕ, List, [], ◌++◌, true, map, refl, sym, ◌∙◌}
 use Rattle.byte_world.specs.ballot.Config.{Config}
-use Rattle.byte_world.specs.broker_base.Place.{Client}
+use Rattle.byte_world.specs.broker_spec.Place.{Client}
 use Rattle.byte_world.specs.lists.Lists.{Each}
 use Rattle.byte_world.specs.agreement.World.{can_open}
 use Rattle.byte_world.specs.packet_world.World.{AreApart, ClientEnds, opening as opening_beside, story_of as story_beside}
 use Rattle.byte_world.specs.packet_world.World as model
 use Rattle.byte_world.specs.packet_world.Goes.Reached.{begins as begins_beside}
 use Rattle.byte_world.proofs.of_packet_world.Lists.{each_by}
-use Rattle.byte_world.specs.node_group.Goes.{Went}
-use Rattle.byte_world.specs.node_group.Goes.Went.{opened}
+use Rattle.byte_world.specs.node_group.Goes.{GroupTrace}
+use Rattle.byte_world.specs.node_group.Goes.GroupTrace.{opened}
 use Rattle.byte_world.specs.Carried.{went_of, went_on}
 use Rattle.byte_world.specs.Goes.{Reached, WorldStep}
 use Rattle.byte_world.specs.Goes.Reached.{begins, goes_on}
@@ -54,16 +54,16 @@ opens_so nodes config cs apart can =
 
 -- ---- each step
 
-step_goes : {nodes : ℕ} {config : Config} {cs : List Client} → AreApart cs → (v w : World) (went : Went nodes config v.group) → GoesBeside nodes config cs v went
+step_goes : {nodes : ℕ} {config : Config} {cs : List Client} → AreApart cs → (v w : World) (went : GroupTrace nodes config v.group) → GoesBeside nodes config cs v went
     → (step : WorldStep v w) → Holds w (went_on went step) → GoesBeside nodes config cs w (went_on went step)
-step_goes apart v w went s (group_goes deed d is_apart) holds =
-    group_beside apart (record v { group = d.behind }) v.group went s.so d.step (λ agreed is. s.beside agreed is) holds s.piped
+step_goes apart v w went s (group_goes node_call d is_apart) holds =
+    group_beside apart (record v { group = d.after }) v.group went s.so d.step (λ agreed is. s.beside agreed is) holds s.piped
 step_goes apart v w went s (calls i c t h at call spelled) holds = calls_so v went i c t h s at call holds
-step_goes apart v w went s (connects i n c port now d core end at unused behind there_so spelled) holds = connects_so apart v went i n c end.name port now d s at holds
-step_goes apart v w went s (is_turned_away n port now d core unused behind none) holds =
-    group_beside apart (record v { group = d.behind }) v.group went s.so d.step (λ agreed is. s.beside agreed is) holds s.piped
-step_goes apart v w went s (comes_up i j c κ p piece rest now d has is) holds = pipe_beside apart v went d.behind i j c (record p { up = rest }) s d.step has.client holds
-step_goes apart v w went s (goes_down i j c κ p d has) holds = pipe_beside apart v went d.behind i j c _ s d.step has.client holds
+step_goes apart v w went s (connects i n c port now d core end at unused after there_so spelled) holds = connects_so apart v went i n c end.name port now d s at holds
+step_goes apart v w went s (is_turned_away n port now d core unused after none) holds =
+    group_beside apart (record v { group = d.after }) v.group went s.so d.step (λ agreed is. s.beside agreed is) holds s.piped
+step_goes apart v w went s (comes_up i j c κ p piece rest now d has is) holds = pipe_beside apart v went d.after i j c (record p { up = rest }) s d.step has.client holds
+step_goes apart v w went s (goes_down i j c κ p d has) holds = pipe_beside apart v went d.after i j c _ s d.step has.client holds
 step_goes apart v w went s (arrives i j c κ p piece rest has is) holds =
     pipe_rests v went i j c (record p { down = rest; came = record p.came { held = p.came.held ++ piece } }) s has.client holds
 step_goes apart v w went s (handles i c κ others p pipes packet left at first piped is_open cut spelled) holds =

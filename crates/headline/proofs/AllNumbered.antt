@@ -8,7 +8,7 @@ use Rattle.byte_world.specs.packet.declared.packet.Packet.TheVariants as packets
 use Rattle.byte_world.specs.session_base.Identifiers.{least_free}
 use Rattle.byte_world.specs.session_base.Publication.{publication_of}
 use Rattle.byte_world.specs.session_base.declared.publication.Publication.{Publication}
-use Rattle.byte_world.specs.broker_base.Place.{Limits}
+use Rattle.byte_world.specs.broker_spec.Place.{Limits}
 use Rattle.byte_world.specs.client_base.Called.{written_for}
 use Rattle.byte_world.specs.client_base.Handled.{confirmed, discarded, handled, handled_first, handled_online}
 use Rattle.byte_world.specs.client_base.Handshakes.{at_pubrec, is_sent_with, releasing, takes_in}
@@ -17,8 +17,8 @@ use Rattle.byte_world.specs.client_base.Written.{plain, publishes, resent, sent_
 use Rattle.byte_world.specs.lists.Lists.{Each, has_id}
 use Rattle.byte_world.proofs.of_lists.OfEach.{each_append}
 use Rattle.byte_world.specs.exactly_once.Sides.{Connection, Side}
-use Rattle.byte_world.specs.exactly_once.Story.{Happens, Story, counted_at}
-use Rattle.byte_world.specs.exactly_once.Story.Happens.{takes, others_take, receives, opens_anew, loses, disconnects, publishes_one, subscribes, unsubscribes}
+use Rattle.byte_world.specs.exactly_once.Story.{StoryStep, Story, counted_at}
+use Rattle.byte_world.specs.exactly_once.Story.StoryStep.{takes, others_take, receives, opens_anew, loses, disconnects, publishes_one, subscribes, unsubscribes}
 use Rattle.byte_world.proofs.of_exactly_once.publishing.Answered.{counted_side}
 
 -- a PUBLISH of which it is not known which publication it is of
@@ -122,7 +122,7 @@ more_numbered : (more : List Written) (connections : List Connection) → Each I
 more_numbered more [] of all = tt
 more_numbered more (κ ∷ connections) of all = (each_append IsNumbered κ.written more all.0 of, all.1)
 
-pub happens_numbered : (limits : Limits) (s t : Story) → Happens limits s t → AreNumbered s.connections → AreNumbered t.connections
+pub happens_numbered : (limits : Limits) (s t : Story) → StoryStep limits s t → AreNumbered s.connections → AreNumbered t.connections
 happens_numbered limits s t (takes i κ w stands next) all = counted_numbered i s.connections all
 happens_numbered limits s t (others_take command other none) all = all
 happens_numbered limits s t (receives κ others packet are opened next) all =

@@ -3,9 +3,9 @@ use Rattle.std.proofs.Common.{◌≡◌, ◌≤◌, ◌+◌, ℕ, zero, suc, tru
 use Rattle.std.specs.Prelude.{slice_get}
 use Rattle.byte_world.specs.whole.Applying.{outputs_between}
 use Rattle.byte_world.specs.agreement.World.{outputs}
-use Rattle.byte_world.specs.broker_base.Command.{Command}
-use Rattle.byte_world.specs.broker_base.Commands.{past_of, usual_limits}
-use Rattle.byte_world.specs.broker_base.Place.{Client}
+use Rattle.byte_world.specs.broker_spec.declared.command.Command.{Command}
+use Rattle.byte_world.specs.broker_spec.Commands.{past_of, usual_limits}
+use Rattle.byte_world.specs.broker_spec.Place.{Client}
 use Rattle.byte_world.specs.lists.Lists.{Each}
 use Rattle.byte_world.proofs.of_lists.Places.{get_set}
 use Rattle.byte_world.specs.exactly_once.Sends.{put_to}
@@ -47,16 +47,16 @@ more_read cs w i j c κ e reached pipe is_open zero within =
     ∙ ap (λ l. let z : World = record w { clients = l } in z) (set_same w.clients i c pipe.client))) reached
 more_read cs w i j c κ e reached pipe is_open (suc k) within =
     let now : End = record e { read = e.read + k } in
-    let behind : ClientEnds = record c { ends = set c.ends j now } in
+    let after : ClientEnds = record c { ends = set c.ends j now } in
     let next : suc (e.read + k) ≡ e.read + suc k = omega arith in
     subst (λ (v : World). Reached cs v)
     (ap (λ l. let z : World = record w { clients = l } in z)
-    (set_twice w.clients i behind (record c { ends = set (set c.ends j now) j (record e { read = suc (e.read + k) }) }))
+    (set_twice w.clients i after (record c { ends = set (set c.ends j now) j (record e { read = suc (e.read + k) }) }))
     ∙ ap (λ l. with_client i (record c { ends = l }) w)
     (set_twice c.ends j now (record e { read = suc (e.read + k) }) ∙ ap (λ n. set c.ends j (record e { read = n })) next))
     (goes_on (more_read cs w i j c κ e reached pipe is_open k (omega (arith, within)))
-    (reads i j behind κ now
-    (record { client = get_set w.clients i c behind pipe.client; connection = pipe.connection; end = get_set c.ends j e now pipe.end })
+    (reads i j after κ now
+    (record { client = get_set w.clients i c after pipe.client; connection = pipe.connection; end = get_set c.ends j e now pipe.end })
     is_open (omega (arith, within))))
 
 past_less : (a b : ℕ) → b ≤ a → (k : ℕ) × (a ≡ b + k)
@@ -84,11 +84,11 @@ one_put_out : (cs : List Client) (old : List Command) (w : World) (i j : ℕ) (c
 one_put_out cs old w i j c κ apart reached pipe low =
     let given = outputs (outputs_between broker_rules w.agreed (length old) (length w.agreed)) in
     let e : End = end_given κ.name (length w.agreed) given (end_of old κ) in
-    let behind : ClientEnds = record c { ends = set c.ends j e } in
+    let after : ClientEnds = record c { ends = set c.ends j e } in
     let now = given_is_put_out cs w i j c κ (end_of old κ) (length w.agreed) reached pipe refl low (omega arith) in
-    let held = reached_holds cs (with_client i behind w) apart now in
-    let pipes = each_get (HasPipes w.agreed) (set w.clients i behind) i behind held.pipes (get_set w.clients i c behind pipe.client) in
-    let one = pipe_at w.agreed c.connections behind.ends j κ e pipes pipe.connection (get_set c.ends j (end_of old κ) e pipe.end) in
+    let held = reached_holds cs (with_client i after w) apart now in
+    let pipes = each_get (HasPipes w.agreed) (set w.clients i after) i after held.pipes (get_set w.clients i c after pipe.client) in
+    let one = pipe_at w.agreed c.connections after.ends j κ e pipes pipe.connection (get_set c.ends j (end_of old κ) e pipe.end) in
     subst (λ (f : End). Reached cs (with_client i (record c { ends = set c.ends j f }) w))
     (same_end e (end_of w.agreed κ) refl refl (one.shown ∙ ap (λ l. put_to usual_limits (past_of usual_limits l) κ.name) (take_whole w.agreed)) refl) now
 

@@ -4,14 +4,14 @@ use Rattle.std.specs.List.{AllByRecursion}
 use Rattle.byte_world.specs.lists.Lists.{Each}
 use Rattle.byte_world.proofs.of_lists.OfEach.{each_append}
 use Rattle.byte_world.specs.packet.Spelling.{IsPacket}
-use Rattle.byte_world.specs.broker_base.Answers.{answers_from, answers_of, closed}
-use Rattle.byte_world.specs.broker_base.Command.{Command}
-use Rattle.byte_world.specs.broker_base.Command.TheVariants as commands
-use Rattle.byte_world.specs.broker_base.Commands.{past_from, past_of, place_of, usual_limits}
-use Rattle.byte_world.specs.broker_base.Connection.{ConnectionName, same_connection}
-use Rattle.byte_world.specs.broker_base.Output.{Output}
-use Rattle.byte_world.specs.broker_base.Output.TheVariants.{Send, Close}
-use Rattle.byte_world.specs.broker_base.Place.{Past}
+use Rattle.byte_world.specs.broker_spec.Answers.{answers_from, answers_of, closed}
+use Rattle.byte_world.specs.broker_spec.declared.command.Command.{Command}
+use Rattle.byte_world.specs.broker_spec.declared.command.Command.TheVariants as commands
+use Rattle.byte_world.specs.broker_spec.Commands.{past_from, past_of, place_of, usual_limits}
+use Rattle.byte_world.specs.broker_spec.Connection.{ConnectionName, same_connection}
+use Rattle.byte_world.specs.broker_spec.declared.command.Output.{Output}
+use Rattle.byte_world.specs.broker_spec.declared.command.Output.TheVariants.{Send, Close}
+use Rattle.byte_world.specs.broker_spec.Place.{Past}
 use Rattle.byte_world.specs.broker_base.State.{State, empty_state, session_in}
 use Rattle.byte_world.specs.broker_base.Step.{step, steps_from}
 use Rattle.byte_world.specs.broker_base.StepAnswers.{connection_of}

@@ -2,8 +2,8 @@
 -- all that it wrote, and sent all that is agreed, it continues as the agreed list grows.
 use Rattle.std.proofs.Common.{◌≡◌, ℕ, true, List, [], ◌∷◌, filter, length, map, take, Some, refl, sym, ap, ◌∙◌, subst, arith}
 use Rattle.std.specs.Prelude.{slice_get}
-use Rattle.byte_world.specs.broker_base.Command.{Command}
-use Rattle.byte_world.specs.broker_base.Place.{Client}
+use Rattle.byte_world.specs.broker_spec.declared.command.Command.{Command}
+use Rattle.byte_world.specs.broker_spec.Place.{Client}
 use Rattle.byte_world.specs.client_base.Keeper.{Keeper, Written}
 use Rattle.byte_world.specs.lists.Lists.{Each, In, IsPrefixOf}
 use Rattle.byte_world.proofs.of_lists.Beginnings.{prefix_length}
@@ -136,12 +136,12 @@ module _ (cs : List Client) (apart : AreApart cs) (agreed later : List Command) 
       let came = worlds_are_served cs b.world later apart b.reached served in
       let long = prefix_length grown in
       let same_long = ap length came.agreed in
-      let all = all_put_out cs agreed came.behind apart came.reached (omega (arith, long, same_long)) (full_still agreed b.world.clients came.behind.clients came.clients b.full) in
+      let all = all_put_out cs agreed came.after apart came.reached (omega (arith, long, same_long)) (full_still agreed b.world.clients came.after.clients came.clients b.full) in
       record {
-        world = record came.behind { clients = map (filled came.behind.agreed) came.behind.clients };
+        world = record came.after { clients = map (filled came.after.agreed) came.after.clients };
         reached = all;
         is = came.agreed;
-        full = each_of_made (filled came.behind.agreed) (IsFull later) came.behind.clients
-            (each_by (λ c. IsFull later (filled came.behind.agreed c)) came.behind.clients (λ i c at. ap (λ l. ends_of l c.connections) came.agreed));
-        same = map_twice (filled came.behind.agreed) ends_alone came.behind.clients ∙ alone_still b.world.clients came.behind.clients came.clients ∙ b.same;
+        full = each_of_made (filled came.after.agreed) (IsFull later) came.after.clients
+            (each_by (λ c. IsFull later (filled came.after.agreed c)) came.after.clients (λ i c at. ap (λ l. ends_of l c.connections) came.agreed));
+        same = map_twice (filled came.after.agreed) ends_alone came.after.clients ∙ alone_still b.world.clients came.after.clients came.clients ∙ b.same;
       }

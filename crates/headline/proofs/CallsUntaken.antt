@@ -1,15 +1,15 @@
 -- A client calls whatever is counted as taken of what it wrote, and whatever the list of commands is.
 use Rattle.std.proofs.Common.{◌≡◌, Bool, true, false, if◌then◌else◌, List, [], ◌∷◌, ◌++◌, map, refl, ap, sym, ◌∙◌, subst}
 use Rattle.byte_world.specs.packet.declared.packet.Packet.TheVariants as packets
-use Rattle.byte_world.specs.broker_base.Place.{Limits, Past}
+use Rattle.byte_world.specs.broker_spec.Place.{Limits, Past}
 use Rattle.byte_world.specs.client_base.Called.{adds_own, written_for}
 use Rattle.byte_world.specs.client_base.Handled.{lost}
 use Rattle.byte_world.specs.client_base.Keeper.{Keeper, Written}
 use Rattle.byte_world.specs.client_base.Written.{plain, writes_first}
 use Rattle.byte_world.specs.client_base.declared.request.Request.TheVariants as requests
 use Rattle.byte_world.specs.exactly_once.Sides.{Connection}
-use Rattle.byte_world.specs.exactly_once.Story.{Happens, Story}
-use Rattle.byte_world.specs.exactly_once.Story.Happens.{takes, others_take, receives, opens_anew, loses, disconnects, publishes_one, subscribes, unsubscribes}
+use Rattle.byte_world.specs.exactly_once.Story.{StoryStep, Story}
+use Rattle.byte_world.specs.exactly_once.Story.StoryStep.{takes, others_take, receives, opens_anew, loses, disconnects, publishes_one, subscribes, unsubscribes}
 use Rattle.byte_world.specs.packet_world.Goes.{is_call}
 use Rattle.headline.proofs.Untaken.{AreSameUntaken, untaken_connection}
 
@@ -34,15 +34,15 @@ if_written false more connections others same = same
 
 -- the same call of another story
 pub record SameCall (limits : Limits) (s t : Story) : Type 0 where
-  pub behind : Story
-  pub happens : Happens limits s behind
+  pub after : Story
+  pub happens : StoryStep limits s after
   pub is : is_call happens ≡ true
-  pub past : behind.past ≡ s.past
-  pub keeper : behind.keeper ≡ t.keeper
-  pub connections : AreSameUntaken behind.connections t.connections
+  pub past : after.past ≡ s.past
+  pub keeper : after.keeper ≡ t.keeper
+  pub connections : AreSameUntaken after.connections t.connections
 
 -- of a story with the same keeper
-called : (limits : Limits) (past : Past) (connections : List Connection) (s t : Story) (h : Happens limits s t) → is_call h ≡ true → AreSameUntaken connections s.connections
+called : (limits : Limits) (past : Past) (connections : List Connection) (s t : Story) (h : StoryStep limits s t) → is_call h ≡ true → AreSameUntaken connections s.connections
     → SameCall limits (record { past = past; connections = connections; keeper = s.keeper }) t
 called limits past connections s t (takes i κ w stands next) is same = cc
 called limits past connections s t (others_take command other none) is same = cc
@@ -50,7 +50,7 @@ called limits past connections s t (receives κ others packet are opened next) i
 called limits past connections s t (opens_anew x fresh none uncounted) is same = cc
 called limits past connections s t loses is same =
     record {
-      behind = record { past = past; connections = connections; keeper = lost s.keeper };
+      after = record { past = past; connections = connections; keeper = lost s.keeper };
       happens = loses;
       is = refl;
       past = refl;
@@ -59,7 +59,7 @@ called limits past connections s t loses is same =
     }
 called limits past connections s t disconnects is same =
     record {
-      behind = record {
+      after = record {
         past = past;
         connections = if s.keeper.is_online then writes_first (plain packets.Disconnect ∷ []) connections else connections;
         keeper = lost s.keeper;
@@ -72,7 +72,7 @@ called limits past connections s t disconnects is same =
     }
 called limits past connections s t (publishes_one p needs) is same =
     record {
-      behind = record { past = past; connections = writes_first (written_for p s.keeper) connections; keeper = adds_own p s.keeper };
+      after = record { past = past; connections = writes_first (written_for p s.keeper) connections; keeper = adds_own p s.keeper };
       happens = publishes_one p needs;
       is = refl;
       past = refl;
@@ -81,7 +81,7 @@ called limits past connections s t (publishes_one p needs) is same =
     }
 called limits past connections s t (subscribes p on id) is same =
     record {
-      behind = record {
+      after = record {
         past = past;
         connections = writes_first (plain (packets.Subscribe p) ∷ []) connections;
         keeper = record s.keeper { requests = s.keeper.requests ++ requests.Subscribes p.id ∷ [] };
@@ -94,7 +94,7 @@ called limits past connections s t (subscribes p on id) is same =
     }
 called limits past connections s t (unsubscribes p on id) is same =
     record {
-      behind = record {
+      after = record {
         past = past;
         connections = writes_first (plain (packets.Unsubscribe p) ∷ []) connections;
         keeper = record s.keeper { requests = s.keeper.requests ++ requests.Unsubscribes p.id ∷ [] };
@@ -106,7 +106,7 @@ called limits past connections s t (unsubscribes p on id) is same =
       connections = same_written (plain (packets.Unsubscribe p) ∷ []) connections s.connections same;
     }
 
-pub same_call : (limits : Limits) (s t other : Story) (h : Happens limits s t) → is_call h ≡ true → other.keeper ≡ s.keeper → AreSameUntaken other.connections s.connections
+pub same_call : (limits : Limits) (s t other : Story) (h : StoryStep limits s t) → is_call h ≡ true → other.keeper ≡ s.keeper → AreSameUntaken other.connections s.connections
     → SameCall limits other t
 same_call limits s t other h is keeper same =
     subst (λ (k : Keeper). SameCall limits (record { past = other.past; connections = other.connections; keeper = k }) t) (sym keeper)

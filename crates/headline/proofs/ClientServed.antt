@@ -54,7 +54,7 @@ row_opens =
     let opened : Reached 1 one_node (writer ∷ []) _ = begins refl in
     let t = turned (opening_group 1 one_node) 0 (takes (Opened the_port 0)) core_at_first core_opened refl tt it_opens in
     record {
-      group = t.does.behind;
+      group = t.does.after;
       trail = goes_on opened (connects 0 0 (new_client writer) the_port 0 t.does core_opened (fresh the_port first_name) refl refl t.stands refl connect_whole);
       stands = t.stands;
     }

@@ -3,10 +3,10 @@
 use Rattle.std.proofs.Common.{◌≡◌, ◌≤◌, ℕ, Bool, true, false, ◌||◌, List, [], ◌∷◌, length, map, set, take, Some, refl, sym, ap, ap₂, ◌∙◌, subst, arith, length-append}
 use Rattle.std.specs.Prelude.{slice_get}
 use Rattle.byte_world.specs.packet.declared.packet.Packet.{Packet}
-use Rattle.byte_world.specs.broker_base.Command.{Command}
-use Rattle.byte_world.specs.broker_base.Commands.{past_of, usual_limits}
-use Rattle.byte_world.specs.broker_base.Connection.{ConnectionName, same_connection}
-use Rattle.byte_world.specs.broker_base.Place.{Client}
+use Rattle.byte_world.specs.broker_spec.declared.command.Command.{Command}
+use Rattle.byte_world.specs.broker_spec.Commands.{past_of, usual_limits}
+use Rattle.byte_world.specs.broker_spec.Connection.{ConnectionName, same_connection}
+use Rattle.byte_world.specs.broker_spec.Place.{Client}
 use Rattle.byte_world.specs.client_base.Called.{new_connection}
 use Rattle.byte_world.specs.client_base.Handled.{handled, lost}
 use Rattle.byte_world.specs.client_base.Keeper.{Keeper, Written}
@@ -16,7 +16,7 @@ use Rattle.byte_world.specs.lists.Lists.{Each}
 use Rattle.byte_world.proofs.of_lists.OfEach.{each_then}
 use Rattle.byte_world.specs.exactly_once.Sends.{put_to}
 use Rattle.byte_world.specs.exactly_once.Sides.{Connection, Side}
-use Rattle.byte_world.specs.exactly_once.Story.{Happens, Story, any_named}
+use Rattle.byte_world.specs.exactly_once.Story.{StoryStep, Story, any_named}
 use Rattle.byte_world.proofs.of_exactly_once.publishing.Grown.{handled_grows}
 use Rattle.byte_world.specs.packet_world.World.{AreApart, ClientEnds, End, IsFresh, World, new_end, story_of, with_client}
 use Rattle.byte_world.specs.packet_world.Goes.{Reached, after_opening, is_call}
@@ -76,7 +76,7 @@ writes_beside {cs = cs} {agreed = agreed} b i before keeper later others e at re
 
 -- ---- it calls
 
-pub calls_beside : {cs : List Client} {agreed : List Command} {clients : List Alone} (b : Beside cs agreed clients) (i : ℕ) (s t : Story) (h : Happens usual_limits s t)
+pub calls_beside : {cs : List Client} {agreed : List Command} {clients : List Alone} (b : Beside cs agreed clients) (i : ℕ) (s t : Story) (h : StoryStep usual_limits s t)
     → is_call h ≡ true → slice_get clients i ≡ Some (alone s.keeper s.connections) → Beside cs agreed (set clients i (alone t.keeper t.connections))
 calls_beside {cs = cs} {agreed = agreed} {clients = clients} b i s t h call at =
     by (map_back ends_alone b.world.clients i (alone s.keeper s.connections) (ap (λ l. slice_get l i) b.same ∙ at))
@@ -85,23 +85,23 @@ calls_beside {cs = cs} {agreed = agreed} {clients = clients} b i s t h call at =
     by (d, there, is) =
         let same = same_call usual_limits s t (story_of b.world.agreed d) h call (ap (λ (a : Alone). a.keeper) is) (ap (λ (a : Alone). a.connections) is) in
         let new = call_writes same.happens same.is in
-        let now : ClientEnds = record d { keeper = same.behind.keeper; connections = same.behind.connections } in
+        let now : ClientEnds = record d { keeper = same.after.keeper; connections = same.after.connections } in
         subst (λ a. Beside cs agreed (set clients i a)) (same_alone (ends_alone now) (alone t.keeper t.connections) same.keeper same.connections)
-        (on d.connections refl same.behind.keeper same.behind.connections new.0 new.1 (goes_on b.reached (calls i d same.behind same.happens there same.is)))
+        (on d.connections refl same.after.keeper same.after.connections new.0 new.1 (goes_on b.reached (calls i d same.after same.happens there same.is)))
       where
-        on : (connections : List Connection) → d.connections ≡ connections → (keeper : Keeper) (behind : List Connection) (new : List Written) → behind ≡ writes_first new d.connections
-            → Reached cs (with_client i (record d { keeper = keeper; connections = behind }) b.world) → Beside cs agreed (set clients i (alone keeper behind))
-        on [] none keeper behind new is reached =
-            becomes b i (record d { keeper = keeper; connections = behind }) reached
+        on : (connections : List Connection) → d.connections ≡ connections → (keeper : Keeper) (after : List Connection) (new : List Written) → after ≡ writes_first new d.connections
+            → Reached cs (with_client i (record d { keeper = keeper; connections = after }) b.world) → Beside cs agreed (set clients i (alone keeper after))
+        on [] none keeper after new is reached =
+            becomes b i (record d { keeper = keeper; connections = after }) reached
             (each_get (IsFull agreed) b.world.clients i d b.full there ∙ ap (ends_of agreed) (none ∙ sym (is ∙ ap (writes_first new) none)))
-        on (κ ∷ others) are keeper behind new is reached =
-            let now : behind ≡ writes new κ ∷ others = is ∙ ap (writes_first new) are in
+        on (κ ∷ others) are keeper after new is reached =
+            let now : after ≡ writes new κ ∷ others = is ∙ ap (writes_first new) are in
             let ends : d.ends ≡ end_of agreed κ ∷ ends_of agreed others = each_get (IsFull agreed) b.world.clients i d b.full there ∙ ap (ends_of agreed) are in
             let long = length-append κ.written new in
             subst (λ l. Beside cs agreed (set clients i (alone keeper l))) (sym now)
             (writes_beside b i d keeper (writes new κ) others (end_of agreed κ) there
             (subst (λ c. Reached cs (with_client i c b.world))
-            (same_client (record d { keeper = keeper; connections = behind }) (record { keeper = keeper; connections = writes new κ ∷ others; ends = end_of agreed κ ∷ ends_of agreed others }) refl now ends) reached)
+            (same_client (record d { keeper = keeper; connections = after }) (record { keeper = keeper; connections = writes new κ ∷ others; ends = end_of agreed κ ∷ ends_of agreed others }) refl now ends) reached)
             refl (omega (arith, long)) refl)
 
 -- ---- it handles the next packet that was sent

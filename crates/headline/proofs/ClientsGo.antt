@@ -7,10 +7,10 @@ use Rattle.byte_world.specs.packet.Spelling.{IsPacket}
 use Rattle.byte_world.specs.packet.declared.packet.Packet.{Packet}
 use Rattle.byte_world.specs.cutter.Stream.{Stream, Takes}
 use Rattle.byte_world.specs.ballot.Config.{Config}
-use Rattle.byte_world.specs.broker_base.Command.{Command}
-use Rattle.byte_world.specs.broker_base.Commands.{past_of, usual_limits}
-use Rattle.byte_world.specs.broker_base.Connection.{ConnectionName, same_connection}
-use Rattle.byte_world.specs.broker_base.Place.{Client}
+use Rattle.byte_world.specs.broker_spec.declared.command.Command.{Command}
+use Rattle.byte_world.specs.broker_spec.Commands.{past_of, usual_limits}
+use Rattle.byte_world.specs.broker_spec.Connection.{ConnectionName, same_connection}
+use Rattle.byte_world.specs.broker_spec.Place.{Client}
 use Rattle.byte_world.proofs.of_broker_spec.ConnectionNames.{same_name}
 use Rattle.byte_world.specs.client_base.Called.{new_connection}
 use Rattle.byte_world.specs.client_base.Handled.{handled}
@@ -21,15 +21,15 @@ use Rattle.byte_world.proofs.of_lists.Places.{get_set, get_set_other}
 use Rattle.byte_world.specs.cutter.Pipe.{Joins}
 use Rattle.byte_world.specs.exactly_once.Sends.{put_to}
 use Rattle.byte_world.specs.exactly_once.Sides.{Connection, Side}
-use Rattle.byte_world.specs.exactly_once.Story.{Happens, Story, any_named, is_packet_of}
+use Rattle.byte_world.specs.exactly_once.Story.{StoryStep, Story, any_named, is_packet_of}
 use Rattle.byte_world.specs.packet_world.World.{AreApart}
 use Rattle.byte_world.specs.packet_world.Goes.{is_call, is_of_connection}
 use Rattle.byte_world.proofs.of_packet_world.Lists.{each_by, each_get, each_set, same_or_other, stands_within, there_is}
 use Rattle.byte_world.specs.node_moves.Moves.NodeCall.{takes}
 use Rattle.byte_world.specs.node_moves.Puts.{spelled}
 use Rattle.byte_world.specs.node_group.Group.{Group}
-use Rattle.byte_world.specs.node_group.Goes.{Went}
-use Rattle.byte_world.specs.node_group.Goes.Went.{then_went}
+use Rattle.byte_world.specs.node_group.Goes.{GroupTrace}
+use Rattle.byte_world.specs.node_group.Goes.GroupTrace.{then_went}
 use Rattle.byte_world.proofs.of_node_group.Placed.{get_mapped, set_mapped}
 use Rattle.byte_world.specs.node_group.Carried.{answers_to}
 use Rattle.byte_world.specs.world_base.declared.item.Item.TheVariants.{Opened}
@@ -51,7 +51,7 @@ use Rattle.headline.proofs.WorldsWrite.{HasAllPipes, clients_alone, known_at, or
 
 -- ---- one client becomes another, and the group rests
 
-client_rests : {nodes : ℕ} {config : Config} {cs : List Client} (v : World) (went : Went nodes config v.group) (i : ℕ) (later : ClientPipes) (s : GoesBeside nodes config cs v went) → Holds (with_client i later v) went
+client_rests : {nodes : ℕ} {config : Config} {cs : List Client} (v : World) (went : GroupTrace nodes config v.group) (i : ℕ) (later : ClientPipes) (s : GoesBeside nodes config cs v went) → Holds (with_client i later v) went
     → HasAllPipes later → ((agreed : List Command) → IsAgreedSo s.so agreed → Beside cs agreed (set (clients_alone v) i (pipes_alone later))) → GoesBeside nodes config cs (with_client i later v) went
 client_rests {cs = cs} v went i later s holds all beside =
     record {
@@ -71,8 +71,8 @@ writes_length : (new : List Written) (connections : List Connection) → length 
 writes_length new [] = refl
 writes_length new (κ ∷ connections) = refl
 
-pub calls_so : {nodes : ℕ} {config : Config} {cs : List Client} (v : World) (went : Went nodes config v.group) (i : ℕ) (c : ClientPipes) (t : Story)
-    (h : Happens usual_limits (story_alone c) t) (s : GoesBeside nodes config cs v went)
+pub calls_so : {nodes : ℕ} {config : Config} {cs : List Client} (v : World) (went : GroupTrace nodes config v.group) (i : ℕ) (c : ClientPipes) (t : Story)
+    (h : StoryStep usual_limits (story_alone c) t) (s : GoesBeside nodes config cs v went)
     → slice_get v.clients i ≡ Some c → is_call h ≡ true → Holds (with_client i (after_writing t.keeper t.connections c) v) went
     → GoesBeside nodes config cs (with_client i (after_writing t.keeper t.connections c) v) went
 calls_so v went i c t h s at call holds =
@@ -87,7 +87,7 @@ joins_whole : (ps : List Packet) (bytes : List ℕ) → Joins ps bytes → Each 
 joins_whole [] bytes j = tt
 joins_whole (p ∷ ps) bytes (front, rest, spells, fits, is, j) = (fits, joins_whole ps rest j)
 
-module _ {nodes : ℕ} {config : Config} {cs : List Client} (v : World) (went : Went nodes config v.group) (s : GoesBeside nodes config cs v went) (agreed : List Command) (is : IsAgreedSo s.so agreed) where
+module _ {nodes : ℕ} {config : Config} {cs : List Client} (v : World) (went : GroupTrace nodes config v.group) (s : GoesBeside nodes config cs v went) (agreed : List Command) (is : IsAgreedSo s.so agreed) where
   -- each packet in the list was written by a client on a connection
   was_written : (command : Command) → In command agreed → is_of_connection command ≡ true → IsWritten agreed command
   was_written command among own =
@@ -113,7 +113,7 @@ module _ {nodes : ℕ} {config : Config} {cs : List Client} (v : World) (went : 
       ∙ next_answer h.down.handled (put_to usual_limits (past_of usual_limits agreed) κ.name) p.came left p.down packet h.down.whole
       (answers_fit agreed κ.name (list_fits agreed was_written)) h.down.sound (subst (λ l. IsPrefixOf l (answers_to κ.name agreed)) (sym h.down.is) down) cut
 
-pub handles_so : {nodes : ℕ} {config : Config} {cs : List Client} (v : World) (went : Went nodes config v.group) (i : ℕ) (c : ClientPipes) (κ : Connection) (others : List Connection) (p : Pipe) (pipes : List Pipe)
+pub handles_so : {nodes : ℕ} {config : Config} {cs : List Client} (v : World) (went : GroupTrace nodes config v.group) (i : ℕ) (c : ClientPipes) (κ : Connection) (others : List Connection) (p : Pipe) (pipes : List Pipe)
     (packet : Packet) (left : Stream) (s : GoesBeside nodes config cs v went) → slice_get v.clients i ≡ Some c → c.connections ≡ κ ∷ others → c.pipes ≡ p ∷ pipes → c.keeper.is_open ≡ true
     → Takes p.came (Ok (Some packet)) left → Holds (with_client i (after_packet others pipes p left (handled packet (record { keeper = c.keeper; connection = κ })) c) v) went
     → GoesBeside nodes config cs (with_client i (after_packet others pipes p left (handled packet (record { keeper = c.keeper; connection = κ })) c) v) went
@@ -139,7 +139,7 @@ named_at x (κ ∷ connections) e = by (same_connection x κ.name) refl e (named
     by false is rest next = let z = next rest in (suc z.0, z.1, z.2, z.3)
 
 module _ {nodes : ℕ} {config : Config} (v : World) (g : Group) (i : ℕ) (c : ClientPipes) (κ : Connection) (p : Pipe) (later : ClientPipes) (at : slice_get v.clients i ≡ Some c)
-    (are : later.connections ≡ κ ∷ c.connections) (piped_so : later.pipes ≡ p ∷ c.pipes) (piped : Each HasAllPipes v.clients) {went : Went nodes config g}
+    (are : later.connections ≡ κ ∷ c.connections) (piped_so : later.pipes ≡ p ∷ c.pipes) (piped : Each HasAllPipes v.clients) {went : GroupTrace nodes config g}
     (holds : Holds (with_client i later (record v { group = g })) went) where
   abbrev w : World
   w = with_client i later (record v { group = g })
@@ -182,17 +182,17 @@ module _ {nodes : ℕ} {config : Config} (v : World) (g : Group) (i : ℕ) (c : 
       by k e there (inr none) = none
       by k e there (inl some) = let z = named_at κ.name e.connections some in absurd (other_name k e z.0 z.1 there z.2 z.3)
 
-pub connects_so : {nodes : ℕ} {config : Config} {cs : List Client} → AreApart cs → (v : World) (went : Went nodes config v.group) (i n : ℕ) (c : ClientPipes) (x : ConnectionName) (port : Port) (now : ℕ)
+pub connects_so : {nodes : ℕ} {config : Config} {cs : List Client} → AreApart cs → (v : World) (went : GroupTrace nodes config v.group) (i n : ℕ) (c : ClientPipes) (x : ConnectionName) (port : Port) (now : ℕ)
     (d : Does v.group (Some (n, takes (Opened port now)))) (s : GoesBeside nodes config cs v went) → slice_get v.clients i ≡ Some c
-    → Holds (with_client i (after_connecting x n port c) (record v { group = d.behind })) (then_went went d.step)
-    → GoesBeside nodes config cs (with_client i (after_connecting x n port c) (record v { group = d.behind })) (then_went went d.step)
+    → Holds (with_client i (after_connecting x n port c) (record v { group = d.after })) (then_went went d.step)
+    → GoesBeside nodes config cs (with_client i (after_connecting x n port c) (record v { group = d.after })) (then_went went d.step)
 connects_so {cs = cs} apart v went i n c x port now d s at holds =
     let later = after_connecting x n port c in
     let κ : Connection = new_connection c.keeper.client x in
     let p : Pipe = record { node = n; port = port; up = spelled (packets_of κ.written); down = []; came = record { held = []; failed = false } } in
-    group_beside apart (with_client i later (record v { group = d.behind })) v.group went s.so d.step
+    group_beside apart (with_client i later (record v { group = d.after })) v.group went s.so d.step
     (λ agreed is.
     subst (Beside cs agreed) (sym (set_mapped pipes_alone v.clients i later))
     (opens_beside apart (s.beside agreed is) i c.keeper c.connections x (get_mapped pipes_alone v.clients i c at)
-    (is_fresh v d.behind i c κ p later at refl refl s.piped holds)))
+    (is_fresh v d.after i c κ p later at refl refl s.piped holds)))
     holds (each_set HasAllPipes v.clients i later s.piped (ap suc (each_get HasAllPipes v.clients i c s.piped at)))

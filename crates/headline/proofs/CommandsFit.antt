@@ -7,9 +7,9 @@ use Rattle.byte_world.proofs.of_lists.OfEach.{each_left}
 use Rattle.byte_world.specs.packet.declared.packet.Packet.{Packet}
 use Rattle.byte_world.specs.packet.declared.packet.Packet.TheVariants as packets
 use Rattle.byte_world.specs.packet.Spelling.{IsPacket}
-use Rattle.byte_world.specs.broker_base.Command.{Command}
-use Rattle.byte_world.specs.broker_base.Command.TheVariants as commands
-use Rattle.byte_world.specs.broker_base.Connection.{ConnectionName, IsConnectionName}
+use Rattle.byte_world.specs.broker_spec.declared.command.Command.{Command}
+use Rattle.byte_world.specs.broker_spec.declared.command.Command.TheVariants as commands
+use Rattle.byte_world.specs.broker_spec.Connection.{ConnectionName, IsConnectionName}
 use Rattle.byte_world.specs.exactly_once.Story.{command_of, is_packet_of}
 use Rattle.byte_world.specs.packet_world.Goes.{is_of_connection}
 use Rattle.byte_world.specs.node_moves.Ends.{commands_of}

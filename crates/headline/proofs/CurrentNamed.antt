@@ -2,12 +2,12 @@
 use Rattle.std.proofs.Common.{◌≡◌, ℕ, Bool, true, false, List, ◌∷◌, Option, Some, None, refl, sym, ap, ◌∙◌, subst, inl, inr, ◌⊎◌}
 use Rattle.std.specs.Prelude.{slice_get}
 use Rattle.byte_world.specs.packet.declared.packet.Packet.{Packet}
-use Rattle.byte_world.specs.broker_base.Command.{Command}
-use Rattle.byte_world.specs.broker_base.Command.TheVariants as commands
-use Rattle.byte_world.specs.broker_base.Commands.{place_of}
-use Rattle.byte_world.specs.broker_base.Connection.{ConnectionName, same_connection}
-use Rattle.byte_world.specs.broker_base.Past.{accepts, current_connection}
-use Rattle.byte_world.specs.broker_base.Place.{Client, Limits, Mark, Past, Place}
+use Rattle.byte_world.specs.broker_spec.declared.command.Command.{Command}
+use Rattle.byte_world.specs.broker_spec.declared.command.Command.TheVariants as commands
+use Rattle.byte_world.specs.broker_spec.Commands.{place_of}
+use Rattle.byte_world.specs.broker_spec.Connection.{ConnectionName, same_connection}
+use Rattle.byte_world.specs.broker_spec.Past.{accepts, current_connection}
+use Rattle.byte_world.specs.broker_spec.Place.{Client, Limits, Mark, Past, Place}
 use Rattle.byte_world.proofs.of_broker_base.ClientsInOrder.{same_self}
 use Rattle.byte_world.specs.exactly_once.Sides.{Connection}
 use Rattle.byte_world.specs.exactly_once.Story.{any_named, counted_at}

@@ -2,14 +2,14 @@
 use Rattle.std.proofs.Common.{◌≡◌, ◌≤◌, ℕ, ◌+◌, Bool, true, false, if◌then◌else◌, List, [], ◌∷◌, ◌++◌, length, map, filter, Some, refl, ap, ap₂, sym, ◌∙◌, subst}
 use Rattle.byte_world.specs.lists.Lists.{Each, In, IsPrefixOf}
 use Rattle.byte_world.specs.packet.declared.packet.Packet.TheVariants as packets
-use Rattle.byte_world.specs.broker_base.Command.{Command}
-use Rattle.byte_world.specs.broker_base.Command.TheVariants as commands
-use Rattle.byte_world.specs.broker_base.Connection.{ConnectionName, same_connection}
-use Rattle.byte_world.specs.broker_base.Entries.{Entry}
-use Rattle.byte_world.specs.broker_base.OriginLaws.{is_from_publish}
-use Rattle.byte_world.specs.broker_base.Place.{Client, Limits, Past, Place}
-use Rattle.byte_world.specs.broker_base.Received.{is_new}
-use Rattle.byte_world.specs.broker_base.Times.{entries_of}
+use Rattle.byte_world.specs.broker_spec.declared.command.Command.{Command}
+use Rattle.byte_world.specs.broker_spec.declared.command.Command.TheVariants as commands
+use Rattle.byte_world.specs.broker_spec.Connection.{ConnectionName, same_connection}
+use Rattle.byte_world.specs.broker_spec.Entries.{Entry}
+use Rattle.byte_world.specs.broker_spec.OriginLaws.{is_from_publish}
+use Rattle.byte_world.specs.broker_spec.Place.{Client, Limits, Past, Place}
+use Rattle.byte_world.specs.broker_spec.Received.{is_new}
+use Rattle.byte_world.specs.broker_spec.Times.{entries_of}
 use Rattle.byte_world.specs.client_base.Keeper.{Keeper, all_own}
 use Rattle.byte_world.specs.exactly_once.Carried.{carries, connection_named, more_by, new_numbers, number_at, published}
 use Rattle.byte_world.specs.exactly_once.Headline.{IsTakenAt, is_this, made_by}

@@ -3,10 +3,10 @@ use Rattle.std.proofs.Common.{◌≡◌, Bool, true, false, if◌then◌else◌,
 use Rattle.std.specs.List.{AllByRecursion}
 use Rattle.std.proofs.lemmas.Bool.{both_ways}
 use Rattle.byte_world.specs.packet.ClientId.{is_client}
-use Rattle.byte_world.specs.broker_base.Command.TheVariants as commands
-use Rattle.byte_world.specs.broker_base.Commands.{usual_limits}
-use Rattle.byte_world.specs.broker_base.Connection.{ConnectionName}
-use Rattle.byte_world.specs.broker_base.Place.{Client, Mark, Place, same_client}
+use Rattle.byte_world.specs.broker_spec.declared.command.Command.TheVariants as commands
+use Rattle.byte_world.specs.broker_spec.Commands.{usual_limits}
+use Rattle.byte_world.specs.broker_spec.Connection.{ConnectionName}
+use Rattle.byte_world.specs.broker_spec.Place.{Client, Mark, Place, same_client}
 use Rattle.byte_world.specs.broker_base.ClientSession.{ClientSession}
 use Rattle.byte_world.specs.broker_base.SessionStep.{kept_after}
 use Rattle.byte_world.specs.broker_base.State.{Sessions, State, keyed}

@@ -3,13 +3,13 @@ use Rattle.std.proofs.Common.{◌≡◌, ℕ, List, ◌++◌, length, map, Optio
 use Rattle.std.specs.Prelude.{slice_get}
 use Rattle.std.proofs.lemmas.List.{map-append}
 use Rattle.byte_world.specs.session_base.declared.publication.Publication.{Publication}
-use Rattle.byte_world.specs.broker_base.Commands.{usual_limits}
+use Rattle.byte_world.specs.broker_spec.Commands.{usual_limits}
 use Rattle.byte_world.proofs.of_broker_base.PacketOfNobody.{window_is_steady}
 use Rattle.byte_world.specs.client_base.History as history
 use Rattle.byte_world.specs.client_base.Keeper.{Own, all_own}
 use Rattle.byte_world.specs.client_base.State.{ClientState}
 use Rattle.byte_world.specs.exactly_once.Items.{Item, value_of}
-use Rattle.byte_world.specs.exactly_once.HandshakeSides.{IsGood}
+use Rattle.byte_world.specs.exactly_once.HandshakeInvariant.{IsGood}
 use Rattle.byte_world.specs.exactly_once.Carried.{new_numbers, publications_of}
 use Rattle.byte_world.specs.exactly_once.Inside.Projections.{as_publisher}
 use Rattle.byte_world.specs.exactly_once.Inside.Shape.{AreNumbered, IsSoundStory}
@@ -17,7 +17,7 @@ use Rattle.byte_world.specs.exactly_once.InStep.{IsFirstSession, IsInStep}
 use Rattle.byte_world.specs.exactly_once.Lives.{Lived}
 use Rattle.byte_world.specs.exactly_once.Story.{Story}
 use Rattle.byte_world.proofs.of_exactly_once.Ends.{split_map}
-use Rattle.byte_world.proofs.of_exactly_once.keeping.Told.{told_stories_are_sound}
+use Rattle.byte_world.proofs.of_exactly_once.keeping.StoryTrace.{told_stories_are_sound}
 use Rattle.byte_world.proofs.of_exactly_once.sessions.Beside.{beside}
 use Rattle.byte_world.proofs.of_exactly_once.sessions.LivesExact.{HasOneStory, first_has_story}
 use Rattle.headline.specs.Shown.{AreStillKept, at_two, kept_of}

@@ -1,6 +1,6 @@
 -- Commands whose answers can all be spelled.
-use Rattle.byte_world.specs.broker_base.Command.{Command}
-use Rattle.byte_world.specs.broker_base.Command.TheVariants as commands
+use Rattle.byte_world.specs.broker_spec.declared.command.Command.{Command}
+use Rattle.byte_world.specs.broker_spec.declared.command.Command.TheVariants as commands
 use Rattle.byte_world.specs.broker_spec.Logged.{IsBrokerCommand}
 
 -- a command that a log may hold; one that says which connection is lost, or which client is expelled, may name any

@@ -4,8 +4,8 @@ use Rattle.std.proofs.Common.{◌≡◌, ℕ, List, map, set, Some, refl, sym, �
 use Rattle.std.specs.Prelude.{slice_get}
 use Rattle.std.proofs.lemmas.List.{length-set}
 use Rattle.byte_world.specs.ballot.Config.{Config}
-use Rattle.byte_world.specs.broker_base.Command.{Command}
-use Rattle.byte_world.specs.broker_base.Place.{Client}
+use Rattle.byte_world.specs.broker_spec.declared.command.Command.{Command}
+use Rattle.byte_world.specs.broker_spec.Place.{Client}
 use Rattle.byte_world.specs.lists.Lists.{Each}
 use Rattle.byte_world.proofs.of_snapshots.PastsAgree.{has_agreed}
 use Rattle.byte_world.specs.packet_world.World.{AreApart}
@@ -13,8 +13,8 @@ use Rattle.byte_world.proofs.of_packet_world.Lists.{each_get, each_set}
 use Rattle.byte_world.proofs.of_packet_world.TakenOn.{map_set}
 use Rattle.byte_world.specs.world_base.Core.{rules}
 use Rattle.byte_world.specs.node_group.Group.{Group, moment_of}
-use Rattle.byte_world.specs.node_group.Goes.{MayGo, Went}
-use Rattle.byte_world.specs.node_group.Goes.Went.{then_went}
+use Rattle.byte_world.specs.node_group.Goes.{GroupStep, GroupTrace}
+use Rattle.byte_world.specs.node_group.Goes.GroupTrace.{then_went}
 use Rattle.byte_world.specs.World.{ClientPipes, Pipe, World, with_client, with_pipe}
 use Rattle.byte_world.proofs.WorldsHold.{Holds}
 use Rattle.headline.proofs.Beside.{Beside, grows_beside}
@@ -22,7 +22,7 @@ use Rattle.byte_world.proofs.of_node_group.CarriedInOrder.{CarriedSo, IsAgreedSo
 use Rattle.headline.proofs.WorldsWrite.{HasAllPipes, clients_alone, is_of_written, pipes_alone}
 
 -- a past of all steps of its group, and for each list that is agreed at its end a world of `model`
-pub record GoesBeside (nodes : ℕ) (config : Config) (cs : List Client) (w : World) (went : Went nodes config w.group) : Type 0 where
+pub record GoesBeside (nodes : ℕ) (config : Config) (cs : List Client) (w : World) (went : GroupTrace nodes config w.group) : Type 0 where
   pub holds : Holds w went
   pub piped : Each HasAllPipes w.clients
   pub so : CarriedSo went
@@ -30,7 +30,7 @@ pub record GoesBeside (nodes : ℕ) (config : Config) (cs : List Client) (w : Wo
 
 -- ---- the group continues
 
-pub group_beside : {nodes : ℕ} {config : Config} {cs : List Client} → AreApart cs → (w : World) (g : Group) (went : Went nodes config g) (so : CarriedSo went) (step : MayGo g w.group)
+pub group_beside : {nodes : ℕ} {config : Config} {cs : List Client} → AreApart cs → (w : World) (g : Group) (went : GroupTrace nodes config g) (so : CarriedSo went) (step : GroupStep g w.group)
     → ((agreed : List Command) → IsAgreedSo so agreed → Beside cs agreed (clients_alone w)) → Holds w (then_went went step) → Each HasAllPipes w.clients
     → GoesBeside nodes config cs w (then_went went step)
 group_beside {config = config} {cs = cs} apart w g went so step beside holds piped =
@@ -57,15 +57,15 @@ pub alone_still : (clients : List ClientPipes) (i j : ℕ) (c : ClientPipes) (q 
 alone_still clients i j c q at = map_set pipes_alone clients i c (with_pipe j q c) at refl
 
 -- while the group continues
-pub pipe_beside : {nodes : ℕ} {config : Config} {cs : List Client} → AreApart cs → (v : World) (went : Went nodes config v.group) (g : Group) (i j : ℕ) (c : ClientPipes) (q : Pipe)
-    (s : GoesBeside nodes config cs v went) (step : MayGo v.group g) → slice_get v.clients i ≡ Some c → Holds (with_client i (with_pipe j q c) (record v { group = g })) (then_went went step)
+pub pipe_beside : {nodes : ℕ} {config : Config} {cs : List Client} → AreApart cs → (v : World) (went : GroupTrace nodes config v.group) (g : Group) (i j : ℕ) (c : ClientPipes) (q : Pipe)
+    (s : GoesBeside nodes config cs v went) (step : GroupStep v.group g) → slice_get v.clients i ≡ Some c → Holds (with_client i (with_pipe j q c) (record v { group = g })) (then_went went step)
     → GoesBeside nodes config cs (with_client i (with_pipe j q c) (record v { group = g })) (then_went went step)
 pipe_beside {cs = cs} apart v went g i j c q s step at holds =
     group_beside apart (with_client i (with_pipe j q c) (record v { group = g })) v.group went s.so step
     (λ agreed is. subst (Beside cs agreed) (sym (alone_still v.clients i j c q at)) (s.beside agreed is)) holds (piped_still v.clients i j c q at s.piped)
 
 -- while it rests
-pub pipe_rests : {nodes : ℕ} {config : Config} {cs : List Client} (v : World) (went : Went nodes config v.group) (i j : ℕ) (c : ClientPipes) (q : Pipe)
+pub pipe_rests : {nodes : ℕ} {config : Config} {cs : List Client} (v : World) (went : GroupTrace nodes config v.group) (i j : ℕ) (c : ClientPipes) (q : Pipe)
     (s : GoesBeside nodes config cs v went) → slice_get v.clients i ≡ Some c
     → Holds (with_client i (with_pipe j q c) v) went → GoesBeside nodes config cs (with_client i (with_pipe j q c) v) went
 pipe_rests {cs = cs} v went i j c q s at holds =

@@ -2,10 +2,10 @@
 use Rattle.std.proofs.Common.{◌≡◌, Bool, true, false, if◌then◌else◌, ◌||◌, [], ◌∷◌, Option, Some, None, refl, ap, ap₂, sym, ◌∙◌, subst, arith}
 use Rattle.std.specs.List.{AllByRecursion}
 use Rattle.std.proofs.lemmas.Bool.{both_ways}
-use Rattle.byte_world.specs.broker_base.Command.TheVariants as commands
-use Rattle.byte_world.specs.broker_base.Commands.{usual_limits}
-use Rattle.byte_world.specs.broker_base.Connection.{ConnectionName, is_connection_name, same_connection}
-use Rattle.byte_world.specs.broker_base.Place.{Mark, Place}
+use Rattle.byte_world.specs.broker_spec.declared.command.Command.TheVariants as commands
+use Rattle.byte_world.specs.broker_spec.Commands.{usual_limits}
+use Rattle.byte_world.specs.broker_spec.Connection.{ConnectionName, is_connection_name, same_connection}
+use Rattle.byte_world.specs.broker_spec.Place.{Mark, Place}
 use Rattle.byte_world.specs.broker_base.ClientSession.{ClientSession}
 use Rattle.byte_world.specs.broker_base.SessionStep.{kept_after}
 use Rattle.byte_world.specs.broker_base.State.{Sessions, State, keyed}

@@ -3,9 +3,9 @@ use Rattle.std.proofs.Common.{◌≡◌, Bool, true, false, not, ◌&&◌, if◌
 use Rattle.std.specs.List.{list_any}
 use Rattle.byte_world.specs.ballot.Config.{Config}
 use Rattle.byte_world.specs.ballot.Effect.{Effect}
-use Rattle.byte_world.specs.broker_base.Command.{Command}
-use Rattle.byte_world.specs.broker_base.Output.{Output}
-use Rattle.byte_world.specs.broker_base.Connection.{ConnectionName, IsConnectionName, is_connection_name}
+use Rattle.byte_world.specs.broker_spec.declared.command.Command.{Command}
+use Rattle.byte_world.specs.broker_spec.declared.command.Output.{Output}
+use Rattle.byte_world.specs.broker_spec.Connection.{ConnectionName, IsConnectionName, is_connection_name}
 use Rattle.byte_world.proofs.of_broker_spec.ConnectionNames.{same_name}
 use Rattle.byte_world.specs.lists.Lists.{Each, In}
 use Rattle.byte_world.specs.lists.Lists.In.{here, there}
@@ -26,9 +26,9 @@ use Rattle.byte_world.proofs.of_node_moves.EachKept.{IsKept, each_repeated, each
 use Rattle.byte_world.proofs.of_node_moves.Kept.{named, put_out_name}
 use Rattle.byte_world.proofs.of_node_moves.Views.{found_each, found_passes}
 use Rattle.byte_world.specs.node_group.Group.{Group, opening_cores}
-use Rattle.byte_world.specs.node_group.Goes.{MayGo, Went, groups_of}
-use Rattle.byte_world.specs.node_group.Goes.MayGo.{node_acts, node_loses, master_assigns, master_hears, assigns_unheard, answers_unheard}
-use Rattle.byte_world.specs.node_group.Goes.Went.{opened, then_went}
+use Rattle.byte_world.specs.node_group.Goes.{GroupStep, GroupTrace, groups_of}
+use Rattle.byte_world.specs.node_group.Goes.GroupStep.{node_acts, node_loses, master_assigns, master_hears, assigns_unheard, answers_unheard}
+use Rattle.byte_world.specs.node_group.Goes.GroupTrace.{opened, then_went}
 use Rattle.byte_world.proofs.of_node_group.NamesInGroups.{each_got}
 use Rattle.byte_world.proofs.of_node_group.CarriedInOrder.{assigned_nodes, no_connections}
 use Rattle.byte_world.specs.Apart.{HasName}
@@ -59,7 +59,7 @@ opens_named port core all = by (serves core && not (list_any (is_at port) core.c
     by true false other = all
     by false b other = all
 
-done_named : (deed : NodeCall) (core : CoreState) → AreNamed core → AreNamed (done deed core).core
+done_named : (node_call : NodeCall) (core : CoreState) → AreNamed core → AreNamed (done node_call core).core
 done_named (takes (Opened port now)) core all =
     each_settled IsNamed kept_named.shut (acts_on (Opened port now) core).core
     (each_repeated IsNamed kept_named (length (takes_in (Opened port now) core).core.connections) (takes_in (Opened port now) core).core (opens_named port core all))
@@ -85,9 +85,9 @@ lost_named Crash core new messages runs all = each_lost IsNamed later_named Cras
 
 -- ---- a group
 
-step_named : (g h : Group) → MayGo g h → Each AreNamed g.nodes → Each AreNamed h.nodes
-step_named g h (node_acts n core deed turn run at is first sent) all =
-    each_set AreNamed g.nodes n turn.core all (subst (λ (t : Turn). AreNamed t.core) (sym is) (done_named deed core (each_got AreNamed g.nodes n core all at)))
+step_named : (g h : Group) → GroupStep g h → Each AreNamed g.nodes → Each AreNamed h.nodes
+step_named g h (node_acts n core node_call turn run at is first sent) all =
+    each_set AreNamed g.nodes n turn.core all (subst (λ (t : Turn). AreNamed t.core) (sym is) (done_named node_call core (each_got AreNamed g.nodes n core all at)))
 step_named g h (node_loses n core item turn kept by at runs sent thinned) all =
     each_set AreNamed g.nodes n turn.core all (lost_named item core turn.core turn.messages runs (each_got AreNamed g.nodes n core all at))
 step_named g h (master_assigns wanted) all = subst (Each AreNamed) (sym (assigned_nodes g wanted (refusal g.master wanted))) all
@@ -95,7 +95,7 @@ step_named g h (master_hears from ballot sent) all = all
 step_named g h (assigns_unheard wanted) all = all
 step_named g h (answers_unheard from ballot sent) all = all
 
-all_named : {nodes : ℕ} {config : Config} (g : Group) → Went nodes config g → Each AreNamed g.nodes
+all_named : {nodes : ℕ} {config : Config} (g : Group) → GroupTrace nodes config g → Each AreNamed g.nodes
 all_named {nodes = nodes} {config = config} g (opened can) =
     each_then (λ (core : CoreState). core.connections ≡ []) AreNamed (opening_cores nodes config) (λ core none. subst (Each IsNamed) (sym none) tt) (no_connections nodes config)
 all_named h (then_went {g = g} went step) = step_named g h step (all_named g went)
@@ -106,7 +106,7 @@ name_fits e x n has all =
     (found_each IsNamed (named x) has.core.connections has.connection (each_got AreNamed e.nodes n has.core all has.stands) has.listed)
 
 -- a name that a node had at any time
-pub names_fit : {nodes : ℕ} {config : Config} {g : Group} (went : Went nodes config g) (x : ConnectionName) (e : Group) (n : ℕ) → In e (groups_of went) → HasName x e n → IsConnectionName x
+pub names_fit : {nodes : ℕ} {config : Config} {g : Group} (went : GroupTrace nodes config g) (x : ConnectionName) (e : Group) (n : ℕ) → In e (groups_of went) → HasName x e n → IsConnectionName x
 names_fit {g = g} (opened can) x e n here has = name_fits g x n has (all_named g (opened can))
 names_fit (opened can) x e n (there i) has = elim i [ ]
 names_fit {g = h} (then_went went step) x e n here has = name_fits h x n has (all_named h (then_went went step))

@@ -8,12 +8,12 @@ use Rattle.byte_world.specs.packet.declared.packet.Packet.TheVariants as packets
 use Rattle.byte_world.specs.packet.declared.publish.Publish.{Publish}
 use Rattle.byte_world.specs.session_base.Publication.{publication_of}
 use Rattle.byte_world.specs.session_base.declared.publication.Publication.{Publication}
-use Rattle.byte_world.specs.broker_base.Command.{Command}
-use Rattle.byte_world.specs.broker_base.Command.TheVariants as commands
-use Rattle.byte_world.specs.broker_base.Marks.{is_refused, mark_of, packet_mark_of}
-use Rattle.byte_world.specs.broker_base.Owner.{owner_of}
-use Rattle.byte_world.specs.broker_base.Place.{Client, Limits, Mark, Past, same_client}
-use Rattle.byte_world.specs.broker_base.Received.{is_exactly_once, is_new, is_repeat}
+use Rattle.byte_world.specs.broker_spec.declared.command.Command.{Command}
+use Rattle.byte_world.specs.broker_spec.declared.command.Command.TheVariants as commands
+use Rattle.byte_world.specs.broker_spec.Marks.{is_refused, mark_of, packet_mark_of}
+use Rattle.byte_world.specs.broker_spec.Owner.{owner_of}
+use Rattle.byte_world.specs.broker_spec.Place.{Client, Limits, Mark, Past, same_client}
+use Rattle.byte_world.specs.broker_spec.Received.{is_exactly_once, is_new, is_repeat}
 use Rattle.byte_world.proofs.of_broker_base.ClientsInOrder.{same_is, same_self}
 use Rattle.byte_world.proofs.of_broker_base.MarksOfPlaces.{AreMarked}
 use Rattle.byte_world.specs.exactly_once.Carried.{carries, more_by, new_numbers}

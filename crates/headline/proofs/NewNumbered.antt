@@ -12,7 +12,7 @@ use Rattle.byte_world.specs.exactly_once.Carried.{is_two, new_numbers, number_in
 use Rattle.byte_world.specs.exactly_once.Story.{Story}
 use Rattle.byte_world.proofs.of_exactly_once.Ends.{Split, split_map}
 use Rattle.headline.specs.Shown.{at_two}
-use Rattle.headline.proofs.StillKept.{StandFrom, behind, first_is, some_of, whole_stands}
+use Rattle.headline.proofs.StillKept.{StandFrom, after, first_is, some_of, whole_stands}
 
 -- ---- lists
 
@@ -32,7 +32,7 @@ same_some (x ∷ xs) (y ∷ ys) e =
 
 published_numbered : (ps : List Publication) (n : ℕ) (own : List Own) → AreNumbered n own → StandFrom ps n own → map (slice_get ps) (published own) ≡ some_of (at_two (publications_of own))
 published_numbered ps n [] h stand = refl
-published_numbered ps n (o ∷ own) h stand = by (is_two (publication_in o).qos) (published_numbered ps (suc n) own h.1 (behind ps n o own stand))
+published_numbered ps n (o ∷ own) h stand = by (is_two (publication_in o).qos) (published_numbered ps (suc n) own h.1 (after ps n o own stand))
   where
     by : (b : Bool) → map (slice_get ps) (published own) ≡ some_of (at_two (publications_of own))
         → map (slice_get ps) (if b then number_in o ∷ published own else published own) ≡ some_of (if b then publication_in o ∷ at_two (publications_of own) else at_two (publications_of own))

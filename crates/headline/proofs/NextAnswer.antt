@@ -17,8 +17,8 @@ has_bytes : (p : Packet) (front rest : List ℕ) → Spells p front → front ++
 has_bytes p [] rest spells e = let h = spells.2 in cc
 has_bytes p (first ∷ front) rest spells e = no_bytes first (front ++ rest) e
 
-behind : (p : Packet) (handled : List Packet) (held rest : List ℕ) → (spelled (p ∷ handled) ++ held) ++ rest ≡ spelling p ++ ((spelled handled ++ held) ++ rest)
-behind p handled held rest =
+after : (p : Packet) (handled : List Packet) (held rest : List ℕ) → (spelled (p ∷ handled) ++ held) ++ rest ≡ spelling p ++ ((spelled handled ++ held) ++ rest)
+after p handled held rest =
     ap (λ l. l ++ rest) (append_assoc (spelling p) (spelled handled) held) ∙ append_assoc (spelling p) (spelled handled ++ held) rest
 
 next_of : (handled put : List Packet) (held rest left : List ℕ) (packet : Packet) → Each IsPacket handled → Each IsPacket put → spelled put ≡ (spelled handled ++ held) ++ rest
@@ -30,12 +30,12 @@ next_of [] (q ∷ put) held rest left packet whole fits e (front, spells, is_pac
     (none_begins q packet (spelling q) front (spelled put) (left ++ rest) fits.0 is_packet (spelling_is q fits.0).0 spells
     (e ∙ ap (λ l. l ++ rest) begins ∙ append_assoc front left rest)).0
 next_of (p ∷ handled) [] held rest left packet whole fits e goes =
-    absurd (has_bytes p (spelling p) ((spelled handled ++ held) ++ rest) (spelling_is p whole.0).0 (sym (behind p handled held rest) ∙ sym e))
+    absurd (has_bytes p (spelling p) ((spelled handled ++ held) ++ rest) (spelling_is p whole.0).0 (sym (after p handled held rest) ∙ sym e))
 next_of (p ∷ handled) (q ∷ put) held rest left packet whole fits e goes =
     let one = none_begins p q (spelling p) (spelling q) ((spelled handled ++ held) ++ rest) (spelled put) whole.0 fits.0 (spelling_is p whole.0).0 (spelling_is q fits.0).0
-    (sym (behind p handled held rest) ∙ sym e) in
+    (sym (after p handled held rest) ∙ sym e) in
     next_of handled put held rest left packet whole.1 fits.1
-    (append_cancel_left (spelling q) (spelled put) ((spelled handled ++ held) ++ rest) (e ∙ behind p handled held rest ∙ ap (λ l. l ++ ((spelled handled ++ held) ++ rest)) one.1)) goes
+    (append_cancel_left (spelling q) (spelled put) ((spelled handled ++ held) ++ rest) (e ∙ after p handled held rest ∙ ap (λ l. l ++ ((spelled handled ++ held) ++ rest)) one.1)) goes
 
 -- if what was handled, spelled, with the bytes that came and those in transit, is a prefix of the
 -- spelled answers

@@ -4,10 +4,10 @@ use Rattle.std.specs.List.{flat_map}
 use Rattle.std.proofs.lemmas.Bool.{both_ways}
 use Rattle.std.proofs.lemmas.List.{append-nil}
 use Rattle.byte_world.specs.session_base.declared.publication.Publication.{Publication}
-use Rattle.byte_world.specs.broker_base.Commands.{usual_limits}
-use Rattle.byte_world.specs.broker_base.Past.{session_of, session_start}
-use Rattle.byte_world.specs.broker_base.Place.{Client, Past}
-use Rattle.byte_world.specs.broker_base.Readings.{publication_in}
+use Rattle.byte_world.specs.broker_spec.Commands.{usual_limits}
+use Rattle.byte_world.specs.broker_spec.Past.{session_of, session_start}
+use Rattle.byte_world.specs.broker_spec.Place.{Client, Past}
+use Rattle.byte_world.specs.broker_spec.Readings.{publication_in}
 use Rattle.byte_world.specs.client_base.State.{ClientState}
 use Rattle.byte_world.specs.exactly_once.Acceptance.{two_entries}
 use Rattle.byte_world.specs.exactly_once.InStep.{IsFirstSession, starts_of}

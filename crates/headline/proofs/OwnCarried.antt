@@ -5,14 +5,14 @@ use Rattle.std.proofs.lemmas.Bool.{both_ways}
 use Rattle.byte_world.specs.packet.declared.packet.Packet.{Packet}
 use Rattle.byte_world.specs.packet.declared.packet.Packet.TheVariants as packets
 use Rattle.byte_world.specs.packet.declared.publish.Publish.{Publish}
-use Rattle.byte_world.specs.broker_base.Command.{Command}
-use Rattle.byte_world.specs.broker_base.Command.TheVariants as commands
-use Rattle.byte_world.specs.broker_base.Commands.{place_of}
-use Rattle.byte_world.specs.broker_base.Connection.{ConnectionName, same_connection}
-use Rattle.byte_world.specs.broker_base.EndingLaws.{StandsAt}
-use Rattle.byte_world.specs.broker_base.Owner.{owner_of}
-use Rattle.byte_world.specs.broker_base.Past.{current_connection}
-use Rattle.byte_world.specs.broker_base.Place.{Client, Limits, Mark, Past, Place, same_client}
+use Rattle.byte_world.specs.broker_spec.declared.command.Command.{Command}
+use Rattle.byte_world.specs.broker_spec.declared.command.Command.TheVariants as commands
+use Rattle.byte_world.specs.broker_spec.Commands.{place_of}
+use Rattle.byte_world.specs.broker_spec.Connection.{ConnectionName, same_connection}
+use Rattle.byte_world.specs.broker_spec.EndingLaws.{StandsAt}
+use Rattle.byte_world.specs.broker_spec.Owner.{owner_of}
+use Rattle.byte_world.specs.broker_spec.Past.{current_connection}
+use Rattle.byte_world.specs.broker_spec.Place.{Client, Limits, Mark, Past, Place, same_client}
 use Rattle.byte_world.proofs.of_broker_base.ClientsInOrder.{same_self}
 use Rattle.byte_world.specs.client_base.Called.{written_for}
 use Rattle.byte_world.specs.client_base.Keeper.{Written}
@@ -20,10 +20,10 @@ use Rattle.byte_world.specs.client_base.Written.{plain, writes_first}
 use Rattle.byte_world.specs.lists.Lists.{Each}
 use Rattle.byte_world.specs.exactly_once.Carried.{carries, connection_named, number_at}
 use Rattle.byte_world.specs.exactly_once.Sides.{Connection}
-use Rattle.byte_world.specs.exactly_once.Story.{Happens, Story, any_named, command_of, counted_at, count_of, is_packet_of, names_client}
+use Rattle.byte_world.specs.exactly_once.Story.{StoryStep, Story, any_named, command_of, counted_at, count_of, is_packet_of, names_client}
 use Rattle.byte_world.specs.exactly_once.Lives.{Lived}
 use Rattle.byte_world.specs.exactly_once.Lives.Lived.{opens, goes_on, is_expelled}
-use Rattle.byte_world.specs.exactly_once.Story.Happens.{takes, others_take, receives, opens_anew, loses, disconnects, publishes_one, subscribes, unsubscribes}
+use Rattle.byte_world.specs.exactly_once.Story.StoryStep.{takes, others_take, receives, opens_anew, loses, disconnects, publishes_one, subscribes, unsubscribes}
 use Rattle.byte_world.proofs.of_exactly_once.carrying.KeepsNumbers.{numbers_keep}
 use Rattle.byte_world.proofs.of_exactly_once.keeping.CurrentOnes.{none_opened}
 use Rattle.byte_world.proofs.of_exactly_once.publishing.Grown.{handled_grows}
@@ -111,7 +111,7 @@ record AllOwn (c : Client) (connections : List Connection) (past : Past) : Type 
   pub carried : OwnAreCarried c connections past
 
 -- the client has the same connections by name, or one more
-stays_own : (limits : Limits) (c : Client) (s t : Story) → IsLife limits c s → Happens limits s t → t.past ≡ s.past
+stays_own : (limits : Limits) (c : Client) (s t : Story) → IsLife limits c s → StoryStep limits s t → t.past ≡ s.past
     → ((y : ConnectionName) → any_named (same_connection y) s.connections ≡ true → any_named (same_connection y) t.connections ≡ true) → AllOwn c s.connections s.past → AllOwn c t.connections t.past
 stays_own limits c s t life h same more all =
     subst (AllOwn c t.connections) (sym same)
@@ -137,7 +137,7 @@ first_more y x connections e = by (same_connection y x)
     by true = refl
     by false = e
 
-happens_own : (limits : Limits) (c : Client) (s t : Story) → IsLife limits c s → Happens limits s t → AreNumbered s.connections → AllOwn c s.connections s.past → AllOwn c t.connections t.past
+happens_own : (limits : Limits) (c : Client) (s t : Story) → IsLife limits c s → StoryStep limits s t → AreNumbered s.connections → AllOwn c s.connections s.past → AllOwn c t.connections t.past
 happens_own limits c s t life (takes i κ w stands next) numbered all =
     let one = each_at IsNumbered κ.taken κ.written w next (each_there (λ (μ : Connection). Each IsNumbered μ.written) i s.connections κ stands numbered) in
     let within = counted_all_within s.past s.connections life.connections.counted in

@@ -9,23 +9,23 @@ use Rattle.byte_world.specs.session_base.Publication.{is_answered}
 use Rattle.byte_world.specs.session_base.declared.publication.Publication.{Publication}
 use Rattle.byte_world.specs.ballot.Config.{Config}
 use Rattle.byte_world.proofs.of_snapshots.PastsAgree.{has_agreed}
-use Rattle.byte_world.specs.broker_base.Commands.{usual_limits}
-use Rattle.byte_world.specs.broker_base.Place.{Client}
+use Rattle.byte_world.specs.broker_spec.Commands.{usual_limits}
+use Rattle.byte_world.specs.broker_spec.Place.{Client}
 use Rattle.byte_world.specs.client_base.Called.{adds_own}
 use Rattle.byte_world.specs.client_base.Handled.{handled}
 use Rattle.byte_world.specs.client_base.Keeper.{Keeper, Own, all_own, ids_in_use, next_number}
 use Rattle.byte_world.specs.client_base.OrderLaws.{AreNumbered}
 use Rattle.byte_world.specs.exactly_once.Carried.{publication_in, publications_of}
 use Rattle.byte_world.specs.exactly_once.Sides.{Connection, Side}
-use Rattle.byte_world.specs.exactly_once.Story.{Happens, Story}
-use Rattle.byte_world.specs.exactly_once.Story.Happens.{takes, others_take, receives, opens_anew, loses, disconnects, publishes_one, subscribes, unsubscribes}
+use Rattle.byte_world.specs.exactly_once.Story.{StoryStep, Story}
+use Rattle.byte_world.specs.exactly_once.Story.StoryStep.{takes, others_take, receives, opens_anew, loses, disconnects, publishes_one, subscribes, unsubscribes}
 use Rattle.byte_world.proofs.of_exactly_once.carrying.Handles.{handles as handles_kept}
 use Rattle.byte_world.specs.packet_world.World.{AreApart}
 use Rattle.byte_world.specs.packet_world.Goes.{is_call}
 use Rattle.byte_world.proofs.of_packet_world.Lists.{each_by, each_get, set_get}
 use Rattle.byte_world.specs.world_base.Core.{rules}
 use Rattle.byte_world.specs.node_group.Group.{moment_of}
-use Rattle.byte_world.specs.node_group.Goes.{Went}
+use Rattle.byte_world.specs.node_group.Goes.{GroupTrace}
 use Rattle.byte_world.specs.Carried.{went_of}
 use Rattle.byte_world.specs.Goes.{Reached, WorldStep}
 use Rattle.byte_world.specs.Goes.Reached.{begins, goes_on}
@@ -81,7 +81,7 @@ said_more keeper p =
     same true false = refl
     same false on = refl
 
-call_says : {s t : Story} (h : Happens usual_limits s t) → is_call h ≡ true → publications_of (all_own t.keeper) ≡ publications_of (all_own s.keeper) ++ published_by h
+call_says : {s t : Story} (h : StoryStep usual_limits s t) → is_call h ≡ true → publications_of (all_own t.keeper) ≡ publications_of (all_own s.keeper) ++ published_by h
 call_says (takes i κ w stands next) call = absurd (both_ways false refl call)
 call_says (others_take command other none) call = absurd (both_ways false refl call)
 call_says (receives κ others packet are opened next) call = absurd (both_ways false refl call)
@@ -94,7 +94,7 @@ call_says {s = s} (unsubscribes p on id) call = sym (append-nil (publications_of
 
 -- ---- a packet
 
-packet_says : {nodes : ℕ} {config : Config} {cs : List Client} → AreApart cs → (v : World) (went : Went nodes config v.group) (s : GoesBeside nodes config cs v went) (i : ℕ)
+packet_says : {nodes : ℕ} {config : Config} {cs : List Client} → AreApart cs → (v : World) (went : GroupTrace nodes config v.group) (s : GoesBeside nodes config cs v went) (i : ℕ)
     (c : ClientPipes) (κ : Connection) (packet : Packet) → slice_get v.clients i ≡ Some c
     → publications_of (all_own (handled packet (let side : Side = record { keeper = c.keeper; connection = κ } in side)).keeper) ≡ publications_of (all_own c.keeper)
 packet_says {config = config} apart v went s i c κ packet at =
@@ -128,13 +128,13 @@ becomes v clients asked j c later more are at says all i d there = by (set_get v
         all i d stood ∙ sym (append-nil (published_of i asked)) ∙ ap (λ (l : List Publication). published_of i asked ++ l) (sym (of_another i j more other))
         ∙ sym (of_both i asked (from_client j more))
 
-step_says : {nodes : ℕ} {config : Config} {cs : List Client} → AreApart cs → (v w : World) (went : Went nodes config v.group) → GoesBeside nodes config cs v went
+step_says : {nodes : ℕ} {config : Config} {cs : List Client} → AreApart cs → (v w : World) (went : GroupTrace nodes config v.group) → GoesBeside nodes config cs v went
     → (asked : List (ℕ × Publication)) → AllPublished v asked → (step : WorldStep v w) → AllPublished w (asked ++ published_in step)
-step_says apart v w went s asked all (group_goes deed d is_apart) = still w asked all
+step_says apart v w went s asked all (group_goes node_call d is_apart) = still w asked all
 step_says apart v w went s asked all (calls j c t h at call spelled) = becomes v w.clients asked j c _ (published_by h) refl at (call_says h call) all
-step_says apart v w went s asked all (connects j n c port now d core end at unused behind there_so spelled) =
+step_says apart v w went s asked all (connects j n c port now d core end at unused after there_so spelled) =
     becomes v w.clients asked j c _ [] refl at (sym (append-nil (publications_of (all_own c.keeper)))) all
-step_says apart v w went s asked all (is_turned_away n port now d core unused behind none) = still w asked all
+step_says apart v w went s asked all (is_turned_away n port now d core unused after none) = still w asked all
 step_says apart v w went s asked all (comes_up j k c κ p piece rest now d has is) = becomes v w.clients asked j c _ [] refl has.client (sym (append-nil (publications_of (all_own c.keeper)))) all
 step_says apart v w went s asked all (goes_down j k c κ p d has) = becomes v w.clients asked j c _ [] refl has.client (sym (append-nil (publications_of (all_own c.keeper)))) all
 step_says apart v w went s asked all (arrives j k c κ p piece rest has is) = becomes v w.clients asked j c _ [] refl has.client (sym (append-nil (publications_of (all_own c.keeper)))) all

@@ -9,19 +9,19 @@ use Rattle.byte_world.specs.packet.declared.packet.Packet.TheVariants as packets
 use Rattle.byte_world.specs.packet.declared.publish.Publish.{Publish}
 use Rattle.byte_world.specs.session_base.Publication.{publication_of}
 use Rattle.byte_world.specs.session_base.declared.publication.Publication.{Publication}
-use Rattle.byte_world.specs.broker_base.Answers.{answers_at}
-use Rattle.byte_world.specs.broker_base.Command.{Command}
-use Rattle.byte_world.specs.broker_base.Command.TheVariants as commands
-use Rattle.byte_world.specs.broker_base.Commands.{usual_limits}
-use Rattle.byte_world.specs.broker_base.Connection.{ConnectionName}
-use Rattle.byte_world.specs.broker_base.EndingLaws.{EndsWithTheSession, StandsAt, connects_of}
-use Rattle.byte_world.specs.broker_base.OriginLaws.{is_from_publish}
-use Rattle.byte_world.specs.broker_base.Output.TheVariants.{Send}
-use Rattle.byte_world.specs.broker_base.Place.{Client, Mark, Past, Place}
-use Rattle.byte_world.specs.broker_base.Readings.{publication_in}
-use Rattle.byte_world.specs.broker_base.Received.{is_exactly_once, is_new}
-use Rattle.byte_world.specs.broker_base.TakenLaws.{takes_publication}
-use Rattle.byte_world.specs.broker_base.Times.{entries_of}
+use Rattle.byte_world.specs.broker_spec.Answers.{answers_at}
+use Rattle.byte_world.specs.broker_spec.declared.command.Command.{Command}
+use Rattle.byte_world.specs.broker_spec.declared.command.Command.TheVariants as commands
+use Rattle.byte_world.specs.broker_spec.Commands.{usual_limits}
+use Rattle.byte_world.specs.broker_spec.Connection.{ConnectionName}
+use Rattle.byte_world.specs.broker_spec.EndingLaws.{EndsWithTheSession, StandsAt, connects_of}
+use Rattle.byte_world.specs.broker_spec.OriginLaws.{is_from_publish}
+use Rattle.byte_world.specs.broker_spec.declared.command.Output.TheVariants.{Send}
+use Rattle.byte_world.specs.broker_spec.Place.{Client, Mark, Past, Place}
+use Rattle.byte_world.specs.broker_spec.Readings.{publication_in}
+use Rattle.byte_world.specs.broker_spec.Received.{is_exactly_once, is_new}
+use Rattle.byte_world.specs.broker_spec.TakenLaws.{takes_publication}
+use Rattle.byte_world.specs.broker_spec.Times.{entries_of}
 use Rattle.byte_world.proofs.of_broker_base.EntersOnce.{enters_once}
 use Rattle.byte_world.proofs.of_broker_base.EntersWhereTaken.{enters_where_taken}
 use Rattle.byte_world.proofs.of_broker_base.MarksOfPlaces.{AreMarked}

@@ -10,7 +10,7 @@ use Rattle.byte_world.specs.packet.Spelling.{IsPacket, spelling}
 use Rattle.byte_world.specs.packet.Subscribe.{FitsSubscription}
 use Rattle.byte_world.specs.packet_base.Spelling.{IsId}
 use Rattle.byte_world.specs.exactly_once.Rows.{asks_for_news, news}
-use Rattle.byte_world.specs.exactly_once.Story.Happens.{publishes_one, subscribes}
+use Rattle.byte_world.specs.exactly_once.Story.StoryStep.{publishes_one, subscribes}
 use Rattle.headline.specs.Rows.{APublicationIsAccepted, list_done}
 use Rattle.headline.proofs.RowGoes.{row_arrives, row_calls, row_down, row_handles, row_up}
 use Rattle.headline.proofs.ServedNode.{both, it_completes, it_grants, it_hands, it_releases, it_takes, list_published, list_released, list_subscribed, publish, serving, suback, subscribe}

@@ -6,13 +6,13 @@ use Rattle.byte_world.specs.packet.Verdict.{verdict}
 use Rattle.byte_world.specs.packet.declared.packet.Packet.{Packet}
 use Rattle.byte_world.proofs.of_packet.OneSpelling.{spelling_is}
 use Rattle.byte_world.proofs.of_packet.PacketReads.{verdict_again}
-use Rattle.byte_world.specs.broker_base.Commands.{usual_limits}
-use Rattle.byte_world.specs.broker_base.Connection.{ConnectionName}
+use Rattle.byte_world.specs.broker_spec.Commands.{usual_limits}
+use Rattle.byte_world.specs.broker_spec.Connection.{ConnectionName}
 use Rattle.byte_world.specs.client_base.Handled.{handled}
 use Rattle.byte_world.specs.client_base.Keeper.{Keeper}
 use Rattle.byte_world.specs.exactly_once.Rows.{writer}
 use Rattle.byte_world.specs.exactly_once.Sides.{Connection, Side}
-use Rattle.byte_world.specs.exactly_once.Story.{Happens, Story}
+use Rattle.byte_world.specs.exactly_once.Story.{StoryStep, Story}
 use Rattle.byte_world.specs.packet_world.Goes.{is_call}
 use Rattle.byte_world.specs.world_base.declared.item.Item.TheVariants.{Bytes}
 use Rattle.byte_world.specs.world_base.declared.Port.{Port}
@@ -20,38 +20,38 @@ use Rattle.byte_world.specs.world_base.Core.{CoreState}
 use Rattle.byte_world.specs.node_moves.Moves.{NodeCall, done}
 use Rattle.byte_world.specs.node_moves.Moves.NodeCall.{takes, gives}
 use Rattle.byte_world.specs.node_moves.Puts.{spelled}
-use Rattle.byte_world.specs.node_group.Group.{Group, behind_turn, with_record}
+use Rattle.byte_world.specs.node_group.Group.{Group, after_turn, with_record}
 use Rattle.byte_world.specs.node_group.Putting.{recorded_in}
 use Rattle.byte_world.specs.node_group.Goes.{all_given}
-use Rattle.byte_world.specs.node_group.Goes.MayGo.{node_acts}
+use Rattle.byte_world.specs.node_group.Goes.GroupStep.{node_acts}
 use Rattle.byte_world.proofs.of_node_group.Placed.{get_of_set}
 use Rattle.byte_world.specs.node_group.Streams.{goes_down}
-use Rattle.byte_world.specs.Deeds.{DeedWasSent}
+use Rattle.byte_world.specs.NodeCalls.{NodeCallWasSent}
 use Rattle.byte_world.specs.Goes.{CanBeSpelled, Does, Reached, going_with, story_alone}
 use Rattle.byte_world.specs.Goes.Reached.{goes_on}
 use Rattle.byte_world.specs.Goes.WorldStep.{calls, comes_up, goes_down as step_down, arrives, handles}
 use Rattle.byte_world.specs.World.{ClientPipes, Pipe, World, after_writing, newly_written}
-use Rattle.byte_world.proofs.DeedsCarry.{deeds_carry_their_bytes}
+use Rattle.byte_world.proofs.NodeCallsCarry.{node_calls_carry_their_bytes}
 use Rattle.headline.specs.Rows.{one_node}
 
 -- ---- a call of a node
 
-pub record Turned (g : Group) (n : ℕ) (deed : NodeCall) (core later : CoreState) : Type 0 where
-  pub does : Does g (Some (n, deed))
-  pub stands : slice_get does.behind.nodes n ≡ Some later
-  pub down : (x : ConnectionName) → goes_down x does.step ≡ going_with x deed core
+pub record Turned (g : Group) (n : ℕ) (node_call : NodeCall) (core later : CoreState) : Type 0 where
+  pub does : Does g (Some (n, node_call))
+  pub stands : slice_get does.after.nodes n ≡ Some later
+  pub down : (x : ConnectionName) → goes_down x does.step ≡ going_with x node_call core
 
-pub turned : (g : Group) (n : ℕ) (deed : NodeCall) (core later : CoreState) → slice_get g.nodes n ≡ Some core → DeedWasSent g n core deed → (done deed core).core ≡ later → Turned g n deed core later
-turned g n deed core later at sent is =
-    let r = deeds_carry_their_bytes g n deed core sent in
+pub turned : (g : Group) (n : ℕ) (node_call : NodeCall) (core later : CoreState) → slice_get g.nodes n ≡ Some core → NodeCallWasSent g n core node_call → (done node_call core).core ≡ later → Turned g n node_call core later
+turned g n node_call core later at sent is =
+    let r = node_calls_carry_their_bytes g n node_call core sent in
     record {
       does = record {
-        behind = behind_turn (with_record g (recorded_in g.archive r.run)) n (done deed core) (all_given r.run);
-        step = node_acts n core deed (done deed core) r.run at refl r.first r.sent;
+        after = after_turn (with_record g (recorded_in g.archive r.run)) n (done node_call core) (all_given r.run);
+        step = node_acts n core node_call (done node_call core) r.run at refl r.first r.sent;
         is = refl;
         faithful = r.bytes;
       };
-      stands = get_of_set g.nodes n core (done deed core).core at ∙ ap (λ (z : CoreState). Some z) is;
+      stands = get_of_set g.nodes n core (done node_call core).core at ∙ ap (λ (z : CoreState). Some z) is;
       down = λ x. (r.bytes x).1;
     }
 
@@ -82,7 +82,7 @@ module _ {core : CoreState} {keeper : Keeper} {κ : Connection} {up down held : 
   row_up later piece rest now e is =
       let t = turned r.group 0 (takes (Bytes the_port piece now)) core later r.stands tt is in
       record {
-        group = t.does.behind;
+        group = t.does.after;
         trail = goes_on r.trail (comes_up 0 0 (client_with keeper κ (pipe_with up down held)) κ (pipe_with up down held) piece rest now t.does
             (record { client = refl; connection = refl; pipe = refl }) e);
         stands = t.stands;
@@ -94,8 +94,8 @@ module _ {core : CoreState} {keeper : Keeper} {κ : Connection} {up down held : 
   row_down later bytes put is =
       let t = turned r.group 0 (gives the_port) core later r.stands tt is in
       record {
-        group = t.does.behind;
-        trail = subst (λ (l : List ℕ). Reached 1 one_node (writer ∷ []) (world_with t.does.behind (client_with keeper κ (pipe_with up (down ++ l) held)))) (t.down κ.name ∙ put)
+        group = t.does.after;
+        trail = subst (λ (l : List ℕ). Reached 1 one_node (writer ∷ []) (world_with t.does.after (client_with keeper κ (pipe_with up (down ++ l) held)))) (t.down κ.name ∙ put)
             (goes_on r.trail (step_down 0 0 (client_with keeper κ (pipe_with up down held)) κ (pipe_with up down held) t.does
             (record { client = refl; connection = refl; pipe = refl })));
         stands = t.stands;
@@ -129,7 +129,7 @@ module _ {core : CoreState} {keeper : Keeper} {κ : Connection} {up down held : 
       }
 
   -- the client calls, and writes on its connection
-  pub row_calls : (t : Story) (later : Connection) (h : Happens usual_limits (story_alone (client_with keeper κ (pipe_with up down held))) t) → is_call h ≡ true → t.connections ≡ later ∷ []
+  pub row_calls : (t : Story) (later : Connection) (h : StoryStep usual_limits (story_alone (client_with keeper κ (pipe_with up down held))) t) → is_call h ≡ true → t.connections ≡ later ∷ []
       → CanBeSpelled (κ ∷ []) (later ∷ []) → Row core (client_with t.keeper later (pipe_with (up ++ spelled (newly_written (κ ∷ []) (later ∷ []))) down held))
   row_calls t later h call same fits =
       record {

@@ -21,8 +21,8 @@ use Rattle.byte_world.specs.packet_base.TopicFields.{filter_at, topic_at}
 use Rattle.byte_world.specs.session_base.Publication.{publish_of}
 use Rattle.byte_world.specs.ballot.Serving.{added, commit, commit_at, proposed}
 use Rattle.byte_world.specs.machine.Machine.{replay}
-use Rattle.byte_world.specs.broker_base.Command.{Command}
-use Rattle.byte_world.specs.broker_base.Command.TheVariants as commands
+use Rattle.byte_world.specs.broker_spec.declared.command.Command.{Command}
+use Rattle.byte_world.specs.broker_spec.declared.command.Command.TheVariants as commands
 use Rattle.byte_world.specs.world_base.declared.Stage.TheVariants.{Proposed}
 use Rattle.byte_world.specs.world_base.declared.item.Item.TheVariants.{Opened, Bytes}
 use Rattle.byte_world.specs.world_base.Connections.{fresh}

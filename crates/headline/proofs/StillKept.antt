@@ -8,7 +8,7 @@ use Rattle.byte_world.specs.client_base.Keeper.{Keeper, Own}
 use Rattle.byte_world.specs.client_base.State.{ClientState}
 use Rattle.byte_world.specs.client_base.declared.kept_publication.KeptPublication.{KeptPublication}
 use Rattle.byte_world.specs.exactly_once.Items.{Item, value_of}
-use Rattle.byte_world.specs.exactly_once.HandshakeSides.{IsNew}
+use Rattle.byte_world.specs.exactly_once.HandshakeInvariant.{IsNew}
 use Rattle.byte_world.specs.lists.Lists.{Each}
 use Rattle.byte_world.specs.exactly_once.Carried.{is_two, publication_in, publications_of}
 use Rattle.byte_world.specs.exactly_once.Inside.Projections.{items_of_own}
@@ -77,8 +77,8 @@ kept_is keeper state s = ap₂ (λ (a b : List KeptPublication). map publication
 abbrev pub StandFrom : List Publication → ℕ → List Own → Type 0
 StandFrom ps n own = (j : ℕ) → slice_get ps (n + j) ≡ slice_get (publications_of own) j
 
-pub behind : (ps : List Publication) (n : ℕ) (o : Own) (own : List Own) → StandFrom ps n (o ∷ own) → StandFrom ps (suc n) own
-behind ps n o own stand j =
+pub after : (ps : List Publication) (n : ℕ) (o : Own) (own : List Own) → StandFrom ps n (o ∷ own) → StandFrom ps (suc n) own
+after ps n o own stand j =
     let same : n + suc j ≡ suc n + j = omega arith in
     subst (λ (m : ℕ). slice_get ps m ≡ slice_get (publications_of own) j) same (stand (suc j))
 
@@ -101,16 +101,16 @@ pub two_numbered : (ps : List Publication) (n : ℕ) (own : List Own) → AreNum
 two_numbered ps n [] h stand = refl
 two_numbered ps n (Own.Unsent k p id ∷ own) h stand =
     one_two (slice_get ps) (is_two p.qos) (Item.Waits k) k p (items_of_own own) (at_two (publications_of own)) refl (first_is ps n k (Own.Unsent k p id) own h.0 stand)
-    (two_numbered ps (suc n) own h.1 (behind ps n (Own.Unsent k p id) own stand))
+    (two_numbered ps (suc n) own h.1 (after ps n (Own.Unsent k p id) own stand))
 two_numbered ps n (Own.Sent k p id ∷ own) h stand =
     one_two (slice_get ps) (is_two p.qos) (Item.Sent k id) k p (items_of_own own) (at_two (publications_of own)) refl (first_is ps n k (Own.Sent k p id) own h.0 stand)
-    (two_numbered ps (suc n) own h.1 (behind ps n (Own.Sent k p id) own stand))
+    (two_numbered ps (suc n) own h.1 (after ps n (Own.Sent k p id) own stand))
 two_numbered ps n (Own.Released k p id ∷ own) h stand =
     one_two (slice_get ps) (is_two p.qos) (Item.Released k id) k p (items_of_own own) (at_two (publications_of own)) refl (first_is ps n k (Own.Released k p id) own h.0 stand)
-    (two_numbered ps (suc n) own h.2 (behind ps n (Own.Released k p id) own stand))
+    (two_numbered ps (suc n) own h.2 (after ps n (Own.Released k p id) own stand))
 two_numbered ps n (Own.Done k p ∷ own) h stand =
     one_two (slice_get ps) (is_two p.qos) (Item.Finished k) k p (items_of_own own) (at_two (publications_of own)) refl (first_is ps n k (Own.Done k p) own h.0 stand)
-    (two_numbered ps (suc n) own h.1 (behind ps n (Own.Done k p) own stand))
+    (two_numbered ps (suc n) own h.1 (after ps n (Own.Done k p) own stand))
 
 -- one that it keeps, and one that it does not
 one_kept : (get : ℕ → Option Publication) (b : Bool) (k : ℕ) (p : Publication) (item : Item ℕ) (items : List (Item ℕ)) (ps : List Publication)
@@ -129,16 +129,16 @@ kept_numbered : (ps : List Publication) (n : ℕ) (own : List Own) → AreNumber
 kept_numbered ps n [] h stand = refl
 kept_numbered ps n (Own.Unsent k p id ∷ own) h stand =
     one_kept (slice_get ps) (is_two p.qos) k p (Item.Waits k) (items_of_own own) (at_two (kept_own own)) refl (first_is ps n k (Own.Unsent k p id) own h.0 stand)
-    (kept_numbered ps (suc n) own h.1 (behind ps n (Own.Unsent k p id) own stand))
+    (kept_numbered ps (suc n) own h.1 (after ps n (Own.Unsent k p id) own stand))
 kept_numbered ps n (Own.Sent k p id ∷ own) h stand =
     one_kept (slice_get ps) (is_two p.qos) k p (Item.Sent k id) (items_of_own own) (at_two (kept_own own)) refl (first_is ps n k (Own.Sent k p id) own h.0 stand)
-    (kept_numbered ps (suc n) own h.1 (behind ps n (Own.Sent k p id) own stand))
+    (kept_numbered ps (suc n) own h.1 (after ps n (Own.Sent k p id) own stand))
 kept_numbered ps n (Own.Released k p id ∷ own) h stand =
     none_kept (slice_get ps) (is_two p.qos) (Item.Released k id) (items_of_own own) (at_two (kept_own own)) refl
-    (kept_numbered ps (suc n) own h.2 (behind ps n (Own.Released k p id) own stand))
+    (kept_numbered ps (suc n) own h.2 (after ps n (Own.Released k p id) own stand))
 kept_numbered ps n (Own.Done k p ∷ own) h stand =
     none_kept (slice_get ps) (is_two p.qos) (Item.Finished k) (items_of_own own) (at_two (kept_own own)) refl
-    (kept_numbered ps (suc n) own h.1 (behind ps n (Own.Done k p) own stand))
+    (kept_numbered ps (suc n) own h.1 (after ps n (Own.Done k p) own stand))
 
 -- ---- both
 

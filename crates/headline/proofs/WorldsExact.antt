@@ -3,10 +3,10 @@ use Rattle.std.proofs.Common.{◌≡◌, ◌≤◌, ℕ, List, Some, sym, ap, �
 use Rattle.std.specs.Prelude.{slice_get}
 use Rattle.byte_world.specs.session_base.declared.publication.Publication.{Publication}
 use Rattle.byte_world.specs.ballot.Config.{Config}
-use Rattle.byte_world.specs.broker_base.Command.{Command}
-use Rattle.byte_world.specs.broker_base.Commands.{past_of, usual_limits}
-use Rattle.byte_world.specs.broker_base.EndingLaws.{EndsWithTheSession, connects_of}
-use Rattle.byte_world.specs.broker_base.Place.{Client, Past}
+use Rattle.byte_world.specs.broker_spec.declared.command.Command.{Command}
+use Rattle.byte_world.specs.broker_spec.Commands.{past_of, usual_limits}
+use Rattle.byte_world.specs.broker_spec.EndingLaws.{EndsWithTheSession, connects_of}
+use Rattle.byte_world.specs.broker_spec.Place.{Client, Past}
 use Rattle.byte_world.specs.client_base.History as history
 use Rattle.byte_world.specs.client_base.Keeper.{Keeper, all_own}
 use Rattle.byte_world.specs.client_base.State.{ClientState}
@@ -20,7 +20,7 @@ use Rattle.byte_world.proofs.of_packet_world.Lists.{each_by, each_get}
 use Rattle.byte_world.proofs.of_packet_world.WorldsExact.{worlds_are_exact as worlds_beside_are_exact}
 use Rattle.byte_world.specs.world_base.Core.{rules}
 use Rattle.byte_world.specs.node_group.Group.{moment_of}
-use Rattle.byte_world.specs.node_group.Goes.{Went}
+use Rattle.byte_world.specs.node_group.Goes.{GroupTrace}
 use Rattle.byte_world.proofs.of_node_group.Placed.{get_mapped}
 use Rattle.byte_world.specs.Carried.{went_of}
 use Rattle.byte_world.specs.Published.{published_of, published_on}
@@ -41,7 +41,7 @@ use Rattle.headline.proofs.Untaken.{AreSameUntaken}
 use Rattle.headline.proofs.WorldsWrite.{clients_alone, pipes_alone}
 use Rattle.byte_world.specs.exactly_once.Sides.{Connection}
 
-exact_by : {nodes : ℕ} {config : Config} {cs : List Client} → AreApart cs → (w : World) (went : Went nodes config w.group) (s : GoesBeside nodes config cs w went) (agreed : List Command) → IsAgreedSo s.so agreed
+exact_by : {nodes : ℕ} {config : Config} {cs : List Client} → AreApart cs → (w : World) (went : GroupTrace nodes config w.group) (s : GoesBeside nodes config cs w went) (agreed : List Command) → IsAgreedSo s.so agreed
     → IsExactBy agreed w
 exact_by {cs = cs} apart w went s agreed is =
     let exact = worlds_beside_are_exact cs b.world apart b.reached in
@@ -85,7 +85,7 @@ promise_untaken c connections others published past state same p =
     }
 
 -- what is promised for a client by what it shows
-promised : {nodes : ℕ} {config : Config} {cs : List Client} → AreApart cs → (w : World) (went : Went nodes config w.group) (s : GoesBeside nodes config cs w went) (agreed : List Command) → IsAgreedSo s.so agreed
+promised : {nodes : ℕ} {config : Config} {cs : List Client} → AreApart cs → (w : World) (went : GroupTrace nodes config w.group) (s : GoesBeside nodes config cs w went) (agreed : List Command) → IsAgreedSo s.so agreed
     → (published : List Publication) (i : ℕ) (c : ClientPipes) (state : ClientState) → slice_get w.clients i ≡ Some c → publications_of (all_own c.keeper) ≡ published → IsShownBy c state
     → Promise c.connections published agreed state
 promised apart w went s agreed is published i c state at said shown =

@@ -3,9 +3,9 @@ use Rattle.std.proofs.Common.{◌≡◌, ◌≤◌, ◌⊎◌, inl, inr, ℕ, su
 use Rattle.std.specs.Prelude.{slice_get}
 use Rattle.std.proofs.lemmas.Bool.{both_ways}
 use Rattle.byte_world.specs.ballot.Config.{Config}
-use Rattle.byte_world.specs.broker_base.Command.{Command}
-use Rattle.byte_world.specs.broker_base.Command.TheVariants as commands
-use Rattle.byte_world.specs.broker_base.Connection.{ConnectionName}
+use Rattle.byte_world.specs.broker_spec.declared.command.Command.{Command}
+use Rattle.byte_world.specs.broker_spec.declared.command.Command.TheVariants as commands
+use Rattle.byte_world.specs.broker_spec.Connection.{ConnectionName}
 use Rattle.byte_world.specs.client_base.Keeper.{Written}
 use Rattle.byte_world.specs.lists.Lists.{Each, In, IsPrefixOf}
 use Rattle.byte_world.specs.lists.Lists.In.{here, there}
@@ -17,7 +17,7 @@ use Rattle.byte_world.specs.packet_world.Goes.{is_of_connection}
 use Rattle.byte_world.proofs.of_packet_world.Answers.{of_name}
 use Rattle.byte_world.proofs.of_packet_world.Lists.{each_get, stands_within, there_is}
 use Rattle.byte_world.specs.node_moves.Ends.{commands_of}
-use Rattle.byte_world.specs.node_group.Goes.{Went}
+use Rattle.byte_world.specs.node_group.Goes.{GroupTrace}
 use Rattle.byte_world.specs.node_group.Order.{packets_of as packets_in_list}
 use Rattle.byte_world.proofs.of_node_group.Placed.{get_mapped}
 use Rattle.byte_world.specs.World.{ClientPipes, HasPipe, Pipe, World, packets_of}
@@ -67,7 +67,7 @@ none_in x [] front i = elim i [ ]
 
 -- ---- what is agreed
 
-module _ {nodes : ℕ} {config : Config} (w : World) (went : Went nodes config w.group) (holds : Holds w went) (piped : Each HasAllPipes w.clients) (so : CarriedSo went)
+module _ {nodes : ℕ} {config : Config} (w : World) (went : GroupTrace nodes config w.group) (holds : Holds w went) (piped : Each HasAllPipes w.clients) (so : CarriedSo went)
     (agreed : List Command) (is : IsAgreedSo so agreed) where
   -- a connection of a client, with its pipe
   pub record Stands (i j : ℕ) (a : Alone) (κ : Connection) : Type 0 where

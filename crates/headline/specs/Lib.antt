@@ -6,6 +6,7 @@ pub mod Rows
 pub use Rattle.byte_world.specs.agreement as agreement
 pub use Rattle.byte_world.specs.ballot as ballot
 pub use Rattle.byte_world.specs.broker_base as broker_base
+pub use Rattle.byte_world.specs.broker_spec as broker_spec
 pub use Rattle.byte_world.specs as byte_world
 pub use Rattle.byte_world.specs.exactly_once as exactly_once
 pub use Rattle.byte_world.specs.node_group as node_group

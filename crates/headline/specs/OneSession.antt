@@ -2,11 +2,11 @@
 use Rattle.std.specs.Prelude.{◌≡◌, false, List, ◌++◌, map}
 use Rattle.byte_world.specs.lists.Lists.{Each}
 use Rattle.byte_world.specs.session_base.declared.publication.Publication.{Publication}
-use Rattle.byte_world.specs.broker_base.Commands.{usual_limits}
-use Rattle.byte_world.specs.broker_base.Entries.{Entry}
-use Rattle.byte_world.specs.broker_base.Place.{Client, Past}
-use Rattle.byte_world.specs.broker_base.Readings.{publication_in}
-use Rattle.byte_world.specs.broker_base.Times.{entries_of}
+use Rattle.byte_world.specs.broker_spec.Commands.{usual_limits}
+use Rattle.byte_world.specs.broker_spec.Entries.{Entry}
+use Rattle.byte_world.specs.broker_spec.Place.{Client, Past}
+use Rattle.byte_world.specs.broker_spec.Readings.{publication_in}
+use Rattle.byte_world.specs.broker_spec.Times.{entries_of}
 use Rattle.byte_world.specs.client_base.State.{ClientState}
 use Rattle.byte_world.specs.exactly_once.Acceptance.{is_released, two_entries}
 use Rattle.byte_world.specs.exactly_once.InStep.{IsFirstSession}

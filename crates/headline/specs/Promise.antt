@@ -6,17 +6,17 @@ use Rattle.byte_world.specs.packet.declared.packet.Packet.TheVariants as packets
 use Rattle.byte_world.specs.packet.declared.publish.Publish.{Publish}
 use Rattle.byte_world.specs.session_base.Publication.{publication_of}
 use Rattle.byte_world.specs.session_base.declared.publication.Publication.{Publication}
-use Rattle.byte_world.specs.broker_base.Command.{Command}
-use Rattle.byte_world.specs.broker_base.Command.TheVariants as commands
-use Rattle.byte_world.specs.broker_base.Commands.{past_of, usual_limits}
-use Rattle.byte_world.specs.broker_base.Connection.{ConnectionName}
-use Rattle.byte_world.specs.broker_base.EndingLaws.{EndsWithTheSession, StandsAt, connects_of}
-use Rattle.byte_world.specs.broker_base.OriginLaws.{is_from_publish}
-use Rattle.byte_world.specs.broker_base.Place.{Client, Mark, Past, Place}
-use Rattle.byte_world.specs.broker_base.Readings.{publication_in}
-use Rattle.byte_world.specs.broker_base.Subscriptions.{effective_qos}
-use Rattle.byte_world.specs.broker_base.TakenLaws.{queued_at, takes_publication}
-use Rattle.byte_world.specs.broker_base.Times.{entries_of}
+use Rattle.byte_world.specs.broker_spec.declared.command.Command.{Command}
+use Rattle.byte_world.specs.broker_spec.declared.command.Command.TheVariants as commands
+use Rattle.byte_world.specs.broker_spec.Commands.{past_of, usual_limits}
+use Rattle.byte_world.specs.broker_spec.Connection.{ConnectionName}
+use Rattle.byte_world.specs.broker_spec.EndingLaws.{EndsWithTheSession, StandsAt, connects_of}
+use Rattle.byte_world.specs.broker_spec.OriginLaws.{is_from_publish}
+use Rattle.byte_world.specs.broker_spec.Place.{Client, Mark, Past, Place}
+use Rattle.byte_world.specs.broker_spec.Readings.{publication_in}
+use Rattle.byte_world.specs.broker_spec.Subscriptions.{effective_qos}
+use Rattle.byte_world.specs.broker_spec.TakenLaws.{queued_at, takes_publication}
+use Rattle.byte_world.specs.broker_spec.Times.{entries_of}
 use Rattle.byte_world.specs.client_base.State.{ClientState}
 use Rattle.byte_world.specs.exactly_once.InStep.{AreWelcome, IsFirstSession, sessions_begun}
 use Rattle.byte_world.specs.exactly_once.Sides.{Connection}

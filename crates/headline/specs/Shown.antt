@@ -8,18 +8,18 @@ use Rattle.byte_world.specs.packet.declared.packet.Packet.TheVariants as packets
 use Rattle.byte_world.specs.packet.declared.publish.Publish.{Publish}
 use Rattle.byte_world.specs.session_base.Publication.{publication_of}
 use Rattle.byte_world.specs.session_base.declared.publication.Publication.{Publication}
-use Rattle.byte_world.specs.broker_base.Answers.{answers_at}
-use Rattle.byte_world.specs.broker_base.Command.{Command}
-use Rattle.byte_world.specs.broker_base.Command.TheVariants as commands
-use Rattle.byte_world.specs.broker_base.Commands.{usual_limits}
-use Rattle.byte_world.specs.broker_base.Connection.{ConnectionName}
-use Rattle.byte_world.specs.broker_base.EndingLaws.{StandsAt}
-use Rattle.byte_world.specs.broker_base.Entries.{Entry}
-use Rattle.byte_world.specs.broker_base.Output.TheVariants.{Send}
-use Rattle.byte_world.specs.broker_base.Owner.{owner_of}
-use Rattle.byte_world.specs.broker_base.Place.{Client, Mark, Past, Place, same_client}
-use Rattle.byte_world.specs.broker_base.Readings.{publication_in}
-use Rattle.byte_world.specs.broker_base.Received.{is_exactly_once}
+use Rattle.byte_world.specs.broker_spec.Answers.{answers_at}
+use Rattle.byte_world.specs.broker_spec.declared.command.Command.{Command}
+use Rattle.byte_world.specs.broker_spec.declared.command.Command.TheVariants as commands
+use Rattle.byte_world.specs.broker_spec.Commands.{usual_limits}
+use Rattle.byte_world.specs.broker_spec.Connection.{ConnectionName}
+use Rattle.byte_world.specs.broker_spec.EndingLaws.{StandsAt}
+use Rattle.byte_world.specs.broker_spec.Entries.{Entry}
+use Rattle.byte_world.specs.broker_spec.declared.command.Output.TheVariants.{Send}
+use Rattle.byte_world.specs.broker_spec.Owner.{owner_of}
+use Rattle.byte_world.specs.broker_spec.Place.{Client, Mark, Past, Place, same_client}
+use Rattle.byte_world.specs.broker_spec.Readings.{publication_in}
+use Rattle.byte_world.specs.broker_spec.Received.{is_exactly_once}
 use Rattle.byte_world.specs.client_base.State.{ClientState}
 use Rattle.byte_world.specs.client_base.declared.kept_publication.KeptPublication.{KeptPublication}
 use Rattle.byte_world.specs.exactly_once.Carried.{is_two}

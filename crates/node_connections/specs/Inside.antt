@@ -22,7 +22,7 @@ Reads bytes fronts.More left = (verdict bytes ≡ Err stops.More) × (left ≡ b
 Reads bytes (fronts.Packet packet) left = (verdict bytes ≡ Ok (packet, left)) × IsSized packet
 Reads bytes (fronts.Refused code) left = verdict bytes ≡ Err (stops.Refused code)
 Reads bytes fronts.Fault left = IsFault (verdict bytes)
-Reads bytes fronts.Wanting left = Unit {0}
+Reads bytes fronts.OutOfMemory left = Unit {0}
 
 -- what reading the next packet at this time does to a connection
 abbrev pub TakesFront : ℕ → Connection → Front → Connection → Type 0
@@ -33,4 +33,4 @@ TakesFront now old (fronts.Refused code) new =
     (verdict old.unread ≡ Err (stops.Refused code))
     × (new ≡ (if is_first old.stage then refused code old else closed old))
 TakesFront now old fronts.Fault new = IsFault (verdict old.unread) × (new ≡ closed old)
-TakesFront now old fronts.Wanting new = new ≡ closed old
+TakesFront now old fronts.OutOfMemory new = new ≡ closed old

@@ -197,10 +197,10 @@ impl Connection {
                 if !self.is_first() {
                     self.close();
                 } else if !self.refuse(code) {
-                    return Front::Wanting;
+                    return Front::OutOfMemory;
                 }
             }
-            Front::Fault | Front::Wanting => self.close(),
+            Front::Fault | Front::OutOfMemory => self.close(),
         }
         front
     }

@@ -14,5 +14,5 @@ pub enum Front {
     /// No packet.
     Fault,
     /// There was no memory to read it.
-    Wanting,
+    OutOfMemory,
 }

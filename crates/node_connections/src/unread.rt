@@ -56,7 +56,7 @@ impl Unread {
         match self.cutter.next() {
             Ok(None) => Front::More,
             Ok(Some(packet)) => Front::Packet(packet),
-            Err(CutError::Memory) => Front::Wanting,
+            Err(CutError::Memory) => Front::OutOfMemory,
             Err(error) => {
                 // The stream has failed: nothing more is read from it.
                 self.cutter = Cutter::new(self.alloc);

@@ -3,8 +3,8 @@
 use Rattle.std.proofs.Common.{◌≡◌, false, refl, ap, ◌∙◌}
 use Rattle.node_moves.specs.ballot.Replica.{ReplicaState}
 use Rattle.packet_world.specs.broker_base.State.{State}
-use Rattle.packet_world.specs.broker_base.Command.{Command}
-use Rattle.packet_world.specs.broker_base.Command.TheVariants as commands
+use Rattle.packet_world.specs.broker_spec.declared.command.Command.{Command}
+use Rattle.packet_world.specs.broker_spec.declared.command.Command.TheVariants as commands
 use Rattle.node_moves.specs.world_base.Connections.{asked, closed, failing, left_with}
 use Rattle.node_moves.specs.world_base.Core.{CoreState, Turn, rules}
 use Rattle.node_moves.specs.world_base.Lossy.{Account, Takes}

@@ -5,9 +5,9 @@ use Rattle.std.proofs.lemmas.List.{append-nil}
 use Rattle.packet_world.specs.packet.declared.packet.Packet.{Packet}
 use Rattle.node_moves.specs.ballot.Config.{Config}
 use Rattle.node_moves.specs.ballot.Effect.{Effect}
-use Rattle.packet_world.specs.broker_base.Command.{Command}
-use Rattle.packet_world.specs.broker_base.Connection.{ConnectionName}
-use Rattle.packet_world.specs.broker_base.Output.{Output}
+use Rattle.packet_world.specs.broker_spec.declared.command.Command.{Command}
+use Rattle.packet_world.specs.broker_spec.Connection.{ConnectionName}
+use Rattle.packet_world.specs.broker_spec.declared.command.Output.{Output}
 use Rattle.packet_world.specs.broker_base.State.{State}
 use Rattle.packet_world.specs.lists.Lists.{Each, In, IsPrefixOf}
 use Rattle.packet_world.specs.lists.Lists.In.{here}
@@ -26,10 +26,10 @@ use Rattle.node_moves.specs.LossyRuns.{came_with}
 use Rattle.node_moves.specs.LossyRuns.{bytes_on as bytes_losing}
 use Rattle.node_moves.proofs.Kept.{named}
 use Rattle.node_moves.proofs.ProposesInOrder.{commands_join, front_of}
-use Rattle.node_group.specs.Group.{Group, behind_turn, moment_of, opening_cores, opening_group, with_master, with_record}
-use Rattle.node_group.specs.Goes.{MayGo, Went, all_put, behind_assign, groups_of, put_in_run, put_in_step}
-use Rattle.node_group.specs.Goes.MayGo.{node_acts, node_loses, master_assigns, master_hears, assigns_unheard, answers_unheard}
-use Rattle.node_group.specs.Goes.Went.{opened, then_went}
+use Rattle.node_group.specs.Group.{Group, after_turn, moment_of, opening_cores, opening_group, with_master, with_record}
+use Rattle.node_group.specs.Goes.{GroupStep, GroupTrace, all_put, after_assign, groups_of, put_in_run, put_in_step}
+use Rattle.node_group.specs.Goes.GroupStep.{node_acts, node_loses, master_assigns, master_hears, assigns_unheard, answers_unheard}
+use Rattle.node_group.specs.Goes.GroupTrace.{opened, then_went}
 use Rattle.node_group.specs.Losing.{WereSent}
 use Rattle.node_group.specs.Losing.{all_given as given_losing, put_in_run as put_losing}
 use Rattle.node_group.specs.Putting.{recorded_in}
@@ -76,25 +76,25 @@ master_steps {config = config} g h {earlier = earlier} came same f =
     let xs = has_agreed rules config (moment_of g) earlier came in
     record {
       further = f;
-      keeps_each = λ x written later put sent is each good ys behind.
+      keeps_each = λ x written later put sent is each good ys after.
           subst (λ (l : List (ℕ × Command)). Stands x written later h (moment_of h ∷ f.before) l (sent ++ []) ys) (sym (append-nil put))
           (subst (λ (l : List ℕ). Stands x written later h (moment_of h ∷ f.before) put l ys) (sym (append-nil sent))
-          (nodes_stay g h (moment_of g ∷ earlier) (moment_of h ∷ f.before) xs.0 ys same f.kept (f.grows xs.0 ys xs.1 behind) (good xs.0 xs.1)));
+          (nodes_stay g h (moment_of g ∷ earlier) (moment_of h ∷ f.before) xs.0 ys same f.kept (f.grows xs.0 ys xs.1 after) (good xs.0 xs.1)));
     }
 
-pub assigned_nodes : (g : Group) (config : Config) (why : Option AssignRefusal) → (with_master (behind_assign g config why) (master_after g.master config why)).nodes ≡ g.nodes
+pub assigned_nodes : (g : Group) (config : Config) (why : Option AssignRefusal) → (with_master (after_assign g config why) (master_behind g.master config why)).nodes ≡ g.nodes
 assigned_nodes g config None = refl
 assigned_nodes g config (Some why) = refl
 
 -- ---- each step
 
-group_steps : {config : Config} (g h : Group) (step : MayGo g h) {earlier : List (Moment State Command Output)} (came : Past rules config (moment_of g ∷ earlier)) → Each IsWell g.nodes
+group_steps : {config : Config} (g h : Group) (step : GroupStep g h) {earlier : List (Moment State Command Output)} (came : Past rules config (moment_of g ∷ earlier)) → Each IsWell g.nodes
     → Steps g came h (put_in_step step) (λ x. comes_up x step) (λ x. goes_down x step)
-group_steps g h (node_acts n core deed turn run at is first sent) came well =
+group_steps g h (node_acts n core node_call turn run at is first sent) came well =
     let mine = each_got IsWell g.nodes n core well at in
-    subst (λ (given : List (Effect Command Output)). Steps g came (behind_turn (with_record g (recorded_in g.archive run)) n turn given) (put_in_run run) (λ x. bytes_on x run)
+    subst (λ (given : List (Effect Command Output)). Steps g came (after_turn (with_record g (recorded_in g.archive run)) n turn given) (put_in_run run) (λ x. bytes_on x run)
     (λ x. handed_in_run x run)) (same_given run)
-    (subst (λ (archive : List Command). Steps g came (behind_turn (with_record g archive) n turn (given_losing (losing_none run))) (put_in_run run) (λ x. bytes_on x run)
+    (subst (λ (archive : List Command). Steps g came (after_turn (with_record g archive) n turn (given_losing (losing_none run))) (put_in_run run) (λ x. bytes_on x run)
     (λ x. handed_in_run x run)) (same_recorded g.archive run)
     (steps_as came (put_losing (losing_none run)) (put_in_run run) (λ x. bytes_losing x (losing_none run)) (λ x. bytes_on x run) (λ x. handed_losing x (losing_none run))
     (λ x. handed_in_run x run) (same_put run) (λ x. same_bytes x run) (λ x. same_handed x run)
@@ -122,21 +122,21 @@ no_connections (suc n) config =
     each_append (λ (core : CoreState). core.connections ≡ []) (opening_cores n config) (opening_core (n + 1) config ∷ []) (no_connections n config) (refl, tt)
 
 -- a past of the group, and the state of each connection by what is agreed at its end
-pub record CarriedSo {nodes : ℕ} {config : Config} {g : Group} (went : Went nodes config g) : Type 0 where
+pub record CarriedSo {nodes : ℕ} {config : Config} {g : Group} (went : GroupTrace nodes config g) : Type 0 where
   pub of : HasPast config g (groups_of went) (all_put went)
   pub good : (x : ConnectionName) (written : List Packet) (later : List ℕ) → Joins written (came_up x went ++ later)
       → Good config x written later g (moment_of g ∷ of.earlier) (all_put went) (went_down x went)
 
 -- what is agreed in it
-abbrev pub IsAgreedSo : {nodes : ℕ} {config : Config} {g : Group} {went : Went nodes config g} → CarriedSo went → List Command → Type 0
+abbrev pub IsAgreedSo : {nodes : ℕ} {config : Config} {g : Group} {went : GroupTrace nodes config g} → CarriedSo went → List Command → Type 0
 IsAgreedSo {config = config} {g = g} so agreed = IsAgreed config (moment_of g ∷ so.of.earlier) agreed
 
 -- it continues by a step, and what is agreed grows
-pub record CarriedOn {nodes : ℕ} {config : Config} {g h : Group} {went : Went nodes config g} (before : CarriedSo went) (step : MayGo g h) : Type 0 where
+pub record CarriedOn {nodes : ℕ} {config : Config} {g h : Group} {went : GroupTrace nodes config g} (before : CarriedSo went) (step : GroupStep g h) : Type 0 where
   pub now : CarriedSo (then_went went step)
   pub grows : (xs ys : List Command) → IsAgreedSo before xs → IsAgreedSo now ys → IsPrefixOf xs ys
 
-pub carried_at_first : (nodes : ℕ) (config : Config) (can : can_open nodes config ≡ true) → CarriedSo (let went : Went nodes config (opening_group nodes config) = opened can in went)
+pub carried_at_first : (nodes : ℕ) (config : Config) (can : can_open nodes config ≡ true) → CarriedSo (let went : GroupTrace nodes config (opening_group nodes config) = opened can in went)
 carried_at_first nodes config can =
     record {
       of = groups_are_pasts nodes config (opening_group nodes config) (opened can);
@@ -149,7 +149,7 @@ carried_at_first nodes config can =
           });
     }
 
-pub carried_on : {nodes : ℕ} {config : Config} (g h : Group) (went : Went nodes config g) (before : CarriedSo went) (step : MayGo g h) → CarriedOn before step
+pub carried_on : {nodes : ℕ} {config : Config} (g h : Group) (went : GroupTrace nodes config g) (before : CarriedSo went) (step : GroupStep g h) → CarriedOn before step
 carried_on {nodes = nodes} {config = config} g h went before step =
     let is : IsPut before.of.past (all_put went) = record { proposed = before.of.proposed; taken = before.of.taken } in
     let s = group_steps g h step before.of.past (all_well nodes config g went).0 in
@@ -171,7 +171,7 @@ carried_on {nodes = nodes} {config = config} g h went before step =
     }
 
 -- the same holds for all steps
-pub carried_so : {nodes : ℕ} {config : Config} {g : Group} (went : Went nodes config g) → CarriedSo went
+pub carried_so : {nodes : ℕ} {config : Config} {g : Group} (went : GroupTrace nodes config g) → CarriedSo went
 carried_so {nodes = nodes} {config = config} (opened can) = carried_at_first nodes config can
 carried_so {g = h} (then_went {g = g} went step) = (carried_on g h went (carried_so went) step).now
 
@@ -193,7 +193,7 @@ carried x written later g moments put sent agreed said (inr held) =
       down = down_front held.sent;
     }
 
-pub carries_each : {nodes : ℕ} {config : Config} (g : Group) (went : Went nodes config g) (so : CarriedSo went) (agreed : List Command) → IsAgreedSo so agreed → (x : ConnectionName)
+pub carries_each : {nodes : ℕ} {config : Config} (g : Group) (went : GroupTrace nodes config g) (so : CarriedSo went) (agreed : List Command) → IsAgreedSo so agreed → (x : ConnectionName)
     (written : List Packet) (later : List ℕ) → Joins written (came_up x went ++ later) → IsCarried x written (went_down x went) agreed
 carries_each {nodes = nodes} {config = config} g went so agreed is x written later joined =
     carried x written later g (moment_of g ∷ so.of.earlier) (all_put went) (went_down x went) agreed

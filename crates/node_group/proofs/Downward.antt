@@ -3,8 +3,8 @@ use Rattle.std.proofs.Common.{◌≡◌, ◌≤◌, ℕ, Bool, true, false, List
 use Rattle.std.proofs.lemmas.Bool.{both_ways}
 use Rattle.std.proofs.lemmas.List.{append-nil}
 use Rattle.node_moves.specs.ballot.Replica.{ReplicaState, is_active}
-use Rattle.packet_world.specs.broker_base.Command.{Command}
-use Rattle.packet_world.specs.broker_base.Connection.{ConnectionName}
+use Rattle.packet_world.specs.broker_spec.declared.command.Command.{Command}
+use Rattle.packet_world.specs.broker_spec.Connection.{ConnectionName}
 use Rattle.packet_world.specs.broker_base.State.{State}
 use Rattle.packet_world.specs.lists.Lists.{IsPrefixOf}
 use Rattle.packet_world.proofs.of_lists.Beginnings.{prefix_length, prefix_take, prefix_then, take_prefix}

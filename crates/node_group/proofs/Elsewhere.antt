@@ -6,9 +6,9 @@ use Rattle.packet_world.specs.packet.Verdict.{verdict}
 use Rattle.packet_world.specs.packet.declared.packet.Packet.{Packet}
 use Rattle.packet_world.proofs.of_packet.MoreBytes.{faults_stay_so}
 use Rattle.packet_world.proofs.of_packet.PacketReads.{verdict_again}
-use Rattle.packet_world.specs.broker_base.Command.{Command}
-use Rattle.packet_world.specs.broker_base.Command.TheVariants as commands
-use Rattle.packet_world.specs.broker_base.Connection.{ConnectionName, same_connection}
+use Rattle.packet_world.specs.broker_spec.declared.command.Command.{Command}
+use Rattle.packet_world.specs.broker_spec.declared.command.Command.TheVariants as commands
+use Rattle.packet_world.specs.broker_spec.Connection.{ConnectionName, same_connection}
 use Rattle.node_moves.specs.cutter.Pipe.{Joins}
 use Rattle.packet_world.specs.exactly_once.Story.{is_packet_of}
 use Rattle.node_moves.specs.world_base.declared.Port.{Port}

@@ -3,7 +3,7 @@ use Rattle.std.proofs.Common.{◌≡◌, ◌⊎◌, inl, inr, ℕ, Bool, true, f
 use Rattle.std.specs.List.{find, list_any}
 use Rattle.std.proofs.lemmas.Bool.{both_ways}
 use Rattle.std.proofs.lemmas.List.{append-nil}
-use Rattle.packet_world.specs.broker_base.Connection.{ConnectionName, is_connection_name}
+use Rattle.packet_world.specs.broker_spec.Connection.{ConnectionName, is_connection_name}
 use Rattle.packet_world.specs.lists.Lists.{IsPrefixOf}
 use Rattle.packet_world.proofs.of_lists.Beginnings.{prefix_same}
 use Rattle.node_moves.specs.world_base.declared.Port.{Port}
@@ -22,7 +22,7 @@ use Rattle.node_moves.proofs.Kept.{live, named, named_kept}
 use Rattle.node_moves.proofs.LossyShuts.{lossy_shuts, sent_in}
 use Rattle.node_moves.proofs.NothingOnClosed.{found_pushed, move_shuts}
 use Rattle.node_moves.proofs.NothingOnClosed.{sent_in as exactly_sent}
-use Rattle.node_moves.proofs.OpenBehind.{found_front}
+use Rattle.node_moves.proofs.OpenAfter.{found_front}
 use Rattle.node_moves.proofs.Shut.{Shuts, all, found_filtered, found_mapped, shuts_same}
 use Rattle.node_moves.proofs.Shut.Shuts.{nobody, stays_open, is_shut, was_shut}
 use Rattle.node_moves.proofs.Views.{one_changed, one_mapped, same_some, some_none, view, view_of_changed, view_of_others}

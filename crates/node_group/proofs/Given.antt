@@ -1,9 +1,9 @@
 -- A name that a node gave stays given, whatever it does.
 use Rattle.std.proofs.Common.{◌≡◌, Bool, true, false, not, ◌&&◌, if◌then◌else◌, [], ◌∷◌, ◌++◌, refl, sym, ◌∙◌, subst}
 use Rattle.std.specs.List.{list_any}
-use Rattle.packet_world.specs.broker_base.Command.{Command}
-use Rattle.packet_world.specs.broker_base.Command.TheVariants as commands
-use Rattle.packet_world.specs.broker_base.Connection.{ConnectionName, is_connection_name}
+use Rattle.packet_world.specs.broker_spec.declared.command.Command.{Command}
+use Rattle.packet_world.specs.broker_spec.declared.command.Command.TheVariants as commands
+use Rattle.packet_world.specs.broker_spec.Connection.{ConnectionName, is_connection_name}
 use Rattle.node_moves.specs.world_base.declared.Port.{Port}
 use Rattle.node_moves.specs.world_base.declared.Connection.{Connection}
 use Rattle.node_moves.specs.world_base.Connections.{asked, closed, failing, fresh, is_at, left_with}
@@ -28,8 +28,8 @@ unfolding changes
 same_last port f core = refl
 
 -- a command is proposed after a change
-behind : (command : Command) (core between : CoreState) → IsOrderly between → between.last_name ≡ core.last_name → (proposes command between).core.last_name ≡ core.last_name
-behind command core between o same = (stays_proposed command between o).last ∙ same
+after : (command : Command) (core between : CoreState) → IsOrderly between → between.last_name ≡ core.last_name → (proposes command between).core.last_name ≡ core.last_name
+after command core between o same = (stays_proposed command between o).last ∙ same
 
 by_same : (x : ConnectionName) (core later : CoreState) → later.last_name ≡ core.last_name → IsGiven core.last_name x → IsGiven later.last_name x
 by_same x core later same given = subst (λ (y : ConnectionName). IsGiven y x) (sym same) given
@@ -50,18 +50,18 @@ exactly_given x core turn (holds port piece) o given = by_same x core turn.core 
 exactly_given x core turn (reads_first now port c connect rest at first is room) o given =
     let left : CoreState = changes port (left_with now rest) core in
     by_same x core turn.core
-    (behind _ core (changes port (asked connect.keep_alive) left) (at_orderly port (asked connect.keep_alive) left (at_orderly port (left_with now rest) core o (λ d. refl)) (λ d. refl))
+    (after _ core (changes port (asked connect.keep_alive) left) (at_orderly port (asked connect.keep_alive) left (at_orderly port (left_with now rest) core o (λ d. refl)) (λ d. refl))
     (same_last port (asked connect.keep_alive) left ∙ same_last port (left_with now rest) core)) given
 exactly_given x core turn (reads_later now port c packet rest at later is room) o given =
     by_same x core turn.core
-    (behind _ core (changes port (left_with now rest) core) (at_orderly port (left_with now rest) core o (λ d. refl)) (same_last port (left_with now rest) core)) given
+    (after _ core (changes port (left_with now rest) core) (at_orderly port (left_with now rest) core o (λ d. refl)) (same_last port (left_with now rest) core)) given
 exactly_given x core turn (closes port) o given = by_same x core turn.core (same_last port closed core) given
 exactly_given x core turn (refuses port c code at first is) o given = by_same x core turn.core (same_last port _ core) given
 exactly_given x core turn (loses_one port c at asked_before) o given =
-    by_same x core turn.core (behind (commands.Lost c.name) core (changes port closed core) (at_orderly port closed core o (λ d. refl)) (same_last port closed core)) given
+    by_same x core turn.core (after (commands.Lost c.name) core (changes port closed core) (at_orderly port closed core o (λ d. refl)) (same_last port closed core)) given
 exactly_given x core turn (loses_next c at) o given =
-    by_same x core turn.core (behind (commands.Lost c.name) core (closes_failed core) (stays_failed core o).orderly refl) given
-exactly_given x core turn (expels_one client) o given = by_same x core turn.core (behind (commands.Expel client) core core o refl) given
+    by_same x core turn.core (after (commands.Lost c.name) core (closes_failed core) (stays_failed core o).orderly refl) given
+exactly_given x core turn (expels_one client) o given = by_same x core turn.core (after (commands.Expel client) core core o refl) given
 exactly_given x core turn (cuts_log can) o given = by_same x core turn.core (stays_cut core o).last given
 exactly_given x core turn crashes o given = by_same x core turn.core (stays_crashed core o).last given
 exactly_given x core turn settles o given = by_same x core turn.core (stays_settled core o).last given

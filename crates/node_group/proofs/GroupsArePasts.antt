@@ -4,19 +4,19 @@ use Rattle.packet_world.specs.lists.Lists.{Each, In}
 use Rattle.packet_world.specs.lists.Lists.In.{here}
 use Rattle.node_moves.specs.ballot.Config.{Config}
 use Rattle.packet_world.specs.broker_base.State.{State}
-use Rattle.packet_world.specs.broker_base.Command.{Command}
-use Rattle.packet_world.specs.broker_base.Output.{Output}
-use Rattle.packet_world.specs.agreement.MasterState.{AssignRefusal, MasterState, master_after, opening_master, refusal}
+use Rattle.packet_world.specs.broker_spec.declared.command.Command.{Command}
+use Rattle.packet_world.specs.broker_spec.declared.command.Output.{Output}
+use Rattle.packet_world.specs.agreement.MasterState.{AssignRefusal, MasterState, master_behind, opening_master, refusal}
 use Rattle.packet_world.specs.snapshots.Past.{Moment, Past, opening_moment}
 use Rattle.packet_world.specs.snapshots.Past.Past.{began}
 use Rattle.packet_world.specs.snapshots.Steps.{world_after}
 use Rattle.packet_world.specs.snapshots.Steps.MayHappen.{master_assigns, master_hears, assignment_lost, answer_lost}
 use Rattle.packet_world.specs.snapshots.World.{World}
 use Rattle.node_moves.specs.world_base.Core.{rules}
-use Rattle.node_group.specs.Group.{Group, behind_turn, moment_of, opening_group, with_master, with_record}
-use Rattle.node_group.specs.Goes.{MayGo, all_given, all_put, behind_assign, groups_of, put_in_step}
-use Rattle.node_group.specs.Goes.MayGo.{node_acts, node_loses, master_assigns as assigns, master_hears as hears_master, assigns_unheard, answers_unheard}
-use Rattle.node_group.specs.Goes.Went.{opened, then_went}
+use Rattle.node_group.specs.Group.{Group, after_turn, moment_of, opening_group, with_master, with_record}
+use Rattle.node_group.specs.Goes.{GroupStep, all_given, all_put, after_assign, groups_of, put_in_step}
+use Rattle.node_group.specs.Goes.GroupStep.{node_acts, node_loses, master_assigns as assigns, master_hears as hears_master, assigns_unheard, answers_unheard}
+use Rattle.node_group.specs.Goes.GroupTrace.{opened, then_went}
 use Rattle.node_group.specs.Losing.{WereSent}
 use Rattle.node_group.specs.Losing.{all_given as given_losing, put_in_run as put_losing}
 use Rattle.node_group.specs.Putting.{recorded_in}
@@ -36,17 +36,17 @@ opens_as nodes config =
     ap (λ l. at_moment (opening_master config) (let w : World State Command Output = record { nodes = l; sent = []; left = []; archive = [] } in w)) (opened_replicas nodes config)
 
 assigned_as : (g : Group) (config : Config) (why : Option AssignRefusal)
-    → at_moment (master_after g.master config why) (world_after g.master (moment_of g).world config why)
-    ≡ moment_of (with_master (behind_assign g config why) (master_after g.master config why))
+    → at_moment (master_behind g.master config why) (world_behind g.master (moment_of g).world config why)
+    ≡ moment_of (with_master (after_assign g config why) (master_behind g.master config why))
 assigned_as g config (Some why) = refl
 assigned_as g config None = refl
 
-pub goes_on : (config : Config) (g h : Group) (step : MayGo g h) (earlier : List (Moment State Command Output)) (came : Past rules config (moment_of g ∷ earlier))
+pub goes_on : (config : Config) (g h : Group) (step : GroupStep g h) (earlier : List (Moment State Command Output)) (came : Past rules config (moment_of g ∷ earlier))
     → Further came (moment_of h) (put_in_step step)
-goes_on config g h (node_acts n core deed turn run at is first sent) earlier came =
-    subst (λ l. Further came (moment_of (behind_turn (with_record g (recorded_in g.archive run)) n turn (all_given run))) l) (same_put run)
-    (subst (λ l. Further came (moment_of (behind_turn (with_record g (recorded_in g.archive run)) n turn l)) (put_losing (losing_none run))) (same_given run)
-    (subst (λ us. Further came (moment_of (behind_turn (with_record g us) n turn (given_losing (losing_none run)))) (put_losing (losing_none run))) (same_recorded g.archive run)
+goes_on config g h (node_acts n core node_call turn run at is first sent) earlier came =
+    subst (λ l. Further came (moment_of (after_turn (with_record g (recorded_in g.archive run)) n turn (all_given run))) l) (same_put run)
+    (subst (λ l. Further came (moment_of (after_turn (with_record g (recorded_in g.archive run)) n turn l)) (put_losing (losing_none run))) (same_given run)
+    (subst (λ us. Further came (moment_of (after_turn (with_record g us) n turn (given_losing (losing_none run)))) (put_losing (losing_none run))) (same_recorded g.archive run)
     (runs_happen g n core turn (losing_none run) turn.messages at (sent_losing g n run sent) (frozen_losing g n run sent) (all_kept turn.messages) config earlier came)))
 goes_on config g h (node_loses n core item turn kept by at runs sent thinned) earlier came =
     runs_happen g n core turn by.run kept at (subst (WereSent g n) (sym by.hears) sent) by.freezes thinned config earlier came

@@ -16,10 +16,10 @@ use Rattle.node_moves.specs.ballot.Replica.{CountedReplica, ReplicaState}
 use Rattle.node_moves.specs.ballot.Sending.{Outcome, nothing_done}
 use Rattle.node_moves.specs.ballot.Serving.{most_places, proposed}
 use Rattle.packet_world.specs.broker_base.State.{State}
-use Rattle.packet_world.specs.broker_base.Command.{Command}
-use Rattle.packet_world.specs.broker_base.Command.TheVariants as commands
-use Rattle.packet_world.specs.broker_base.Output.{Output}
-use Rattle.packet_world.specs.broker_base.Connection.{ConnectionName}
+use Rattle.packet_world.specs.broker_spec.declared.command.Command.{Command}
+use Rattle.packet_world.specs.broker_spec.declared.command.Command.TheVariants as commands
+use Rattle.packet_world.specs.broker_spec.declared.command.Output.{Output}
+use Rattle.packet_world.specs.broker_spec.Connection.{ConnectionName}
 use Rattle.packet_world.specs.exactly_once.Story.{is_packet_of}
 use Rattle.packet_world.specs.agreement.MasterState.{MasterState}
 use Rattle.packet_world.specs.agreement.Giving.{GivesNext}
@@ -61,7 +61,7 @@ use Rattle.node_moves.specs.ballot.Cutting.{can_cut, cut}
 use Rattle.packet_world.specs.snapshots.World.{recorded}
 use Rattle.std.specs.Prelude.{not}
 use Rattle.std.proofs.lemmas.Bool.{and_parts, ltb-true}
-use Rattle.node_group.specs.Group.{Group, behind_turn, moment_of, replica_of, with_record}
+use Rattle.node_group.specs.Group.{Group, after_turn, moment_of, replica_of, with_record}
 use Rattle.node_group.specs.Goes.{InputWasSent, WasSent, keeping, put_in_move}
 use Rattle.node_group.specs.Pasts.{packets_in}
 use Rattle.node_group.specs.Putting.{recorded_by}
@@ -100,10 +100,10 @@ by_event {config = config} {a = a} {earlier = earlier} came b step put n given p
         proposed = ap (λ l. proposals_of came ++ l) proposed;
         taken = λ x. packets_join x (taken_of came) (taken_in step) ∙ ap (λ l. packets_in x (taken_of came) ++ l) (taken x);
         kept = λ z i. there i;
-        grows = λ xs ys before behind. agreed_grows rules config b (a ∷ earlier) xs ys before behind;
+        grows = λ xs ys before after. agreed_grows rules config b (a ∷ earlier) xs ys before after;
       };
-      gives = λ xs behind old new stood stands.
-          subst (GivesNext rules (whole a.world.archive old) (whole b.world.archive new) xs) is (answers_at_the_next_places rules config a b earlier xs came behind step n old new stood stands);
+      gives = λ xs after old new stood stands.
+          subst (GivesNext rules (whole a.world.archive old) (whole b.world.archive new) xs) is (answers_at_the_next_places rules config a b earlier xs came after step n old new stood stands);
     }
 
 -- ---- moments of groups
@@ -118,11 +118,11 @@ abbrev with_world : MasterState → World State Command Output → Moment State 
 with_world m w = record { master = m; world = w }
 
 -- after a turn the replica at the place is this one
-behind_is : (g : Group) (n : ℕ) (turn : Turn) (given effects : Given) (new : ReplicaState State Command) → replica_of turn.core ≡ new
+after_is : (g : Group) (n : ℕ) (turn : Turn) (given effects : Given) (new : ReplicaState State Command) → replica_of turn.core ≡ new
     → messages turn.messages ≡ messages effects → outputs given ≡ outputs effects
     → with_world g.master (let w : World State Command Output = record { nodes = slice_set (map replica_of g.nodes) n new; sent = g.sent ++ messages effects; left = g.left ++ outputs effects; archive = g.archive } in w)
-    ≡ moment_of (behind_turn g n turn given)
-behind_is g n turn given effects new replica sent left =
+    ≡ moment_of (after_turn g n turn given)
+after_is g n turn given effects new replica sent left =
     ap (with_world g.master)
     (sym (same_world g.archive (set_mapped replica_of g.nodes n turn.core ∙ ap (λ r. slice_set (map replica_of g.nodes) n r) replica)
     (ap (λ l. g.sent ++ l) sent) (ap (λ l. g.left ++ l) left)))
@@ -131,7 +131,7 @@ behind_is g n turn given effects new replica sent left =
 
 -- a turn that leaves the replica as it is, and hands out nothing
 stays_as_it_is : (g : Group) (n : ℕ) (core : CoreState) (turn : Turn) (given : Given) → slice_get g.nodes n ≡ Some core → replica_of turn.core ≡ replica_of core
-    → messages turn.messages ≡ [] → outputs given ≡ [] → moment_of g ≡ moment_of (behind_turn g n turn given)
+    → messages turn.messages ≡ [] → outputs given ≡ [] → moment_of g ≡ moment_of (after_turn g n turn given)
 stays_as_it_is g n core turn given at same none_sent none_left =
     ap (with_world g.master)
     (same_world g.archive
@@ -195,9 +195,9 @@ pub one_step : (g : Group) (n : ℕ) (core : CoreState) (turn : Turn) (input : I
     (earlier : List (Moment State Command Output)) (came : Past rules config (moment_of g ∷ earlier)) → slice_get g.nodes n ≡ Some core
     → (replica_of core).stopped ≡ false → MayTake (moment_of g).world n input → replica_of turn.core ≡ new
     → Loses rules (replica_of core) (replica_step rules (replica_of core) input) new thin → messages turn.messages ≡ messages thin → outputs given ≡ outputs thin
-    → AreTaken (replica_of core) new input → Once came (moment_of (behind_turn g n turn given)) (proposal_by (replica_of core) input) n (outputs given)
+    → AreTaken (replica_of core) new input → Once came (moment_of (after_turn g n turn given)) (proposal_by (replica_of core) input) n (outputs given)
 one_step g n core turn input new given thin config earlier came at runs may replica lost sent left took =
-    subst (λ z. Once came z (proposal_by (replica_of core) input) n (outputs given)) (behind_is g n turn given thin new replica sent left)
+    subst (λ z. Once came z (proposal_by (replica_of core) input) n (outputs given)) (after_is g n turn given thin new replica sent left)
     (by_event came _ step (proposal_by (replica_of core) input) n (outputs given) refl took
     (ap (λ b. if b then outputs thin else []) (eq_same n) ∙ sym left))
   where
@@ -207,9 +207,9 @@ one_step g n core turn input new given thin config earlier came at runs may repl
 -- a crash
 pub one_stop : (g : Group) (n : ℕ) (core : CoreState) (turn : Turn) (given : Given) (config : Config) (earlier : List (Moment State Command Output))
     (came : Past rules config (moment_of g ∷ earlier)) → slice_get g.nodes n ≡ Some core → replica_of turn.core ≡ halted rules (replica_of core)
-    → messages turn.messages ≡ [] → outputs given ≡ [] → Once came (moment_of (behind_turn g n turn given)) [] n (outputs given)
+    → messages turn.messages ≡ [] → outputs given ≡ [] → Once came (moment_of (after_turn g n turn given)) [] n (outputs given)
 one_stop g n core turn given config earlier came at replica none_sent none_left =
-    subst (λ z. Once came z [] n (outputs given)) (behind_is g n turn given [] (halted rules (replica_of core)) replica none_sent none_left)
+    subst (λ z. Once came z [] n (outputs given)) (after_is g n turn given [] (halted rules (replica_of core)) replica none_sent none_left)
     (by_event came _ step [] n (outputs given) refl (λ x. refl) (sym none_left))
   where
     step : MayHappen rules g.master (moment_of g).world g.master (moved_world (moment_of g).world n (halted rules (replica_of core)) [])
@@ -219,9 +219,9 @@ one_stop g n core turn given config earlier came at replica none_sent none_left 
 pub one_cut : (g : Group) (n : ℕ) (core : CoreState) (config : Config) (earlier : List (Moment State Command Output))
     (came : Past rules config (moment_of g ∷ earlier)) → slice_get g.nodes n ≡ Some core → can_cut (replica_of core) ≡ true
     → rules.thawed (rules.frozen (replica_of core).machine) ≡ Some (replica_of core).machine
-    → Once came (moment_of (behind_turn (with_record g (recorded g.archive (replica_of core))) n (quiet (with_cut core)) [])) [] n []
+    → Once came (moment_of (after_turn (with_record g (recorded g.archive (replica_of core))) n (quiet (with_cut core)) [])) [] n []
 one_cut g n core config earlier came at can reads =
-    subst (λ z. Once came z [] n []) (behind_is (with_record g (recorded g.archive (replica_of core))) n (quiet (with_cut core)) [] [] (cut rules (replica_of core)) refl refl refl)
+    subst (λ z. Once came z [] n []) (after_is (with_record g (recorded g.archive (replica_of core))) n (quiet (with_cut core)) [] [] (cut rules (replica_of core)) refl refl refl)
     (by_event came _ step [] n [] refl (λ x. refl) refl)
   where
     going : (b : Bool) → not b ≡ true → b ≡ false
@@ -240,9 +240,9 @@ one_cut g n core config earlier came at can reads =
 -- nothing happens to the replica
 pub no_step : (g : Group) (n : ℕ) (core : CoreState) (turn : Turn) (given : Given) (config : Config) (earlier : List (Moment State Command Output))
     (came : Past rules config (moment_of g ∷ earlier)) → slice_get g.nodes n ≡ Some core → replica_of turn.core ≡ replica_of core
-    → messages turn.messages ≡ [] → outputs given ≡ [] → Once came (moment_of (behind_turn g n turn given)) [] n (outputs given)
+    → messages turn.messages ≡ [] → outputs given ≡ [] → Once came (moment_of (after_turn g n turn given)) [] n (outputs given)
 no_step g n core turn given config earlier came at replica none_sent none_left =
-    subst (λ (l : List (ℕ × Output)). Once came (moment_of (behind_turn g n turn given)) [] n l) (sym none_left)
+    subst (λ (l : List (ℕ × Output)). Once came (moment_of (after_turn g n turn given)) [] n l) (sym none_left)
     (no_event config (moment_of g) _ earlier came n (stays_as_it_is g n core turn given at replica none_sent none_left))
 
 -- ---- moves
@@ -250,11 +250,11 @@ no_step g n core turn given config earlier came at replica none_sent none_left =
 -- what must hold for each move, of which these messages are kept
 abbrev Happens : Group → ℕ → (core : CoreState) (turn : Turn) → Moves core turn → Given → Type 0
 Happens g n core turn m kept = (config : Config) (earlier : List (Moment State Command Output)) (came : Past rules config (moment_of g ∷ earlier))
-    → Once came (moment_of (behind_turn (with_record g (recorded_by g.archive m)) n (keeping kept turn) (given_in m))) (put_in_move m) n (outputs (given_in m))
+    → Once came (moment_of (after_turn (with_record g (recorded_by g.archive m)) n (keeping kept turn) (given_in m))) (put_in_move m) n (outputs (given_in m))
 
 pub quietly : (g : Group) (n : ℕ) (core later : CoreState) (kept : Given) → slice_get g.nodes n ≡ Some core → replica_of later ≡ replica_of core → Thinned kept []
     → (config : Config) (earlier : List (Moment State Command Output)) (came : Past rules config (moment_of g ∷ earlier))
-    → Once came (moment_of (behind_turn g n (keeping kept (quiet later)) [])) [] n []
+    → Once came (moment_of (after_turn g n (keeping kept (quiet later)) [])) [] n []
 quietly g n core later kept at same t config earlier came =
     no_step g n core (keeping kept (quiet later)) [] config earlier came at same (ap messages (nothing_kept kept t)) refl
 
@@ -273,7 +273,7 @@ moved_happens : (g : Group) (n : ℕ) (core between : CoreState) (input : Input 
     → (replica_of core).stopped ≡ false → MayTake (moment_of g).world n input → AreTaken (replica_of core) (replica_step rules (replica_of core) input).state input
     → KeptOf kept (replica_step rules (replica_of core) input).effects → (config : Config) (earlier : List (Moment State Command Output))
     (came : Past rules config (moment_of g ∷ earlier))
-    → Once came (moment_of (behind_turn g n (keeping kept (moved (replica_step rules (replica_of core) input) between)) (replica_step rules (replica_of core) input).effects))
+    → Once came (moment_of (after_turn g n (keeping kept (moved (replica_step rules (replica_of core) input) between)) (replica_step rules (replica_of core) input).effects))
     (proposal_by (replica_of core) input) n (outputs (replica_step rules (replica_of core) input).effects)
 moved_happens g n core between input kept at runs may took k config earlier came =
     one_step g n core (keeping kept (moved (replica_step rules (replica_of core) input) between)) input (replica_step rules (replica_of core) input).state
@@ -284,11 +284,11 @@ moved_happens g n core between input kept at runs may took k config earlier came
 put_happens : (g : Group) (n : ℕ) (core between : CoreState) (command : Command) (kept : Given) → slice_get g.nodes n ≡ Some core → between.replica ≡ core.replica
     → serves core ≡ true → HasRoomFor core command → Thinned kept (proposes command between).messages → (config : Config) (earlier : List (Moment State Command Output))
     (came : Past rules config (moment_of g ∷ earlier))
-    → Once came (moment_of (behind_turn g n (keeping kept (proposes command between)) (proposed rules (replica_of core) command).effects)) (((replica_of core).joined, command) ∷ []) n
+    → Once came (moment_of (after_turn g n (keeping kept (proposes command between)) (proposed rules (replica_of core) command).effects)) (((replica_of core).joined, command) ∷ []) n
     (outputs (proposed rules (replica_of core) command).effects)
 unfolding proposes
 put_happens g n core between command kept at same serving room t config earlier came =
-    subst (λ (c : CoreState). Once came (moment_of (behind_turn g n (let u : Turn = record { core = c; messages = kept } in u) (proposed rules (replica_of core) command).effects))
+    subst (λ (c : CoreState). Once came (moment_of (after_turn g n (let u : Turn = record { core = c; messages = kept } in u) (proposed rules (replica_of core) command).effects))
     (((replica_of core).joined, command) ∷ []) n (outputs (proposed rules (replica_of core) command).effects)) (sym is)
     (moved_happens g n core between (Proposes command) kept at (serving_runs core serving) tt (proposal_taken core command serving room)
     (kept_of_all (proposed rules (replica_of core) command).effects kept (by serving_between t)) config earlier came)
@@ -337,23 +337,23 @@ none_put core Ticks e = refl
 heard_happens : (g : Group) (n : ℕ) (core : CoreState) (input : Input Command) (kept : Given) → slice_get g.nodes n ≡ Some core → is_proposal input ≡ false
     → InputWasSent g n input → Thinned kept (drives input core).messages → (config : Config) (earlier : List (Moment State Command Output))
     (came : Past rules config (moment_of g ∷ earlier))
-    → Once came (moment_of (behind_turn g n (keeping kept (drives input core)) (heard input (replica_of core)).effects)) [] n (outputs (heard input (replica_of core)).effects)
+    → Once came (moment_of (after_turn g n (keeping kept (drives input core)) (heard input (replica_of core)).effects)) [] n (outputs (heard input (replica_of core)).effects)
 unfolding drives
 heard_happens g n core input kept at other sent t config earlier came = by (replica_of core).stopped refl t
   where
-    behind : Outcome State Command Output → Type 0
-    behind o = Thinned kept (moved o core).messages → Once came (moment_of (behind_turn g n (keeping kept (moved o core)) o.effects)) [] n (outputs o.effects)
+    after : Outcome State Command Output → Type 0
+    after o = Thinned kept (moved o core).messages → Once came (moment_of (after_turn g n (keeping kept (moved o core)) o.effects)) [] n (outputs o.effects)
 
-    by : (b : Bool) → (replica_of core).stopped ≡ b → behind (heard input (replica_of core))
+    by : (b : Bool) → (replica_of core).stopped ≡ b → after (heard input (replica_of core))
     by true e =
-        subst behind (sym (heard_as_stopped (replica_of core) input e))
+        subst after (sym (heard_as_stopped (replica_of core) input e))
         (λ f.
         no_step g n core (keeping kept (moved (nothing_done Output (replica_of core)) core)) [] config earlier came at
         (moved_replica (nothing_done Output (replica_of core)) core) (ap messages (nothing_kept kept f)) refl)
     by false e =
-        subst behind (sym (heard_as_running (replica_of core) input e))
+        subst after (sym (heard_as_running (replica_of core) input e))
         (λ f.
-        subst (λ l. Once came (moment_of (behind_turn g n (keeping kept (moved (replica_step rules (replica_of core) input) core)) (replica_step rules (replica_of core) input).effects)) l n
+        subst (λ l. Once came (moment_of (after_turn g n (keeping kept (moved (replica_step rules (replica_of core) input) core)) (replica_step rules (replica_of core) input).effects)) l n
         (outputs (replica_step rules (replica_of core) input).effects))
         (none_put core input other)
         (moved_happens g n core core input kept at e (may_take g n input other sent) (none_taken (replica_of core) (replica_step rules (replica_of core) input).state input other)
@@ -362,12 +362,12 @@ heard_happens g n core input kept at other sent t config earlier came = by (repl
 -- if the node does not serve, it is not reported that a connection is lost
 lost_unheard : (g : Group) (n : ℕ) (core between : CoreState) (command : Command) (kept : Given) → slice_get g.nodes n ≡ Some core → between.replica ≡ core.replica
     → serves core ≡ false → Thinned kept (proposes command between).messages → (config : Config) (earlier : List (Moment State Command Output))
-    (came : Past rules config (moment_of g ∷ earlier)) → Once came (moment_of (behind_turn g n (keeping kept (proposes command between)) [])) [] n []
+    (came : Past rules config (moment_of g ∷ earlier)) → Once came (moment_of (after_turn g n (keeping kept (proposes command between)) [])) [] n []
 unfolding proposes
 lost_unheard g n core between command kept at same none_served t config earlier came = by (serves between) (serves_as between core same ∙ none_served) t
   where
     by : (b : Bool) → b ≡ false → Thinned kept (let u : Turn = if b then moved (proposed rules (replica_of between) command) between else quiet between in u).messages
-        → Once came (moment_of (behind_turn g n (keeping kept (let u : Turn = if b then moved (proposed rules (replica_of between) command) between else quiet between in u)) [])) [] n []
+        → Once came (moment_of (after_turn g n (keeping kept (let u : Turn = if b then moved (proposed rules (replica_of between) command) between else quiet between in u)) [])) [] n []
     by true e f = absurd cc
     by false e f = quietly g n core between kept at (state_of between core same) f config earlier came
 
@@ -375,7 +375,7 @@ lost_unheard g n core between command kept at same none_served t config earlier 
 lost_happens : (g : Group) (n : ℕ) (core between : CoreState) (command : Command) (kept : Given) → slice_get g.nodes n ≡ Some core → between.replica ≡ core.replica
     → HasRoomFor core command → (b : Bool) → serves core ≡ b → Thinned kept (proposes command between).messages → (config : Config)
     (earlier : List (Moment State Command Output)) (came : Past rules config (moment_of g ∷ earlier))
-    → Once came (moment_of (behind_turn g n (keeping kept (proposes command between)) (if b then (proposed rules (replica_of core) command).effects else [])))
+    → Once came (moment_of (after_turn g n (keeping kept (proposes command between)) (if b then (proposed rules (replica_of core) command).effects else [])))
     (map (λ put. ((replica_of core).joined, put)) (if b then command ∷ [] else [])) n (outputs (if b then (proposed rules (replica_of core) command).effects else []))
 lost_happens g n core between command kept at same room true e t = put_happens g n core between command kept at same e room t
 lost_happens g n core between command kept at same room false e t = lost_unheard g n core between command kept at same e t
@@ -398,9 +398,9 @@ expel_is_none core client x is = let e : is_packet_of (commands.Expel client) x 
 cut_happens : (g : Group) (n : ℕ) (core : CoreState) (kept : Given) → slice_get g.nodes n ≡ Some core → can_cut (replica_of core) ≡ true
     → rules.thawed (rules.frozen (replica_of core).machine) ≡ Some (replica_of core).machine → Thinned kept []
     → (config : Config) (earlier : List (Moment State Command Output)) (came : Past rules config (moment_of g ∷ earlier))
-    → Once came (moment_of (behind_turn (with_record g (recorded g.archive (replica_of core))) n (keeping kept (quiet (with_cut core))) [])) [] n []
+    → Once came (moment_of (after_turn (with_record g (recorded g.archive (replica_of core))) n (keeping kept (quiet (with_cut core))) [])) [] n []
 cut_happens g n core kept at can reads t config earlier came =
-    subst (λ (l : Given). Once came (moment_of (behind_turn (with_record g (recorded g.archive (replica_of core))) n (keeping l (quiet (with_cut core))) [])) [] n [])
+    subst (λ (l : Given). Once came (moment_of (after_turn (with_record g (recorded g.archive (replica_of core))) n (keeping l (quiet (with_cut core))) [])) [] n [])
     (sym (nothing_kept kept t)) (one_cut g n core config earlier came at can reads)
 
 pub moves_happen : (g : Group) (n : ℕ) (core : CoreState) (turn : Turn) (m : Moves core turn) (kept : Given) → slice_get g.nodes n ≡ Some core → WasSent g n m

@@ -5,10 +5,10 @@ use Rattle.packet_world.specs.packet.declared.packet.Packet.{Packet}
 use Rattle.node_moves.specs.ballot.Config.{Config}
 use Rattle.node_moves.specs.ballot.Effect.{Effect}
 use Rattle.node_moves.specs.ballot.Replica.{is_active}
-use Rattle.packet_world.specs.broker_base.Command.{Command}
-use Rattle.packet_world.specs.broker_base.Commands.{usual_limits}
-use Rattle.packet_world.specs.broker_base.Connection.{ConnectionName}
-use Rattle.packet_world.specs.broker_base.Output.{Output}
+use Rattle.packet_world.specs.broker_spec.declared.command.Command.{Command}
+use Rattle.packet_world.specs.broker_spec.Commands.{usual_limits}
+use Rattle.packet_world.specs.broker_spec.Connection.{ConnectionName}
+use Rattle.packet_world.specs.broker_spec.declared.command.Output.{Output}
 use Rattle.packet_world.specs.broker_base.State.{State}
 use Rattle.packet_world.specs.lists.Lists.{IsPrefixOf}
 use Rattle.packet_world.proofs.of_lists.Beginnings.{prefix_take}
@@ -36,7 +36,7 @@ use Rattle.node_moves.proofs.LossyClosed.{lossy_names_are_of_the_ballot}
 use Rattle.node_moves.proofs.LossyReads.{losses_read_in_order}
 use Rattle.node_moves.proofs.LossyShuts.{sent_in}
 use Rattle.node_moves.proofs.ProposesInOrder.{commands_join}
-use Rattle.node_group.specs.Group.{Group, behind_turn, moment_of, replica_of, with_record}
+use Rattle.node_group.specs.Group.{Group, after_turn, moment_of, replica_of, with_record}
 use Rattle.node_group.specs.Goes.{keeping}
 use Rattle.node_group.specs.Losing.{commands_put, put_in_move, recorded_by}
 use Rattle.node_group.specs.Order.{packets_of}
@@ -88,7 +88,7 @@ pub record Known {config : Config} (g : Group) {earlier : List (Moment State Com
   pub at : slice_get g.nodes a ≡ Some core
   pub orderly : IsOrderly core
   pub leads : LeadsStill core turn
-  pub once : Once came (moment_of (behind_turn (with_record g (recorded_by g.archive m)) a (keeping kept turn) (given_in m))) (put_in_move m) a (outputs (given_in m))
+  pub once : Once came (moment_of (after_turn (with_record g (recorded_by g.archive m)) a (keeping kept turn) (given_in m))) (put_in_move m) a (outputs (given_in m))
 
 -- and of one connection in it
 record Here {config : Config} {g : Group} {earlier : List (Moment State Command Output)} {came : Past rules config (moment_of g ∷ earlier)} {a : ℕ}
@@ -97,10 +97,10 @@ record Here {config : Config} {g : Group} {earlier : List (Moment State Command 
   sends : Sends x (replica_of core) (replica_of turn.core) ys (spelled (sends_to x (outputs_of (given_in m))))
   said : IsPrefixOf (packets_of x ys) (packets_of x (commands_in (put ++ put_in_move m)))
 
-abbrev Behind : {config : Config} {g : Group} {earlier : List (Moment State Command Output)} {came : Past rules config (moment_of g ∷ earlier)} {a : ℕ}
+abbrev After : {config : Config} {g : Group} {earlier : List (Moment State Command Output)} {came : Past rules config (moment_of g ∷ earlier)} {a : ℕ}
     {core : CoreState} {turn : Turn} {m : LossyMoves core turn} {kept : List (Effect Command Output)} → Known g came a m kept → ConnectionName → List Packet → List ℕ → List (ℕ × Command) → List ℕ → List Command → Type 0
-Behind {g = g} {a = a} {turn = turn} {m = m} {kept = kept} k x written later put down ys =
-    Stands x written later (behind_turn (with_record g (recorded_by g.archive m)) a (keeping kept turn) (given_in m)) (moment_of (behind_turn (with_record g (recorded_by g.archive m)) a (keeping kept turn) (given_in m)) ∷ k.once.further.before) (put ++ put_in_move m)
+After {g = g} {a = a} {turn = turn} {m = m} {kept = kept} k x written later put down ys =
+    Stands x written later (after_turn (with_record g (recorded_by g.archive m)) a (keeping kept turn) (given_in m)) (moment_of (after_turn (with_record g (recorded_by g.archive m)) a (keeping kept turn) (given_in m)) ∷ k.once.further.before) (put ++ put_in_move m)
     (down ++ handed_on x m) ys
 
 unrefused : (x : ConnectionName) {core : CoreState} {turn : Turn} (m : LossyMoves core turn) → refusal_in x m ≡ [] → sent_in x m ≡ spelled (sends_to x (outputs_of (given_in m)))
@@ -115,7 +115,7 @@ nothing_more x put {core = core} {turn = turn} m none =
 
 untouched_keeps : {config : Config} {g : Group} {earlier : List (Moment State Command Output)} {came : Past rules config (moment_of g ∷ earlier)} {a : ℕ}
     {core : CoreState} {turn : Turn} {m : LossyMoves core turn} {kept : List (Effect Command Output)} (k : Known g came a m kept) (x : ConnectionName) (written : List Packet) (later : List ℕ) (put : List (ℕ × Command)) (down : List ℕ)
-    (xs ys : List Command) → Here k x put xs ys → Untouched x written (came_on x m ++ later) g put down → Behind k x written later put down ys
+    (xs ys : List Command) → Here k x put xs ys → Untouched x written (came_on x m ++ later) g put down → After k x written later put down ys
 untouched_keeps {g = g} {earlier = earlier} {a = a} {core = core} {turn = turn} {m = m} {kept = kept} k x written later put down xs ys h u =
     by (listed_named x turn.core) refl (subst (λ (o : Option Connection). Flows (handed_on x m) (sent_in x m) o (listed_named x turn.core)) none (move_flows x core turn m k.orderly))
   where
@@ -155,7 +155,7 @@ untouched_keeps {g = g} {earlier = earlier} {a = a} {core = core} {turn = turn} 
     silent : packets_of x (commands_in (put ++ put_in_move m)) ≡ []
     silent = nothing_more x put m unsaid ∙ u.unsaid
 
-    opened : (d : Connection) → listed_named x turn.core ≡ Some d → handed_on x m ≡ [] → live d ≡ true → d.pending ≡ [] → Behind k x written later put down ys
+    opened : (d : Connection) → listed_named x turn.core ≡ Some d → handed_on x m ≡ [] → live d ≡ true → d.pending ≡ [] → After k x written later put down ys
     opened d there no_bytes lives empty =
         let next = lossy_names_are_of_the_ballot core turn m k.orderly x d none there in
         let led = leads_now g a core x earlier k.at next in
@@ -176,7 +176,7 @@ untouched_keeps {g = g} {earlier = earlier} {a = a} {core = core} {turn = turn} 
               (none_answered x ys (replica_of turn.core).committed (nothing_before (packets_of x ys) (subst (IsPrefixOf (packets_of x ys)) silent h.said))))) (λ e. refl));
         })
 
-    by : (p : Option Connection) → listed_named x turn.core ≡ p → Flows (handed_on x m) (sent_in x m) None p → Behind k x written later put down ys
+    by : (p : Option Connection) → listed_named x turn.core ≡ p → Flows (handed_on x m) (sent_in x m) None p → After k x written later put down ys
     by None there (away e) =
         inl (record {
           nowhere = still_nowhere there;
@@ -191,7 +191,7 @@ untouched_keeps {g = g} {earlier = earlier} {a = a} {core = core} {turn = turn} 
 held_here : {config : Config} {g : Group} {earlier : List (Moment State Command Output)} {came : Past rules config (moment_of g ∷ earlier)} {a : ℕ}
     {core : CoreState} {turn : Turn} {m : LossyMoves core turn} {kept : List (Effect Command Output)} (k : Known g came a m kept) (x : ConnectionName) (written : List Packet) (later : List ℕ) (put : List (ℕ × Command)) (down : List ℕ)
     (xs ys : List Command) → Here k x put xs ys → (held : Held x written (came_on x m ++ later) g (moment_of g ∷ earlier) put down xs) → held.n ≡ a → held.core ≡ core
-    → Behind k x written later put down ys
+    → After k x written later put down ys
 held_here {g = g} {earlier = earlier} {a = a} {core = core} {turn = turn} {m = m} {kept = kept} k x written later put down xs ys h held here_so same =
     inr (record {
       n = a;
@@ -243,7 +243,7 @@ held_here {g = g} {earlier = earlier} {a = a} {core = core} {turn = turn} {m = m
 held_there : {config : Config} {g : Group} {earlier : List (Moment State Command Output)} {came : Past rules config (moment_of g ∷ earlier)} {a : ℕ}
     {core : CoreState} {turn : Turn} {m : LossyMoves core turn} {kept : List (Effect Command Output)} (k : Known g came a m kept) (x : ConnectionName) (written : List Packet) (later : List ℕ) (put : List (ℕ × Command)) (down : List ℕ)
     (xs ys : List Command) → Here k x put xs ys → (held : Held x written (came_on x m ++ later) g (moment_of g ∷ earlier) put down xs) → (a ≡ held.n → ⊥)
-    → Behind k x written later put down ys
+    → After k x written later put down ys
 held_there {config = config} {g = g} {earlier = earlier} {came = came} {a = a} {core = core} {turn = turn} {m = m} {kept = kept} k x written later put down xs ys h held apart =
     by (listed_named x turn.core) refl (subst (λ (o : Option Connection). Flows (handed_on x m) (sent_in x m) o (listed_named x turn.core)) none (move_flows x core turn m k.orderly))
   where
@@ -263,7 +263,7 @@ held_there {config = config} {g = g} {earlier = earlier} {came = came} {a = a} {
         on (inl (is, f)) = ap (listed_named x) f ∙ there
         on (inr f) = held.others n other f other_so
 
-    by : (p : Option Connection) → listed_named x turn.core ≡ p → Flows (handed_on x m) (sent_in x m) None p → Behind k x written later put down ys
+    by : (p : Option Connection) → listed_named x turn.core ≡ p → Flows (handed_on x m) (sent_in x m) None p → After k x written later put down ys
     by None there (away e) =
         inr (record {
           n = held.n;
@@ -285,25 +285,25 @@ held_there {config = config} {g = g} {earlier = earlier} {came = came} {a = a} {
 
 pub move_keeps : {config : Config} {g : Group} {earlier : List (Moment State Command Output)} {came : Past rules config (moment_of g ∷ earlier)} {a : ℕ}
     {core : CoreState} {turn : Turn} {m : LossyMoves core turn} {kept : List (Effect Command Output)} (k : Known g came a m kept) (x : ConnectionName) (written : List Packet) (later : List ℕ) (put : List (ℕ × Command)) (down : List ℕ)
-    (xs ys : List Command) → IsAgreed config (moment_of g ∷ earlier) xs → IsAgreed config (moment_of (behind_turn (with_record g (recorded_by g.archive m)) a (keeping kept turn) (given_in m)) ∷ k.once.further.before) ys
+    (xs ys : List Command) → IsAgreed config (moment_of g ∷ earlier) xs → IsAgreed config (moment_of (after_turn (with_record g (recorded_by g.archive m)) a (keeping kept turn) (given_in m)) ∷ k.once.further.before) ys
     → IsPrefixOf (packets_of x ys) (packets_of x (commands_in (put ++ put_in_move m)))
     → Stands x written (came_on x m ++ later) g (moment_of g ∷ earlier) put down xs
-    → Stands x written later (behind_turn (with_record g (recorded_by g.archive m)) a (keeping kept turn) (given_in m)) (moment_of (behind_turn (with_record g (recorded_by g.archive m)) a (keeping kept turn) (given_in m)) ∷ k.once.further.before) (put ++ put_in_move m) (down ++ handed_on x m) ys
-move_keeps {config = config} {g = g} {earlier = earlier} {came = came} {a = a} {core = core} {turn = turn} {m = m} {kept = kept} k x written later put down xs ys before behind said stands = by stands
+    → Stands x written later (after_turn (with_record g (recorded_by g.archive m)) a (keeping kept turn) (given_in m)) (moment_of (after_turn (with_record g (recorded_by g.archive m)) a (keeping kept turn) (given_in m)) ∷ k.once.further.before) (put ++ put_in_move m) (down ++ handed_on x m) ys
+move_keeps {config = config} {g = g} {earlier = earlier} {came = came} {a = a} {core = core} {turn = turn} {m = m} {kept = kept} k x written later put down xs ys before after said stands = by stands
   where
     h : Here k x put xs ys
     h = record {
-      grown = k.once.further.grows xs ys before behind;
+      grown = k.once.further.grows xs ys before after;
       sends = gives_answers_to x g.archive (recorded_by g.archive m) (replica_of core) (replica_of turn.core) ys (given_in m)
-          (k.once.gives ys behind (replica_of core) (replica_of turn.core) (get_mapped replica_of g.nodes a core k.at)
+          (k.once.gives ys after (replica_of core) (replica_of turn.core) (get_mapped replica_of g.nodes a core k.at)
           (get_mapped replica_of (slice_set g.nodes a turn.core) a turn.core (get_of_set g.nodes a core turn.core k.at)));
       said = said;
     }
 
-    on : (held : Held x written (came_on x m ++ later) g (moment_of g ∷ earlier) put down xs) → (held.n ≡ a) ⊎ (held.n ≡ a → ⊥) → Behind k x written later put down ys
+    on : (held : Held x written (came_on x m ++ later) g (moment_of g ∷ earlier) put down xs) → (held.n ≡ a) ⊎ (held.n ≡ a → ⊥) → After k x written later put down ys
     on held (inl same) = held_here k x written later put down xs ys h held same (same_core held.core core (sym held.stands ∙ ap (slice_get g.nodes) same ∙ k.at))
     on held (inr apart) = held_there k x written later put down xs ys h held (λ e. apart (sym e))
 
-    by : Stands x written (came_on x m ++ later) g (moment_of g ∷ earlier) put down xs → Behind k x written later put down ys
+    by : Stands x written (came_on x m ++ later) g (moment_of g ∷ earlier) put down xs → After k x written later put down ys
     by (inl u) = untouched_keeps k x written later put down xs ys h u
     by (inr held) = on held (same_or_other held.n a)

@@ -5,8 +5,8 @@ use Rattle.std.proofs.lemmas.Option.{same_Some, none-some}
 use Rattle.packet_world.specs.lists.Lists.{Each}
 use Rattle.packet_world.proofs.of_lists.OfEach.{each_append}
 use Rattle.node_moves.specs.ballot.Config.{Config}
-use Rattle.packet_world.specs.agreement.MasterState.{AssignRefusal, master_after, refusal}
-use Rattle.packet_world.specs.broker_base.Connection.{ConnectionName}
+use Rattle.packet_world.specs.agreement.MasterState.{AssignRefusal, master_behind, refusal}
+use Rattle.packet_world.specs.broker_spec.Connection.{ConnectionName}
 use Rattle.node_moves.specs.world_base.declared.Connection.{Connection}
 use Rattle.node_moves.specs.world_base.Connections.{closed, is_listed, is_over}
 use Rattle.node_moves.specs.world_base.declared.item.Item.{Item}
@@ -27,9 +27,9 @@ use Rattle.node_moves.proofs.Shut.{all}
 use Rattle.node_moves.proofs.Views.{each_filtered, found_each, view}
 use Rattle.node_group.specs.Ballots.{IsInItsBallot, PutsInTheBallotOfTheName}
 use Rattle.node_group.specs.Group.{Group, opening_cores, with_master}
-use Rattle.node_group.specs.Goes.{MayGo, Went, all_put, behind_assign, put_in_step}
-use Rattle.node_group.specs.Goes.MayGo.{node_acts, node_loses, master_assigns as assigns, master_hears as hears_master, assigns_unheard, answers_unheard}
-use Rattle.node_group.specs.Goes.Went.{opened, then_went}
+use Rattle.node_group.specs.Goes.{GroupStep, GroupTrace, all_put, after_assign, put_in_step}
+use Rattle.node_group.specs.Goes.GroupStep.{node_acts, node_loses, master_assigns as assigns, master_hears as hears_master, assigns_unheard, answers_unheard}
+use Rattle.node_group.specs.Goes.GroupTrace.{opened, then_went}
 use Rattle.node_group.proofs.LosingNone.{first_still, losing_none, same_put}
 use Rattle.node_group.proofs.PutsInBallot.{runs_well}
 
@@ -63,15 +63,15 @@ pub record IsWell (core : CoreState) : Type 0 where
   pub orderly : IsOrderly core
   pub names : AreOfTheBallot core
 
-deed_ends : (deed : NodeCall) (core : CoreState) → IsWell core → AreWhereItServes (done deed core).core → AreOfTheBallot (done deed core).core
-deed_ends (takes item) core well of = settled_names (acts_on item core).core of
-deed_ends (gives port) core well of = names_keep_their_ballot.moves core (done (gives port) core) (hands port) well.orderly refl well.names
+node_call_ends : (node_call : NodeCall) (core : CoreState) → IsWell core → AreWhereItServes (done node_call core).core → AreOfTheBallot (done node_call core).core
+node_call_ends (takes item) core well of = settled_names (acts_on item core).core of
+node_call_ends (gives port) core well of = names_keep_their_ballot.moves core (done (gives port) core) (hands port) well.orderly refl well.names
 
-well_behind : (deed : NodeCall) (core : CoreState) (turn : Turn) → turn ≡ done deed core → IsWell core → IsOrderly turn.core → AreWhereItServes turn.core → IsWell turn.core
-well_behind deed core turn is well orderly of =
+well_after : (node_call : NodeCall) (core : CoreState) (turn : Turn) → turn ≡ done node_call core → IsWell core → IsOrderly turn.core → AreWhereItServes turn.core → IsWell turn.core
+well_after node_call core turn is well orderly of =
     record {
       orderly = orderly;
-      names = subst (λ (t : Turn). AreOfTheBallot t.core) (sym is) (deed_ends deed core well (subst (λ (t : Turn). AreWhereItServes t.core) is of));
+      names = subst (λ (t : Turn). AreOfTheBallot t.core) (sym is) (node_call_ends node_call core well (subst (λ (t : Turn). AreWhereItServes t.core) is of));
     }
 
 -- a step with losses ends in the same way
@@ -101,21 +101,21 @@ opening_well (suc n) config =
     (record { orderly = opening_orderly (n + 1) config; names = names_keep_their_ballot.opens (n + 1) config }, tt)
 
 -- all nodes are well, and what was put was put in its ballot
-record WentWell {g h : Group} (step : MayGo g h) : Type 0 where
+record WentWell {g h : Group} (step : GroupStep g h) : Type 0 where
   pub nodes : Each IsWell h.nodes
   pub puts : Each IsInItsBallot (put_in_step step)
 
 assigned_well : (g : Group) (config : Config) (why : Option AssignRefusal) → Each IsWell g.nodes
-    → Each IsWell (with_master (behind_assign g config why) (master_after g.master config why)).nodes
+    → Each IsWell (with_master (after_assign g config why) (master_behind g.master config why)).nodes
 assigned_well g config None well = well
 assigned_well g config (Some why) well = well
 
-steps_well : (g h : Group) (step : MayGo g h) → Each IsWell g.nodes → WentWell step
-steps_well g h (node_acts n core deed turn run at is first sent) well =
+steps_well : (g h : Group) (step : GroupStep g h) → Each IsWell g.nodes → WentWell step
+steps_well g h (node_acts n core node_call turn run at is first sent) well =
     let mine = each_got IsWell g.nodes n core well at in
     let r = runs_well (losing_none run) (first_still run first) mine.orderly mine.names in
     record {
-      nodes = each_set IsWell g.nodes n turn.core well (well_behind deed core turn is mine r.orderly r.names);
+      nodes = each_set IsWell g.nodes n turn.core well (well_after node_call core turn is mine r.orderly r.names);
       puts = subst (Each IsInItsBallot) (same_put run) r.puts;
     }
 steps_well g h (node_loses n core item turn kept by at runs sent thinned) well =
@@ -127,7 +127,7 @@ steps_well g h (hears_master from ballot sent) well = record { nodes = well; put
 steps_well g h (assigns_unheard config) well = record { nodes = well; puts = tt }
 steps_well g h (answers_unheard from ballot sent) well = record { nodes = well; puts = tt }
 
-pub all_well : (nodes : ℕ) (config : Config) (g : Group) (went : Went nodes config g) → Each IsWell g.nodes × Each IsInItsBallot (all_put went)
+pub all_well : (nodes : ℕ) (config : Config) (g : Group) (went : GroupTrace nodes config g) → Each IsWell g.nodes × Each IsInItsBallot (all_put went)
 all_well nodes config g (opened can) = (opening_well nodes config, tt)
 all_well nodes config h (then_went {g = g} went step) =
     let before = all_well nodes config g went in

@@ -7,8 +7,8 @@ use Rattle.packet_world.proofs.of_lists.Beginnings.{prefix_then}
 use Rattle.node_moves.specs.ballot.Config.{Config}
 use Rattle.node_moves.specs.ballot.Replica.{ReplicaState}
 use Rattle.packet_world.specs.broker_base.State.{State}
-use Rattle.packet_world.specs.broker_base.Command.{Command}
-use Rattle.packet_world.specs.broker_base.Connection.{ConnectionName}
+use Rattle.packet_world.specs.broker_spec.declared.command.Command.{Command}
+use Rattle.packet_world.specs.broker_spec.Connection.{ConnectionName}
 use Rattle.packet_world.specs.exactly_once.Story.{is_packet_of}
 use Rattle.packet_world.specs.snapshots.Past.{IsAgreed}
 use Rattle.packet_world.specs.agreement.Proposals.{IsOfBallot, IsPartOf, commands_of}

@@ -5,8 +5,8 @@ use Rattle.node_moves.specs.ballot.Config.{Config}
 use Rattle.node_moves.specs.ballot.Effect.{Effect}
 use Rattle.node_moves.specs.ballot.Effect.TheVariants.{To, Out}
 use Rattle.node_moves.specs.ballot.Replica.{opening}
-use Rattle.packet_world.specs.broker_base.Command.{Command}
-use Rattle.packet_world.specs.broker_base.Output.{Output}
+use Rattle.packet_world.specs.broker_spec.declared.command.Command.{Command}
+use Rattle.packet_world.specs.broker_spec.declared.command.Output.{Output}
 use Rattle.packet_world.specs.snapshots.World.{messages}
 use Rattle.packet_world.specs.snapshots.Past.{opening_nodes}
 use Rattle.node_moves.specs.world_base.Core.{opening_core, rules}

@@ -7,9 +7,9 @@ use Rattle.packet_world.specs.lists.Lists.In.{here}
 use Rattle.packet_world.proofs.of_lists.OfEach.{each_append}
 use Rattle.node_moves.specs.ballot.Logs.{places}
 use Rattle.node_moves.specs.ballot.Serving.{most_places}
-use Rattle.packet_world.specs.broker_base.Command.{Command}
-use Rattle.packet_world.specs.broker_base.Command.TheVariants as commands
-use Rattle.packet_world.specs.broker_base.Connection.{ConnectionName}
+use Rattle.packet_world.specs.broker_spec.declared.command.Command.{Command}
+use Rattle.packet_world.specs.broker_spec.declared.command.Command.TheVariants as commands
+use Rattle.packet_world.specs.broker_spec.Connection.{ConnectionName}
 use Rattle.packet_world.specs.exactly_once.Story.{is_packet_of}
 use Rattle.node_moves.specs.world_base.Connections.{asked, left_with}
 use Rattle.node_moves.specs.world_base.Core.{CoreState, Turn, serves}
@@ -98,8 +98,8 @@ pub record RunsWell {core : CoreState} {turn : Turn} (run : LossyRuns core turn)
   pub names : AreWhereItServes turn.core
   pub puts : Each IsInItsBallot (put_in_run run)
 
-orderly_behind : (core : CoreState) (turn : Turn) (m : LossyMoves core turn) → IsOrderly core → IsOrderly turn.core
-orderly_behind core turn m o = (losses_read_in_order core turn m o).0
+orderly_after : (core : CoreState) (turn : Turn) (m : LossyMoves core turn) → IsOrderly core → IsOrderly turn.core
+orderly_after core turn m o = (losses_read_in_order core turn m o).0
 
 where_it_serves : (core : CoreState) → AreOfTheBallot core → AreWhereItServes core
 where_it_serves core of serving = of
@@ -107,13 +107,13 @@ where_it_serves core of serving = of
 calm_run : {core : CoreState} {turn : Turn} (run : LossyRuns core turn) → IsCalm run → IsOrderly core → AreWhereItServes core → RunsWell run
 calm_run rests calm o of = record { orderly = o; names = of; puts = tt }
 calm_run {core = core} (goes_on {first = first} m run) calm o of =
-    let r = calm_run run calm.1 (orderly_behind core first m o) (lossy_names_keep_their_ballot.moves core first m o calm.0 of) in
+    let r = calm_run run calm.1 (orderly_after core first m o) (lossy_names_keep_their_ballot.moves core first m o calm.0 of) in
     record { orderly = r.orderly; names = r.names; puts = each_append IsInItsBallot (put_in_move m) (put_in_run run) (puts_in core first m o of) r.puts }
 
 pub runs_well : {core : CoreState} {turn : Turn} (run : LossyRuns core turn) → HearsAtFirst run → IsOrderly core → AreOfTheBallot core → RunsWell run
 runs_well {core = core} rests first o of = record { orderly = o; names = where_it_serves core of; puts = tt }
 runs_well {core = core} (goes_on {first = first} m run) calm o of =
-    let r = calm_run run calm (orderly_behind core first m o) (lossy_names_keep_their_ballot.hears core first m o of) in
+    let r = calm_run run calm (orderly_after core first m o) (lossy_names_keep_their_ballot.hears core first m o of) in
     record {
       orderly = r.orderly;
       names = r.names;

@@ -2,7 +2,7 @@
 -- and otherwise what it had applied.
 use Rattle.std.proofs.Common.{◌≡◌, ℕ, Bool, true, false, not, nat_lt, if◌then◌else◌, List, [], ◌∷◌, ◌++◌, refl, sym, ap, ◌∙◌, arith}
 use Rattle.std.proofs.lemmas.Bool.{and_parts, ltb-true}
-use Rattle.packet_world.specs.broker_base.Command.{Command}
+use Rattle.packet_world.specs.broker_spec.declared.command.Command.{Command}
 use Rattle.packet_world.specs.snapshots.World.{recorded}
 use Rattle.node_moves.specs.world_base.Core.{CoreState, Turn}
 use Rattle.node_moves.specs.Keeping.{moves_replica}

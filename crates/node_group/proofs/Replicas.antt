@@ -7,10 +7,10 @@ use Rattle.node_moves.specs.ballot.Effect.TheVariants.{To, Out}
 use Rattle.node_moves.specs.ballot.Replica.{CountedReplica, is_active}
 use Rattle.node_moves.specs.ballot.Sending.{Outcome}
 use Rattle.packet_world.specs.broker_base.State.{State}
-use Rattle.packet_world.specs.broker_base.Command.{Command}
-use Rattle.packet_world.specs.broker_base.Output.{Output}
-use Rattle.packet_world.specs.broker_base.Output.TheVariants as outputs
-use Rattle.packet_world.specs.broker_base.Connection.{ConnectionName}
+use Rattle.packet_world.specs.broker_spec.declared.command.Command.{Command}
+use Rattle.packet_world.specs.broker_spec.declared.command.Output.{Output}
+use Rattle.packet_world.specs.broker_spec.declared.command.Output.TheVariants as outputs
+use Rattle.packet_world.specs.broker_spec.Connection.{ConnectionName}
 use Rattle.node_moves.specs.world_base.declared.Port.{Port}
 use Rattle.node_moves.specs.world_base.declared.Connection.{Connection}
 use Rattle.node_moves.specs.world_base.Connections.{closed, put_out}

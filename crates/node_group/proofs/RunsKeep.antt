@@ -5,9 +5,9 @@ use Rattle.packet_world.specs.packet.declared.packet.Packet.{Packet}
 use Rattle.node_moves.specs.ballot.Config.{Config}
 use Rattle.node_moves.specs.ballot.Losses.{Thinned}
 use Rattle.node_moves.specs.ballot.Replica.{is_active}
-use Rattle.packet_world.specs.broker_base.Command.{Command}
-use Rattle.packet_world.specs.broker_base.Connection.{ConnectionName}
-use Rattle.packet_world.specs.broker_base.Output.{Output}
+use Rattle.packet_world.specs.broker_spec.declared.command.Command.{Command}
+use Rattle.packet_world.specs.broker_spec.Connection.{ConnectionName}
+use Rattle.packet_world.specs.broker_spec.declared.command.Output.{Output}
 use Rattle.packet_world.specs.broker_base.State.{State}
 use Rattle.packet_world.specs.lists.Lists.{Each, IsPrefixOf}
 use Rattle.packet_world.proofs.of_lists.OfEach.{each_left}
@@ -27,9 +27,9 @@ use Rattle.node_moves.specs.LossyRuns.LossyRuns.{rests, goes_on}
 use Rattle.node_moves.specs.Moves.{and_then}
 use Rattle.node_moves.proofs.Kept.{left_true}
 use Rattle.node_moves.proofs.LossyReads.{losses_read_in_order}
-use Rattle.node_moves.proofs.OpenBehind.{open_if}
+use Rattle.node_moves.proofs.OpenAfter.{open_if}
 use Rattle.node_group.specs.Ballots.{IsInItsBallot}
-use Rattle.node_group.specs.Group.{Group, behind_turn, moment_of, replica_of, with_record}
+use Rattle.node_group.specs.Group.{Group, after_turn, moment_of, replica_of, with_record}
 use Rattle.node_group.specs.Goes.{keeping}
 use Rattle.node_group.specs.Losing.{WereSent, all_given, put_in_move, put_in_run, recorded_by, recorded_in}
 use Rattle.node_group.specs.Order.{packets_of}
@@ -84,7 +84,7 @@ nothing_steps {config = config} g {earlier = earlier} came =
           (subst (λ (l : List ℕ). Good config x written later g (moment_of g ∷ earlier) put l) (sym (append-nil sent)) good);
     }
 
-pub same_group : (g : Group) (n : ℕ) (core : CoreState) → slice_get g.nodes n ≡ Some core → g ≡ behind_turn g n (quiet core) []
+pub same_group : (g : Group) (n : ℕ) (core : CoreState) → slice_get g.nodes n ≡ Some core → g ≡ after_turn g n (quiet core) []
 same_group g n core at = sym (rw (set_same g.nodes n core at, append-nil g.sent, append-nil g.left) refl)
 
 -- ---- one move
@@ -93,21 +93,21 @@ same_group g n core at = sym (rw (set_same g.nodes n core at, append-nil g.sent,
 said_first : {config : Config} {a : Moment State Command Output} {earlier : List (Moment State Command Output)} {came : Past rules config (a ∷ earlier)} (h : Group) {more : List (ℕ × Command)}
     (f : Further came (moment_of h) more) (x : ConnectionName) (put : List (ℕ × Command)) → IsPut came put → Each IsInItsBallot (put ++ more) → (ys : List Command)
     → IsAgreed config (moment_of h ∷ f.before) ys → IsPrefixOf (packets_of x ys) (packets_of x (commands_in (put ++ more)))
-said_first {config = config} h {more = more} f x put is each ys behind =
+said_first {config = config} h {more = more} f x put is each ys after =
     let now = put_further put f is in
-    in_agreed config h [] (put ++ more) (record { earlier = f.before; past = f.past; proposed = now.proposed; taken = now.taken; seen = tt }) each x ys behind
+    in_agreed config h [] (put ++ more) (record { earlier = f.before; past = f.past; proposed = now.proposed; taken = now.taken; seen = tt }) each x ys after
 
 move_steps : {config : Config} (g : Group) (n : ℕ) (core : CoreState) (turn : Turn) (m : LossyMoves core turn) (kept : Given) → slice_get g.nodes n ≡ Some core → WereSent g n (inputs_in m)
     → Freezes m → Thinned kept turn.messages → IsOrderly core → LeadsStill core turn → {earlier : List (Moment State Command Output)} (came : Past rules config (moment_of g ∷ earlier))
-    → Steps g came (behind_turn (with_record g (recorded_by g.archive m)) n (keeping kept turn) (given_in m)) (put_in_move m) (λ x. came_on x m) (λ x. handed_on x m)
+    → Steps g came (after_turn (with_record g (recorded_by g.archive m)) n (keeping kept turn) (given_in m)) (put_in_move m) (λ x. came_on x m) (λ x. handed_on x m)
 move_steps {config = config} g n core turn m kept at sent_so frozen t o leads {earlier = earlier} came =
     let known : Known g came n m kept = record { at = at; orderly = o; leads = leads; once = losses_happen g n core turn m kept at sent_so frozen t config earlier came } in
     let xs = has_agreed rules config (moment_of g) earlier came in
     record {
       further = known.once.further;
-      keeps_each = λ x written later put sent is each good ys behind.
-          move_keeps known x written later put sent xs.0 ys xs.1 behind
-          (said_first (behind_turn (with_record g (recorded_by g.archive m)) n (keeping kept turn) (given_in m)) known.once.further x put is each ys behind) (good xs.0 xs.1);
+      keeps_each = λ x written later put sent is each good ys after.
+          move_keeps known x written later put sent xs.0 ys xs.1 after
+          (said_first (after_turn (with_record g (recorded_by g.archive m)) n (keeping kept turn) (given_in m)) known.once.further x put is each ys after) (good xs.0 xs.1);
     }
 
 -- ---- one after another
@@ -154,28 +154,28 @@ first_leads core turn of x c there lives e = left_true (is_active (replica_of co
 -- one move, and a run after it
 move_and_run : {config : Config} (g : Group) (n : ℕ) (core : CoreState) (first next : Turn) (m : LossyMoves core first) (run : LossyRuns first.core next) (kept : Given)
     (k : KeptOfBoth kept first.messages next.messages) {earlier : List (Moment State Command Output)} (came : Past rules config (moment_of g ∷ earlier))
-    → (step : Steps g came (behind_turn (with_record g (recorded_by g.archive m)) n (keeping k.front first) (given_in m)) (put_in_move m) (λ x. came_on x m) (λ x. handed_on x m))
-    → Steps (behind_turn (with_record g (recorded_by g.archive m)) n (keeping k.front first) (given_in m)) step.further.past
-    (behind_turn (with_record (behind_turn (with_record g (recorded_by g.archive m)) n (keeping k.front first) (given_in m)) (recorded_in (recorded_by g.archive m) run)) n
+    → (step : Steps g came (after_turn (with_record g (recorded_by g.archive m)) n (keeping k.front first) (given_in m)) (put_in_move m) (λ x. came_on x m) (λ x. handed_on x m))
+    → Steps (after_turn (with_record g (recorded_by g.archive m)) n (keeping k.front first) (given_in m)) step.further.past
+    (after_turn (with_record (after_turn (with_record g (recorded_by g.archive m)) n (keeping k.front first) (given_in m)) (recorded_in (recorded_by g.archive m) run)) n
     (keeping k.rest next) (all_given run)) (put_in_run run) (λ x. bytes_on x run) (λ x. handed_losing x run)
-    → Steps g came (behind_turn (with_record g (recorded_in (recorded_by g.archive m) run)) n (keeping kept (and_then first next)) (given_in m ++ all_given run))
+    → Steps g came (after_turn (with_record g (recorded_in (recorded_by g.archive m) run)) n (keeping kept (and_then first next)) (given_in m ++ all_given run))
     (put_in_move m ++ put_in_run run) (λ x. came_on x m ++ bytes_on x run) (λ x. handed_on x m ++ handed_losing x run)
 move_and_run g n core first next m run kept k came step rest =
     both_steps came (put_in_move m) (put_in_run run) (λ x. came_on x m) (λ x. bytes_on x run) (λ x. handed_on x m) (λ x. handed_losing x run) step
-    (subst (λ (h : Group). Steps (behind_turn (with_record g (recorded_by g.archive m)) n (keeping k.front first) (given_in m)) step.further.past h (put_in_run run)
+    (subst (λ (h : Group). Steps (after_turn (with_record g (recorded_by g.archive m)) n (keeping k.front first) (given_in m)) step.further.past h (put_in_run run)
     (λ x. bytes_on x run) (λ x. handed_losing x run))
     (kept_turns (with_record g (recorded_in (recorded_by g.archive m) run)) n first next (given_in m) (all_given run) kept k) rest)
 
 no_move : {config : Config} (g : Group) (n : ℕ) (core : CoreState) (kept : Given) → slice_get g.nodes n ≡ Some core → Thinned kept []
     → {earlier : List (Moment State Command Output)} (came : Past rules config (moment_of g ∷ earlier))
-    → Steps g came (behind_turn g n (keeping kept (quiet core)) []) [] (λ x. []) (λ x. [])
+    → Steps g came (after_turn g n (keeping kept (quiet core)) []) [] (λ x. []) (λ x. [])
 no_move g n core kept at t came =
     subst (λ (h : Group). Steps g came h [] (λ x. []) (λ x. []))
-    (same_group g n core at ∙ ap (λ (l : Given). behind_turn g n (keeping l (quiet core)) []) (sym (nothing_kept kept t))) (nothing_steps g came)
+    (same_group g n core at ∙ ap (λ (l : Given). after_turn g n (keeping l (quiet core)) []) (sym (nothing_kept kept t))) (nothing_steps g came)
 
 calm_steps : {config : Config} (g : Group) (n : ℕ) (core : CoreState) (turn : Turn) (run : LossyRuns core turn) (kept : Given) → IsCalm run → IsOrderly core → slice_get g.nodes n ≡ Some core
     → WereSent g n (all_inputs run) → AllFreeze run → Thinned kept turn.messages → {earlier : List (Moment State Command Output)} (came : Past rules config (moment_of g ∷ earlier))
-    → Steps g came (behind_turn (with_record g (recorded_in g.archive run)) n (keeping kept turn) (all_given run)) (put_in_run run) (λ x. bytes_on x run) (λ x. handed_losing x run)
+    → Steps g came (after_turn (with_record g (recorded_in g.archive run)) n (keeping kept turn) (all_given run)) (put_in_run run) (λ x. bytes_on x run) (λ x. handed_losing x run)
 calm_steps g n core turn rests kept calm o at sent frozen t came = no_move g n core kept at t came
 calm_steps g n core turn (goes_on {first = first} {next = next} m run) kept calm o at sent frozen t came =
     let k = kept_of_both first.messages next.messages kept t in
@@ -183,13 +183,13 @@ calm_steps g n core turn (goes_on {first = first} {next = next} m run) kept calm
     let one : Turn = keeping k.front first in
     let step = move_steps g n core first m k.front at s.0 frozen.0 k.first o (calm_leads core first m calm.0) came in
     move_and_run g n core first next m run kept k came step
-    (calm_steps (behind_turn (with_record g (recorded_by g.archive m)) n one (given_in m)) n first.core next run k.rest calm.1 (losses_read_in_order core first m o).0 (get_of_set g.nodes n core first.core at)
+    (calm_steps (after_turn (with_record g (recorded_by g.archive m)) n one (given_in m)) n first.core next run k.rest calm.1 (losses_read_in_order core first m o).0 (get_of_set g.nodes n core first.core at)
     (were_still g (recorded_by g.archive m) n one (given_in m) (all_inputs run) s.1) frozen.1 k.next step.further.past)
 
 pub run_steps : {config : Config} (g : Group) (n : ℕ) (core : CoreState) (turn : Turn) (run : LossyRuns core turn) (kept : Given) → HearsAtFirst run → IsOrderly core → AreOfTheBallot core
     → slice_get g.nodes n ≡ Some core → WereSent g n (all_inputs run) → AllFreeze run → Thinned kept turn.messages
     → {earlier : List (Moment State Command Output)} (came : Past rules config (moment_of g ∷ earlier))
-    → Steps g came (behind_turn (with_record g (recorded_in g.archive run)) n (keeping kept turn) (all_given run)) (put_in_run run) (λ x. bytes_on x run) (λ x. handed_losing x run)
+    → Steps g came (after_turn (with_record g (recorded_in g.archive run)) n (keeping kept turn) (all_given run)) (put_in_run run) (λ x. bytes_on x run) (λ x. handed_losing x run)
 run_steps g n core turn rests kept first_so o of at sent frozen t came = no_move g n core kept at t came
 run_steps g n core turn (goes_on {first = first} {next = next} m run) kept calm o of at sent frozen t came =
     let k = kept_of_both first.messages next.messages kept t in
@@ -197,5 +197,5 @@ run_steps g n core turn (goes_on {first = first} {next = next} m run) kept calm 
     let one : Turn = keeping k.front first in
     let step = move_steps g n core first m k.front at s.0 frozen.0 k.first o (first_leads core first of) came in
     move_and_run g n core first next m run kept k came step
-    (calm_steps (behind_turn (with_record g (recorded_by g.archive m)) n one (given_in m)) n first.core next run k.rest calm (losses_read_in_order core first m o).0 (get_of_set g.nodes n core first.core at)
+    (calm_steps (after_turn (with_record g (recorded_by g.archive m)) n one (given_in m)) n first.core next run k.rest calm (losses_read_in_order core first m o).0 (get_of_set g.nodes n core first.core at)
     (were_still g (recorded_by g.archive m) n one (given_in m) (all_inputs run) s.1) frozen.1 k.next step.further.past)

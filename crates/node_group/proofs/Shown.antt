@@ -6,11 +6,11 @@ use Rattle.packet_world.specs.packet.Spelling.{spelling}
 use Rattle.node_moves.specs.ballot.Effect.{Effect}
 use Rattle.node_moves.specs.ballot.Effect.TheVariants.{To, Out}
 use Rattle.node_moves.specs.ballot.Replica.{ReplicaState, is_active}
-use Rattle.packet_world.specs.broker_base.Answers.{answers_of}
-use Rattle.packet_world.specs.broker_base.Command.{Command}
-use Rattle.packet_world.specs.broker_base.Commands.{past_of, usual_limits}
-use Rattle.packet_world.specs.broker_base.Connection.{ConnectionName}
-use Rattle.packet_world.specs.broker_base.Output.{Output}
+use Rattle.packet_world.specs.broker_spec.Answers.{answers_of}
+use Rattle.packet_world.specs.broker_spec.declared.command.Command.{Command}
+use Rattle.packet_world.specs.broker_spec.Commands.{past_of, usual_limits}
+use Rattle.packet_world.specs.broker_spec.Connection.{ConnectionName}
+use Rattle.packet_world.specs.broker_spec.declared.command.Output.{Output}
 use Rattle.packet_world.specs.broker_base.State.{State}
 use Rattle.packet_world.specs.lists.Lists.{IsPrefixOf}
 use Rattle.packet_world.specs.exactly_once.Sends.{put_to, sends_to}

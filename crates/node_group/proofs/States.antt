@@ -4,9 +4,9 @@ use Rattle.std.specs.List.{find}
 use Rattle.std.proofs.lemmas.List.Elements.{filter-append}
 use Rattle.packet_world.specs.packet.declared.packet.Packet.{Packet}
 use Rattle.node_moves.specs.ballot.Replica.{is_active}
-use Rattle.packet_world.specs.broker_base.Command.{Command}
-use Rattle.packet_world.specs.broker_base.Connection.{ConnectionName}
-use Rattle.packet_world.specs.broker_base.Output.{Output}
+use Rattle.packet_world.specs.broker_spec.declared.command.Command.{Command}
+use Rattle.packet_world.specs.broker_spec.Connection.{ConnectionName}
+use Rattle.packet_world.specs.broker_spec.declared.command.Output.{Output}
 use Rattle.packet_world.specs.broker_base.State.{State}
 use Rattle.packet_world.proofs.of_broker_spec.ConnectionNames.{same_name}
 use Rattle.packet_world.specs.lists.Lists.{In}

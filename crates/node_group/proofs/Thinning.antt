@@ -8,8 +8,8 @@ use Rattle.node_moves.specs.ballot.Message.{Message}
 use Rattle.node_moves.specs.ballot.Replica.{CountedReplica, ReplicaState}
 use Rattle.node_moves.specs.ballot.Sending.{Outcome}
 use Rattle.packet_world.specs.broker_base.State.{State}
-use Rattle.packet_world.specs.broker_base.Command.{Command}
-use Rattle.packet_world.specs.broker_base.Output.{Output}
+use Rattle.packet_world.specs.broker_spec.declared.command.Command.{Command}
+use Rattle.packet_world.specs.broker_spec.declared.command.Output.{Output}
 use Rattle.packet_world.specs.snapshots.World.{messages, outputs}
 use Rattle.node_moves.specs.world_base.Core.{CoreState, rules}
 use Rattle.node_moves.specs.world_base.Lossy.{Delivers}

@@ -2,11 +2,11 @@
 use Rattle.std.specs.Prelude.{◌≡◌, ℕ, true}
 use Rattle.packet_world.specs.lists.Lists.{Each}
 use Rattle.node_moves.specs.ballot.Config.{Config}
-use Rattle.packet_world.specs.broker_base.Command.{Command}
-use Rattle.packet_world.specs.broker_base.Connection.{ConnectionName}
+use Rattle.packet_world.specs.broker_spec.declared.command.Command.{Command}
+use Rattle.packet_world.specs.broker_spec.Connection.{ConnectionName}
 use Rattle.packet_world.specs.exactly_once.Story.{is_packet_of}
 use Rattle.node_group.specs.Group.{Group}
-use Rattle.node_group.specs.Goes.{Went, all_put}
+use Rattle.node_group.specs.Goes.{GroupTrace, all_put}
 
 -- a packet of a connection, its CONNECT too, with the ballot that the connection's name has
 abbrev pub IsInItsBallot : ℕ × Command → Type 0
@@ -14,4 +14,4 @@ IsInItsBallot put = (x : ConnectionName) → is_packet_of put.1 x ≡ true → x
 
 -- the same holds for all that nodes of a group propose to their replicas
 abbrev pub PutsInTheBallotOfTheName : Type 0
-PutsInTheBallotOfTheName = (nodes : ℕ) (config : Config) (g : Group) (went : Went nodes config g) → Each IsInItsBallot (all_put went)
+PutsInTheBallotOfTheName = (nodes : ℕ) (config : Config) (g : Group) (went : GroupTrace nodes config g) → Each IsInItsBallot (all_put went)

@@ -3,9 +3,9 @@
 use Rattle.std.specs.Prelude.{ℕ, List, ◌∷◌, ◌++◌}
 use Rattle.packet_world.specs.packet.declared.packet.Packet.{Packet}
 use Rattle.node_moves.specs.ballot.Config.{Config}
-use Rattle.packet_world.specs.broker_base.Command.{Command}
-use Rattle.packet_world.specs.broker_base.Commands.{past_of, usual_limits}
-use Rattle.packet_world.specs.broker_base.Connection.{ConnectionName}
+use Rattle.packet_world.specs.broker_spec.declared.command.Command.{Command}
+use Rattle.packet_world.specs.broker_spec.Commands.{past_of, usual_limits}
+use Rattle.packet_world.specs.broker_spec.Connection.{ConnectionName}
 use Rattle.packet_world.specs.lists.Lists.{IsPrefixOf}
 use Rattle.node_moves.specs.cutter.Pipe.{Joins}
 use Rattle.packet_world.specs.exactly_once.Sends.{put_to}
@@ -13,7 +13,7 @@ use Rattle.packet_world.specs.snapshots.Past.{IsAgreed}
 use Rattle.node_moves.specs.Ends.{commands_of}
 use Rattle.node_moves.specs.Puts.{spelled}
 use Rattle.node_group.specs.Group.{Group, moment_of}
-use Rattle.node_group.specs.Goes.{Went, all_put, groups_of}
+use Rattle.node_group.specs.Goes.{GroupTrace, all_put, groups_of}
 use Rattle.node_group.specs.Order.{packets_of}
 use Rattle.node_group.specs.Pasts.{HasPast}
 use Rattle.node_group.specs.Streams.{came_up, went_down}
@@ -30,10 +30,10 @@ pub record IsCarried (x : ConnectionName) (written : List Packet) (handed : List
 
 -- The same holds for each connection on which packets are written, when a prefix of their bytes
 -- arrived on it, and for each list on which the nodes agree.
-pub record Carries {nodes : ℕ} {config : Config} {g : Group} (went : Went nodes config g) : Type 0 where
+pub record Carries {nodes : ℕ} {config : Config} {g : Group} (went : GroupTrace nodes config g) : Type 0 where
   pub of : HasPast config g (groups_of went) (all_put went)
   pub each : (agreed : List Command) → IsAgreed config (moment_of g ∷ of.earlier) agreed → (x : ConnectionName)
       → (written : List Packet) (later : List ℕ) → Joins written (came_up x went ++ later) → IsCarried x written (went_down x went) agreed
 
 abbrev pub GroupsCarryInOrder : Type 0
-GroupsCarryInOrder = (nodes : ℕ) (config : Config) (g : Group) (went : Went nodes config g) → Carries went
+GroupsCarryInOrder = (nodes : ℕ) (config : Config) (g : Group) (went : GroupTrace nodes config g) → Carries went

@@ -5,9 +5,9 @@ use Rattle.node_moves.specs.ballot.Body.TheVariants.{Activate}
 use Rattle.node_moves.specs.ballot.Config.{Config}
 use Rattle.node_moves.specs.ballot.Effect.{Effect}
 use Rattle.node_moves.specs.ballot.Losses.{Thinned}
-use Rattle.packet_world.specs.broker_base.Command.{Command}
-use Rattle.packet_world.specs.broker_base.Output.{Output}
-use Rattle.packet_world.specs.agreement.MasterState.{AssignRefusal, master_after, refusal}
+use Rattle.packet_world.specs.broker_spec.declared.command.Command.{Command}
+use Rattle.packet_world.specs.broker_spec.declared.command.Output.{Output}
+use Rattle.packet_world.specs.agreement.MasterState.{AssignRefusal, master_behind, refusal}
 use Rattle.packet_world.specs.snapshots.Masters.{activated, assigned}
 use Rattle.packet_world.specs.agreement.World.{can_open}
 use Rattle.node_moves.specs.world_base.Core.{CoreState, Turn}
@@ -16,63 +16,63 @@ use Rattle.node_moves.specs.world_base.LossyStep.{RunsOn}
 use Rattle.node_moves.specs.Hearing.{HearsAtFirst}
 use Rattle.node_moves.specs.LossyRuns.{IsRunOn, heard_with}
 use Rattle.node_moves.specs.Moves.{NodeCall, Runs, done}
-use Rattle.node_group.specs.Group.{Group, behind_turn, opening_group, told_by_master, with_master, with_record}
+use Rattle.node_group.specs.Group.{Group, after_turn, opening_group, told_by_master, with_master, with_record}
 use Rattle.node_group.specs.Losing.{WereSent}
 use Rattle.node_group.specs.Losing.{all_given as given_losing, put_in_run as put_losing, recorded_in as recorded_losing}
 use Rattle.node_group.specs.Putting.{recorded_in}
 pub use Rattle.node_group.specs.Putting.{AllWasSent, InputWasSent, WasSent, all_given, commands_put, put_in_move, put_in_run}
 
 -- the master after an Assign; a refused one changes nothing
-abbrev pub behind_assign : Group → Config → Option AssignRefusal → Group
-behind_assign g config (Some why) = g
-behind_assign g config None = told_by_master g (assigned Command g.master config)
+abbrev pub after_assign : Group → Config → Option AssignRefusal → Group
+after_assign g config (Some why) = g
+after_assign g config None = told_by_master g (assigned Command g.master config)
 
 -- the effects of a node, if only these messages are not lost
 abbrev pub keeping : List (Effect Command Output) → Turn → Turn
 keeping kept turn = record turn { messages = kept }
 
-pub data MayGo (g : Group) : Group → Type 0 where
+pub data GroupStep (g : Group) : Group → Type 0 where
   -- a node takes an item, or hands over bytes, by these moves; what its replica receives, or a cut,
   -- comes first
-  node_acts : (n : ℕ) (core : CoreState) (deed : NodeCall) (turn : Turn) (run : Runs core turn) → slice_get g.nodes n ≡ Some core →
-      turn ≡ done deed core → HearsAtFirst run → AllWasSent g n run → MayGo g (behind_turn (with_record g (recorded_in g.archive run)) n turn (all_given run))
+  node_acts : (n : ℕ) (core : CoreState) (node_call : NodeCall) (turn : Turn) (run : Runs core turn) → slice_get g.nodes n ≡ Some core →
+      turn ≡ done node_call core → HearsAtFirst run → AllWasSent g n run → GroupStep g (after_turn (with_record g (recorded_in g.archive run)) n turn (all_given run))
   -- a node takes an item with losses, by these moves; what comes with it was sent, and some of its
   -- messages may be missing
   node_loses : (n : ℕ) (core : CoreState) (item : Item) (turn : Turn) (kept : List (Effect Command Output)) (by : IsRunOn item core turn) →
       slice_get g.nodes n ≡ Some core → RunsOn item core turn.core turn.messages → WereSent g n (heard_with item) → Thinned kept turn.messages →
-      MayGo g (behind_turn (with_record g (recorded_losing g.archive by.run)) n (keeping kept turn) (given_losing by.run))
+      GroupStep g (after_turn (with_record g (recorded_losing g.archive by.run)) n (keeping kept turn) (given_losing by.run))
   -- an administrator asks for another configuration
   master_assigns : (config : Config) →
-      MayGo g (with_master (behind_assign g config (refusal g.master config)) (master_after g.master config (refusal g.master config)))
+      GroupStep g (with_master (after_assign g config (refusal g.master config)) (master_behind g.master config (refusal g.master config)))
   -- a primary asks for its ballot to become the active one
   master_hears : (from ballot : ℕ) → In (0, record { from = from; body = Activate ballot }) g.sent →
-      MayGo g (with_master (told_by_master g (activated Command g.master ballot from g.master.waiting))
+      GroupStep g (with_master (told_by_master g (activated Command g.master ballot from g.master.waiting))
       (activated Command g.master ballot from g.master.waiting).state)
   -- the same if the master's message is lost
-  assigns_unheard : (config : Config) → MayGo g (with_master g (master_after g.master config (refusal g.master config)))
+  assigns_unheard : (config : Config) → GroupStep g (with_master g (master_behind g.master config (refusal g.master config)))
   answers_unheard : (from ballot : ℕ) → In (0, record { from = from; body = Activate ballot }) g.sent →
-      MayGo g (with_master g (activated Command g.master ballot from g.master.waiting).state)
+      GroupStep g (with_master g (activated Command g.master ballot from g.master.waiting).state)
 
 -- all steps of a group of this many nodes, from its opening in a configuration on
-pub data Went (nodes : ℕ) (config : Config) : Group → Type 0 where
-  opened : can_open nodes config ≡ true → Went nodes config (opening_group nodes config)
-  then_went : {g h : Group} → Went nodes config g → MayGo g h → Went nodes config h
+pub data GroupTrace (nodes : ℕ) (config : Config) : Group → Type 0 where
+  opened : can_open nodes config ≡ true → GroupTrace nodes config (opening_group nodes config)
+  then_went : {g h : Group} → GroupTrace nodes config g → GroupStep g h → GroupTrace nodes config h
 
 -- what nodes proposed to their replicas, each command with the ballot that its node had joined, in
 -- order
-abbrev pub put_in_step : {g h : Group} → MayGo g h → List (ℕ × Command)
-put_in_step (node_acts n core deed turn run at is first sent) = put_in_run run
+abbrev pub put_in_step : {g h : Group} → GroupStep g h → List (ℕ × Command)
+put_in_step (node_acts n core node_call turn run at is first sent) = put_in_run run
 put_in_step (node_loses n core item turn kept by at runs sent thinned) = put_losing by.run
 put_in_step (master_assigns config) = []
 put_in_step (master_hears from ballot sent) = []
 put_in_step (assigns_unheard config) = []
 put_in_step (answers_unheard from ballot sent) = []
 
-abbrev pub all_put : {nodes : ℕ} {config : Config} {g : Group} → Went nodes config g → List (ℕ × Command)
+abbrev pub all_put : {nodes : ℕ} {config : Config} {g : Group} → GroupTrace nodes config g → List (ℕ × Command)
 all_put (opened can) = []
 all_put (then_went went step) = all_put went ++ put_in_step step
 
 -- the group after each of them, the newest first
-abbrev pub groups_of : {nodes : ℕ} {config : Config} {g : Group} → Went nodes config g → List Group
+abbrev pub groups_of : {nodes : ℕ} {config : Config} {g : Group} → GroupTrace nodes config g → List Group
 groups_of {g = g} (opened can) = g ∷ []
 groups_of {g = g} (then_went went step) = g ∷ groups_of went

@@ -6,8 +6,8 @@ use Rattle.node_moves.specs.ballot.Effect.{Effect}
 use Rattle.node_moves.specs.ballot.Replica.{ReplicaState}
 use Rattle.node_moves.specs.ballot.Sending.{master}
 use Rattle.packet_world.specs.broker_base.State.{State}
-use Rattle.packet_world.specs.broker_base.Command.{Command}
-use Rattle.packet_world.specs.broker_base.Output.{Output}
+use Rattle.packet_world.specs.broker_spec.declared.command.Command.{Command}
+use Rattle.packet_world.specs.broker_spec.declared.command.Output.{Output}
 use Rattle.packet_world.specs.agreement.MasterState.{MasterState, opening_master}
 use Rattle.packet_world.specs.snapshots.Masters.{MasterOutcome}
 use Rattle.packet_world.specs.snapshots.Past.{Moment}
@@ -37,8 +37,8 @@ opening_group nodes config =
 -- ---- after what happens
 
 -- after a turn of the node at place n, in which its replica gave this
-abbrev pub behind_turn : Group → ℕ → Turn → List (Effect Command Output) → Group
-behind_turn g n turn given =
+abbrev pub after_turn : Group → ℕ → Turn → List (Effect Command Output) → Group
+after_turn g n turn given =
     record g {
       nodes = slice_set g.nodes n turn.core;
       sent = g.sent ++ messages turn.messages;

@@ -2,15 +2,15 @@
 use Rattle.std.specs.Prelude.{◌≡◌, ℕ, List, ◌∷◌, filter, slice_get, Some}
 use Rattle.packet_world.specs.lists.Lists.{IsPrefixOf}
 use Rattle.node_moves.specs.ballot.Config.{Config}
-use Rattle.packet_world.specs.broker_base.Command.{Command}
-use Rattle.packet_world.specs.broker_base.Connection.{ConnectionName}
+use Rattle.packet_world.specs.broker_spec.declared.command.Command.{Command}
+use Rattle.packet_world.specs.broker_spec.Connection.{ConnectionName}
 use Rattle.packet_world.specs.exactly_once.Story.{is_packet_of}
 use Rattle.packet_world.specs.snapshots.Past.{IsAgreed}
 use Rattle.packet_world.specs.snapshots.Whole.{whole_log}
 use Rattle.packet_world.specs.agreement.Proposals.{commands_of}
 use Rattle.node_moves.specs.world_base.Core.{CoreState}
 use Rattle.node_group.specs.Group.{Group, moment_of, replica_of}
-use Rattle.node_group.specs.Goes.{Went, all_put, groups_of}
+use Rattle.node_group.specs.Goes.{GroupTrace, all_put, groups_of}
 use Rattle.node_group.specs.Pasts.{HasPast}
 
 -- the packets of a connection among commands
@@ -27,4 +27,4 @@ pub record KeepsOrder (config : Config) (g : Group) (groups : List Group) (put :
       IsPrefixOf (packets_of x xs) (packets_of x (commands_of put))
 
 abbrev pub GroupsKeepTheOrder : Type 0
-GroupsKeepTheOrder = (nodes : ℕ) (config : Config) (g : Group) (went : Went nodes config g) → KeepsOrder config g (groups_of went) (all_put went)
+GroupsKeepTheOrder = (nodes : ℕ) (config : Config) (g : Group) (went : GroupTrace nodes config g) → KeepsOrder config g (groups_of went) (all_put went)

@@ -3,15 +3,15 @@ use Rattle.std.specs.Prelude.{◌≡◌, ℕ, List, ◌∷◌, filter}
 use Rattle.packet_world.specs.lists.Lists.{Each, In}
 use Rattle.node_moves.specs.ballot.Config.{Config}
 use Rattle.packet_world.specs.broker_base.State.{State}
-use Rattle.packet_world.specs.broker_base.Command.{Command}
-use Rattle.packet_world.specs.broker_base.Output.{Output}
-use Rattle.packet_world.specs.broker_base.Connection.{ConnectionName}
+use Rattle.packet_world.specs.broker_spec.declared.command.Command.{Command}
+use Rattle.packet_world.specs.broker_spec.declared.command.Output.{Output}
+use Rattle.packet_world.specs.broker_spec.Connection.{ConnectionName}
 use Rattle.packet_world.specs.exactly_once.Story.{is_packet_of}
 use Rattle.packet_world.specs.snapshots.Past.{Moment, Past}
 use Rattle.packet_world.specs.snapshots.Proposals.{proposals_of, taken_of}
 use Rattle.node_moves.specs.world_base.Core.{rules}
 use Rattle.node_group.specs.Group.{Group, moment_of}
-use Rattle.node_group.specs.Goes.{Went, all_put, groups_of}
+use Rattle.node_group.specs.Goes.{GroupTrace, all_put, groups_of}
 
 -- the packets of a connection among commands, each with a ballot
 abbrev pub packets_in : ConnectionName → List (ℕ × Command) → List (ℕ × Command)
@@ -28,4 +28,4 @@ pub record HasPast (config : Config) (g : Group) (groups : List Group) (put : Li
   pub seen : Each (λ (h : Group). In (moment_of h) (moment_of g ∷ earlier)) groups
 
 abbrev pub GroupsArePasts : Type 0
-GroupsArePasts = (nodes : ℕ) (config : Config) (g : Group) (went : Went nodes config g) → HasPast config g (groups_of went) (all_put went)
+GroupsArePasts = (nodes : ℕ) (config : Config) (g : Group) (went : GroupTrace nodes config g) → HasPast config g (groups_of went) (all_put went)

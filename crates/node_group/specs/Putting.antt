@@ -5,9 +5,9 @@ use Rattle.packet_world.specs.lists.Lists.{In}
 use Rattle.node_moves.specs.ballot.Effect.{Effect}
 use Rattle.node_moves.specs.ballot.Protocol.{Input}
 use Rattle.node_moves.specs.ballot.Protocol.Input.{Receives, Proposes, Ticks}
-use Rattle.packet_world.specs.broker_base.Command.{Command}
-use Rattle.packet_world.specs.broker_base.Command.TheVariants as commands
-use Rattle.packet_world.specs.broker_base.Output.{Output}
+use Rattle.packet_world.specs.broker_spec.declared.command.Command.{Command}
+use Rattle.packet_world.specs.broker_spec.declared.command.Command.TheVariants as commands
+use Rattle.packet_world.specs.broker_spec.declared.command.Output.{Output}
 use Rattle.node_moves.specs.world_base.Core.{CoreState, Turn, rules, serves}
 use Rattle.packet_world.specs.snapshots.World.{recorded}
 use Rattle.node_moves.specs.Moves.{Moves, Runs}

@@ -2,7 +2,7 @@
 -- down.
 use Rattle.std.specs.Prelude.{ℕ, if◌then◌else◌, List, [], ◌++◌, Option, Some, None}
 use Rattle.node_moves.specs.ballot.Config.{Config}
-use Rattle.packet_world.specs.broker_base.Connection.{ConnectionName, same_connection}
+use Rattle.packet_world.specs.broker_spec.Connection.{ConnectionName, same_connection}
 use Rattle.node_moves.specs.world_base.declared.Connection.{Connection}
 use Rattle.node_moves.specs.world_base.Core.{CoreState, Turn}
 use Rattle.node_moves.specs.world_base.Handing.{listed_at}
@@ -12,22 +12,22 @@ use Rattle.node_moves.specs.Moves.{Moves, Runs}
 use Rattle.node_moves.specs.Moves.Moves.{hands}
 use Rattle.node_moves.specs.Moves.Runs.{rests, goes_on}
 use Rattle.node_group.specs.Group.{Group}
-use Rattle.node_group.specs.Goes.{MayGo, Went}
-use Rattle.node_group.specs.Goes.MayGo.{node_acts, node_loses, master_assigns, master_hears, assigns_unheard, answers_unheard}
-use Rattle.node_group.specs.Goes.Went.{opened, then_went}
+use Rattle.node_group.specs.Goes.{GroupStep, GroupTrace}
+use Rattle.node_group.specs.Goes.GroupStep.{node_acts, node_loses, master_assigns, master_hears, assigns_unheard, answers_unheard}
+use Rattle.node_group.specs.Goes.GroupTrace.{opened, then_went}
 
 -- ---- up
 
 -- what comes on the connection of a name, at any node
-abbrev pub comes_up : ConnectionName → {g h : Group} → MayGo g h → List ℕ
-comes_up x (node_acts n core deed turn run at is first sent) = bytes_on x run
+abbrev pub comes_up : ConnectionName → {g h : Group} → GroupStep g h → List ℕ
+comes_up x (node_acts n core node_call turn run at is first sent) = bytes_on x run
 comes_up x (node_loses n core item turn kept by at runs sent thinned) = came_with x item core
 comes_up x (master_assigns config) = []
 comes_up x (master_hears from ballot sent) = []
 comes_up x (assigns_unheard config) = []
 comes_up x (answers_unheard from ballot sent) = []
 
-abbrev pub came_up : ConnectionName → {nodes : ℕ} {config : Config} {g : Group} → Went nodes config g → List ℕ
+abbrev pub came_up : ConnectionName → {nodes : ℕ} {config : Config} {g : Group} → GroupTrace nodes config g → List ℕ
 came_up x (opened can) = []
 came_up x (then_went went step) = came_up x went ++ comes_up x step
 
@@ -47,14 +47,14 @@ handed_in_run x rests = []
 handed_in_run x (goes_on m run) = handed_on x m ++ handed_in_run x run
 
 -- if an item is taken with losses nothing is
-abbrev pub goes_down : ConnectionName → {g h : Group} → MayGo g h → List ℕ
-goes_down x (node_acts n core deed turn run at is first sent) = handed_in_run x run
+abbrev pub goes_down : ConnectionName → {g h : Group} → GroupStep g h → List ℕ
+goes_down x (node_acts n core node_call turn run at is first sent) = handed_in_run x run
 goes_down x (node_loses n core item turn kept by at runs sent thinned) = []
 goes_down x (master_assigns config) = []
 goes_down x (master_hears from ballot sent) = []
 goes_down x (assigns_unheard config) = []
 goes_down x (answers_unheard from ballot sent) = []
 
-abbrev pub went_down : ConnectionName → {nodes : ℕ} {config : Config} {g : Group} → Went nodes config g → List ℕ
+abbrev pub went_down : ConnectionName → {nodes : ℕ} {config : Config} {g : Group} → GroupTrace nodes config g → List ℕ
 went_down x (opened can) = []
 went_down x (then_went went step) = went_down x went ++ goes_down x step

@@ -5,8 +5,8 @@ use Rattle.world_base.specs.ballot.Cutting.{can_cut}
 use Rattle.world_base.specs.ballot.Protocol.Input.{Receives, Proposes, Ticks}
 use Rattle.world_base.specs.ballot.Replica.{CountedReplica}
 use Rattle.exactly_once.specs.broker_base.State.{State}
-use Rattle.exactly_once.specs.broker_base.Command.{Command}
-use Rattle.exactly_once.specs.broker_base.Command.TheVariants as commands
+use Rattle.exactly_once.specs.broker_spec.declared.command.Command.{Command}
+use Rattle.exactly_once.specs.broker_spec.declared.command.Command.TheVariants as commands
 use Rattle.world_base.specs.Connections.{asked, closed, failing, left_with}
 use Rattle.world_base.specs.Core.{CoreState, Turn}
 use Rattle.world_base.specs.Reading.{changes}
@@ -21,11 +21,11 @@ use Rattle.node_moves.specs.Moves.{Moves, Runs}
 use Rattle.node_moves.specs.Moves.NodeCall.{takes}
 use Rattle.node_moves.specs.Moves.Moves.{hears, opens_one, holds, reads_first, reads_later, closes, refuses, loses_one, loses_next, expels_one, cuts_log, crashes, settles, hands}
 use Rattle.node_moves.specs.Moves.Runs.{rests as rests_exactly, goes_on as goes_exactly}
-use Rattle.node_moves.proofs.LossyNames.{taken_behind, taken_same}
+use Rattle.node_moves.proofs.LossyNames.{taken_after, taken_same}
 use Rattle.node_moves.proofs.MovesOfReplica.{move_same}
 use Rattle.node_moves.proofs.PartsOfMoves.{BeginsWith, IsBare, Part, part_in}
 use Rattle.node_moves.proofs.ShutByChanges.{at_replica}
-use Rattle.node_moves.proofs.StepsMove.{First, deeds_begin}
+use Rattle.node_moves.proofs.StepsMove.{First, node_calls_begin}
 
 base_of : (core later : CoreState) → later.replica ≡ core.replica → later.replica.state.log.base ≡ core.replica.state.log.base
 base_of core later e = ap (λ (r : CountedReplica State Command). r.state.log.base) e
@@ -34,10 +34,10 @@ pub calm_base : (core : CoreState) (turn : Turn) (m : LossyMoves core turn) → 
 calm_base core turn (exactly m) calm = (move_same core turn m calm).base
 calm_base core turn (hears_losing input did other drives) calm = absurd cc
 calm_base core turn (first_losing now port c connect rest did at first is taken) calm =
-    (taken_behind _ core (changes port (asked connect.keep_alive) (changes port (left_with now rest) core)) did
+    (taken_after _ core (changes port (asked connect.keep_alive) (changes port (left_with now rest) core)) did
     (at_replica port (asked connect.keep_alive) (changes port (left_with now rest) core) ∙ at_replica port (left_with now rest) core) taken).base
 calm_base core turn (later_losing now port c packet rest did at later is taken) calm =
-    (taken_behind _ core (changes port (left_with now rest) core) did (at_replica port (left_with now rest) core) taken).base
+    (taken_after _ core (changes port (left_with now rest) core) did (at_replica port (left_with now rest) core) taken).base
 calm_base core turn (tells_losing name did taken) calm = (taken_same (commands.Lost name) core did taken).base
 calm_base core turn (expels_losing client did taken) calm = (taken_same (commands.Expel client) core did taken).base
 calm_base core turn forgets calm = refl
@@ -82,5 +82,5 @@ begins_cut (goes_exactly m run) begins = bare_base run begins.1 ∙ cut_moves m 
 -- a step that takes a cut, if there is something to cut
 pub cut_step_base : (core : CoreState) → can_cut core.replica.state ≡ true → (node_step Cut core).core.replica.state.log.base ≡ core.replica.state.committed
 cut_step_base core can =
-    let r = subst (λ (b : Bool). First (if b then Part.cut else Part.nothing) core (node_step Cut core)) can (deeds_begin (takes Cut) core) in
+    let r = subst (λ (b : Bool). First (if b then Part.cut else Part.nothing) core (node_step Cut core)) can (node_calls_begin (takes Cut) core) in
     begins_cut r.0 r.1

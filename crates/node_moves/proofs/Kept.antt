@@ -9,10 +9,10 @@ use Rattle.world_base.specs.ballot.Protocol.{Input, replica_step}
 use Rattle.world_base.specs.ballot.Sending.{Outcome, nothing_done}
 use Rattle.world_base.specs.ballot.Serving.{proposed}
 use Rattle.exactly_once.specs.broker_base.State.{State}
-use Rattle.exactly_once.specs.broker_base.Command.{Command}
-use Rattle.exactly_once.specs.broker_base.Output.{Output}
-use Rattle.exactly_once.specs.broker_base.Output.TheVariants as outputs
-use Rattle.exactly_once.specs.broker_base.Connection.{ConnectionName, same_connection}
+use Rattle.exactly_once.specs.broker_spec.declared.command.Command.{Command}
+use Rattle.exactly_once.specs.broker_spec.declared.command.Output.{Output}
+use Rattle.exactly_once.specs.broker_spec.declared.command.Output.TheVariants as outputs
+use Rattle.exactly_once.specs.broker_spec.Connection.{ConnectionName, same_connection}
 use Rattle.exactly_once.specs.lists.Lists.{Each}
 use Rattle.world_base.specs.declared.Port.{Port}
 use Rattle.world_base.specs.declared.Connection.{Connection}

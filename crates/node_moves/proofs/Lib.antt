@@ -22,7 +22,7 @@ pub mod LossesTold
 pub mod ReplicaStays
 pub mod ReplicaLeads
 pub mod MovesOfReplica
-pub mod OpenBehind
+pub mod OpenAfter
 pub mod NamesInMoves
 pub mod NamesKeepTheirBallot
 pub mod NamesStayApart

@@ -2,7 +2,7 @@
 -- fewer.
 use Rattle.std.proofs.Common.{◌≡◌, ◌⊎◌, inl, inr, ◌≤◌, ◌<◌, ℕ, Bool, true, false, if◌then◌else◌, length, List, [], ◌∷◌, Option, Some, None, refl, arith}
 use Rattle.std.specs.List.{find}
-use Rattle.exactly_once.specs.broker_base.Command.TheVariants as commands
+use Rattle.exactly_once.specs.broker_spec.declared.command.Command.TheVariants as commands
 use Rattle.exactly_once.specs.lists.Lists.{Each}
 use Rattle.world_base.specs.declared.Connection.{Connection}
 use Rattle.world_base.specs.declared.Stage.{Stage}
@@ -12,7 +12,7 @@ use Rattle.world_base.specs.Core.{CoreState}
 use Rattle.world_base.specs.Failing.{closes_failed, loses_failed, loses_if}
 use Rattle.world_base.specs.Step.{acts_on, takes_in}
 use Rattle.world_base.specs.Turns.{quiet, proposes}
-use Rattle.node_moves.specs.Behind.{EachLossIsTold}
+use Rattle.node_moves.specs.Settled.{EachLossIsTold}
 use Rattle.node_moves.proofs.EachKept.{each_settled}
 use Rattle.node_moves.proofs.NamesInOrder.{same_le}
 use Rattle.node_moves.proofs.Views.{found_passes, some_none}

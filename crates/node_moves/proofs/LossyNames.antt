@@ -7,10 +7,10 @@ use Rattle.world_base.specs.ballot.Protocol.{Input}
 use Rattle.world_base.specs.ballot.Replica.{CountedReplica, ReplicaState, is_active}
 use Rattle.world_base.specs.ballot.Sending.{Outcome}
 use Rattle.exactly_once.specs.broker_base.State.{State}
-use Rattle.exactly_once.specs.broker_base.Command.{Command}
-use Rattle.exactly_once.specs.broker_base.Command.TheVariants as commands
-use Rattle.exactly_once.specs.broker_base.Connection.{ConnectionName}
-use Rattle.exactly_once.specs.broker_base.Output.{Output}
+use Rattle.exactly_once.specs.broker_spec.declared.command.Command.{Command}
+use Rattle.exactly_once.specs.broker_spec.declared.command.Command.TheVariants as commands
+use Rattle.exactly_once.specs.broker_spec.Connection.{ConnectionName}
+use Rattle.exactly_once.specs.broker_spec.declared.command.Output.{Output}
 use Rattle.exactly_once.specs.lists.Lists.{In}
 use Rattle.exactly_once.specs.Story.{is_packet_of}
 use Rattle.world_base.specs.declared.Connection.{Connection}
@@ -35,7 +35,7 @@ use Rattle.node_moves.proofs.LossyShuts.{Loses, driven, lossy_shuts, sent_in}
 use Rattle.node_moves.proofs.MovesOfReplica.{move_same, serves_same}
 use Rattle.node_moves.proofs.NamesInMoves.{by_shuts}
 use Rattle.node_moves.proofs.NamesKeepTheirBallot.{and_false, drives_state, heard_stays, names_keep_their_ballot, only_one, proposed_of}
-use Rattle.node_moves.proofs.OpenBehind.{shuts_open}
+use Rattle.node_moves.proofs.OpenAfter.{shuts_open}
 use Rattle.node_moves.proofs.Shut.{Shuts}
 use Rattle.node_moves.proofs.ReplicaLeads.{StaysOr}
 use Rattle.node_moves.proofs.ReplicaStays.{Same, added_same}
@@ -67,9 +67,9 @@ taken_same command core did t =
     (added_same rules core.replica.state command)
 
 -- a command is taken after a change of a connection
-pub taken_behind : (command : Command) (core between : CoreState) (did : Account) → between.replica ≡ core.replica → Takes command between did
+pub taken_after : (command : Command) (core between : CoreState) (did : Account) → between.replica ≡ core.replica → Takes command between did
     → Same core.replica.state did.core.replica.state
-taken_behind command core between did same t =
+taken_after command core between did same t =
     same_then core between did.core (same_state core between (state_of between core same)) (taken_same command between did t)
 
 -- ---- a move in which it receives nothing
@@ -92,11 +92,11 @@ calm_keeps core turn (exactly m) o calm of = exact_calm core turn m o calm of
 calm_keeps core turn (hears_losing input did other drives) o calm of = absurd cc
 calm_keeps core turn (first_losing now port c connect rest did at first is taken) o calm of =
     by_same core turn (first_losing now port c connect rest did at first is taken) o tt
-    (taken_behind _ core (changes port (asked connect.keep_alive) (changes port (left_with now rest) core)) did
+    (taken_after _ core (changes port (asked connect.keep_alive) (changes port (left_with now rest) core)) did
     (at_replica port (asked connect.keep_alive) (changes port (left_with now rest) core) ∙ at_replica port (left_with now rest) core) taken) of
 calm_keeps core turn (later_losing now port c packet rest did at later is taken) o calm of =
     by_same core turn (later_losing now port c packet rest did at later is taken) o tt
-    (taken_behind _ core (changes port (left_with now rest) core) did (at_replica port (left_with now rest) core) taken) of
+    (taken_after _ core (changes port (left_with now rest) core) did (at_replica port (left_with now rest) core) taken) of
 calm_keeps core turn (tells_losing name did taken) o calm of = by_same core turn (tells_losing name did taken) o tt (taken_same (commands.Lost name) core did taken) of
 calm_keeps core turn (expels_losing client did taken) o calm of = by_same core turn (expels_losing client did taken) o tt (taken_same (commands.Expel client) core did taken) of
 calm_keeps core turn forgets o calm of = by_same core turn forgets o tt (record { role = refl; joined = refl; stopped = refl; base = refl }) of

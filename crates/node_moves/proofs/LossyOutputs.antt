@@ -6,10 +6,10 @@ use Rattle.exactly_once.specs.packet.declared.packet.Packet.{Packet}
 use Rattle.exactly_once.specs.packet.Spelling.{spelling}
 use Rattle.world_base.specs.ballot.Effect.{Effect}
 use Rattle.world_base.specs.ballot.Effect.TheVariants.{Out}
-use Rattle.exactly_once.specs.broker_base.Command.{Command}
-use Rattle.exactly_once.specs.broker_base.Output.{Output}
-use Rattle.exactly_once.specs.broker_base.Output.TheVariants as outputs
-use Rattle.exactly_once.specs.broker_base.Connection.{ConnectionName, same_connection}
+use Rattle.exactly_once.specs.broker_spec.declared.command.Command.{Command}
+use Rattle.exactly_once.specs.broker_spec.declared.command.Output.{Output}
+use Rattle.exactly_once.specs.broker_spec.declared.command.Output.TheVariants as outputs
+use Rattle.exactly_once.specs.broker_spec.Connection.{ConnectionName, same_connection}
 use Rattle.exactly_once.proofs.of_broker_spec.ConnectionNames.{same_itself, same_name}
 use Rattle.world_base.specs.declared.Connection.{Connection}
 use Rattle.world_base.specs.Connections.{changed, closed, failing, is_open_named, put_out}

@@ -9,9 +9,9 @@ use Rattle.world_base.specs.ballot.Losses.{halted, one_more}
 use Rattle.world_base.specs.ballot.Protocol.{Input}
 use Rattle.world_base.specs.ballot.Replica.{CountedReplica, ReplicaState}
 use Rattle.exactly_once.specs.broker_base.State.{State}
-use Rattle.exactly_once.specs.broker_base.Command.{Command}
-use Rattle.exactly_once.specs.broker_base.Command.TheVariants as commands
-use Rattle.exactly_once.specs.broker_base.Connection.{ConnectionName}
+use Rattle.exactly_once.specs.broker_spec.declared.command.Command.{Command}
+use Rattle.exactly_once.specs.broker_spec.declared.command.Command.TheVariants as commands
+use Rattle.exactly_once.specs.broker_spec.Connection.{ConnectionName}
 use Rattle.exactly_once.proofs.of_broker_spec.ConnectionNames.{same_name}
 use Rattle.exactly_once.specs.Story.{is_packet_of}
 use Rattle.world_base.specs.declared.Port.{Port}

@@ -7,10 +7,10 @@ use Rattle.exactly_once.specs.packet.declared.connect.Connect.{Connect}
 use Rattle.exactly_once.specs.packet.Verdict.{verdict}
 use Rattle.world_base.specs.ballot.Effect.{Effect}
 use Rattle.world_base.specs.ballot.Protocol.{Input}
-use Rattle.exactly_once.specs.broker_base.Command.{Command}
-use Rattle.exactly_once.specs.broker_base.Command.TheVariants as commands
-use Rattle.exactly_once.specs.broker_base.Connection.{ConnectionName}
-use Rattle.exactly_once.specs.broker_base.Output.{Output}
+use Rattle.exactly_once.specs.broker_spec.declared.command.Command.{Command}
+use Rattle.exactly_once.specs.broker_spec.declared.command.Command.TheVariants as commands
+use Rattle.exactly_once.specs.broker_spec.Connection.{ConnectionName}
+use Rattle.exactly_once.specs.broker_spec.declared.command.Output.{Output}
 use Rattle.world_base.specs.declared.Port.{Port}
 use Rattle.world_base.specs.declared.Connection.{Connection}
 use Rattle.world_base.specs.Connections.{asked, closed, failing, is_at, is_first, is_open_at, is_over, left_with}
@@ -87,8 +87,8 @@ still_repeated zero Next on core did none = by_none core did none
 still_repeated (suc n) Next on core did done = still_then Next (Repeated n Next) on (still_repeated n Next on) core did done
 
 -- after a change in which the replica gives nothing
-still_behind : (core between : CoreState) (did : Account) → Calm core (quiet between) → Still between did → Still core did
-still_behind core between did change more = calm_join change more
+still_after : (core between : CoreState) (did : Account) → Calm core (quiet between) → Still between did → Still core did
+still_after core between did change more = calm_join change more
 
 -- ---- commands
 
@@ -114,7 +114,7 @@ pub still_ends : (port : Port) (core : CoreState) (did : Account) → Ends port 
 still_ends port core did (none_open none is) = by_none core did is
 still_ends port core did (untold c found other is) = by_account core (changes port closed core) did is (closing port core)
 still_ends port core did (told c found heard proposes) =
-    still_behind core (changes port closed core) did (closing port core) (still_lost c.name (changes port closed core) did proposes)
+    still_after core (changes port closed core) did (closing port core) (still_lost c.name (changes port closed core) did proposes)
 
 pub still_silent : (now : ℕ) (core : CoreState) (did : Account) → EndsSilent now core did → Still core did
 still_silent now core did (none_silent none is) = by_none core did is
@@ -123,7 +123,7 @@ still_silent now core did (ends_one port found runs) = still_ends port core did 
 still_failed : (core : CoreState) (did : Account) → LosesFailed core did → Still core did
 still_failed core did (none_failed none is) = by_none core did is
 still_failed core did (tells_one c found proposes) =
-    still_behind core (closes_failed core) did (calm_move unheard (refl, refl, refl, λ x. refl)) (still_lost c.name (closes_failed core) did proposes)
+    still_after core (closes_failed core) did (calm_move unheard (refl, refl, refl, λ x. refl)) (still_lost c.name (closes_failed core) did proposes)
 
 pub all_failed : (core : CoreState) (did : Account) → LosesAllFailed core did → Still core did
 all_failed core did runs = still_repeated (length core.connections) LosesFailed still_failed core did runs

@@ -8,10 +8,10 @@ use Rattle.world_base.specs.ballot.Replica.{CountedReplica, ReplicaState, is_act
 use Rattle.world_base.specs.ballot.Sending.{Outcome}
 use Rattle.world_base.specs.ballot.Serving.{proposed}
 use Rattle.exactly_once.specs.broker_base.State.{State}
-use Rattle.exactly_once.specs.broker_base.Command.{Command}
-use Rattle.exactly_once.specs.broker_base.Connection.{ConnectionName, is_connection_name}
-use Rattle.exactly_once.specs.broker_base.Output.{Output}
-use Rattle.exactly_once.specs.broker_base.Output.TheVariants as outputs
+use Rattle.exactly_once.specs.broker_spec.declared.command.Command.{Command}
+use Rattle.exactly_once.specs.broker_spec.Connection.{ConnectionName, is_connection_name}
+use Rattle.exactly_once.specs.broker_spec.declared.command.Output.{Output}
+use Rattle.exactly_once.specs.broker_spec.declared.command.Output.TheVariants as outputs
 use Rattle.world_base.specs.declared.Port.{Port}
 use Rattle.world_base.specs.declared.Connection.{Connection}
 use Rattle.world_base.specs.Connections.{asked, closed, fresh, is_at, left_with, put_out}
@@ -64,8 +64,8 @@ proposes_same command core = by (serves core)
         (proposed_same rules core.replica.state command)
     by false = record { role = refl; joined = refl; stopped = refl; base = refl }
 
-behind_same : (command : Command) (core between : CoreState) → between.replica ≡ core.replica → Same core.replica.state (proposes command between).core.replica.state
-behind_same command core between e =
+after_same : (command : Command) (core between : CoreState) → between.replica ≡ core.replica → Same core.replica.state (proposes command between).core.replica.state
+after_same command core between e =
     let s = proposes_same command between in
     let t = same_replica core between e in
     record { role = s.role ∙ t.role; joined = s.joined ∙ t.joined; stopped = s.stopped ∙ t.stopped; base = s.base ∙ t.base }
@@ -97,13 +97,13 @@ move_same core turn crashes calm = absurd cc
 move_same core turn (opens_one port) calm = same_replica core (opens port core) (opens_replica port core)
 move_same core turn (holds port piece) calm = same_replica core turn.core (at_replica port _ core)
 move_same core turn (reads_first now port c connect rest at first is room) calm =
-    behind_same _ core (changes port (asked connect.keep_alive) (changes port (left_with now rest) core)) (at_replica port (asked connect.keep_alive) (changes port (left_with now rest) core) ∙ at_replica port (left_with now rest) core)
-move_same core turn (reads_later now port c packet rest at later is room) calm = behind_same _ core (changes port (left_with now rest) core) (at_replica port (left_with now rest) core)
+    after_same _ core (changes port (asked connect.keep_alive) (changes port (left_with now rest) core)) (at_replica port (asked connect.keep_alive) (changes port (left_with now rest) core) ∙ at_replica port (left_with now rest) core)
+move_same core turn (reads_later now port c packet rest at later is room) calm = after_same _ core (changes port (left_with now rest) core) (at_replica port (left_with now rest) core)
 move_same core turn (closes port) calm = same_replica core turn.core (at_replica port closed core)
 move_same core turn (refuses port c code at first is) calm = same_replica core turn.core (at_replica port _ core)
-move_same core turn (loses_one port c at asked_before) calm = behind_same _ core (changes port closed core) (at_replica port closed core)
-move_same core turn (loses_next c at) calm = behind_same _ core (closes_failed core) refl
-move_same core turn (expels_one client) calm = behind_same _ core core refl
+move_same core turn (loses_one port c at asked_before) calm = after_same _ core (changes port closed core) (at_replica port closed core)
+move_same core turn (loses_next c at) calm = after_same _ core (closes_failed core) refl
+move_same core turn (expels_one client) calm = after_same _ core core refl
 move_same core turn settles calm = same_replica core (settled core) (settled_replica core)
 move_same core turn (hands port) calm = same_replica core (hands_over port core) (hands_replica port core)
 

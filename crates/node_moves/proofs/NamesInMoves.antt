@@ -1,7 +1,7 @@
 -- Names keep their ballot in each move in which the replica receives nothing and does not stop.
 use Rattle.std.proofs.Common.{◌≡◌, ℕ, Bool, true, false, not, ◌&&◌, if◌then◌else◌, List, [], ◌∷◌, ◌++◌, Option, Some, None, refl, sym, ap, ◌∙◌}
 use Rattle.std.specs.List.{list_any}
-use Rattle.exactly_once.specs.broker_base.Connection.{ConnectionName, is_connection_name}
+use Rattle.exactly_once.specs.broker_spec.Connection.{ConnectionName, is_connection_name}
 use Rattle.world_base.specs.declared.Port.{Port}
 use Rattle.world_base.specs.declared.Connection.{Connection}
 use Rattle.world_base.specs.Connections.{fresh, is_at, is_over}
@@ -14,7 +14,7 @@ use Rattle.node_moves.specs.Moves.{Moves}
 use Rattle.node_moves.specs.Moves.Moves.{hears, opens_one, holds, reads_first, reads_later, closes, refuses, loses_one, loses_next, expels_one, cuts_log, crashes, settles, hands}
 use Rattle.node_moves.proofs.Kept.{named}
 use Rattle.node_moves.proofs.MovesOfReplica.{serves_same}
-use Rattle.node_moves.proofs.OpenBehind.{found_front, handed_open, settled_open, shuts_open}
+use Rattle.node_moves.proofs.OpenAfter.{found_front, handed_open, settled_open, shuts_open}
 use Rattle.node_moves.proofs.NewNames.{opened_new}
 use Rattle.node_moves.proofs.NothingOnClosed.{move_shuts}
 use Rattle.node_moves.proofs.ReplicaStays.{Same}

@@ -1,7 +1,7 @@
 -- The order in which a node gives names: by ballot, and in a ballot by number.
 use Rattle.std.proofs.Common.{◌≡◌, ◌⊎◌, inl, inr, ◌≤◌, ◌<◌, ◌+◌, ℕ, true, false, ◌==◌, refl, subst, arith}
 use Rattle.std.proofs.lemmas.Bool.{cases_lt, cases_Bool, eqb-true, eqb-false}
-use Rattle.exactly_once.specs.broker_base.Connection.{ConnectionName, same_connection}
+use Rattle.exactly_once.specs.broker_spec.Connection.{ConnectionName, same_connection}
 use Rattle.exactly_once.proofs.of_broker_spec.ConnectionNames.{same_name}
 use Rattle.world_base.specs.Core.{CoreState}
 use Rattle.world_base.specs.Step.{next_name}

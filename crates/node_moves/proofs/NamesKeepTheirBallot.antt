@@ -6,10 +6,10 @@ use Rattle.world_base.specs.ballot.Protocol.{Input, replica_step}
 use Rattle.world_base.specs.ballot.Replica.{ReplicaState, is_active}
 use Rattle.world_base.specs.ballot.Sending.{Outcome, nothing_done}
 use Rattle.exactly_once.specs.broker_base.State.{State}
-use Rattle.exactly_once.specs.broker_base.Command.{Command}
-use Rattle.exactly_once.specs.broker_base.Command.TheVariants as commands
-use Rattle.exactly_once.specs.broker_base.Connection.{ConnectionName, same_connection}
-use Rattle.exactly_once.specs.broker_base.Output.{Output}
+use Rattle.exactly_once.specs.broker_spec.declared.command.Command.{Command}
+use Rattle.exactly_once.specs.broker_spec.declared.command.Command.TheVariants as commands
+use Rattle.exactly_once.specs.broker_spec.Connection.{ConnectionName, same_connection}
+use Rattle.exactly_once.specs.broker_spec.declared.command.Output.{Output}
 use Rattle.exactly_once.specs.lists.Lists.{In}
 use Rattle.exactly_once.specs.lists.Lists.In.{here, there}
 use Rattle.exactly_once.specs.Story.{is_packet_of}
@@ -28,7 +28,7 @@ use Rattle.node_moves.specs.Moves.Moves.{hears, opens_one, holds, reads_first, r
 use Rattle.node_moves.proofs.Views.{found_passes, view_of_changed}
 use Rattle.node_moves.proofs.Kept.{left_true, live, named, stays_cut, stays_driven}
 use Rattle.node_moves.proofs.MovesOfReplica.{move_same, moved_replica, settled_replica}
-use Rattle.node_moves.proofs.OpenBehind.{open_if, settled_open, shuts_open}
+use Rattle.node_moves.proofs.OpenAfter.{open_if, settled_open, shuts_open}
 use Rattle.node_moves.proofs.ReplicaLeads.{StaysOr, step_stays}
 use Rattle.node_moves.proofs.Shut.{all}
 use Rattle.node_moves.proofs.ShutByOutputs.{bytes_for, driven_shuts}

@@ -11,11 +11,11 @@ use Rattle.world_base.specs.ballot.Protocol.Input.{Receives, Ticks}
 use Rattle.world_base.specs.ballot.Replica.{CountedReplica, ReplicaState}
 use Rattle.world_base.specs.ballot.Sending.{Outcome}
 use Rattle.exactly_once.specs.broker_base.State.{State}
-use Rattle.exactly_once.specs.broker_base.Command.{Command}
-use Rattle.exactly_once.specs.broker_base.Command.TheVariants as commands
-use Rattle.exactly_once.specs.broker_base.Connection.{ConnectionName, is_connection_name}
-use Rattle.exactly_once.specs.broker_base.Output.{Output}
-use Rattle.exactly_once.specs.broker_base.Output.TheVariants as outputs
+use Rattle.exactly_once.specs.broker_spec.declared.command.Command.{Command}
+use Rattle.exactly_once.specs.broker_spec.declared.command.Command.TheVariants as commands
+use Rattle.exactly_once.specs.broker_spec.Connection.{ConnectionName, is_connection_name}
+use Rattle.exactly_once.specs.broker_spec.declared.command.Output.{Output}
+use Rattle.exactly_once.specs.broker_spec.declared.command.Output.TheVariants as outputs
 use Rattle.world_base.specs.declared.Port.{Port}
 use Rattle.world_base.specs.declared.item.Item.{Item}
 use Rattle.world_base.specs.declared.item.Item.TheVariants.{Peer, Tick, Opened, Bytes, Ended, Expel, Cut, Crash}

@@ -4,7 +4,7 @@ use Rattle.std.proofs.Common.{◌≡◌, ◌⊎◌, inl, inr, ℕ, Bool, true, f
 use Rattle.std.specs.List.{find, list_any}
 use Rattle.std.proofs.lemmas.List.{append-nil}
 use Rattle.std.proofs.lemmas.Bool.{both_ways}
-use Rattle.exactly_once.specs.broker_base.Connection.{ConnectionName, is_connection_name}
+use Rattle.exactly_once.specs.broker_spec.Connection.{ConnectionName, is_connection_name}
 use Rattle.exactly_once.specs.Sends.{sends_to}
 use Rattle.world_base.specs.declared.Port.{Port}
 use Rattle.world_base.specs.declared.Connection.{Connection}
@@ -27,7 +27,7 @@ use Rattle.node_moves.proofs.Kept.{live, named, named_kept, stays_failed}
 use Rattle.node_moves.proofs.Shut.{Shuts, all, found_filtered, found_mapped, listed_open, shuts_closed, shuts_joined, shuts_same, shuts_tested}
 use Rattle.node_moves.proofs.Shut.Shuts.{nobody, stays_open, is_shut, was_shut}
 use Rattle.node_moves.proofs.ShutByOutputs.{driven_shuts}
-use Rattle.node_moves.proofs.ShutByChanges.{asked_shuts, at_orderly, at_replica, at_shuts, behind_shuts, holding_shuts, left_shuts, refused_shuts, with_room}
+use Rattle.node_moves.proofs.ShutByChanges.{asked_shuts, at_orderly, at_replica, at_shuts, after_shuts, holding_shuts, left_shuts, refused_shuts, with_room}
 
 pub over_if : (b : Bool) → not b ≡ false → b ≡ true
 over_if true e = refl
@@ -159,24 +159,24 @@ move_shuts core turn (reads_first now port c connect rest at first is room) o x 
     let left : CoreState = changes port (left_with now rest) core in
     let ordered = at_orderly port (left_with now rest) core o (λ z. refl) in
     with_room x _ core (changes port (asked connect.keep_alive) left) room
-    (behind_shuts x _ core (changes port (asked connect.keep_alive) left)
+    (after_shuts x _ core (changes port (asked connect.keep_alive) left)
     (shuts_joined (at_shuts x port (left_with now rest) core o (λ z. refl) (left_shuts now rest)) (at_shuts x port (asked connect.keep_alive) left ordered (λ z. refl) (asked_shuts connect.keep_alive)))
     (at_orderly port (asked connect.keep_alive) left ordered (λ z. refl)) (at_replica port (asked connect.keep_alive) left ∙ at_replica port (left_with now rest) core))
 move_shuts core turn (reads_later now port c packet rest at later is room) o x may =
     with_room x _ core (changes port (left_with now rest) core) room
-    (behind_shuts x _ core (changes port (left_with now rest) core) (at_shuts x port (left_with now rest) core o (λ z. refl) (left_shuts now rest))
+    (after_shuts x _ core (changes port (left_with now rest) core) (at_shuts x port (left_with now rest) core o (λ z. refl) (left_shuts now rest))
     (at_orderly port (left_with now rest) core o (λ z. refl)) (at_replica port (left_with now rest) core))
 move_shuts core turn (closes port) o x may = at_shuts x port closed core o (λ z. refl) (λ z lives. shuts_closed z)
 move_shuts core turn (refuses port c code at first is) o x may =
     subst (λ l. Shuts (spelled l) (listed_named x core) (listed_named x turn.core)) (sym (append-nil (refusal_in x {core = core} (refuses port c code at first is))))
     (refused_shuts x port c code core o at)
 move_shuts core turn (loses_one port c at asked_before) o x may =
-    behind_shuts x _ core (changes port closed core) (at_shuts x port closed core o (λ z. refl) (λ z lives. shuts_closed z))
+    after_shuts x _ core (changes port closed core) (at_shuts x port closed core o (λ z. refl) (λ z lives. shuts_closed z))
     (at_orderly port closed core o (λ z. refl)) (at_replica port closed core)
 move_shuts core turn (loses_next c at) o x may =
-    behind_shuts x _ core (closes_failed core)
+    after_shuts x _ core (closes_failed core)
     (shuts_tested x has_failed closed core.connections (o.names x) (λ z. refl) (λ z failed. was_shut (failed_dead z failed) refl refl)) (stays_failed core o).orderly refl
-move_shuts core turn (expels_one client) o x may = behind_shuts x _ core core (shuts_same (listed_named x core)) o refl
+move_shuts core turn (expels_one client) o x may = after_shuts x _ core core (shuts_same (listed_named x core)) o refl
 move_shuts core turn (cuts_log can) o x may = shuts_same (listed_named x core)
 move_shuts core turn crashes o x may = shuts_same (listed_named x core)
 move_shuts core turn (opens_one port) o x may = absurd may

@@ -3,7 +3,7 @@ use Rattle.std.proofs.Common.{◌≡◌, ◌⊎◌, inl, inr, ◌≤◌, ℕ, Bo
 use Rattle.std.specs.List.{list_any}
 use Rattle.std.proofs.lemmas.Bool.{cases_Bool}
 use Rattle.exactly_once.specs.packet.declared.packet.Packet.{Packet}
-use Rattle.exactly_once.specs.broker_base.Connection.{ConnectionName, same_connection, is_connection_name}
+use Rattle.exactly_once.specs.broker_spec.Connection.{ConnectionName, same_connection, is_connection_name}
 use Rattle.exactly_once.proofs.of_broker_spec.ConnectionNames.{same_name, same_itself}
 use Rattle.exactly_once.specs.lists.Lists.{Each}
 use Rattle.exactly_once.proofs.of_lists.OfEach.{each_then, each_append}

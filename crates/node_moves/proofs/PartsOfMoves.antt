@@ -4,7 +4,7 @@ use Rattle.std.proofs.Common.{◌≡◌, false, if◌then◌else◌, ℕ, List}
 use Rattle.world_base.specs.ballot.Cutting.{can_cut}
 use Rattle.world_base.specs.ballot.Message.{Message}
 use Rattle.world_base.specs.ballot.Protocol.Input.{Receives}
-use Rattle.exactly_once.specs.broker_base.Command.{Command}
+use Rattle.exactly_once.specs.broker_spec.declared.command.Command.{Command}
 use Rattle.world_base.specs.declared.Port.{Port}
 use Rattle.world_base.specs.declared.item.Item.TheVariants.{Peer, Bytes, Cut}
 use Rattle.world_base.specs.Core.{CoreState, Turn}

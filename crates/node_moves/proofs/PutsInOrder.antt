@@ -10,10 +10,10 @@ use Rattle.world_base.specs.ballot.Effect.TheVariants.{To, Out}
 use Rattle.world_base.specs.ballot.Sending.{Outcome}
 use Rattle.world_base.specs.ballot.Serving.{proposed}
 use Rattle.exactly_once.specs.broker_base.State.{State}
-use Rattle.exactly_once.specs.broker_base.Command.{Command}
-use Rattle.exactly_once.specs.broker_base.Output.{Output}
-use Rattle.exactly_once.specs.broker_base.Output.TheVariants as outputs
-use Rattle.exactly_once.specs.broker_base.Connection.{ConnectionName, same_connection}
+use Rattle.exactly_once.specs.broker_spec.declared.command.Command.{Command}
+use Rattle.exactly_once.specs.broker_spec.declared.command.Output.{Output}
+use Rattle.exactly_once.specs.broker_spec.declared.command.Output.TheVariants as outputs
+use Rattle.exactly_once.specs.broker_spec.Connection.{ConnectionName, same_connection}
 use Rattle.exactly_once.proofs.of_broker_spec.ConnectionNames.{same_name, same_itself}
 use Rattle.exactly_once.specs.Sends.{sends_to}
 use Rattle.world_base.specs.declared.Port.{Port}
@@ -236,9 +236,9 @@ unfolding changes
 at_replica port f core = refl
 
 -- a proposal after a change of connections
-behind_puts : (x : ConnectionName) (command : Command) (core between : CoreState) → Puts [] (open_named x core) (open_named x between) → IsOrderly between
+after_puts : (x : ConnectionName) (command : Command) (core between : CoreState) → Puts [] (open_named x core) (open_named x between) → IsOrderly between
     → between.replica ≡ core.replica → Puts (bytes_for x (given_by command (serves core) core.replica.state)) (open_named x core) (open_named x (proposes command between).core)
-behind_puts x command core between first o same =
+after_puts x command core between first o same =
     puts_joined first
     (subst (λ (l : List (Effect Command Output)). Puts (bytes_for x l) (open_named x between) (open_named x (proposes command between).core)) (ap given_of same)
     (proposed_puts x command between o))
@@ -304,21 +304,21 @@ all_puts core turn (reads_first now port k connect rest at first is room) o no_h
     let left : CoreState = changes port (left_with now rest) core in
     let ordered = at_orderly port (left_with now rest) core o (λ d. refl) in
     with_room x _ core (changes port (asked connect.keep_alive) left) room
-    (behind_puts x _ core (changes port (asked connect.keep_alive) left)
+    (after_puts x _ core (changes port (asked connect.keep_alive) left)
     (puts_joined (at_puts x port (left_with now rest) core o (λ d. refl) (λ d. refl)) (at_puts x port (asked connect.keep_alive) left ordered (λ d. refl) (λ d. refl)))
     (at_orderly port (asked connect.keep_alive) left ordered (λ d. refl)) (at_replica port (asked connect.keep_alive) left ∙ at_replica port (left_with now rest) core))
 all_puts core turn (reads_later now port k packet rest at later is room) o no_hand x c there =
     with_room x _ core (changes port (left_with now rest) core) room
-    (behind_puts x _ core (changes port (left_with now rest) core) (at_puts x port (left_with now rest) core o (λ d. refl) (λ d. refl))
+    (after_puts x _ core (changes port (left_with now rest) core) (at_puts x port (left_with now rest) core o (λ d. refl) (λ d. refl))
     (at_orderly port (left_with now rest) core o (λ d. refl)) (at_replica port (left_with now rest) core))
 all_puts core turn (closes port) o no_hand x c there = at_puts x port closed core o (λ d. refl) (λ d. refl)
 all_puts core turn (refuses port k code at first is) o no_hand x c there = refused_puts x port code core o
 all_puts core turn (loses_one port k at proposed_before) o no_hand x c there =
-    behind_puts x _ core (changes port closed core) (at_puts x port closed core o (λ d. refl) (λ d. refl)) (at_orderly port closed core o (λ d. refl)) (at_replica port closed core)
+    after_puts x _ core (changes port closed core) (at_puts x port closed core o (λ d. refl) (λ d. refl)) (at_orderly port closed core o (λ d. refl)) (at_replica port closed core)
 all_puts core turn (loses_next k at) o no_hand x c there =
-    behind_puts x _ core (closes_failed core) (subst (Puts [] (open_named x core)) (sym (same_of_failed x core)) (puts_none (open_named x core)))
+    after_puts x _ core (closes_failed core) (subst (Puts [] (open_named x core)) (sym (same_of_failed x core)) (puts_none (open_named x core)))
     (stays_failed core o).orderly refl
-all_puts core turn (expels_one client) o no_hand x c there = behind_puts x _ core core (puts_none (open_named x core)) o refl
+all_puts core turn (expels_one client) o no_hand x c there = after_puts x _ core core (puts_none (open_named x core)) o refl
 all_puts core turn (cuts_log can) o no_hand x c there = puts_none (open_named x core)
 all_puts core turn crashes o no_hand x c there = puts_none (open_named x core)
 all_puts core turn settles o no_hand x c there = settled_puts x core

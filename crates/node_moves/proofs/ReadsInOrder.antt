@@ -6,9 +6,9 @@ use Rattle.exactly_once.specs.packet.declared.packet.Packet.TheVariants as packe
 use Rattle.exactly_once.specs.packet.declared.connect.Connect.{Connect}
 use Rattle.exactly_once.specs.packet.RefusalCode.{RefusalCode}
 use Rattle.exactly_once.specs.packet.Verdict.{verdict}
-use Rattle.exactly_once.specs.broker_base.Command.{Command}
-use Rattle.exactly_once.specs.broker_base.Command.TheVariants as commands
-use Rattle.exactly_once.specs.broker_base.Connection.{ConnectionName}
+use Rattle.exactly_once.specs.broker_spec.declared.command.Command.{Command}
+use Rattle.exactly_once.specs.broker_spec.declared.command.Command.TheVariants as commands
+use Rattle.exactly_once.specs.broker_spec.Connection.{ConnectionName}
 use Rattle.exactly_once.proofs.of_broker_spec.ConnectionNames.{same_name}
 use Rattle.world_base.specs.cutter.Pipe.{Joins, IsPiped}
 use Rattle.exactly_once.specs.Story.{is_packet_of}

@@ -9,10 +9,10 @@ use Rattle.exactly_once.specs.packet.Spelling.{spelling}
 use Rattle.world_base.specs.ballot.Effect.{Effect}
 use Rattle.world_base.specs.ballot.Replica.{CountedReplica}
 use Rattle.world_base.specs.ballot.Serving.{proposed}
-use Rattle.exactly_once.specs.broker_base.Command.{Command}
+use Rattle.exactly_once.specs.broker_spec.declared.command.Command.{Command}
 use Rattle.exactly_once.specs.broker_base.State.{State}
-use Rattle.exactly_once.specs.broker_base.Output.{Output}
-use Rattle.exactly_once.specs.broker_base.Connection.{ConnectionName, same_connection}
+use Rattle.exactly_once.specs.broker_spec.declared.command.Output.{Output}
+use Rattle.exactly_once.specs.broker_spec.Connection.{ConnectionName, same_connection}
 use Rattle.world_base.specs.declared.Port.{Port}
 use Rattle.world_base.specs.declared.Connection.{Connection}
 use Rattle.world_base.specs.Connections.{asked, holding, is_at, is_open_at, left_with}
@@ -55,10 +55,10 @@ pub asked_shuts : (keep_alive : ℕ) (d : Connection) → live d ≡ true → Sh
 asked_shuts keep_alive d e = stays_open e refl (sym (append-nil d.pending))
 
 -- a proposal after a change of connections
-pub behind_shuts : (x : ConnectionName) (command : Command) (core between : CoreState) → Shuts [] (listed_named x core) (listed_named x between) → IsOrderly between
+pub after_shuts : (x : ConnectionName) (command : Command) (core between : CoreState) → Shuts [] (listed_named x core) (listed_named x between) → IsOrderly between
     → between.replica ≡ core.replica
     → Shuts (bytes_for x (given_by command (serves core) core.replica.state)) (listed_named x core) (listed_named x (proposes command between).core)
-behind_shuts x command core between first o same =
+after_shuts x command core between first o same =
     shuts_joined first
     (subst (λ (l : List (Effect Command Output)). Shuts (bytes_for x l) (listed_named x between) (listed_named x (proposes command between).core)) (ap given_of same)
     (proposed_shuts x command between o))

@@ -11,10 +11,10 @@ use Rattle.world_base.specs.ballot.Replica.{ReplicaState}
 use Rattle.world_base.specs.ballot.Sending.{Outcome}
 use Rattle.world_base.specs.ballot.Serving.{proposed}
 use Rattle.exactly_once.specs.broker_base.State.{State}
-use Rattle.exactly_once.specs.broker_base.Command.{Command}
-use Rattle.exactly_once.specs.broker_base.Output.{Output}
-use Rattle.exactly_once.specs.broker_base.Output.TheVariants as outputs
-use Rattle.exactly_once.specs.broker_base.Connection.{ConnectionName, same_connection}
+use Rattle.exactly_once.specs.broker_spec.declared.command.Command.{Command}
+use Rattle.exactly_once.specs.broker_spec.declared.command.Output.{Output}
+use Rattle.exactly_once.specs.broker_spec.declared.command.Output.TheVariants as outputs
+use Rattle.exactly_once.specs.broker_spec.Connection.{ConnectionName, same_connection}
 use Rattle.exactly_once.proofs.of_broker_spec.ConnectionNames.{same_name, same_itself}
 use Rattle.exactly_once.specs.Sends.{sends_to}
 use Rattle.world_base.specs.declared.Connection.{Connection}

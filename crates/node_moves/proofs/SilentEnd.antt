@@ -3,7 +3,7 @@ use Rattle.std.proofs.Common.{◌≡◌, ◌⊎◌, inl, inr, ◌≤◌, ◌<◌
 use Rattle.std.specs.List.{find, fold}
 use Rattle.std.proofs.lemmas.Bool.{eq-eqb, and_from, not-true}
 use Rattle.world_base.specs.ballot.Protocol.Input.{Ticks}
-use Rattle.exactly_once.specs.broker_base.Command.TheVariants as commands
+use Rattle.exactly_once.specs.broker_spec.declared.command.Command.TheVariants as commands
 use Rattle.exactly_once.specs.lists.Lists.{Each}
 use Rattle.world_base.specs.declared.Port.{Port}
 use Rattle.world_base.specs.declared.item.Item.TheVariants.{Tick}
@@ -14,7 +14,7 @@ use Rattle.world_base.specs.KeepAlive.{lower, lower_silent, lowest_silent, ends_
 use Rattle.world_base.specs.Reading.{changes, ends, loses, loses_open, open_at}
 use Rattle.world_base.specs.Step.{acts_on, takes_in}
 use Rattle.world_base.specs.Turns.{quiet, drives, proposes}
-use Rattle.node_moves.specs.Behind.{NoneIsSilent}
+use Rattle.node_moves.specs.Settled.{NoneIsSilent}
 use Rattle.node_moves.proofs.EachKept.{IsKept, each_repeated, each_settled}
 use Rattle.node_moves.proofs.Kept.{live, left_true, failing_over}
 use Rattle.node_moves.proofs.NamesInOrder.{same_le}

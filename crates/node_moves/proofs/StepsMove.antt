@@ -11,9 +11,9 @@ use Rattle.exactly_once.specs.packet.RefusalCode.{RefusalCode}
 use Rattle.exactly_once.specs.packet.Verdict.{verdict}
 use Rattle.world_base.specs.ballot.Effect.{Effect}
 use Rattle.world_base.specs.ballot.Protocol.Input.{Receives, Ticks}
-use Rattle.exactly_once.specs.broker_base.Command.{Command}
-use Rattle.exactly_once.specs.broker_base.Command.TheVariants as commands
-use Rattle.exactly_once.specs.broker_base.Output.{Output}
+use Rattle.exactly_once.specs.broker_spec.declared.command.Command.{Command}
+use Rattle.exactly_once.specs.broker_spec.declared.command.Command.TheVariants as commands
+use Rattle.exactly_once.specs.broker_spec.declared.command.Output.{Output}
 use Rattle.world_base.specs.declared.Port.{Port}
 use Rattle.world_base.specs.declared.item.Item.{Item}
 use Rattle.world_base.specs.declared.item.Item.TheVariants.{Peer, Tick, Opened, Bytes, Ended, Expel, Cut, Crash}
@@ -26,8 +26,8 @@ use Rattle.world_base.specs.Step.{node_step, acts_on, cuts, settled, takes_in, w
 use Rattle.world_base.specs.Failing.{loses_failed, loses_if}
 use Rattle.world_base.specs.KeepAlive.{ends_if, ends_silent, lowest_silent}
 use Rattle.world_base.specs.Turns.{quiet, proposes, drives, has_room, repeated}
-use Rattle.node_moves.specs.Hearing.{DeedsHearAtFirst}
-use Rattle.node_moves.specs.Moves.{Moves, Runs, NodeCall, and_then, done, DeedsAreMoves}
+use Rattle.node_moves.specs.Hearing.{NodeCallsHearAtFirst}
+use Rattle.node_moves.specs.Moves.{Moves, Runs, NodeCall, and_then, done, NodeCallsAreMoves}
 use Rattle.node_moves.specs.Moves.NodeCall.{takes, gives}
 use Rattle.node_moves.specs.Moves.Moves.{hears, opens_one, holds, reads_first, reads_later, closes, refuses, loses_one, loses_next, expels_one, cuts_log, crashes, settles, hands}
 use Rattle.node_moves.specs.Moves.Runs.{rests, goes_on}
@@ -270,13 +270,13 @@ step_runs item core =
     (append-nil (acts_on item core).messages) (first_join (acted_on item core) (calm_move settles (refl, refl)))
 
 -- a call begins with its part, and the moves after it are bare
-pub deeds_begin : (deed : NodeCall) (core : CoreState) → First (part_of deed core) core (done deed core)
-deeds_begin (takes item) core = step_runs item core
-deeds_begin (gives port) core = first_move (hands port)
+pub node_calls_begin : (node_call : NodeCall) (core : CoreState) → First (part_of node_call core) core (done node_call core)
+node_calls_begin (takes item) core = step_runs item core
+node_calls_begin (gives port) core = first_move (hands port)
 
-pub deeds_hear_at_first : DeedsHearAtFirst
-deeds_hear_at_first deed core = let r = deeds_begin deed core in (r.0, begins_hearing (part_of deed core) r.0 r.1)
+pub node_calls_hear_at_first : NodeCallsHearAtFirst
+node_calls_hear_at_first node_call core = let r = node_calls_begin node_call core in (r.0, begins_hearing (part_of node_call core) r.0 r.1)
 
-pub deeds_are_moves : DeedsAreMoves
-deeds_are_moves [] core = rests
-deeds_are_moves (deed ∷ deeds) core = runs_join (deeds_begin deed core).0 (deeds_are_moves deeds (done deed core).core)
+pub node_calls_are_moves : NodeCallsAreMoves
+node_calls_are_moves [] core = rests
+node_calls_are_moves (node_call ∷ node_calls) core = runs_join (node_calls_begin node_call core).0 (node_calls_are_moves node_calls (done node_call core).core)

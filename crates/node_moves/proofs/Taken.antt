@@ -10,10 +10,10 @@ use Rattle.world_base.specs.ballot.Sending.{Outcome}
 use Rattle.world_base.specs.ballot.Serving.{most_places, proposed}
 use Rattle.world_base.proofs.of_ballot.StepRows.{added-log}
 use Rattle.exactly_once.specs.broker_base.State.{State}
-use Rattle.exactly_once.specs.broker_base.Command.{Command}
-use Rattle.exactly_once.specs.broker_base.Output.{Output}
-use Rattle.exactly_once.specs.broker_base.Output.TheVariants as outputs
-use Rattle.exactly_once.specs.broker_base.Connection.{ConnectionName}
+use Rattle.exactly_once.specs.broker_spec.declared.command.Command.{Command}
+use Rattle.exactly_once.specs.broker_spec.declared.command.Output.{Output}
+use Rattle.exactly_once.specs.broker_spec.declared.command.Output.TheVariants as outputs
+use Rattle.exactly_once.specs.broker_spec.Connection.{ConnectionName}
 use Rattle.world_base.specs.declared.Port.{Port}
 use Rattle.world_base.specs.declared.Connection.{Connection}
 use Rattle.world_base.specs.Connections.{asked, left_with, closed, put_out}
@@ -66,9 +66,9 @@ unfolding changes
 changed_replica port f core = refl
 
 -- a command is taken after a change of a connection
-taken_behind : (command : Command) (core between : CoreState) → between.replica ≡ core.replica → has_room core ≡ true
+taken_after : (command : Command) (core between : CoreState) → between.replica ≡ core.replica → has_room core ≡ true
     → (proposes command between).core.replica.state.log ≡ pushed core.replica.state.log command
-taken_behind command core between same room =
+taken_after command core between same room =
     proposes_log command between (ap room_of same ∙ room) ∙ ap (λ (r : CountedReplica State Command). pushed r.state.log command) same
   where
     room_of : CountedReplica State Command → Bool
@@ -76,10 +76,10 @@ taken_behind command core between same room =
 
 pub reads_are_taken : ReadsAreTaken
 reads_are_taken core turn (reads_first now port c connect rest at first is room) read =
-    taken_behind _ core (changes port (asked connect.keep_alive) (changes port (left_with now rest) core))
+    taken_after _ core (changes port (asked connect.keep_alive) (changes port (left_with now rest) core))
     (changed_replica port (asked connect.keep_alive) (changes port (left_with now rest) core) ∙ changed_replica port (left_with now rest) core) room
 reads_are_taken core turn (reads_later now port c packet rest at later is room) read =
-    taken_behind _ core (changes port (left_with now rest) core) (changed_replica port (left_with now rest) core) room
+    taken_after _ core (changes port (left_with now rest) core) (changed_replica port (left_with now rest) core) room
 reads_are_taken core turn (hears input other) read = absurd cc
 reads_are_taken core turn (opens_one port) read = absurd cc
 reads_are_taken core turn (holds port piece) read = absurd cc

@@ -3,9 +3,9 @@
 use Rattle.std.specs.Prelude.{◌≡◌, ℕ, List, None}
 use Rattle.world_base.specs.ballot.Config.{Config}
 use Rattle.world_base.specs.ballot.Effect.{Effect}
-use Rattle.exactly_once.specs.broker_base.Command.{Command}
-use Rattle.exactly_once.specs.broker_base.Connection.{ConnectionName}
-use Rattle.exactly_once.specs.broker_base.Output.{Output}
+use Rattle.exactly_once.specs.broker_spec.declared.command.Command.{Command}
+use Rattle.exactly_once.specs.broker_spec.Connection.{ConnectionName}
+use Rattle.exactly_once.specs.broker_spec.declared.command.Output.{Output}
 use Rattle.world_base.specs.declared.item.Item.{Item}
 use Rattle.world_base.specs.declared.Port.{Port}
 use Rattle.world_base.specs.Core.{CoreState, opening_core}

@@ -3,9 +3,9 @@
 use Rattle.std.specs.Prelude.{◌≡◌, ◌≤◌, ◌<◌, ◌⊎◌, ℕ, suc, Bool, true, false, if◌then◌else◌, List, [], ◌∷◌, ◌++◌, length, filter, Option, Some, None}
 use Rattle.std.specs.List.{find}
 use Rattle.exactly_once.specs.packet.declared.packet.Packet.{Packet}
-use Rattle.exactly_once.specs.broker_base.Connection.{ConnectionName, same_connection}
-use Rattle.exactly_once.specs.broker_base.Command.{Command}
-use Rattle.exactly_once.specs.broker_base.Command.TheVariants as commands
+use Rattle.exactly_once.specs.broker_spec.Connection.{ConnectionName, same_connection}
+use Rattle.exactly_once.specs.broker_spec.declared.command.Command.{Command}
+use Rattle.exactly_once.specs.broker_spec.declared.command.Command.TheVariants as commands
 use Rattle.exactly_once.specs.lists.Lists.{Each, IsPrefixOf}
 use Rattle.world_base.specs.cutter.Stream.{Stream}
 use Rattle.world_base.specs.cutter.Pipe.{IsPiped}

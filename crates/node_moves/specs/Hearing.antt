@@ -16,5 +16,5 @@ HearsAtFirst rests = Unit {0}
 HearsAtFirst (goes_on m run) = IsCalm run
 
 -- each call is such a run
-abbrev pub DeedsHearAtFirst : Type 0
-DeedsHearAtFirst = (deed : NodeCall) (core : CoreState) → (run : Runs core (done deed core)) × HearsAtFirst run
+abbrev pub NodeCallsHearAtFirst : Type 0
+NodeCallsHearAtFirst = (node_call : NodeCall) (core : CoreState) → (run : Runs core (done node_call core)) × HearsAtFirst run

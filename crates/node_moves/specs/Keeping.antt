@@ -2,8 +2,8 @@
 use Rattle.std.specs.Prelude.{◌≡◌, ℕ, Bool, true, false, Some}
 use Rattle.world_base.specs.ballot.Config.{Config}
 use Rattle.world_base.specs.ballot.Protocol.{Input}
-use Rattle.exactly_once.specs.broker_base.Command.{Command}
-use Rattle.exactly_once.specs.broker_base.Connection.{ConnectionName}
+use Rattle.exactly_once.specs.broker_spec.declared.command.Command.{Command}
+use Rattle.exactly_once.specs.broker_spec.Connection.{ConnectionName}
 use Rattle.exactly_once.specs.lists.Lists.{In}
 use Rattle.exactly_once.specs.Story.{is_packet_of}
 use Rattle.world_base.specs.declared.Connection.{Connection}

@@ -5,7 +5,7 @@ pub mod Puts
 pub mod Closed
 pub mod Names
 pub mod Apart
-pub mod Behind
+pub mod Settled
 pub mod Keeping
 pub mod Hearing
 pub mod LossyMoves

@@ -3,8 +3,8 @@
 use Rattle.std.specs.Prelude.{◌≡◌, ◌<◌, ℕ, true, false, List, ◌++◌, length, filter, Some, None}
 use Rattle.exactly_once.specs.packet.declared.packet.Packet.{Packet}
 use Rattle.world_base.specs.ballot.Config.{Config}
-use Rattle.exactly_once.specs.broker_base.Command.{Command}
-use Rattle.exactly_once.specs.broker_base.Connection.{ConnectionName}
+use Rattle.exactly_once.specs.broker_spec.declared.command.Command.{Command}
+use Rattle.exactly_once.specs.broker_spec.Connection.{ConnectionName}
 use Rattle.exactly_once.specs.lists.Lists.{In, IsPrefixOf}
 use Rattle.world_base.specs.cutter.Pipe.{Joins}
 use Rattle.exactly_once.specs.Sends.{sends_to}

@@ -7,9 +7,9 @@ use Rattle.exactly_once.specs.packet.declared.connect.Connect.{Connect}
 use Rattle.exactly_once.specs.packet.Verdict.{verdict}
 use Rattle.world_base.specs.ballot.Losses.{halted, one_more}
 use Rattle.world_base.specs.ballot.Protocol.{Input}
-use Rattle.exactly_once.specs.broker_base.Command.{Command}
-use Rattle.exactly_once.specs.broker_base.Command.TheVariants as commands
-use Rattle.exactly_once.specs.broker_base.Connection.{ConnectionName}
+use Rattle.exactly_once.specs.broker_spec.declared.command.Command.{Command}
+use Rattle.exactly_once.specs.broker_spec.declared.command.Command.TheVariants as commands
+use Rattle.exactly_once.specs.broker_spec.Connection.{ConnectionName}
 use Rattle.world_base.specs.declared.Port.{Port}
 use Rattle.world_base.specs.declared.Connection.{Connection}
 use Rattle.world_base.specs.Connections.{asked, closed, failing, is_first, left_with}

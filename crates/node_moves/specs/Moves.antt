@@ -10,8 +10,8 @@ use Rattle.exactly_once.specs.packet.Verdict.{verdict}
 use Rattle.world_base.specs.ballot.Cutting.{can_cut}
 use Rattle.world_base.specs.ballot.Protocol.{Input}
 use Rattle.world_base.specs.ballot.Protocol.Input.{Receives, Proposes, Ticks}
-use Rattle.exactly_once.specs.broker_base.Command.{Command}
-use Rattle.exactly_once.specs.broker_base.Command.TheVariants as commands
+use Rattle.exactly_once.specs.broker_spec.declared.command.Command.{Command}
+use Rattle.exactly_once.specs.broker_spec.declared.command.Command.TheVariants as commands
 use Rattle.world_base.specs.declared.Port.{Port}
 use Rattle.world_base.specs.declared.item.Item.{Item}
 use Rattle.world_base.specs.declared.Connection.{Connection}
@@ -90,8 +90,8 @@ done (gives port) core = quiet (hands_over port core)
 -- one call after another
 abbrev pub all_done : List NodeCall → CoreState → Turn
 all_done [] core = quiet core
-all_done (deed ∷ deeds) core = and_then (done deed core) (all_done deeds (done deed core).core)
+all_done (node_call ∷ node_calls) core = and_then (done node_call core) (all_done node_calls (done node_call core).core)
 
 -- all that a node ever does is such a run
-abbrev pub DeedsAreMoves : Type 0
-DeedsAreMoves = (deeds : List NodeCall) (core : CoreState) → Runs core (all_done deeds core)
+abbrev pub NodeCallsAreMoves : Type 0
+NodeCallsAreMoves = (node_calls : List NodeCall) (core : CoreState) → Runs core (all_done node_calls core)

@@ -1,6 +1,6 @@
 -- Which name a connection gets that a node opens.
 use Rattle.std.specs.Prelude.{◌≡◌, ◌+◌, true, Some, None}
-use Rattle.exactly_once.specs.broker_base.Connection.{ConnectionName}
+use Rattle.exactly_once.specs.broker_spec.Connection.{ConnectionName}
 use Rattle.world_base.specs.declared.Connection.{Connection}
 use Rattle.world_base.specs.Core.{CoreState, Turn, serves}
 use Rattle.world_base.specs.Step.{accepted}

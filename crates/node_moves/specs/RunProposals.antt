@@ -2,8 +2,8 @@
 -- client writes, once and in order.
 use Rattle.std.specs.Prelude.{◌≡◌, ◌<◌, ℕ, Bool, true, false, List, [], ◌++◌, filter}
 use Rattle.exactly_once.specs.packet.declared.packet.Packet.{Packet}
-use Rattle.exactly_once.specs.broker_base.Connection.{ConnectionName}
-use Rattle.exactly_once.specs.broker_base.Command.{Command}
+use Rattle.exactly_once.specs.broker_spec.Connection.{ConnectionName}
+use Rattle.exactly_once.specs.broker_spec.declared.command.Command.{Command}
 use Rattle.world_base.specs.ballot.Config.{Config}
 use Rattle.exactly_once.specs.lists.Lists.{IsPrefixOf}
 use Rattle.world_base.specs.cutter.Pipe.{Joins}

@@ -3,24 +3,24 @@
 // of it too.
 
 ghost use Rattle.node_moves.specs.Apart.{NamesStayApart};
-ghost use Rattle.node_moves.specs.Behind.{EachLossIsTold, NoneIsSilent};
-ghost use Rattle.node_moves.specs.Hearing.{DeedsHearAtFirst};
+ghost use Rattle.node_moves.specs.Settled.{EachLossIsTold, NoneIsSilent};
+ghost use Rattle.node_moves.specs.Hearing.{NodeCallsHearAtFirst};
 ghost use Rattle.node_moves.specs.Keeping.{NamesKeepTheirBallot};
 ghost use Rattle.node_moves.specs.LossyLaws.{LossesAreTaken, LossesProposeInOrder, LossesPutInOrder, LossesPutNothingOnClosed, LossesReadInOrder, LossyNamesAreOfTheBallot, LossyNamesKeepTheirBallot};
 ghost use Rattle.node_moves.specs.LossyRuns.{LossesAreMoves};
-ghost use Rattle.node_moves.specs.Moves.{DeedsAreMoves};
+ghost use Rattle.node_moves.specs.Moves.{NodeCallsAreMoves};
 
 /// Everything that a node does, its steps and the handing over of bytes, is a run of a few moves:
 /// what it reads from a client it proposes, and nothing else; the effects of its replica are done
 /// at once.
-pub fn deeds_are_moves()
-    ensures { DeedsAreMoves }
+pub fn node_calls_are_moves()
+    ensures { NodeCallsAreMoves }
 {}
 
 /// Each step of a node, and each handing over of bytes, is such a run in which the replica receives
 /// something, or stops, only in the first move.
-pub fn deeds_hear_at_first()
-    ensures { DeedsHearAtFirst }
+pub fn node_calls_hear_at_first()
+    ensures { NodeCallsHearAtFirst }
 {}
 
 /// After a tick no connection is silent for longer than its keep alive allows (MQTT 3.1.2.10).

@@ -5,10 +5,10 @@
 mod laws;
 
 pub use laws::{
-    deeds_are_moves, deeds_hear_at_first, each_loss_is_told, losses_are_moves, losses_are_taken,
-    losses_propose_in_order, losses_put_in_order, losses_put_nothing_on_closed,
-    losses_read_in_order, lossy_names_are_of_the_ballot, lossy_names_keep_their_ballot,
-    names_keep_their_ballot, names_stay_apart, none_is_silent,
+    each_loss_is_told, losses_are_moves, losses_are_taken, losses_propose_in_order,
+    losses_put_in_order, losses_put_nothing_on_closed, losses_read_in_order,
+    lossy_names_are_of_the_ballot, lossy_names_keep_their_ballot, names_keep_their_ballot,
+    names_stay_apart, node_calls_are_moves, node_calls_hear_at_first, none_is_silent,
 };
 pub use world_base;
 pub use world_base::ballot;

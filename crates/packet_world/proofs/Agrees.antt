@@ -4,11 +4,11 @@ use Rattle.std.specs.Prelude.{slice_get}
 use Rattle.std.proofs.lemmas.Bool.{both_ways, cases_Bool}
 use Rattle.exactly_once.specs.packet.declared.packet.Packet.{Packet}
 use Rattle.exactly_once.specs.packet.declared.packet.Packet.TheVariants as packets
-use Rattle.exactly_once.specs.broker_base.Connection.{ConnectionName, same_connection}
-use Rattle.exactly_once.specs.broker_base.Place.{Client, Past, Limits}
-use Rattle.exactly_once.specs.broker_base.Commands.{place_of, past_of, usual_limits}
-use Rattle.exactly_once.specs.broker_base.Command.{Command}
-use Rattle.exactly_once.specs.broker_base.Command.TheVariants as commands
+use Rattle.exactly_once.specs.broker_spec.Connection.{ConnectionName, same_connection}
+use Rattle.exactly_once.specs.broker_spec.Place.{Client, Past, Limits}
+use Rattle.exactly_once.specs.broker_spec.Commands.{place_of, past_of, usual_limits}
+use Rattle.exactly_once.specs.broker_spec.declared.command.Command.{Command}
+use Rattle.exactly_once.specs.broker_spec.declared.command.Command.TheVariants as commands
 use Rattle.exactly_once.proofs.of_broker_base.ConnectionNames.{same_name}
 use Rattle.exactly_once.proofs.of_broker_base.PacketOfNobody.{window_is_steady}
 use Rattle.exactly_once.specs.client_base.Keeper.{Written}
@@ -17,11 +17,11 @@ use Rattle.exactly_once.specs.Sides.{Connection}
 use Rattle.exactly_once.specs.Story.{Story, any_named, is_packet_of, counted_at, command_of, names_client}
 use Rattle.exactly_once.specs.Lives.{Lived}
 use Rattle.exactly_once.specs.Lives.Lived.{goes_on, is_expelled}
-use Rattle.exactly_once.specs.Story.Happens.{takes, others_take}
+use Rattle.exactly_once.specs.Story.StoryStep.{takes, others_take}
 use Rattle.exactly_once.proofs.sessions.Anew.{IsUntouched}
 use Rattle.exactly_once.proofs.sessions.Life.{IsCounted, IsLife}
 use Rattle.exactly_once.proofs.sessions.LivedIsLife.{lived_is_life}
-use Rattle.exactly_once.specs.broker_base.Place.{same_client}
+use Rattle.exactly_once.specs.broker_spec.Place.{same_client}
 use Rattle.exactly_once.proofs.of_broker_base.ClientsInOrder.{same_is, same_self}
 use Rattle.exactly_once.proofs.publishing.Last.{none_named, each_there, is_named}
 use Rattle.exactly_once.proofs.publishing.kept.KeepsNames.{counted_named}

@@ -2,13 +2,13 @@
 -- there.
 use Rattle.std.proofs.Common.{◌≡◌, ◌≤◌, ◌+◌, suc, Bool, true, false, if◌then◌else◌, List, [], ◌∷◌, ◌++◌, length, filter, refl, ap, ap₂, sym, ◌∙◌, subst, arith, inl, inr}
 use Rattle.exactly_once.specs.packet.declared.packet.Packet.{Packet}
-use Rattle.exactly_once.specs.broker_base.Connection.{ConnectionName, same_connection}
-use Rattle.exactly_once.specs.broker_base.Place.{Past, Limits}
-use Rattle.exactly_once.specs.broker_base.Commands.{place_of, past_from, past_of}
-use Rattle.exactly_once.specs.broker_base.Answers.{answers_of}
-use Rattle.exactly_once.specs.broker_base.Command.{Command}
-use Rattle.exactly_once.specs.broker_base.Output.{Output}
-use Rattle.exactly_once.specs.broker_base.Output.TheVariants.{Send, Close}
+use Rattle.exactly_once.specs.broker_spec.Connection.{ConnectionName, same_connection}
+use Rattle.exactly_once.specs.broker_spec.Place.{Past, Limits}
+use Rattle.exactly_once.specs.broker_spec.Commands.{place_of, past_from, past_of}
+use Rattle.exactly_once.specs.broker_spec.Answers.{answers_of}
+use Rattle.exactly_once.specs.broker_spec.declared.command.Command.{Command}
+use Rattle.exactly_once.specs.broker_spec.declared.command.Output.{Output}
+use Rattle.exactly_once.specs.broker_spec.declared.command.Output.TheVariants.{Send, Close}
 use Rattle.exactly_once.proofs.of_broker_base.ConnectionNames.{same_name, same_itself}
 use Rattle.exactly_once.proofs.of_broker_base.SentToLive.{SentAt, sent_at}
 use Rattle.snapshots.specs.lists.Lists.{In, IsPrefixOf}

@@ -1,10 +1,10 @@
 -- The broker's machine gives what the model answers, after each list of commands.
 use Rattle.std.proofs.Common.{◌≡◌, ℕ, Bool, true, false, if◌then◌else◌, List, [], ◌∷◌, refl, ap, ◌∙◌}
 use Rattle.snapshots.specs.machine.Machine.{replay, replay_from}
-use Rattle.exactly_once.specs.broker_base.Commands.{is_start, past_of, usual_limits}
-use Rattle.exactly_once.specs.broker_base.Answers.{answers_of}
-use Rattle.exactly_once.specs.broker_base.Command.{Command}
-use Rattle.exactly_once.specs.broker_base.Output.{Output}
+use Rattle.exactly_once.specs.broker_spec.Commands.{is_start, past_of, usual_limits}
+use Rattle.exactly_once.specs.broker_spec.Answers.{answers_of}
+use Rattle.exactly_once.specs.broker_spec.declared.command.Command.{Command}
+use Rattle.exactly_once.specs.broker_spec.declared.command.Output.{Output}
 use Rattle.exactly_once.specs.broker_base.State.{State, empty_state}
 use Rattle.exactly_once.specs.broker_base.Step.{IsWindow, state_from, step}
 use Rattle.exactly_once.proofs.of_broker_base.StepByStep.{step_stands, usual_lists_stand}

@@ -3,18 +3,18 @@ use Rattle.std.proofs.Common.{◌≡◌, ℕ, Bool, true, false, if◌then◌els
 use Rattle.std.specs.Prelude.{slice_get}
 use Rattle.std.proofs.lemmas.Bool.{both_ways}
 use Rattle.exactly_once.specs.packet.declared.packet.Packet.TheVariants as packets
-use Rattle.exactly_once.specs.broker_base.Connection.{ConnectionName}
-use Rattle.exactly_once.specs.broker_base.Place.{Client, Past, Limits}
-use Rattle.exactly_once.specs.broker_base.Commands.{past_of, usual_limits}
-use Rattle.exactly_once.specs.broker_base.Command.{Command}
+use Rattle.exactly_once.specs.broker_spec.Connection.{ConnectionName}
+use Rattle.exactly_once.specs.broker_spec.Place.{Client, Past, Limits}
+use Rattle.exactly_once.specs.broker_spec.Commands.{past_of, usual_limits}
+use Rattle.exactly_once.specs.broker_spec.declared.command.Command.{Command}
 use Rattle.exactly_once.specs.client_base.Keeper.{Written}
 use Rattle.exactly_once.specs.client_base.Written.{plain, writes_first}
 use Rattle.exactly_once.specs.client_base.Called.{written_for}
 use Rattle.exactly_once.specs.Sides.{Connection}
-use Rattle.exactly_once.specs.Story.{Story, Happens, any_named}
+use Rattle.exactly_once.specs.Story.{Story, StoryStep, any_named}
 use Rattle.exactly_once.specs.Lives.{Lived}
 use Rattle.exactly_once.specs.Lives.Lived.{goes_on}
-use Rattle.exactly_once.specs.Story.Happens.{takes, others_take, receives, opens_anew, loses, disconnects, publishes_one, subscribes, unsubscribes}
+use Rattle.exactly_once.specs.Story.StoryStep.{takes, others_take, receives, opens_anew, loses, disconnects, publishes_one, subscribes, unsubscribes}
 use Rattle.exactly_once.proofs.keeping.KeepsShape.{same_story}
 use Rattle.packet_world.specs.World.{End, ClientEnds, World, story_of, with_client}
 use Rattle.packet_world.specs.Goes.{is_call}
@@ -22,7 +22,7 @@ use Rattle.packet_world.proofs.Lists.{each_get}
 use Rattle.packet_world.proofs.Ends.{PipesHold, first_written}
 use Rattle.packet_world.proofs.Holds.{IsTold, HasPipes, Holds, keeps_party}
 
-call_past : {limits : Limits} {s t : Story} (h : Happens limits s t) → is_call h ≡ true → t.past ≡ s.past
+call_past : {limits : Limits} {s t : Story} (h : StoryStep limits s t) → is_call h ≡ true → t.past ≡ s.past
 call_past (takes i κ w stands next) e = absurd (both_ways false refl e)
 call_past (others_take command other none) e = absurd (both_ways false refl e)
 call_past (receives κ others packet are opened next) e = absurd (both_ways false refl e)
@@ -37,7 +37,7 @@ written_named : (test : ConnectionName → Bool) (more : List Written) (connecti
 written_named test more [] = refl
 written_named test more (κ ∷ connections) = refl
 
-call_named : {limits : Limits} {s t : Story} (h : Happens limits s t) → is_call h ≡ true → (test : ConnectionName → Bool) → any_named test t.connections ≡ any_named test s.connections
+call_named : {limits : Limits} {s t : Story} (h : StoryStep limits s t) → is_call h ≡ true → (test : ConnectionName → Bool) → any_named test t.connections ≡ any_named test s.connections
 call_named (takes i κ w stands next) e test = absurd (both_ways false refl e)
 call_named (others_take command other none) e test = absurd (both_ways false refl e)
 call_named (receives κ others packet are opened next) e test = absurd (both_ways false refl e)
@@ -52,7 +52,7 @@ call_named {s = s} (publishes_one p needs) e test = written_named test (written_
 call_named {s = s} (subscribes p on id) e test = written_named test (plain (packets.Subscribe p) ∷ []) s.connections
 call_named {s = s} (unsubscribes p on id) e test = written_named test (plain (packets.Unsubscribe p) ∷ []) s.connections
 
-call_pipes : {limits : Limits} {s t : Story} (agreed : List Command) (ends : List End) (h : Happens limits s t) → is_call h ≡ true → PipesHold agreed s.connections ends → PipesHold agreed t.connections ends
+call_pipes : {limits : Limits} {s t : Story} (agreed : List Command) (ends : List End) (h : StoryStep limits s t) → is_call h ≡ true → PipesHold agreed s.connections ends → PipesHold agreed t.connections ends
 call_pipes agreed ends (takes i κ w stands next) e p = absurd (both_ways false refl e)
 call_pipes agreed ends (others_take command other none) e p = absurd (both_ways false refl e)
 call_pipes agreed ends (receives κ others packet are opened next) e p = absurd (both_ways false refl e)
@@ -67,7 +67,7 @@ call_pipes {s = s} agreed ends (publishes_one q needs) e p = first_written agree
 call_pipes {s = s} agreed ends (subscribes q on id) e p = first_written agreed s.connections ends (plain (packets.Subscribe q) ∷ []) p
 call_pipes {s = s} agreed ends (unsubscribes q on id) e p = first_written agreed s.connections ends (plain (packets.Unsubscribe q) ∷ []) p
 
-pub keeps_call : (w : World) (i : ℕ) (c : ClientEnds) (t : Story) (h : Happens usual_limits (story_of w.agreed c) t) → Holds w → slice_get w.clients i ≡ Some c → is_call h ≡ true
+pub keeps_call : (w : World) (i : ℕ) (c : ClientEnds) (t : Story) (h : StoryStep usual_limits (story_of w.agreed c) t) → Holds w → slice_get w.clients i ≡ Some c → is_call h ≡ true
     → Holds (with_client i (record c { keeper = t.keeper; connections = t.connections }) w)
 keeps_call w i c t h holds there' call =
     let later : ClientEnds = record c { keeper = t.keeper; connections = t.connections } in

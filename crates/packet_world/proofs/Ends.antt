@@ -4,10 +4,10 @@ use Rattle.std.proofs.Common.{◌≡◌, ◌≤◌, ◌<◌, ℕ, zero, suc, fal
 use Rattle.std.specs.Prelude.{slice_get}
 use Rattle.std.proofs.lemmas.List.{take-append-le, length-append}
 use Rattle.exactly_once.specs.packet.declared.packet.Packet.{Packet}
-use Rattle.exactly_once.specs.broker_base.Connection.{ConnectionName}
-use Rattle.exactly_once.specs.broker_base.Commands.{past_of, usual_limits}
-use Rattle.exactly_once.specs.broker_base.Answers.{answers_of}
-use Rattle.exactly_once.specs.broker_base.Command.{Command}
+use Rattle.exactly_once.specs.broker_spec.Connection.{ConnectionName}
+use Rattle.exactly_once.specs.broker_spec.Commands.{past_of, usual_limits}
+use Rattle.exactly_once.specs.broker_spec.Answers.{answers_of}
+use Rattle.exactly_once.specs.broker_spec.declared.command.Command.{Command}
 use Rattle.snapshots.specs.lists.Lists.{IsPrefixOf}
 use Rattle.snapshots.proofs.of_lists.Beginnings.{prefix_take}
 use Rattle.exactly_once.specs.client_base.Keeper.{Written}

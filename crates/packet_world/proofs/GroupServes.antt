@@ -1,9 +1,9 @@
 -- A group of nodes that take what the ends of a world's connections read serves the world.
 use Rattle.std.proofs.Common.{◌≡◌, ℕ, Bool, true, false, ◌==◌, if◌then◌else◌, List, [], ◌∷◌, filter, take, refl, ap, sym, ◌∙◌, subst}
 use Rattle.std.proofs.lemmas.Bool.{both_ways, eq-eqb}
-use Rattle.exactly_once.specs.broker_base.Connection.{ConnectionName}
-use Rattle.exactly_once.specs.broker_base.Command.{Command}
-use Rattle.exactly_once.specs.broker_base.Command.TheVariants as commands
+use Rattle.exactly_once.specs.broker_spec.Connection.{ConnectionName}
+use Rattle.exactly_once.specs.broker_spec.declared.command.Command.{Command}
+use Rattle.exactly_once.specs.broker_spec.declared.command.Command.TheVariants as commands
 use Rattle.exactly_once.proofs.of_broker_base.ConnectionNames.{same_itself}
 use Rattle.snapshots.specs.lists.Lists.{In, IsPrefixOf}
 use Rattle.snapshots.specs.lists.Lists.In.{here, there}
@@ -85,9 +85,9 @@ named_in names ballot (row ∷ rows) only = by (row.0 == ballot) refl (names row
 -- ---- the law
 
 pub groups_serve : GroupsServe
-groups_serve rules starts config a past w later came before behind takes =
+groups_serve rules starts config a past w later came before after takes =
     record {
-      grows = agreed_grows rules config a past w.agreed later before behind;
+      grows = agreed_grows rules config a past w.agreed later before after;
       order = λ i j c κ e pipe. order κ e (takes.ends i j c κ e pipe);
       known = λ command among own. known command among own (name_of command own);
     }
@@ -96,7 +96,7 @@ groups_serve rules starts config a past w later came before behind takes =
     of_ballot x = record { starts = λ ballot. no_packet (rules.start_of ballot) x (starts ballot); only = λ row j is. takes.ballots row j x is }
 
     in_order : (x : ConnectionName) → IsPrefixOf (filter (of_name x) later) (filter (of_name x) (commands_of (taken_of came)))
-    in_order x = (agreed_in_order rules (keeps_the_order rules) (nodes_agree rules) config a past later came behind).1 (of_name x) x.ballot (of_ballot x)
+    in_order x = (agreed_in_order rules (keeps_the_order rules) (nodes_agree rules) config a past later came after).1 (of_name x) x.ballot (of_ballot x)
 
     order : (κ : Connection) (e : End) → ReadsAt came κ e → IsPrefixOf (filter (of_name κ.name) later) (commands_from κ.name 0 (take e.read κ.written))
     order κ e r =

@@ -3,19 +3,19 @@ use Rattle.std.proofs.Common.{◌≡◌, ◌≤◌, ℕ, suc, Bool, true, false,
 use Rattle.std.specs.Prelude.{slice_get}
 use Rattle.std.proofs.lemmas.Bool.{both_ways}
 use Rattle.exactly_once.specs.packet.declared.packet.Packet.{Packet}
-use Rattle.exactly_once.specs.broker_base.Connection.{ConnectionName, same_connection}
-use Rattle.exactly_once.specs.broker_base.Place.{Client}
-use Rattle.exactly_once.specs.broker_base.Commands.{past_of, usual_limits}
+use Rattle.exactly_once.specs.broker_spec.Connection.{ConnectionName, same_connection}
+use Rattle.exactly_once.specs.broker_spec.Place.{Client}
+use Rattle.exactly_once.specs.broker_spec.Commands.{past_of, usual_limits}
 use Rattle.snapshots.specs.lists.Lists.{IsPrefixOf}
 use Rattle.snapshots.proofs.of_lists.Beginnings.{prefix_get, prefix_take}
 use Rattle.exactly_once.specs.client_base.Called.{new_connection}
 use Rattle.exactly_once.specs.client_base.Handled.{handled}
 use Rattle.exactly_once.specs.Sends.{put_to}
 use Rattle.exactly_once.specs.Sides.{Connection}
-use Rattle.exactly_once.specs.Story.{Happens, any_named, count_of}
+use Rattle.exactly_once.specs.Story.{StoryStep, any_named, count_of}
 use Rattle.exactly_once.specs.Lives.{Lived}
 use Rattle.exactly_once.specs.Lives.Lived.{goes_on}
-use Rattle.exactly_once.specs.Story.Happens.{receives, opens_anew}
+use Rattle.exactly_once.specs.Story.StoryStep.{receives, opens_anew}
 use Rattle.exactly_once.proofs.keeping.KeepsShape.{same_story}
 use Rattle.exactly_once.proofs.publishing.Grown.{handled_grows}
 use Rattle.packet_world.specs.World.{End, ClientEnds, World, new_end, story_of, IsFresh, with_client}
@@ -39,7 +39,7 @@ keeps_handled w i c κ e others ends packet h there' are ends_are opened next =
     let put : IsPrefixOf e.put (put_to usual_limits (past_of usual_limits w.agreed) κ.name) =
     subst (λ (l : List Packet). IsPrefixOf l (put_to usual_limits (past_of usual_limits w.agreed) κ.name)) (sym pipes.0.shown)
     (put_front usual_limits (take e.seen w.agreed) w.agreed κ.name (prefix_take e.seen w.agreed)) in
-    let happens : Happens usual_limits (story_of w.agreed c) (story_of w.agreed (after_packet others (e ∷ ends) side)) = receives κ others packet are opened (prefix_get κ.handled packet put next) in
+    let happens : StoryStep usual_limits (story_of w.agreed c) (story_of w.agreed (after_packet others (e ∷ ends) side)) = receives κ others packet are opened (prefix_get κ.handled packet put next) in
     let same = same_story usual_limits (story_of w.agreed c) (story_of w.agreed (after_packet others (e ∷ ends) side)) happens in
     keeps_party w i c (after_packet others (e ∷ ends) side) h there'
     (subst (λ (d : Client). Lived usual_limits d (story_of w.agreed (after_packet others (e ∷ ends) side))) (sym same) (goes_on (each_get (IsTold w.agreed) w.clients i c h.told there') happens))
@@ -72,7 +72,7 @@ pub keeps_opened : (w : World) (i : ℕ) (c : ClientEnds) (x : ConnectionName) (
     → AllParted (set w.clients i (after_opening x seen c)) → Holds (with_client i (after_opening x seen c) w)
 keeps_opened w i c x seen h there' fresh within apart =
     let none = fresh_uncounted w x h fresh in
-    let happens : Happens usual_limits (story_of w.agreed c) (story_of w.agreed (after_opening x seen c)) = opens_anew x (each_get (λ (z : ClientEnds). is_named_by x z ≡ false) w.clients i c fresh there')
+    let happens : StoryStep usual_limits (story_of w.agreed c) (story_of w.agreed (after_opening x seen c)) = opens_anew x (each_get (λ (z : ClientEnds). is_named_by x z ≡ false) w.clients i c fresh there')
     (nothing_put usual_limits w.agreed x none) none in
     keeps_client w i c (after_opening x seen c) h there'
     (goes_on (each_get (IsTold w.agreed) w.clients i c h.told there') happens)

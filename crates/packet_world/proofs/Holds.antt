@@ -1,11 +1,11 @@
 -- What every world keeps, if what is agreed stays as it is.
 use Rattle.std.proofs.Common.{◌≡◌, ◌≤◌, ℕ, false, List, [], ◌∷◌, filter, map, set, Some, refl, sym, ◌∙◌, subst, arith}
 use Rattle.std.specs.Prelude.{slice_get}
-use Rattle.exactly_once.specs.broker_base.Connection.{ConnectionName, same_connection}
-use Rattle.exactly_once.specs.broker_base.Place.{Client, Past}
-use Rattle.exactly_once.specs.broker_base.Commands.{past_from, past_of, usual_limits}
-use Rattle.exactly_once.specs.broker_base.EndingLaws.{connects_of}
-use Rattle.exactly_once.specs.broker_base.Command.{Command}
+use Rattle.exactly_once.specs.broker_spec.Connection.{ConnectionName, same_connection}
+use Rattle.exactly_once.specs.broker_spec.Place.{Client, Past}
+use Rattle.exactly_once.specs.broker_spec.Commands.{past_from, past_of, usual_limits}
+use Rattle.exactly_once.specs.broker_spec.EndingLaws.{connects_of}
+use Rattle.exactly_once.specs.broker_spec.declared.command.Command.{Command}
 use Rattle.snapshots.specs.lists.Lists.{Each}
 use Rattle.exactly_once.specs.Story.{Story, count_of, no_story}
 use Rattle.exactly_once.specs.Lives.{Lived}

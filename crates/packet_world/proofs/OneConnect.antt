@@ -3,12 +3,12 @@ use Rattle.std.proofs.Common.{◌≡◌, ◌≤◌, ◌+◌, ℕ, zero, suc, Boo
 use Rattle.std.proofs.lemmas.Bool.{both_ways}
 use Rattle.exactly_once.specs.packet.declared.packet.Packet.{Packet}
 use Rattle.exactly_once.specs.packet.declared.packet.Packet.TheVariants as packets
-use Rattle.exactly_once.specs.broker_base.Connection.{ConnectionName, same_connection}
-use Rattle.exactly_once.specs.broker_base.Place.{Past}
-use Rattle.exactly_once.specs.broker_base.Commands.{place_of, past_of, usual_limits}
-use Rattle.exactly_once.specs.broker_base.EndingLaws.{is_connect_of, connects_of}
-use Rattle.exactly_once.specs.broker_base.Command.{Command}
-use Rattle.exactly_once.specs.broker_base.Command.TheVariants as commands
+use Rattle.exactly_once.specs.broker_spec.Connection.{ConnectionName, same_connection}
+use Rattle.exactly_once.specs.broker_spec.Place.{Past}
+use Rattle.exactly_once.specs.broker_spec.Commands.{place_of, past_of, usual_limits}
+use Rattle.exactly_once.specs.broker_spec.EndingLaws.{is_connect_of, connects_of}
+use Rattle.exactly_once.specs.broker_spec.declared.command.Command.{Command}
+use Rattle.exactly_once.specs.broker_spec.declared.command.Command.TheVariants as commands
 use Rattle.exactly_once.proofs.of_broker_base.ConnectionNames.{same_name, same_itself}
 use Rattle.exactly_once.specs.Story.{is_packet_of, count_of, command_of}
 use Rattle.packet_world.proofs.Lists.{filter_push}

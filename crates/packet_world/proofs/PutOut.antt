@@ -8,11 +8,11 @@ use Rattle.snapshots.specs.whole.Messages.{Effect}
 use Rattle.snapshots.specs.whole.Messages.Effect.{Out}
 use Rattle.snapshots.specs.agreement.World.{outputs}
 use Rattle.snapshots.proofs.of_agreement.Given.Places.{between_joins, none_between}
-use Rattle.exactly_once.specs.broker_base.Connection.{ConnectionName}
-use Rattle.exactly_once.specs.broker_base.Commands.{past_of, usual_limits}
-use Rattle.exactly_once.specs.broker_base.Answers.{answers_of}
-use Rattle.exactly_once.specs.broker_base.Command.{Command}
-use Rattle.exactly_once.specs.broker_base.Output.{Output}
+use Rattle.exactly_once.specs.broker_spec.Connection.{ConnectionName}
+use Rattle.exactly_once.specs.broker_spec.Commands.{past_of, usual_limits}
+use Rattle.exactly_once.specs.broker_spec.Answers.{answers_of}
+use Rattle.exactly_once.specs.broker_spec.declared.command.Command.{Command}
+use Rattle.exactly_once.specs.broker_spec.declared.command.Output.{Output}
 use Rattle.exactly_once.specs.broker_base.Step.{step}
 use Rattle.snapshots.proofs.of_lists.Places.{get_set}
 use Rattle.exactly_once.specs.Sends.{sends_to}

@@ -3,9 +3,9 @@ use Rattle.std.proofs.Common.{◌≡◌, ◌+◌, ℕ, true, false, List, [], �
 use Rattle.std.specs.Prelude.{slice_get}
 use Rattle.std.proofs.lemmas.Bool.{cases_Bool}
 use Rattle.std.proofs.lemmas.List.{append-nil}
-use Rattle.exactly_once.specs.broker_base.Connection.{ConnectionName}
-use Rattle.exactly_once.specs.broker_base.Place.{Client}
-use Rattle.exactly_once.specs.broker_base.Command.{Command}
+use Rattle.exactly_once.specs.broker_spec.Connection.{ConnectionName}
+use Rattle.exactly_once.specs.broker_spec.Place.{Client}
+use Rattle.exactly_once.specs.broker_spec.declared.command.Command.{Command}
 use Rattle.snapshots.specs.lists.Lists.{In, IsPrefixOf}
 use Rattle.snapshots.specs.lists.Lists.In.{here}
 use Rattle.snapshots.proofs.of_lists.Members.{in_right}
@@ -125,7 +125,7 @@ from_zero n = omega arith
 
 comes_to : (cs : List Client) (rest : List Command) (w : World) (later : List Command) → AreApart cs → Reached cs w → IsServed w later → later ≡ w.agreed ++ rest → ComesTo cs w later
 comes_to cs [] w later apart reached served is =
-    record { behind = w; reached = reached; agreed = sym (is ∙ append-nil w.agreed); clients = refl }
+    record { after = w; reached = reached; agreed = sym (is ∙ append-nil w.agreed); clients = refl }
 comes_to cs (y ∷ rest) w later apart reached served is = by (cases_Bool (is_of_connection y)) (λ v. comes_to cs rest v later apart)
   where
     Next : Type 0
@@ -151,7 +151,7 @@ comes_to cs (y ∷ rest) w later apart reached served is = by (cases_Bool (is_of
                 named = of.named;
               };
         }) is' in
-        record { behind = came.behind; reached = came.reached; agreed = came.agreed; clients = came.clients }
+        record { after = came.after; reached = came.reached; agreed = came.agreed; clients = came.clients }
     by (inl own) next =
         let of = served.known y (subst (In y) (sym is) (in_right w.agreed here)) own in
         let n = next_of w later rest y of.i of.j of.client of.connection of.end (reached_holds cs w apart reached) served is of.pipe of.named in
@@ -161,7 +161,7 @@ comes_to cs (y ∷ rest) w later apart reached served is = by (cases_Bool (is_of
         let came = next v (goes_on reached (agrees of.i of.j of.client κ of.end n.written of.pipe n.less n.stands))
         (served_after w later rest of.i of.j of.client κ n.written of.pipe.client served is') is' in
         record {
-          behind = came.behind;
+          after = came.after;
           reached = came.reached;
           agreed = came.agreed;
           clients = came.clients

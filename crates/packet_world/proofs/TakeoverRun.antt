@@ -6,20 +6,20 @@ use Rattle.exactly_once.specs.packet.declared.suback.SubackCode.TheVariants as c
 use Rattle.exactly_once.specs.packet.declared.packet.Packet.TheVariants as packets
 use Rattle.exactly_once.specs.session_base.Publication.{publish_of}
 use Rattle.exactly_once.specs.packet.declared.qos.QoS.TheVariants as levels
-use Rattle.exactly_once.specs.broker_base.Past.{current_connection, session_of}
-use Rattle.exactly_once.specs.broker_base.Owner.{named}
-use Rattle.exactly_once.specs.broker_base.Subscriptions.{subscriptions_of}
-use Rattle.exactly_once.specs.broker_base.Received.{received_of}
-use Rattle.exactly_once.specs.broker_base.Retained.{retained_publications}
-use Rattle.exactly_once.specs.broker_base.Times.{entries_of}
-use Rattle.exactly_once.specs.broker_base.Commands.{past_from}
-use Rattle.exactly_once.specs.broker_base.Command.{Command}
-use Rattle.exactly_once.specs.broker_base.Command.TheVariants as commands
+use Rattle.exactly_once.specs.broker_spec.Past.{current_connection, session_of}
+use Rattle.exactly_once.specs.broker_spec.Owner.{named}
+use Rattle.exactly_once.specs.broker_spec.Subscriptions.{subscriptions_of}
+use Rattle.exactly_once.specs.broker_spec.Received.{received_of}
+use Rattle.exactly_once.specs.broker_spec.Retained.{retained_publications}
+use Rattle.exactly_once.specs.broker_spec.Times.{entries_of}
+use Rattle.exactly_once.specs.broker_spec.Commands.{past_from}
+use Rattle.exactly_once.specs.broker_spec.declared.command.Command.{Command}
+use Rattle.exactly_once.specs.broker_spec.declared.command.Command.TheVariants as commands
 use Rattle.exactly_once.specs.client_base.Keeper.{Own, Keeper}
 use Rattle.exactly_once.specs.client_base.Written.{plain, publishes}
 use Rattle.exactly_once.specs.client_base.Called.{opens}
 use Rattle.exactly_once.specs.Sides.{Connection}
-use Rattle.exactly_once.specs.Story.Happens.{subscribes, publishes_one, loses}
+use Rattle.exactly_once.specs.Story.StoryStep.{subscribes, publishes_one, loses}
 use Rattle.exactly_once.specs.Rows.{writer, first_name, second_name, news, asks_for_news}
 use Rattle.packet_world.specs.World.{End, ClientEnds, World}
 use Rattle.packet_world.specs.Goes.{Reached}

@@ -1,7 +1,7 @@
 -- Every world that is reached is exact.
 use Rattle.std.proofs.Common.{ℕ, List, set, refl}
-use Rattle.exactly_once.specs.broker_base.Place.{Client}
-use Rattle.exactly_once.specs.broker_base.Commands.{usual_limits}
+use Rattle.exactly_once.specs.broker_spec.Place.{Client}
+use Rattle.exactly_once.specs.broker_spec.Commands.{usual_limits}
 use Rattle.exactly_once.proofs.of_broker_base.NothingAfterTheEnd.{nothing_after_the_end}
 use Rattle.exactly_once.proofs.of_broker_base.PacketOfNobody.{window_is_steady}
 use Rattle.snapshots.proofs.of_lists.OfEach.{each_then}

@@ -1,10 +1,10 @@
 -- What holds for every world of clients and nodes.
 use Rattle.std.specs.Prelude.{◌≤◌, ℕ, suc, List, [], ◌∷◌, length, filter}
-use Rattle.exactly_once.specs.broker_base.Connection.{ConnectionName}
-use Rattle.exactly_once.specs.broker_base.Place.{Client}
-use Rattle.exactly_once.specs.broker_base.Commands.{past_of, usual_limits}
-use Rattle.exactly_once.specs.broker_base.EndingLaws.{connects_of, EndsWithTheSession}
-use Rattle.exactly_once.specs.broker_base.Command.{Command}
+use Rattle.exactly_once.specs.broker_spec.Connection.{ConnectionName}
+use Rattle.exactly_once.specs.broker_spec.Place.{Client}
+use Rattle.exactly_once.specs.broker_spec.Commands.{past_of, usual_limits}
+use Rattle.exactly_once.specs.broker_spec.EndingLaws.{connects_of, EndsWithTheSession}
+use Rattle.exactly_once.specs.broker_spec.declared.command.Command.{Command}
 use Rattle.snapshots.specs.lists.Lists.{Each, IsPrefixOf}
 use Rattle.exactly_once.specs.client_base.Keeper.{Written}
 use Rattle.exactly_once.specs.Sends.{put_to}

@@ -1,23 +1,23 @@
 -- What may happen in a world of clients and nodes.
 use Rattle.std.specs.Prelude.{◌≡◌, ◌≤◌, ◌<◌, ℕ, suc, Bool, true, false, List, [], ◌∷◌, ◌++◌, length, take, set, Some, slice_get}
 use Rattle.exactly_once.specs.packet.declared.packet.Packet.{Packet}
-use Rattle.exactly_once.specs.broker_base.Connection.{ConnectionName}
-use Rattle.exactly_once.specs.broker_base.Place.{Client, Limits}
-use Rattle.exactly_once.specs.broker_base.Commands.{past_of, usual_limits}
-use Rattle.exactly_once.specs.broker_base.Answers.{answers_of}
-use Rattle.exactly_once.specs.broker_base.Command.{Command}
-use Rattle.exactly_once.specs.broker_base.Command.TheVariants as commands
+use Rattle.exactly_once.specs.broker_spec.Connection.{ConnectionName}
+use Rattle.exactly_once.specs.broker_spec.Place.{Client, Limits}
+use Rattle.exactly_once.specs.broker_spec.Commands.{past_of, usual_limits}
+use Rattle.exactly_once.specs.broker_spec.Answers.{answers_of}
+use Rattle.exactly_once.specs.broker_spec.declared.command.Command.{Command}
+use Rattle.exactly_once.specs.broker_spec.declared.command.Command.TheVariants as commands
 use Rattle.exactly_once.specs.client_base.Keeper.{Written}
 use Rattle.exactly_once.specs.client_base.Called.{new_connection}
 use Rattle.exactly_once.specs.client_base.Handled.{handled, lost}
 use Rattle.exactly_once.specs.Sends.{sends_to}
 use Rattle.exactly_once.specs.Sides.{Connection, Side}
-use Rattle.exactly_once.specs.Story.{Story, Happens, command_of, counted_at}
-use Rattle.exactly_once.specs.Story.Happens.{takes, others_take, receives, opens_anew, loses, disconnects, publishes_one, subscribes, unsubscribes}
+use Rattle.exactly_once.specs.Story.{Story, StoryStep, command_of, counted_at}
+use Rattle.exactly_once.specs.Story.StoryStep.{takes, others_take, receives, opens_anew, loses, disconnects, publishes_one, subscribes, unsubscribes}
 use Rattle.packet_world.specs.World.{End, ClientEnds, World, new_end, story_of, opening, IsFresh, with_client}
 
 -- what a client does: it publishes, subscribes, unsubscribes, disconnects, or loses its connection
-abbrev pub is_call : {limits : Limits} {s t : Story} → Happens limits s t → Bool
+abbrev pub is_call : {limits : Limits} {s t : Story} → StoryStep limits s t → Bool
 is_call (takes i κ w stands next) = false
 is_call (others_take command other none) = false
 is_call (receives κ others packet are opened next) = false
@@ -64,7 +64,7 @@ pub record HasPipe (w : World) (i : ℕ) (c : ClientEnds) (j : ℕ) (κ : Connec
 
 pub data Goes (w : World) : World → Type 0 where
   -- a client calls, or loses its connection
-  calls : (i : ℕ) (c : ClientEnds) (t : Story) (h : Happens usual_limits (story_of w.agreed c) t) → slice_get w.clients i ≡ Some c → is_call h ≡ true →
+  calls : (i : ℕ) (c : ClientEnds) (t : Story) (h : StoryStep usual_limits (story_of w.agreed c) t) → slice_get w.clients i ≡ Some c → is_call h ≡ true →
       Goes w (with_client i (record c { keeper = t.keeper; connections = t.connections }) w)
   -- a client opens a connection, which gets a name that no connection ever had
   opens : (i : ℕ) (c : ClientEnds) (x : ConnectionName) (seen : ℕ) → slice_get w.clients i ≡ Some c → IsFresh x w.clients → seen ≤ length w.agreed →

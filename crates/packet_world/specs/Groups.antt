@@ -3,9 +3,9 @@
 use Rattle.std.specs.Prelude.{◌≡◌, ℕ, true, false, List, ◌∷◌, filter, take}
 use Rattle.snapshots.specs.machine.Machine.{Rules}
 use Rattle.snapshots.specs.ballot_base.declared.config.Config.{Config}
-use Rattle.exactly_once.specs.broker_base.Connection.{ConnectionName}
-use Rattle.exactly_once.specs.broker_base.Command.{Command}
-use Rattle.exactly_once.specs.broker_base.Output.{Output}
+use Rattle.exactly_once.specs.broker_spec.Connection.{ConnectionName}
+use Rattle.exactly_once.specs.broker_spec.declared.command.Command.{Command}
+use Rattle.exactly_once.specs.broker_spec.declared.command.Output.{Output}
 use Rattle.exactly_once.specs.broker_base.State.{State}
 use Rattle.snapshots.specs.lists.Lists.{In}
 use Rattle.snapshots.specs.Past.{Moment, Past, IsAgreed}

@@ -1,8 +1,8 @@
 -- How the agreed list of a world continues if nodes agree: what is said about a later list, and
 -- that a world comes to it.
 use Rattle.std.specs.Prelude.{◌≡◌, ℕ, true, List, map, filter, take}
-use Rattle.exactly_once.specs.broker_base.Place.{Client}
-use Rattle.exactly_once.specs.broker_base.Command.{Command}
+use Rattle.exactly_once.specs.broker_spec.Place.{Client}
+use Rattle.exactly_once.specs.broker_spec.declared.command.Command.{Command}
 use Rattle.snapshots.specs.lists.Lists.{In, IsPrefixOf}
 use Rattle.exactly_once.specs.Sides.{Connection}
 use Rattle.exactly_once.specs.Story.{is_packet_of}
@@ -34,10 +34,10 @@ untaken c = record c { connections = map (λ (κ : Connection). record κ { take
 
 -- Then the world comes to this list, command by command, and all else stays as it is.
 pub record ComesTo (cs : List Client) (w : World) (later : List Command) : Type 0 where
-  pub behind : World
-  pub reached : Reached cs behind
-  pub agreed : behind.agreed ≡ later
-  pub clients : map untaken behind.clients ≡ map untaken w.clients
+  pub after : World
+  pub reached : Reached cs after
+  pub agreed : after.agreed ≡ later
+  pub clients : map untaken after.clients ≡ map untaken w.clients
 
 abbrev pub WorldsAreServed : Type 0
 WorldsAreServed = (cs : List Client) (w : World) (later : List Command) → AreApart cs → Reached cs w → IsServed w later → ComesTo cs w later

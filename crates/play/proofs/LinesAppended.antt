@@ -104,7 +104,7 @@ pub no_event : (order : Order) (world : WorldState) (idle : Idle) → asked_in w
 no_event order world idle none =
     record {
       comes = subst (λ (o : Option Event). ComesTo o world (Err idle) world) (sym none) (refl, refl);
-      goes = record { rises = omega arith; goes = λ g s. record { behind = g; goes = rests; stands = s } };
+      goes = record { rises = omega arith; goes = λ g s. record { after = g; goes = rests; stands = s } };
       reached = λ nodes config r. r;
       asked = [];
       asks = subst (λ (o : Option Event). IsAskedIn o world (Err idle) [] world) (sym none) refl;

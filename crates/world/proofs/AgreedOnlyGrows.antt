@@ -6,13 +6,13 @@ use Rattle.escaping_client.proofs.of_lists.Beginnings.{prefix_same, prefix_then}
 use Rattle.headline.specs.ballot.Config.{Config}
 use Rattle.headline.specs.snapshots.Past.{IsAgreed, Moment}
 use Rattle.headline.proofs.of_snapshots.PastsAgree.{has_agreed, nodes_agree}
-use Rattle.headline.specs.broker_base.Command.{Command}
-use Rattle.headline.specs.broker_base.Output.{Output}
+use Rattle.headline.specs.broker_spec.declared.command.Command.{Command}
+use Rattle.headline.specs.broker_spec.declared.command.Output.{Output}
 use Rattle.headline.specs.broker_base.State.{State}
 use Rattle.headline.specs.world_base.Core.{rules}
 use Rattle.headline.specs.node_group.Group.{Group, moment_of}
-use Rattle.headline.specs.node_group.Goes.{Went, all_put, groups_of, put_in_step}
-use Rattle.headline.specs.node_group.Goes.Went.{then_went}
+use Rattle.headline.specs.node_group.Goes.{GroupTrace, all_put, groups_of, put_in_step}
+use Rattle.headline.specs.node_group.Goes.GroupTrace.{then_went}
 use Rattle.headline.specs.node_group.Order.{KeepsOrder}
 use Rattle.headline.specs.node_group.Pasts.{HasPast, packets_in}
 use Rattle.headline.proofs.of_node_group.GroupsArePasts.{goes_on as past_goes_on, seen_still}
@@ -26,17 +26,17 @@ use Rattle.world.proofs.OneAgreed.{one_agreed}
 
 -- A group that continued from another: its past continues from the past of that one.
 record LeadsOn (nodes : ℕ) (config : Config) (g : Group) (earlier : List (Moment State Command Output)) (h : Group) : Type 0 where
-  pub went : Went nodes config h
+  pub went : GroupTrace nodes config h
   pub of : HasPast config h (groups_of went) (all_put went)
   pub grows : (xs ys : List Command) → IsAgreed config (moment_of g ∷ earlier) xs → IsAgreed config (moment_of h ∷ of.earlier) ys → IsPrefixOf xs ys
 
-leads_on : (nodes : ℕ) (config : Config) (g h : Group) (went : Went nodes config g) (of : HasPast config g (groups_of went) (all_put went)) → Goes g h
+leads_on : (nodes : ℕ) (config : Config) (g h : Group) (went : GroupTrace nodes config g) (of : HasPast config g (groups_of went) (all_put went)) → Goes g h
     → LeadsOn nodes config g of.earlier h
 leads_on nodes config g h went of rests =
     record {
       went = went;
       of = of;
-      grows = λ xs ys before behind. subst (λ (l : List Command). IsPrefixOf xs l) (one_agreed config (moment_of g ∷ of.earlier) xs ys before behind) (prefix_same xs);
+      grows = λ xs ys before after. subst (λ (l : List Command). IsPrefixOf xs l) (one_agreed config (moment_of g ∷ of.earlier) xs ys before after) (prefix_same xs);
     }
 leads_on nodes config g k went of (goes_on {h = h} goes step) =
     let so_far = leads_on nodes config g h went of goes in
@@ -52,22 +52,22 @@ leads_on nodes config g k went of (goes_on {h = h} goes step) =
             further.taken x ∙ ap (λ l. l ++ packets_in x (put_in_step step)) (so_far.of.taken x) ∙ sym (packets_join x (all_put so_far.went) (put_in_step step));
         seen = (here, seen_still (groups_of so_far.went) further.kept so_far.of.seen);
       };
-      grows = λ xs ys before behind. prefix_then (so_far.grows xs between.0 before between.1) (further.grows between.0 ys between.1 behind);
+      grows = λ xs ys before after. prefix_then (so_far.grows xs between.0 before between.1) (further.grows between.0 ys between.1 after);
     }
 
 pub agreed_grows : (old new : NodesState) → NodesGo old new → AgreedGrows old new
 agreed_grows old new go nodes config before =
     let to = go before.group before.stands in
-    let on = leads_on nodes config before.group to.behind before.went before.order.of to.goes in
-    let order : KeepsOrder config to.behind (groups_of on.went) (all_put on.went) = record {
+    let on = leads_on nodes config before.group to.after before.went before.order.of to.goes in
+    let order : KeepsOrder config to.after (groups_of on.went) (all_put on.went) = record {
       of = on.of;
-      logs = (groups_keep_the_order nodes config to.behind on.went).logs;
-      agreed = λ x xs is. in_agreed config to.behind (groups_of on.went) (all_put on.went) on.of (puts_in_the_ballot_of_the_name nodes config to.behind on.went) x xs is;
+      logs = (groups_keep_the_order nodes config to.after on.went).logs;
+      agreed = λ x xs is. in_agreed config to.after (groups_of on.went) (all_put on.went) on.of (puts_in_the_ballot_of_the_name nodes config to.after on.went) x xs is;
     } in
-    let list = has_agreed rules config (moment_of to.behind) on.of.earlier on.of.past in
-    let agree = nodes_agree rules config (moment_of to.behind) on.of.earlier list.0 on.of.past list.1 in (
+    let list = has_agreed rules config (moment_of to.after) on.of.earlier on.of.past in
+    let agree = nodes_agree rules config (moment_of to.after) on.of.earlier list.0 on.of.past list.1 in (
       record {
-        group = to.behind;
+        group = to.after;
         went = on.went;
         stands = to.stands;
         order = order;

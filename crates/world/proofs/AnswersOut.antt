@@ -2,9 +2,9 @@
 use Rattle.std.proofs.Common.{◌≡◌, ◌<◌, ◌+◌, ◌*◌, ℕ, suc, true, List, [], ◌∷◌, ◌++◌, Option, Some, length, map, slice_get, refl, sym, ◌∙◌}
 use Rattle.std.specs.List.{position}
 use Rattle.headline.specs.ballot.Config.{Config}
-use Rattle.headline.specs.broker_base.Command.{Command}
-use Rattle.headline.specs.broker_base.Connection.{ConnectionName}
-use Rattle.headline.specs.broker_base.Output.{Output}
+use Rattle.headline.specs.broker_spec.declared.command.Command.{Command}
+use Rattle.headline.specs.broker_spec.Connection.{ConnectionName}
+use Rattle.headline.specs.broker_spec.declared.command.Output.{Output}
 use Rattle.headline.specs.broker_base.State.{State}
 use Rattle.escaping_client.specs.client.Core.{Core}
 use Rattle.escaping_nodes.specs.Answered.{CanAsk, begun}
@@ -23,7 +23,7 @@ use Rattle.headline.specs.world_base.Core.{CountedCore, rules}
 use Rattle.headline.specs.world_base.declared.item.Item.{Item}
 use Rattle.headline.specs.world_base.declared.item.Item.TheVariants.{Bytes}
 use Rattle.headline.specs.world_base.Step.{node_step}
-use Rattle.escaping_nodes.specs.world_nodes.Goes.{behind_deed}
+use Rattle.escaping_nodes.specs.world_nodes.Goes.{after_node_call}
 use Rattle.escaping_nodes.specs.world_nodes.Nodes.{NodesState}
 use Rattle.escaping_nodes.proofs.of_world_nodes.Acts.{acts}
 use Rattle.world_events.specs.declared.event.Event.{Event}
@@ -46,9 +46,9 @@ use Rattle.world.proofs.WaitsOn.{own_waits, walk_waiting}
 -- primary at this place; what that queues then goes down, to the world `after`.
 module _ (name : List ℕ) (i at number place : ℕ) (core : Core) (up : List ℕ) (w after : WorldState) (node : CountedCore) (positive : 0 < number)
     (stands : slice_get w.nodes.nodes place ≡ Some node) (piece : List ℕ)
-    (gathers : Gathers true (suc place) (with_nodes (behind_deed place node (takes (Bytes (port_of number) piece 0)) w.nodes) w) after)
+    (gathers : Gathers true (suc place) (with_nodes (after_node_call place node (takes (Bytes (port_of number) piece 0)) w.nodes) w) after)
     (housed : AreHoused (leads_of w.clients) w.connections)
-    (s : IsNewest i at number (suc place) core up [] true (with_nodes (behind_deed place node (takes (Bytes (port_of number) piece 0)) w.nodes) w))
+    (s : IsNewest i at number (suc place) core up [] true (with_nodes (after_node_call place node (takes (Bytes (port_of number) piece 0)) w.nodes) w))
     (first : position (is_named name) w.clients ≡ Some i)
     (config : Config) (a : Moment State Command Output) (past : List (Moment State Command Output)) (came : Past rules config (a ∷ past)) (ballot start : ℕ) (x : ConnectionName)
     (list : List Command) (connect : Connect) where
@@ -56,7 +56,7 @@ module _ (name : List ℕ) (i at number place : ℕ) (core : Core) (up : List �
   item = Bytes (port_of number) piece 0
 
   abbrev taken : NodesState
-  taken = behind_deed place node (takes item) w.nodes
+  taken = after_node_call place node (takes item) w.nodes
 
   abbrev turned : CountedCore
   turned = record node { core = (node_step item node.core).core }
@@ -65,7 +65,7 @@ module _ (name : List ℕ) (i at number place : ℕ) (core : Core) (up : List �
   passes = gathers_passes (suc place) (with_nodes taken w) after gathers housed
 
   goes : NodesGo w.nodes taken
-  goes = acts_go (let deed : Option (ℕ × NodeCall) = Some (place, takes item) in deed) w.nodes taken (acts w.nodes place node (takes item) stands (λ g t. tt))
+  goes = acts_go (let node_call : Option (ℕ × NodeCall) = Some (place, takes item) in node_call) w.nodes taken (acts w.nodes place node (takes item) stands (λ g t. tt))
 
   -- a sole member answers at once
   pub answers_alone : CanAsk a w.nodes ballot place node [] (port_of number) x list start piece connect → IsAnswered name i at number place core w.nodes after.nodes after

@@ -6,11 +6,11 @@ use Rattle.std.specs.List.{position}
 use Rattle.std.proofs.lemmas.List.{length-append, map-append}
 use Rattle.headline.specs.ballot.Config.{Config}
 use Rattle.headline.specs.ballot.Serving.{most_places}
-use Rattle.headline.specs.broker_base.Command.{Command}
-use Rattle.headline.specs.broker_base.Command.TheVariants as commands
-use Rattle.headline.specs.broker_base.Commands.{past_of, usual_limits}
-use Rattle.headline.specs.broker_base.Output.{Output}
-use Rattle.headline.specs.broker_base.Past.{session_of}
+use Rattle.headline.specs.broker_spec.declared.command.Command.{Command}
+use Rattle.headline.specs.broker_spec.declared.command.Command.TheVariants as commands
+use Rattle.headline.specs.broker_spec.Commands.{past_of, usual_limits}
+use Rattle.headline.specs.broker_spec.declared.command.Output.{Output}
+use Rattle.headline.specs.broker_spec.Past.{session_of}
 use Rattle.headline.specs.broker_base.State.{State}
 use Rattle.escaping_client.specs.client.Core.{Core}
 use Rattle.escaping_nodes.specs.Answered.{CanAsk, begun}
@@ -25,7 +25,7 @@ use Rattle.escaping_client.specs.packet.declared.packet.Packet.TheVariants as pa
 use Rattle.escaping_client.specs.packet.Verdict.{verdict}
 use Rattle.headline.specs.world_base.Core.{rules}
 use Rattle.headline.specs.world_base.declared.item.Item.TheVariants.{Bytes}
-use Rattle.escaping_nodes.specs.world_nodes.Goes.{behind_deed}
+use Rattle.escaping_nodes.specs.world_nodes.Goes.{after_node_call}
 use Rattle.escaping_nodes.specs.world_nodes.Nodes.{NodesState}
 use Rattle.world_events.specs.declared.event.Event.{Event}
 use Rattle.world_events.specs.declared.event.Event.TheVariants as events
@@ -85,7 +85,7 @@ module _ (name : List ℕ) (v : WorldState) (i at number place : ℕ) (core : Co
   asked = map events.Deliver (asked_and_answered (length v.nodes.sent) (length os)) ++ more
 
   abbrev taken : NodesState
-  taken = behind_deed place o.node (takes (Bytes (port_of number) up 0)) v.nodes
+  taken = after_node_call place o.node (takes (Bytes (port_of number) up 0)) v.nodes
 
   abbrev w : WorldState
   w = emptied i at number place core up v newest positive o.node o.stands count many

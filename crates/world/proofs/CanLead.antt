@@ -8,9 +8,9 @@ use Rattle.std.proofs.lemmas.Option.{get_or_from_slice_get}
 use Rattle.headline.specs.agreement.MasterState.{MasterState, refusal}
 use Rattle.headline.specs.ballot.Config.{Config}
 use Rattle.headline.specs.ballot.Serving.{most_places}
-use Rattle.headline.specs.broker_base.Command.{Command}
-use Rattle.headline.specs.broker_base.Output.{Output}
-use Rattle.headline.specs.broker_base.Place.{Client}
+use Rattle.headline.specs.broker_spec.declared.command.Command.{Command}
+use Rattle.headline.specs.broker_spec.declared.command.Output.{Output}
+use Rattle.headline.specs.broker_spec.Place.{Client}
 use Rattle.headline.specs.broker_base.State.{State}
 use Rattle.escaping_nodes.specs.Coming.{IsSeen}
 use Rattle.escaping_nodes.specs.ways_out.Deliveries.{NodeIs}

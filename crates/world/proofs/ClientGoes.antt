@@ -67,7 +67,7 @@ client_asked asked old i client piped found follows nodes config cs m trail s =
     let f = follows a.c a.stands in
     let to = (steps_to m i a.at f.goes).by in
     record {
-      behind = with_client i f.next m;
+      after = with_client i f.next m;
       steps = to.steps;
       asked_is = to.asked_is ∙ ap (from_client i) f.publishes;
       stands = record { nodes = s.nodes; clients = stand_set old.clients m.clients i (record client { piped = piped }) f.next s.clients f.stands };

@@ -36,7 +36,7 @@ taken_up old m s place client one way x new count part acts =
     let q : Pipe = record x.p { up = drop count x.p.up } in
     let later : Way = record way { up = drop count way.up } in
     record {
-      behind = with_client place.client (with_pipe x.turned.place q one.c) (record m { group = d.does.behind });
+      after = with_client place.client (with_pipe x.turned.place q one.c) (record m { group = d.does.after });
       steps = goes_on rests (comes_up place.client x.turned.place one.c x.κ x.p (take count way.up) (drop count x.p.up) 0 d.does has whole);
       asked_is = refl;
       stands = record {

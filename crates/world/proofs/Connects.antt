@@ -99,14 +99,14 @@ connects_goes i node old new housed one nodes config cs m trail s = by node refl
         let follows = subst (λ (k : ℕ). ConnectingFollows k port one.client.piped (Ok tt) one.piped) low one.reaches.follows c.c end.0.name c.stands in
         let step = connects i n c.c port 0 d.does has.core.core end.0 c.at
         (unused n (length old.connections) port (let e : length old.connections < suc (length old.connections) = omega arith in e) old.clients m.clients s.clients housed.used) stands end.1 follows.1 in
-        let behind : World = with_client i (after_connecting end.0.name n port c.c) (record m { group = d.does.behind }) in
+        let after : World = with_client i (after_connecting end.0.name n port c.c) (record m { group = d.does.after }) in
         record {
-          behind = behind;
+          after = after;
           steps = goes_on rests step;
           asked_is = refl;
           stands = record {
-            nodes = subst (λ (z : NodesState). NodesStand d.does.behind z) (sym (ap (λ (w : WorldState). w.nodes) one.is)) d.stands;
-            clients = subst (λ (l : List WorldClient). ClientsStand l behind.clients) (sym (ap (λ (w : WorldState). w.clients) one.is))
+            nodes = subst (λ (z : NodesState). NodesStand d.does.after z) (sym (ap (λ (w : WorldState). w.nodes) one.is)) d.stands;
+            clients = subst (λ (l : List WorldClient). ClientsStand l after.clients) (sym (ap (λ (w : WorldState). w.clients) one.is))
                 (stand_set old.clients m.clients i (record one.client { piped = one.piped }) (after_connecting end.0.name n port c.c) s.clients follows.0);
           };
         }

@@ -6,8 +6,8 @@ use Rattle.headline.specs.ballot.Body.TheVariants.{Activate}
 use Rattle.headline.specs.ballot.Message.{Message}
 use Rattle.headline.specs.ballot.Protocol.{received}
 use Rattle.headline.specs.ballot.Replica.{ReplicaState}
-use Rattle.headline.specs.broker_base.Command.{Command}
-use Rattle.headline.specs.broker_base.Output.{Output}
+use Rattle.headline.specs.broker_spec.declared.command.Command.{Command}
+use Rattle.headline.specs.broker_spec.declared.command.Output.{Output}
 use Rattle.headline.specs.broker_base.State.{State}
 use Rattle.escaping_nodes.specs.ways_out.CutWaysDeliveries.{Delivered, after_activate, after_outcome}
 use Rattle.escaping_nodes.specs.ways_out.CutWaysDeliveries.Delivered.{all_came, to_node, to_master}
@@ -21,7 +21,7 @@ use Rattle.escaping_client.specs.lists.Lists.{In}
 use Rattle.escaping_client.proofs.of_lists.Members.{in_at}
 use Rattle.headline.specs.world_base.Core.{CoreState, CountedCore, rules}
 use Rattle.headline.specs.world_base.declared.item.Item.TheVariants.{Peer}
-use Rattle.escaping_nodes.specs.world_nodes.Goes.{Comes, ComesToNobody, TakesExactly, behind_answer, behind_deed}
+use Rattle.escaping_nodes.specs.world_nodes.Goes.{Comes, ComesToNobody, TakesExactly, after_answer, after_node_call}
 use Rattle.escaping_nodes.specs.world_nodes.Running.{running, unless_stopped}
 use Rattle.escaping_nodes.specs.world_nodes.Nodes.{NodesState, cores_of}
 use Rattle.escaping_nodes.proofs.of_world_nodes.Acts.{acts}
@@ -63,7 +63,7 @@ pub record AtNode (k at : ℕ) (message : Message Command) (old new : WorldState
   pub node : CountedCore
   pub there : slice_get old.nodes.nodes at ≡ Some node
   pub runs : node.core.replica.state.stopped ≡ false
-  pub gathers : Gathers true (suc at) (with_nodes (behind_deed at node (takes (Peer message)) old.nodes) old) new
+  pub gathers : Gathers true (suc at) (with_nodes (after_node_call at node (takes (Peer message)) old.nodes) old) new
   pub passes : Passes (k ∷ []) old new
 
 pub at_node : (k at : ℕ) (message : Message Command) (old new : WorldState) → slice_get old.nodes.sent k ≡ Some (at + 1, message) → Does true (events.Deliver k) old new →
@@ -75,7 +75,7 @@ at_node k at message old new came d housed =
       runs = runs.1;
       gathers = gathers;
       passes = passes_join (k ∷ []) [] old mid new
-          (passes_apart (k ∷ []) old (behind_deed at t.core (takes (Peer message)) old.nodes) housed refl
+          (passes_apart (k ∷ []) old (after_node_call at t.core (takes (Peer message)) old.nodes) housed refl
           (goes_by (Some (at, takes (Peer message))) refl
           (acts old.nodes at t.core (takes (Peer message)) runs.0 (λ g s. subst (λ (l : List (ℕ × Message Command)). In (at + 1, message) l) (sym s.sent) (in_at old.nodes.sent k (at + 1, message) came))))
           (comes_to_node k at t.core message came runs.0 runs.1 none_comes))
@@ -92,10 +92,10 @@ at_node k at message old new came d housed =
     runs = runs_there (slice_get old.nodes.nodes at) t.core t.runs
 
     mid : WorldState
-    mid = with_nodes (behind_deed at t.core (takes (Peer message)) old.nodes) old
+    mid = with_nodes (after_node_call at t.core (takes (Peer message)) old.nodes) old
 
-    is : d.0 ≡ behind_deed at t.core (takes (Peer message)) old.nodes
-    is = t.is ∙ ap (λ (n : ℕ). behind_deed n t.core (takes (Peer message)) old.nodes) (let e : suc at - 1 ≡ at = omega arith in e)
+    is : d.0 ≡ after_node_call at t.core (takes (Peer message)) old.nodes
+    is = t.is ∙ ap (λ (n : ℕ). after_node_call n t.core (takes (Peer message)) old.nodes) (let e : suc at - 1 ≡ at = omega arith in e)
 
     gathers : Gathers true (suc at) mid new
     gathers = subst (λ (n : NodesState). Gathers true (suc at) (with_nodes n old) new) is
@@ -104,10 +104,10 @@ at_node k at message old new came d housed =
 -- ---- to the master
 
 pub at_master_is : (k from asked : ℕ) (old new : WorldState) → slice_get old.nodes.sent k ≡ Some (0, record { from = from; body = Activate asked }) → Does true (events.Deliver k) old new →
-    new ≡ with_nodes (behind_answer from asked old.nodes) old
+    new ≡ with_nodes (after_answer from asked old.nodes) old
 at_master_is k from asked old new came d = gathers ∙ ap (λ (n : NodesState). with_nodes n old) is
   where
-    is : d.0 ≡ behind_answer from asked old.nodes
+    is : d.0 ≡ after_answer from asked old.nodes
     is = subst (λ (o : Option (ℕ × Message Command)). Comes o old.nodes d.0) came d.1
 
     gathers : new ≡ with_nodes d.0 old
@@ -117,7 +117,7 @@ pub at_master : (k from asked : ℕ) (old new : WorldState) → slice_get old.no
     AreHoused (leads_of old.clients) old.connections → Passes (k ∷ []) old new
 at_master k from asked old new came d housed =
     subst (Passes (k ∷ []) old) (sym (at_master_is k from asked old new came d))
-    (passes_apart (k ∷ []) old (behind_answer from asked old.nodes) housed refl
+    (passes_apart (k ∷ []) old (after_answer from asked old.nodes) housed refl
     (goes_by None refl (λ g s. (answers_exactly old.nodes from asked (in_at old.nodes.sent k (0, record { from = from; body = Activate asked }) came) g s).0))
     (comes_to_master k from asked came none_comes))
 

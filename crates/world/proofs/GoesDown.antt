@@ -2,8 +2,8 @@
 use Rattle.std.proofs.Common.{◌≡◌, inl, inr, ◌-◌, ℕ, suc, Bool, if◌then◌else◌, List, [], ◌++◌, Option, Some, None, set, slice_get, refl, sym, ap, ◌∙◌, subst, arith}
 use Rattle.std.proofs.lemmas.Option.{same_Some}
 use Rattle.headline.specs.ballot.Config.{Config}
-use Rattle.headline.specs.broker_base.Connection.{ConnectionName, same_connection}
-use Rattle.headline.specs.broker_base.Place.{Client}
+use Rattle.headline.specs.broker_spec.Connection.{ConnectionName, same_connection}
+use Rattle.headline.specs.broker_spec.Place.{Client}
 use Rattle.escaping_client.specs.lists.Lists.{In}
 use Rattle.escaping_client.proofs.of_lists.Tests.{eq_is}
 use Rattle.headline.proofs.of_exactly_once.Takes.{same_name_self}
@@ -66,7 +66,7 @@ module _ {nodes : ℕ} {config : Config} {cs : List Client} (m : World) (trail :
       → GoesTo [] m (put_down place.client client (with_down place.at way bytes client.piped) new old)
   hands_down bytes acts over =
       let d = acts m.group s.nodes in
-      let carried = carries_with m.group d.does.behind d.does.step x.p.node (gives x.p.port) d.does.faithful d.does.is in
+      let carried = carries_with m.group d.does.after d.does.step x.p.node (gives x.p.port) d.does.faithful d.does.is in
       let placed = ((reached_holds m trail).each place.client one.c x.turned.place x.κ x.p has).placed in
       let same : placed.core ≡ carried.core = same_Some placed.core carried.core (sym placed.stands ∙ carried.stands) in
       let named = all_named x.κ.name x.p.port carried.core (λ e i at. placed.ports e (subst (λ (k : CoreState). In e k.connections) (sym same) i) at) in
@@ -79,7 +79,7 @@ module _ {nodes : ℕ} {config : Config} {cs : List Client} (m : World) (trail :
       let q : Pipe = record x.p { down = x.p.down ++ goes_down_in x.κ.name d.does.step } in
       let later : Way = record way { down = bytes } in
       record {
-        behind = with_client place.client (with_pipe x.turned.place q one.c) (record m { group = d.does.behind });
+        after = with_client place.client (with_pipe x.turned.place q one.c) (record m { group = d.does.after });
         steps = goes_on rests (goes_down place.client x.turned.place one.c x.κ x.p d.does has);
         asked_is = refl;
         stands = record {
@@ -95,7 +95,7 @@ module _ {nodes : ℕ} {config : Config} {cs : List Client} (m : World) (trail :
   hands_nothing later at stay still =
       subst (λ (z : Piped). GoesTo [] m (put_down place.client client z new old)) (sym still)
       (subst (λ (l : List WorldClient). GoesTo [] m (let w : WorldState = record old { nodes = new; clients = l } in w)) (sym (set_itself old.clients place.client client at))
-      (record { behind = m; steps = rests; asked_is = refl; stands = record { nodes = stay m.group s.nodes; clients = s.clients } }))
+      (record { after = m; steps = rests; asked_is = refl; stands = record { nodes = stay m.group s.nodes; clients = s.clients } }))
 
 -- what its node queued for the connection of a number goes down, or nothing does
 pub puts_down : (old : WorldState) (number : ℕ) (place : ConnectionSlot) (client : WorldClient) (new : NodesState) (later : Piped) → LeadsThere (leads_of old.clients) number place

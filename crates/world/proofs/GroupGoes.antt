@@ -5,8 +5,8 @@ use Rattle.std.specs.Prelude.{slice_get}
 use Rattle.headline.specs.ballot.Body.{Body}
 use Rattle.headline.specs.ballot.Body.TheVariants.{NewBallot, Join, State, Install, Installed, Activate, Activated, Superseded, Append, Held, Commit}
 use Rattle.headline.specs.ballot.Message.{Message}
-use Rattle.headline.specs.broker_base.Command.{Command}
-use Rattle.headline.specs.broker_base.Place.{Client}
+use Rattle.headline.specs.broker_spec.declared.command.Command.{Command}
+use Rattle.headline.specs.broker_spec.Place.{Client}
 use Rattle.escaping_nodes.specs.master.declared.event.Idle.{Idle}
 use Rattle.headline.specs.world_base.declared.item.Item.TheVariants.{Cut, Expel, Peer}
 use Rattle.headline.specs.node_moves.Moves.{NodeCall}
@@ -35,25 +35,25 @@ with_nodes nodes w = record w { nodes = nodes }
 -- a call in which connections have no part, or nothing
 pub data GoesApart (old new : NodesState) : Type 0 where
   stays : NodesStay old new → GoesApart old new
-  acts : (deed : Option (ℕ × NodeCall)) → is_apart deed ≡ true → ((g : Group) → NodesStand g old → GoesBy deed g new) → GoesApart old new
+  acts : (node_call : Option (ℕ × NodeCall)) → is_apart node_call ≡ true → ((g : Group) → NodesStand g old → GoesBy node_call g new) → GoesApart old new
 
-pub acts_go : (deed : Option (ℕ × NodeCall)) (old new : NodesState) → ((g : Group) → NodesStand g old → GoesBy deed g new) → NodesGo old new
-acts_go deed old new by g s = let d = by g s in record { behind = d.does.behind; goes = then_goes stands_still d.does.step; stands = d.stands }
+pub acts_go : (node_call : Option (ℕ × NodeCall)) (old new : NodesState) → ((g : Group) → NodesStand g old → GoesBy node_call g new) → NodesGo old new
+acts_go node_call old new by g s = let d = by g s in record { after = d.does.after; goes = then_goes stands_still d.does.step; stands = d.stands }
 
 nodes_go : (old new : NodesState) → GoesApart old new → NodesGo old new
 nodes_go old new (stays stay) = staying_goes old new stay
-nodes_go old new (acts deed apart by) = acts_go deed old new by
+nodes_go old new (acts node_call apart by) = acts_go node_call old new by
 
 pub world_stands : (old : WorldState) (new : NodesState) → NodesStay old.nodes new → WorldGoes old (with_nodes new old)
-world_stands old new stay nodes config cs m trail s = record { behind = m; steps = rests; asked_is = refl; stands = record { nodes = stay m.group s.nodes; clients = s.clients } }
+world_stands old new stay nodes config cs m trail s = record { after = m; steps = rests; asked_is = refl; stands = record { nodes = stay m.group s.nodes; clients = s.clients } }
 
 world_goes : (old : WorldState) (new : NodesState) → GoesApart old.nodes new → WorldGoes old (with_nodes new old)
 world_goes old new (stays stay) nodes config cs m trail s = world_stands old new stay nodes config cs m trail s
-world_goes old new (acts deed apart by) nodes config cs m trail s =
+world_goes old new (acts node_call apart by) nodes config cs m trail s =
     let d = by m.group s.nodes in
     record {
-      behind = (let w : World = record m { group = d.does.behind } in w);
-      steps = goes_on rests (group_goes deed d.does apart);
+      after = (let w : World = record m { group = d.does.after } in w);
+      steps = goes_on rests (group_goes node_call d.does apart);
       asked_is = refl;
       stands = record { nodes = d.stands; clients = s.clients };
     }
@@ -64,20 +64,20 @@ goes_apart old new rises apart =
 
 -- ---- calls of nodes, done or idle
 
-pub by_call : {X : Type 0} (r : Result X Idle) (old new : NodesState) (at : ℕ) (deed : NodeCall) → is_apart (Some (at, deed)) ≡ true → OnOk r (Acts at deed old new)
+pub by_call : {X : Type 0} (r : Result X Idle) (old new : NodesState) (at : ℕ) (node_call : NodeCall) → is_apart (Some (at, node_call)) ≡ true → OnOk r (Acts at node_call old new)
     → OnErr r (new ≡ old) → GoesApart old new
-by_call (Ok x) old new at deed apart does same = acts (Some (at, deed)) apart does
-by_call (Err e) old new at deed apart does same = stays (nodes_stay old new same)
+by_call (Ok x) old new at node_call apart does same = acts (Some (at, node_call)) apart does
+by_call (Err e) old new at node_call apart does same = stays (nodes_stay old new same)
 
 -- also by one that connections have a part in
-pub call_goes : {X : Type 0} (r : Result X Idle) (old new : NodesState) (at : ℕ) (deed : NodeCall) → old.losses ≤ new.losses → OnOk r (Acts at deed old new) → OnErr r (new ≡ old)
+pub call_goes : {X : Type 0} (r : Result X Idle) (old new : NodesState) (at : ℕ) (node_call : NodeCall) → old.losses ≤ new.losses → OnOk r (Acts at node_call old new) → OnErr r (new ≡ old)
     → NodesGoOn old new
-call_goes (Ok x) old new at deed rises does same = record { rises = rises; goes = acts_go (Some (at, deed)) old new does }
-call_goes (Err e) old new at deed rises does same = nodes_rest old new same
+call_goes (Ok x) old new at node_call rises does same = record { rises = rises; goes = acts_go (Some (at, node_call)) old new does }
+call_goes (Err e) old new at node_call rises does same = nodes_rest old new same
 
-acts_or_stays : (deed : Option (ℕ × NodeCall)) (old new : NodesState) → is_apart deed ≡ true → ((g : Group) → NodesStand g old → GoesBy deed g new) ⊎ (new ≡ forgetful old) → GoesApart old new
-acts_or_stays deed old new apart (inl does) = acts deed apart does
-acts_or_stays deed old new apart (inr forgets) = stays (nodes_forget old new forgets)
+acts_or_stays : (node_call : Option (ℕ × NodeCall)) (old new : NodesState) → is_apart node_call ≡ true → ((g : Group) → NodesStand g old → GoesBy node_call g new) ⊎ (new ≡ forgetful old) → GoesApart old new
+acts_or_stays node_call old new apart (inl does) = acts node_call apart does
+acts_or_stays node_call old new apart (inr forgets) = stays (nodes_forget old new forgets)
 
 pub by_assign : {X : Type 0} (r : Result X Idle) (old new : NodesState) → OnOk r (MasterGoesOrRests old new) → OnErr r (new ≡ old) → GoesApart old new
 by_assign (Ok x) old new does same = acts_or_stays None old new refl does

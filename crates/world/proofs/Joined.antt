@@ -3,7 +3,7 @@ use Rattle.std.proofs.Common.{◌≡◌, ◌<◌, ◌≤◌, ◌^◌, ◌-◌, �
 use Rattle.std.proofs.lemmas.List.{append-nil}
 use Rattle.headline.specs.ballot.Config.{Config}
 use Rattle.headline.specs.ballot.Losses.{one_more}
-use Rattle.headline.specs.broker_base.Place.{Client}
+use Rattle.headline.specs.broker_spec.Place.{Client}
 use Rattle.headline.proofs.WorldsExact.{worlds_are_exact}
 use Rattle.headline.specs.packet_world.World.{AreApart}
 use Rattle.escaping_client.specs.session_base.declared.publication.Publication.{Publication}
@@ -54,17 +54,17 @@ stands_as m a b nodes clients s =
     }
 
 pub world_stays : (a b : WorldState) → b.nodes ≡ a.nodes → b.clients ≡ a.clients → WorldGoes a b
-world_stays a b same clients nodes config cs m trail s = record { behind = m; steps = rests; asked_is = refl; stands = stands_as m a b same clients s }
+world_stays a b same clients nodes config cs m trail s = record { after = m; steps = rests; asked_is = refl; stands = stands_as m a b same clients s }
 
 pub world_rests : (a b : WorldState) → b ≡ a → WorldGoes a b
-world_rests a b same nodes config cs m trail s = subst (λ (w : WorldState). GoesTo [] m w) (sym same) (record { behind = m; steps = rests; asked_is = refl; stands = s })
+world_rests a b same nodes config cs m trail s = subst (λ (w : WorldState). GoesTo [] m w) (sym same) (record { after = m; steps = rests; asked_is = refl; stands = s })
 
 pub asked_goes_join : (asked later : List (ℕ × Publication)) (a b c : WorldState) → WorldGoesBy asked a b → WorldGoesBy later b c → WorldGoesBy (asked ++ later) a c
 asked_goes_join asked later a b c one two nodes config cs m trail s =
     let first = one nodes config cs m trail s in
-    let next = two nodes config cs first.behind (reached_on trail first.steps) first.stands in
+    let next = two nodes config cs first.after (reached_on trail first.steps) first.stands in
     record {
-      behind = next.behind;
+      after = next.after;
       steps = steps_join first.steps next.steps;
       asked_is = along_join first.steps next.steps ∙ ap₂ (λ (x y : List (ℕ × Publication)). x ++ y) first.asked_is next.asked_is;
       stands = next.stands;
@@ -136,6 +136,6 @@ is_reached_asked nodes config cs m w apart trail stands = refl
 pub keeps_reached : (asked : List (ℕ × Publication)) (old new : WorldState) → WorldGoesBy asked old new → KeepsReached asked old new
 keeps_reached asked old new goes nodes config cs r =
     let to = goes nodes config cs r.world r.trail r.stands in (
-      is_reached nodes config cs to.behind new r.apart (reached_on r.trail to.steps) to.stands,
-      is_reached_asked nodes config cs to.behind new r.apart (reached_on r.trail to.steps) to.stands ∙ reached_asked r.trail to.steps ∙ ap (λ (l : List (ℕ × Publication)). published_on r.trail ++ l) to.asked_is,
+      is_reached nodes config cs to.after new r.apart (reached_on r.trail to.steps) to.stands,
+      is_reached_asked nodes config cs to.after new r.apart (reached_on r.trail to.steps) to.stands ∙ reached_asked r.trail to.steps ∙ ap (λ (l : List (ℕ × Publication)). published_on r.trail ++ l) to.asked_is,
     )

@@ -5,9 +5,9 @@ use Rattle.headline.specs.agreement.MasterState.{MasterState}
 use Rattle.headline.specs.agreement.MasterState.AssignRefusal.{bad_members}
 use Rattle.headline.specs.ballot.Config.{Config}
 use Rattle.headline.specs.ballot.Message.{Message}
-use Rattle.headline.specs.broker_base.Command.{Command}
-use Rattle.headline.specs.broker_base.Output.{Output}
-use Rattle.headline.specs.broker_base.Place.{Client}
+use Rattle.headline.specs.broker_spec.declared.command.Command.{Command}
+use Rattle.headline.specs.broker_spec.declared.command.Output.{Output}
+use Rattle.headline.specs.broker_spec.Place.{Client}
 use Rattle.headline.specs.broker_base.State.{State}
 use Rattle.escaping_client.specs.client.Core.{AppendsAll, Core}
 use Rattle.escaping_client.specs.client.State.{is_open}

@@ -7,9 +7,9 @@ use Rattle.headline.specs.agreement.MasterState.AssignRefusal.{bad_members, ball
 use Rattle.headline.specs.ballot.Config.{Config}
 use Rattle.headline.specs.ballot.LawfulConfig.{is_lawful}
 use Rattle.headline.specs.ballot.Message.{Message}
-use Rattle.headline.specs.broker_base.Command.{Command}
-use Rattle.headline.specs.broker_base.Output.{Output}
-use Rattle.headline.specs.broker_base.Place.{Client}
+use Rattle.headline.specs.broker_spec.declared.command.Command.{Command}
+use Rattle.headline.specs.broker_spec.declared.command.Output.{Output}
+use Rattle.headline.specs.broker_spec.Place.{Client}
 use Rattle.headline.specs.broker_base.State.{State}
 use Rattle.escaping_nodes.specs.Coming.{AreCalm, AreFollowed, IsSeen}
 use Rattle.escaping_nodes.specs.ways_out.CutWaysDeliveries.{Delivered, assigned_moment}
@@ -21,7 +21,7 @@ use Rattle.headline.specs.node_group.Group.{Group, moment_of}
 use Rattle.headline.specs.snapshots.Past.{Moment, Past}
 use Rattle.headline.specs.world_base.Core.{rules}
 use Rattle.escaping_nodes.specs.world_nodes.Asking.{log_of}
-use Rattle.escaping_nodes.specs.world_nodes.Goes.{behind_giving}
+use Rattle.escaping_nodes.specs.world_nodes.Goes.{after_giving}
 use Rattle.escaping_nodes.specs.world_nodes.Nodes.{NodesState, StandsFor as NodesStand}
 use Rattle.escaping_nodes.proofs.of_world_nodes.MasterActs.{gives_exactly}
 use Rattle.world_events.specs.declared.event.Event.{Event}
@@ -46,7 +46,7 @@ pub record LedTo (config : Config) (g : Group) (past : List (Moment State Comman
     (w new : WorldState) : Type 0 where
   pub way : LeadsOut rules config (moment_of g ∷ past) (moment_of g) (configuration_of members) place log
   pub mid : WorldState
-  pub followed : AreFollowed (g.master.given + 1) way.last (behind_giving (configuration_of members) w.nodes) mid.nodes
+  pub followed : AreFollowed (g.master.given + 1) way.last (after_giving (configuration_of members) w.nodes) mid.nodes
   pub nodes : NodesGo w.nodes mid.nodes
   pub world : WorldGoes w mid
   pub housed : AreHoused (leads_of mid.clients) mid.connections
@@ -82,11 +82,11 @@ module _ (config : Config) (g : Group) (past : List (Moment State Command Output
   pub led_to : Run (group_events w members can.place ++ more) w new → LosesNothing w new → LedTo config g past members can.place (log_of w.nodes can.source) more w new
   led_to run none =
       let f = first_done (events.Assign conf) (map events.Deliver numbers ++ more) w new run none (λ cannot. cannot can.granted) in
-      let given : WorldState = with_nodes (behind_giving conf w.nodes) w in
+      let given : WorldState = with_nodes (after_giving conf w.nodes) w in
       let is : f.after ≡ given = f.does.2 ∙ ap (λ (n : NodesState). with_nodes n w) f.does.1 in
       let rest : Run (map events.Deliver numbers ++ more) given new = subst (λ (v : WorldState). Run (map events.Deliver numbers ++ more) v new) is f.rest in
       let whole : LosesNothing given new = subst (λ (v : WorldState). LosesNothing v new) is f.whole in
-      let on = goes_apart w (behind_giving conf w.nodes) (omega arith) (goes_by None refl (λ h t. (gives_exactly w.nodes conf can.granted h t).0)) in
+      let on = goes_apart w (after_giving conf w.nodes) (omega arith) (goes_by None refl (λ h t. (gives_exactly w.nodes conf can.granted h t).0)) in
       let t = in_two (map events.Deliver numbers) more given new rest whole in
       let calm : AreCalm (g.master.given + 1) given.nodes = λ at node there. inr (low_before config (moment_of g) past came w.nodes seen at node there) in
       let first_seen : IsSeen (assigned_moment conf (moment_of g)) given.nodes = assigned_seen (moment_of g) w.nodes conf seen in

@@ -2,7 +2,7 @@
 use Rattle.std.proofs.Common.{◌≡◌, inl, inr, ◌<◌, ◌≤◌, ◌^◌, ◌-◌, ◌+◌, ◌==◌, ◌&&◌, nat_lt, nat_le, not, if◌then◌else◌, ℕ, Bool, true, false, List, Some, refl, ap, ◌∙◌, subst, arith}
 use Rattle.std.specs.Prelude.{Ok}
 use Rattle.std.proofs.lemmas.Bool.{eq-eqb, lt-ltb, le-leb, ne_eqb}
-use Rattle.headline.specs.broker_base.Connection.{ConnectionName, is_connection_name}
+use Rattle.headline.specs.broker_spec.Connection.{ConnectionName, is_connection_name}
 use Rattle.headline.specs.world_base.Core.{CountedCore}
 use Rattle.headline.specs.world_base.Step.{accepted}
 use Rattle.escaping_nodes.specs.world_nodes.Running.{node_of}

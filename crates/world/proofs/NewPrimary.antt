@@ -8,10 +8,10 @@ use Rattle.headline.specs.whole.Replica.{ReplicaState as WholeState}
 use Rattle.headline.specs.ballot.Config.{Config}
 use Rattle.headline.specs.ballot.LawfulConfig.{are_rising, is_lawful}
 use Rattle.headline.specs.ballot.Replica.{ReplicaState, others}
-use Rattle.headline.specs.broker_base.Command.{Command}
-use Rattle.headline.specs.broker_base.Connection.{ConnectionName}
-use Rattle.headline.specs.broker_base.Output.{Output}
-use Rattle.headline.specs.broker_base.Place.{Client}
+use Rattle.headline.specs.broker_spec.declared.command.Command.{Command}
+use Rattle.headline.specs.broker_spec.Connection.{ConnectionName}
+use Rattle.headline.specs.broker_spec.declared.command.Output.{Output}
+use Rattle.headline.specs.broker_spec.Place.{Client}
 use Rattle.headline.specs.broker_base.State.{State}
 use Rattle.escaping_nodes.specs.Answered.{begun}
 use Rattle.escaping_nodes.specs.Opened.{CanOpen}
@@ -150,8 +150,8 @@ module _ (config : Config) {nodes : ℕ} {cs : List Client} (m : World) (trail :
         serves = standing.serves;
         low = low;
         most = most;
-        free = new_port to.behind (reached_on trail to.steps) l.mid to.stands l.housed place node standing.stands;
-        unnamed = new_name to.behind (reached_on trail to.steps) l.mid to.stands l.housed place node standing.stands ballot low;
+        free = new_port to.after (reached_on trail to.steps) l.mid to.stands l.housed place node standing.stands;
+        unnamed = new_name to.after (reached_on trail to.steps) l.mid to.stands l.housed place node standing.stands ballot low;
       }
 
   pub new_primary : IsNewPrimary b ballot log first os l.mid

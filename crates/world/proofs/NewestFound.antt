@@ -11,7 +11,7 @@ use Rattle.headline.specs.world_base.Core.{CountedCore}
 use Rattle.headline.specs.world_base.declared.item.Item.{Item}
 use Rattle.headline.specs.world_base.declared.item.Item.TheVariants.{Bytes}
 use Rattle.headline.specs.node_moves.Moves.NodeCall.{takes}
-use Rattle.escaping_nodes.specs.world_nodes.Goes.{TakesExactly, behind_deed}
+use Rattle.escaping_nodes.specs.world_nodes.Goes.{TakesExactly, after_node_call}
 use Rattle.escaping_nodes.specs.world_nodes.Running.{running, unless_stopped}
 use Rattle.escaping_nodes.specs.world_nodes.Nodes.{NodesState}
 use Rattle.world_events.specs.world_pipes.declared.way.Way.{Way}
@@ -35,12 +35,12 @@ use Rattle.world.proofs.StandsThere.{numbered_at}
 -- ---- a node takes just an item
 
 pub takes_at : (place : ℕ) (item : Item) (old new : NodesState) (node : CountedCore) → slice_get old.nodes place ≡ Some node → TakesExactly (suc place) item old new →
-    new ≡ behind_deed place node (takes item) old
+    new ≡ after_node_call place node (takes item) old
 takes_at place item old new node stands t =
     let same : t.core ≡ node = same_Some t.core node (sym (runs_there (slice_get old.nodes place) t.core t.runs).0 ∙ stands) in
     t.is
-    ∙ ap (λ (k : ℕ). behind_deed k t.core (takes item) old) (let e : suc place - 1 ≡ place = omega arith in e)
-    ∙ ap (λ (c : CountedCore). behind_deed place c (takes item) old) same
+    ∙ ap (λ (k : ℕ). after_node_call k t.core (takes item) old) (let e : suc place - 1 ≡ place = omega arith in e)
+    ∙ ap (λ (c : CountedCore). after_node_call place c (takes item) old) same
 
 pub running_at : (place : ℕ) (nodes : List CountedCore) (node : CountedCore) → slice_get nodes place ≡ Some node → node.core.replica.state.stopped ≡ false →
     running nodes (suc place) ≡ Some node
@@ -141,7 +141,7 @@ module _ (i at number place : ℕ) (core : Core) (up : List ℕ) (w : WorldState
   emptied_names = names_set w.clients i s.client client s.found refl
 
   pub come_up : (after : WorldState) → Does true (events.CarryUp number count) w after →
-      Gathers true (suc place) (with_nodes (behind_deed place node (takes (Bytes (port_of number) up 0)) w.nodes) emptied) after
+      Gathers true (suc place) (with_nodes (after_node_call place node (takes (Bytes (port_of number) up 0)) w.nodes) emptied) after
   come_up after (c, t) =
       subst (λ (n : NodesState). Gathers true (suc place) (with_nodes n emptied) after)
       (takes_at place (Bytes (port_of number) up 0) w.nodes piece.0 node stands piece.1) piece.2

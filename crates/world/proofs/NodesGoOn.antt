@@ -4,8 +4,8 @@ use Rattle.headline.specs.ballot.Config.{Config}
 use Rattle.headline.proofs.of_snapshots.PastsAgree.{has_agreed, nodes_agree}
 use Rattle.headline.specs.world_base.Core.{rules}
 use Rattle.headline.specs.node_group.Group.{Group, moment_of}
-use Rattle.headline.specs.node_group.Goes.{Went}
-use Rattle.headline.specs.node_group.Goes.Went.{then_went}
+use Rattle.headline.specs.node_group.Goes.{GroupTrace}
+use Rattle.headline.specs.node_group.Goes.GroupTrace.{then_went}
 use Rattle.headline.proofs.of_node_group.Ordered.{groups_keep_the_order}
 use Rattle.escaping_nodes.specs.world_nodes.Nodes.{NodesState, StandsFor}
 use Rattle.escaping_nodes.specs.world_nodes.Steps.{LosesNothing as NodesLoseNothing, forgetful}
@@ -23,7 +23,7 @@ pub nodes_forget : (old new : NodesState) → new ≡ forgetful old → NodesSta
 nodes_forget old new is g s = subst (λ (n : NodesState). StandsFor g n) (sym is) (record { master = s.master; nodes = s.nodes; sent = s.sent; archive = s.archive })
 
 pub staying_goes : (old new : NodesState) → NodesStay old new → NodesGo old new
-staying_goes old new stay g s = record { behind = g; goes = rests; stands = stay g s }
+staying_goes old new stay g s = record { after = g; goes = rests; stands = stay g s }
 
 pub nodes_rest : (old new : NodesState) → new ≡ old → NodesGoOn old new
 nodes_rest old new same =
@@ -38,8 +38,8 @@ goes_join one (goes_on two step) = goes_on (goes_join one two) step
 pub nodes_go_join : (a b c : NodesState) → NodesGo a b → NodesGo b c → NodesGo a c
 nodes_go_join a b c one two g s =
     let first = one g s in
-    let next = two first.behind first.stands in
-    record { behind = next.behind; goes = goes_join first.goes next.goes; stands = next.stands }
+    let next = two first.after first.stands in
+    record { after = next.after; goes = goes_join first.goes next.goes; stands = next.stands }
 
 pub nodes_join : (a b c : NodesState) → NodesGoOn a b → NodesGoOn b c → NodesGoOn a c
 nodes_join a b c one two =
@@ -58,7 +58,7 @@ nodes_split a b c x y none =
 
 -- ---- agreement
 
-pub are_reached : (nodes : ℕ) (config : Config) (g : Group) (new : NodesState) → Went nodes config g → StandsFor g new → AreReached nodes config new
+pub are_reached : (nodes : ℕ) (config : Config) (g : Group) (new : NodesState) → GroupTrace nodes config g → StandsFor g new → AreReached nodes config new
 are_reached nodes config g new went stands =
     let order = groups_keep_the_order nodes config g went in
     let list = has_agreed rules config (moment_of g) order.of.earlier order.of.past in
@@ -75,11 +75,11 @@ are_reached nodes config g new went stands =
       leaves = agree.2;
     }
 
-went_on : (nodes : ℕ) (config : Config) (g h : Group) → Went nodes config g → Goes g h → Went nodes config h
+went_on : (nodes : ℕ) (config : Config) (g h : Group) → GroupTrace nodes config g → Goes g h → GroupTrace nodes config h
 went_on nodes config g h went rests = went
 went_on nodes config g h went (goes_on goes step) = then_went (went_on nodes config g _ went goes) step
 
 pub stays_reached : (old new : NodesState) → NodesGo old new → StaysReached old new
 stays_reached old new go nodes config reached =
     let to = go reached.group reached.stands in
-    are_reached nodes config to.behind new (went_on nodes config reached.group to.behind reached.went to.goes) to.stands
+    are_reached nodes config to.after new (went_on nodes config reached.group to.after reached.went to.goes) to.stands

@@ -5,15 +5,15 @@ use Rattle.headline.specs.ballot.Body.{Body}
 use Rattle.headline.specs.ballot.Body.TheVariants.{NewBallot, Join, State, Install, Installed, Activate, Activated, Superseded, Append, Held, Commit}
 use Rattle.headline.specs.ballot.Config.{Config}
 use Rattle.headline.specs.ballot.Message.{Message}
-use Rattle.headline.specs.broker_base.Command.{Command}
-use Rattle.headline.specs.broker_base.Place.{Client}
+use Rattle.headline.specs.broker_spec.declared.command.Command.{Command}
+use Rattle.headline.specs.broker_spec.Place.{Client}
 use Rattle.headline.specs.snapshots.World.{recorded}
 use Rattle.headline.specs.node_moves.Moves.NodeCall.{takes}
 use Rattle.headline.specs.world_base.Core.{CountedCore}
 use Rattle.headline.specs.world_base.declared.item.Item.{Item}
 use Rattle.headline.specs.world_base.declared.item.Item.TheVariants.{Cut, Expel, Peer}
 use Rattle.headline.specs.world_base.declared.Port.{Port}
-use Rattle.escaping_nodes.specs.world_nodes.Goes.{behind_deed}
+use Rattle.escaping_nodes.specs.world_nodes.Goes.{after_node_call}
 use Rattle.escaping_nodes.specs.world_nodes.Nodes.{NodesState}
 use Rattle.escaping_nodes.specs.world_nodes.Steps.{ActsWithLosses, ComesIn, CutsIn, CutsWithLosses, ExpelsIn, HearsIn, LosesNothing as NodesLoseNothing, TakesIn, forgetful}
 use Rattle.escaping_nodes.proofs.of_world_nodes.Exactly.{exactly}
@@ -45,14 +45,14 @@ forgets_rises old new is = let more = ap (λ (n : NodesState). n.losses) is in o
 pub takes_rises : (node : ℕ) (item : Item) (old new : NodesState) → TakesIn node item old new → Rises old new
 takes_rises node item old new t = by t.way
   where
-    by : (new ≡ behind_deed (node - 1) t.core (takes item) old) ⊎ ActsWithLosses (node - 1) item t.core old new → Rises old new
+    by : (new ≡ after_node_call (node - 1) t.core (takes item) old) ⊎ ActsWithLosses (node - 1) item t.core old new → Rises old new
     by (inl is) = let same = ap (λ (n : NodesState). n.losses) is in omega (arith, same)
     by (inr loses) = let more = ap (λ (n : NodesState). n.losses) loses.is in omega (arith, more)
 
 pub cuts_rises : (node : ℕ) (old new : NodesState) → CutsIn node old new → Rises old new
 cuts_rises node old new t = by t.way
   where
-    by : (new ≡ record (behind_deed (node - 1) t.core (takes Cut) old) { archive = recorded old.archive t.core.core.replica.state })
+    by : (new ≡ record (after_node_call (node - 1) t.core (takes Cut) old) { archive = recorded old.archive t.core.core.replica.state })
         ⊎ CutsWithLosses (node - 1) t.core old new
         ⊎ (new ≡ forgetful old) → Rises old new
     by (inl is) = let same = ap (λ (n : NodesState). n.losses) is in omega (arith, same)

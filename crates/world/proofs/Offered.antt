@@ -14,7 +14,7 @@ use Rattle.headline.specs.world_base.Core.{CountedCore}
 use Rattle.headline.specs.world_base.Handing.{listed_at}
 use Rattle.headline.specs.node_moves.Moves.NodeCall.{takes}
 use Rattle.headline.proofs.of_node_group.Placed.{get_of_set}
-use Rattle.escaping_nodes.specs.world_nodes.Goes.{Acts, behind_deed}
+use Rattle.escaping_nodes.specs.world_nodes.Goes.{Acts, after_node_call}
 use Rattle.escaping_nodes.specs.world_nodes.Running.{node_of, running, unless_stopped}
 use Rattle.escaping_nodes.specs.world_nodes.Nodes.{NodesState}
 use Rattle.escaping_nodes.specs.world_nodes.Steps.{ActsWithLosses, TakesIn}
@@ -47,7 +47,7 @@ still_there node item old new t none = by t.way
     at_once : (later : CountedCore) → new.nodes ≡ slice_set old.nodes (node - 1) later → ⊥
     at_once later is = none-some later (sym none ∙ ap (λ (l : List CountedCore). node_of l node) is ∙ set_there old.nodes node t.core later t.runs)
 
-    by : (new ≡ behind_deed (node - 1) t.core (takes item) old) ⊎ ActsWithLosses (node - 1) item t.core old new → ⊥
+    by : (new ≡ after_node_call (node - 1) t.core (takes item) old) ⊎ ActsWithLosses (node - 1) item t.core old new → ⊥
     by (inl exact) = at_once _ (ap (λ (n : NodesState). n.nodes) exact)
     by (inr losing) = at_once losing.node (ap (λ (n : NodesState). n.nodes) losing.is)
 

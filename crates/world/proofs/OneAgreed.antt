@@ -7,9 +7,9 @@ use Rattle.headline.specs.ballot.Config.{Config}
 use Rattle.headline.specs.node_group.Group.{moment_of}
 use Rattle.headline.specs.snapshots.Past.{IsAgreed, Moment, whole_moment}
 use Rattle.headline.specs.agreement.Past.{IsChosen, WasActive}
-use Rattle.headline.specs.broker_base.Command.{Command}
-use Rattle.headline.specs.broker_base.Output.{Output}
-use Rattle.headline.specs.broker_base.Place.{Client}
+use Rattle.headline.specs.broker_spec.declared.command.Command.{Command}
+use Rattle.headline.specs.broker_spec.declared.command.Output.{Output}
+use Rattle.headline.specs.broker_spec.Place.{Client}
 use Rattle.headline.specs.broker_base.State.{State}
 use Rattle.escaping_nodes.specs.world_nodes.Agreed.{AgreeOn}
 use Rattle.escaping_nodes.specs.world_nodes.Nodes.{NodesState}

@@ -171,7 +171,7 @@ pub record IsNewest (ps : List ConnectionSlot) (k m : ℕ) : Type 0 where
   pub up : place.is_open ≡ true
   pub low : i < k
   pub before : length (open_from 1 (take i ps)) ≡ m
-  pub behind : (j : ℕ) (p : ConnectionSlot) → i < j → j < k → slice_get ps j ≡ Some p → p.is_open ≡ false
+  pub after : (j : ℕ) (p : ConnectionSlot) → i < j → j < k → slice_get ps j ≡ Some p → p.is_open ≡ false
 
 same_place : (ps : List ConnectionSlot) (j k : ℕ) (p q : ConnectionSlot) → j ≡ k → slice_get ps k ≡ Some p → slice_get ps j ≡ Some q → p.is_open ≡ false → q.is_open ≡ false
 same_place ps j k p q same at e is = ap (λ (z : ConnectionSlot). z.is_open) (same_Some q p (sym e ∙ ap (slice_get ps) same ∙ at)) ∙ is
@@ -201,7 +201,7 @@ newest ps (suc k) m within many = by at_k.0 at_k.1 at_k.0.is_open refl (newest p
           up = is;
           low = omega arith;
           before = omega (arith, many, one);
-          behind = λ j q a b e. absurd (omega (arith, a, b));
+          after = λ j q a b e. absurd (omega (arith, a, b));
         }
     by p at false is later =
         let r = later (omega (arith, within)) (sym (counted_shut ps k p at is) ∙ many) in
@@ -213,7 +213,7 @@ newest ps (suc k) m within many = by at_k.0 at_k.1 at_k.0.is_open refl (newest p
           up = r.up;
           low = omega (arith, low);
           before = r.before;
-          behind = one_more_shut ps k p r.i at is r.behind;
+          after = one_more_shut ps k p r.i at is r.after;
         }
 
 -- if there is none, all are closed

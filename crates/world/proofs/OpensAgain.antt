@@ -5,7 +5,7 @@ use Rattle.std.specs.List.{find, list_any}
 use Rattle.std.proofs.lemmas.Bool.{eq-eqb, ne_eqb, or_parts}
 use Rattle.std.proofs.lemmas.Option.{none-some, same_Some}
 use Rattle.headline.specs.ballot.Config.{Config}
-use Rattle.headline.specs.broker_base.Place.{Client}
+use Rattle.headline.specs.broker_spec.Place.{Client}
 use Rattle.escaping_nodes.specs.Opened.{first_of}
 use Rattle.headline.specs.node_moves.Ends.{IsGiven}
 use Rattle.headline.specs.byte_world.AtNodes.{Leads}

@@ -90,7 +90,7 @@ turned old new node port housed beyond (inr hears) nodes config cs m trail s = b
         let found : slice_get new.nodes n ≡ Some has.core = sym (ap (node_of new.nodes) is) ∙ has.stands in
         let stands = ap (λ (l : List CoreState). slice_get l n) d.stands.nodes ∙ get_mapped (λ (c : CountedCore). c.core) new.nodes n has.core found in
         record {
-          behind = (let w : World = record m { group = d.does.behind } in w);
+          after = (let w : World = record m { group = d.does.after } in w);
           steps = goes_on rests (is_turned_away n port 0 d.does has.core.core (unused n (length old.connections) port beyond old.clients m.clients s.clients housed.used) stands
               (is_none (listed_at port has.core.core) has.known));
           asked_is = refl;

@@ -6,8 +6,8 @@ use Rattle.std.proofs.lemmas.Bool.{both_ways}
 use Rattle.std.proofs.lemmas.List.{length-append}
 use Rattle.std.proofs.lemmas.Option.{same_Some}
 use Rattle.headline.specs.ballot.Replica.{is_active}
-use Rattle.headline.specs.broker_base.Command.{Command}
-use Rattle.headline.specs.broker_base.Output.{Output}
+use Rattle.headline.specs.broker_spec.declared.command.Command.{Command}
+use Rattle.headline.specs.broker_spec.declared.command.Output.{Output}
 use Rattle.headline.specs.broker_base.State.{State}
 use Rattle.escaping_client.specs.client.Calls.{opened}
 use Rattle.escaping_client.specs.client.Core.{AppendsAll, Core, nothing_read}
@@ -24,7 +24,7 @@ use Rattle.escaping_client.proofs.of_lists.Places.{get_pushed, get_set}
 use Rattle.headline.specs.world_base.Core.{CountedCore}
 use Rattle.headline.specs.world_base.declared.item.Item.{Item}
 use Rattle.headline.specs.world_base.declared.item.Item.TheVariants.{Opened}
-use Rattle.escaping_nodes.specs.world_nodes.Goes.{behind_deed}
+use Rattle.escaping_nodes.specs.world_nodes.Goes.{after_node_call}
 use Rattle.escaping_nodes.specs.world_nodes.Running.{node_of}
 use Rattle.escaping_nodes.specs.world_nodes.Nodes.{NodesState}
 use Rattle.escaping_nodes.proofs.of_world_nodes.Acts.{acts}
@@ -119,7 +119,7 @@ module _ (name : List ℕ) (before : Core) (a : Moment State Command Output) (ba
     mid = with_connection c piped (suc place)
 
     abbrev taken : NodesState
-    taken = behind_deed place node (takes item) old.nodes
+    taken = after_node_call place node (takes item) old.nodes
 
     mine : c.client.piped.core ≡ before
     mine = same_Some c.client.piped.core before (sym (core_found name old.clients c.at c.client c.first c.stands) ∙ there)
@@ -183,7 +183,7 @@ module _ (name : List ℕ) (before : Core) (a : Moment State Command Output) (ba
               (names_seen after.clients mid.clients passes.clients ∙ names_set old.clients c.at c.client later c.stands refl) ∙ c.first;
           housed = passes.housed;
           nodes = nodes_go_join old.nodes taken after.nodes
-              (acts_go (let deed : Option (ℕ × NodeCall) = Some (place, takes item) in deed) old.nodes taken (acts old.nodes place node (takes item) can.stands (λ g s. tt)))
+              (acts_go (let node_call : Option (ℕ × NodeCall) = Some (place, takes item) in node_call) old.nodes taken (acts old.nodes place node (takes item) can.stands (λ g s. tt)))
               passes.nodes;
         }
 

@@ -5,7 +5,7 @@ use Rattle.std.proofs.lemmas.List.{map-append, take_more}
 use Rattle.std.proofs.lemmas.Option.{none-some}
 use Rattle.headline.specs.ballot.Config.{Config}
 use Rattle.headline.specs.agreement.World.{can_open}
-use Rattle.headline.specs.broker_base.Place.{Client}
+use Rattle.headline.specs.broker_spec.Place.{Client}
 use Rattle.headline.specs.packet_world.World.{AreApart}
 use Rattle.headline.specs.node_group.Group.{opening_group}
 use Rattle.headline.specs.world_base.declared.Port.{Port}

@@ -1,7 +1,7 @@
 -- PromiseShown.antt: what a client of a world that is reached shows is as promised.
 use Rattle.std.proofs.Common.{◌≡◌, ℕ, List, Option, Some, slice_get, sym, subst}
 use Rattle.headline.specs.ballot.Config.{Config}
-use Rattle.headline.specs.broker_base.Place.{Client}
+use Rattle.headline.specs.broker_spec.Place.{Client}
 use Rattle.headline.specs.Promise.{Promise}
 use Rattle.headline.specs.byte_world.World.{ClientPipes}
 use Rattle.headline.specs.byte_world.Published.{published_of, published_on}

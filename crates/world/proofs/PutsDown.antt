@@ -45,19 +45,19 @@ handed_down r is_open node port old new before after eq idle does same = by r eq
     by (Err x) eq idle does same = inl (subst (HandsExactly node port old before new after is_open) (sym (idle.0 refl)) (same.0, same.1 ∙ sym (append-nil before), eq))
 
 -- even if memory runs out
-pub may_hand_down : (r : Result Handed Idle) (node : ℕ) (port : Port) (old new : NodesState) (before behind : List ℕ) → IfOk r (λ handed. HandsIn node port old new before behind handed)
-    → OnErr r ((new ≡ old) × (behind ≡ before)) → MayHandDown node port old before new behind
-may_hand_down (Ok h) node port old new before behind does same = by does
+pub may_hand_down : (r : Result Handed Idle) (node : ℕ) (port : Port) (old new : NodesState) (before after : List ℕ) → IfOk r (λ handed. HandsIn node port old new before after handed)
+    → OnErr r ((new ≡ old) × (after ≡ before)) → MayHandDown node port old before new after
+may_hand_down (Ok h) node port old new before after does same = by does
   where
-    by : HandsIn node port old new before behind h → MayHandDown node port old before new behind
+    by : HandsIn node port old new before after h → MayHandDown node port old before new after
     by (inl hands) = inr (gives_acts node port old new hands.0, hands.1)
     by (inr rests) = inl (nodes_forget old new rests.0, rests.1)
-may_hand_down (Err e) node port old new before behind does same = inl (nodes_stay old new same.0, same.1)
+may_hand_down (Err e) node port old new before after does same = inl (nodes_stay old new same.0, same.1)
 
 -- and so the nodes continue
-pub handing_goes : (node : ℕ) (port : Port) (old new : NodesState) (before behind : List ℕ) → old.losses ≤ new.losses → MayHandDown node port old before new behind → NodesGoOn old new
-handing_goes node port old new before behind rises (inl stays) = record { rises = rises; goes = staying_goes old new stays.0 }
-handing_goes node port old new before behind rises (inr hands) = record { rises = rises; goes = acts_go (Some (node - 1, gives port)) old new hands.0 }
+pub handing_goes : (node : ℕ) (port : Port) (old new : NodesState) (before after : List ℕ) → old.losses ≤ new.losses → MayHandDown node port old before new after → NodesGoOn old new
+handing_goes node port old new before after rises (inl stays) = record { rises = rises; goes = staying_goes old new stays.0 }
+handing_goes node port old new before after rises (inr hands) = record { rises = rises; goes = acts_go (Some (node - 1, gives port)) old new hands.0 }
 
 -- ---- bytes that are exchanged twice
 
@@ -74,23 +74,23 @@ exchanged old mid later at none handed first second way found =
     two ∙ ap (λ (p : Piped). with_down at bare handed p) one
     ∙ ap (λ (l : List Way). let p : Piped = record old { ways = l } in p) (set-set old.ways at bare (record way { down = handed }))
 
-pub puts : (node : ℕ) (port : Port) (nodes behind : NodesState) (old mid later : Piped) (at : ℕ) (none moved handed : List ℕ) (is_open : Bool)
+pub puts : (node : ℕ) (port : Port) (nodes after : NodesState) (old mid later : Piped) (at : ℕ) (none moved handed : List ℕ) (is_open : Bool)
     → IfSome (slice_get old.ways at) (λ way. mid ≡ with_down at way none old) → IfSome (slice_get old.ways at) (λ way. moved ≡ way.down)
-    → IfSome (slice_get mid.ways at) (λ way. later ≡ with_down at way handed mid) → HandsDown node port nodes moved behind handed is_open
-    → PutsDown at node port nodes old behind later is_open
-puts node port nodes behind old mid later at none moved handed is_open first given second hands way found = (
+    → IfSome (slice_get mid.ways at) (λ way. later ≡ with_down at way handed mid) → HandsDown node port nodes moved after handed is_open
+    → PutsDown at node port nodes old after later is_open
+puts node port nodes after old mid later at none moved handed is_open first given second hands way found = (
   handed,
-  subst (λ (l : List ℕ). HandsDown node port nodes l behind handed is_open) (of_some (λ (w : Way). moved ≡ w.down) (slice_get old.ways at) way found given) hands,
+  subst (λ (l : List ℕ). HandsDown node port nodes l after handed is_open) (of_some (λ (w : Way). moved ≡ w.down) (slice_get old.ways at) way found given) hands,
   exchanged old mid later at none handed first second way found,
 )
 
-pub may_put : (node : ℕ) (port : Port) (nodes behind : NodesState) (old mid later : Piped) (at : ℕ) (none moved handed : List ℕ)
+pub may_put : (node : ℕ) (port : Port) (nodes after : NodesState) (old mid later : Piped) (at : ℕ) (none moved handed : List ℕ)
     → IfSome (slice_get old.ways at) (λ way. mid ≡ with_down at way none old) → IfSome (slice_get old.ways at) (λ way. moved ≡ way.down)
-    → IfSome (slice_get mid.ways at) (λ way. later ≡ with_down at way handed mid) → MayHandDown node port nodes moved behind handed
-    → MayPutDown at node port nodes old behind later
-may_put node port nodes behind old mid later at none moved handed first given second hands way found = (
+    → IfSome (slice_get mid.ways at) (λ way. later ≡ with_down at way handed mid) → MayHandDown node port nodes moved after handed
+    → MayPutDown at node port nodes old after later
+may_put node port nodes after old mid later at none moved handed first given second hands way found = (
   handed,
-  subst (λ (l : List ℕ). MayHandDown node port nodes l behind handed) (of_some (λ (w : Way). moved ≡ w.down) (slice_get old.ways at) way found given) hands,
+  subst (λ (l : List ℕ). MayHandDown node port nodes l after handed) (of_some (λ (w : Way). moved ≡ w.down) (slice_get old.ways at) way found given) hands,
   exchanged old mid later at none handed first second way found,
 )
 

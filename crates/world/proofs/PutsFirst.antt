@@ -4,7 +4,7 @@ use Rattle.std.proofs.Common.{◌≡◌, ◌<◌, ◌+◌, ◌*◌, ℕ, zero, s
 use Rattle.std.specs.List.{position}
 use Rattle.std.proofs.lemmas.Option.{none-some, same_Some}
 use Rattle.headline.specs.ballot.Message.{Message}
-use Rattle.headline.specs.broker_base.Command.{Command}
+use Rattle.headline.specs.broker_spec.declared.command.Command.{Command}
 use Rattle.escaping_client.specs.client.Core.{Core}
 use Rattle.escaping_nodes.specs.Answered.{PutsOutAtLast, last_held, session_present}
 use Rattle.escaping_nodes.specs.Coming.{Come}
@@ -19,7 +19,7 @@ use Rattle.headline.specs.world_base.Core.{CountedCore}
 use Rattle.headline.specs.world_base.declared.item.Item.TheVariants.{Peer}
 use Rattle.headline.specs.world_base.Handing.{bytes_of}
 use Rattle.headline.specs.world_base.Step.{node_step}
-use Rattle.escaping_nodes.specs.world_nodes.Goes.{ComesToNobody, behind_deed}
+use Rattle.escaping_nodes.specs.world_nodes.Goes.{ComesToNobody, after_node_call}
 use Rattle.escaping_nodes.specs.world_nodes.Running.{node_of, running}
 use Rattle.escaping_nodes.specs.world_nodes.Nodes.{NodesState}
 use Rattle.world_events.specs.declared.event.Event.{Event}
@@ -129,11 +129,11 @@ module _ (name : List ℕ) (ks : List ℕ) (i at number place : ℕ) (core : Cor
       IsAnswered name i at number place core old after.nodes after
   by_node after n old goes same =
       let turned : CountedCore = record n.node { core = (node_step (Peer message) n.node.core).core } in
-      let behind : NodesState = behind_deed place n.node (takes (Peer message)) b.mid.nodes in
-      put_first name i at number place core up (with_nodes behind b.mid) after turned positive (get_set b.mid.nodes.nodes place n.node turned n.there)
+      let acted : NodesState = after_node_call place n.node (takes (Peer message)) b.mid.nodes in
+      put_first name i at number place core up (with_nodes acted b.mid) after turned positive (get_set b.mid.nodes.nodes place n.node turned n.there)
       (subst (λ (c : CountedCore). PutsOutFirst (port_of number) (spelling session_present) (node_step (Peer message) c.core).core)
       (same_Some p.node n.node (sym p.stands ∙ n.there)) p.puts)
-      n.gathers b.passes.housed (newest_with i at number (suc place) core up [] true b.mid behind b.newest)
+      n.gathers b.passes.housed (newest_with i at number (suc place) core up [] true b.mid acted b.newest)
       (position_kept name b.mid.clients w.clients (names_seen b.mid.clients w.clients b.passes.clients) ∙ first)
       old (nodes_go_join old b.mid.nodes after.nodes goes n.passes.nodes) same
 

@@ -5,7 +5,7 @@ use Rattle.std.proofs.lemmas.Option.{none-some, same_Some}
 use Rattle.headline.specs.ballot.Body.{Body}
 use Rattle.headline.specs.ballot.Body.TheVariants.{NewBallot, Join, State, Install, Installed, Activate, Activated, Superseded, Append, Held, Commit}
 use Rattle.headline.specs.ballot.Message.{Message}
-use Rattle.headline.specs.broker_base.Command.{Command}
+use Rattle.headline.specs.broker_spec.declared.command.Command.{Command}
 use Rattle.escaping_nodes.specs.master.declared.event.Idle.{Idle}
 use Rattle.headline.specs.world_base.Core.{CountedCore}
 use Rattle.headline.specs.world_base.Handing.{hands_over}

@@ -5,9 +5,9 @@ use Rattle.std.proofs.lemmas.Bool.{and_parts, cases_eq}
 use Rattle.headline.specs.ballot.Body.TheVariants.{Activate}
 use Rattle.headline.specs.ballot.Message.{Message}
 use Rattle.headline.specs.ballot.Protocol.{received}
-use Rattle.headline.specs.broker_base.Command.{Command}
-use Rattle.headline.specs.broker_base.Connection.{ConnectionName, same_connection}
-use Rattle.headline.specs.broker_base.Output.{Output}
+use Rattle.headline.specs.broker_spec.declared.command.Command.{Command}
+use Rattle.headline.specs.broker_spec.Connection.{ConnectionName, same_connection}
+use Rattle.headline.specs.broker_spec.declared.command.Output.{Output}
 use Rattle.headline.specs.broker_base.State.{State}
 use Rattle.escaping_client.specs.client.Core.{Core}
 use Rattle.escaping_nodes.specs.ways_out.CutWaysDeliveries.{Delivered, after_activate, after_outcome}
@@ -28,7 +28,7 @@ use Rattle.headline.specs.world_base.declared.item.Item.TheVariants.{Peer}
 use Rattle.headline.specs.world_base.Connections.{is_open_named, is_over}
 use Rattle.headline.specs.world_base.Core.{CountedCore, rules}
 use Rattle.headline.specs.world_base.Handing.{answer_of, bytes_of}
-use Rattle.escaping_nodes.specs.world_nodes.Goes.{behind_answer, behind_deed}
+use Rattle.escaping_nodes.specs.world_nodes.Goes.{after_answer, after_node_call}
 use Rattle.escaping_nodes.specs.world_nodes.Running.{node_of}
 use Rattle.escaping_nodes.specs.world_nodes.Nodes.{NodesState}
 use Rattle.world_events.specs.declared.event.Event.TheVariants as events
@@ -102,14 +102,14 @@ module _ (ballot place : ℕ) (x : ConnectionName) (i at number : ℕ) (core : C
   -- one comes to a node
   one_waits : (a : Moment State Command Output) (k to : ℕ) (m : Message Command) (c : Moment State Command Output) → Delivered rules ballot a (k ∷ []) c → (old new : WorldState)
       (node : CountedCore) → slice_get old.nodes.sent k ≡ Some (to + 1, m) → slice_get old.nodes.nodes to ≡ Some node → node.core.replica.state.stopped ≡ false →
-      Gathers true (suc to) (with_nodes (behind_deed to node (takes (Peer m)) old.nodes) old) new → IsSeen a old.nodes → AreCalm ballot old.nodes →
+      Gathers true (suc to) (with_nodes (after_node_call to node (takes (Peer m)) old.nodes) old) new → IsSeen a old.nodes → AreCalm ballot old.nodes →
       AreHoused (leads_of old.clients) old.connections → StillWaits ballot place (port_of number) x old.nodes → IsNewest i at number (suc place) core up [] true old →
       IsNewest i at number (suc place) core up [] true new
   one_waits a k to m c d old new node came there runs g seen calm housed w s =
       by (cases_eq place to) (waits_on ballot place (port_of number) x a c (k ∷ []) d old.nodes after (comes_to_node k to node m came there runs none_comes) seen calm w)
     where
       after : NodesState
-      after = behind_deed to node (takes (Peer m)) old.nodes
+      after = after_node_call to node (takes (Peer m)) old.nodes
 
       by : (place ≡ to) ⊎ (place ≡ to → ⊥) → StillWaits ballot place (port_of number) x after → IsNewest i at number (suc place) core up [] true new
       by (inl same) v =
@@ -145,5 +145,5 @@ module _ (ballot place : ℕ) (x : ConnectionName) (i at number : ℕ) (core : C
       let more = walk_waiting c b rest d f.after new f.rest f.whole z.seen z.calm n.housed
       (waits_on ballot place (port_of number) x a c (k ∷ []) one old.nodes f.after.nodes n.come seen calm w)
       (subst (IsNewest i at number (suc place) core up [] true) (sym (at_master_is k from asked old f.after came f.does))
-      (newest_with i at number (suc place) core up [] true old (behind_answer from asked old.nodes) s)) in
+      (newest_with i at number (suc place) core up [] true old (after_answer from asked old.nodes) s)) in
       record { passes = passes_join (k ∷ []) rest old f.after new n more.passes; waits = more.waits; newest = more.newest }

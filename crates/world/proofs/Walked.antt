@@ -97,7 +97,7 @@ walk_on node at initial now new w goes a =
     let within = w.within in
     let many = a.many in
     let below : suc r.i ≤ w.number = omega (arith, low) in
-    let g = all_passed node (length initial.connections) w.number (suc r.i) initial now below w.within (λ j p from to e. r.behind j p (omega (arith, from)) to e) w.gathering in
+    let g = all_passed node (length initial.connections) w.number (suc r.i) initial now below w.within (λ j p from to e. r.after j p (omega (arith, from)) to e) w.gathering in
     record {
       number = r.i;
       within = omega (arith, low, within, many);

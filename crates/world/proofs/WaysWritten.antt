@@ -10,9 +10,9 @@ use Rattle.headline.specs.agreement.MasterState.AssignRefusal.{bad_members, ball
 use Rattle.headline.specs.ballot.Config.{Config}
 use Rattle.headline.specs.ballot.LawfulConfig.{are_rising, is_lawful}
 use Rattle.headline.specs.ballot.Serving.{most_places}
-use Rattle.headline.specs.broker_base.Commands.{past_from, past_of, usual_limits}
-use Rattle.headline.specs.broker_base.Past.{session_of}
-use Rattle.headline.specs.broker_base.Place.{Client}
+use Rattle.headline.specs.broker_spec.Commands.{past_from, past_of, usual_limits}
+use Rattle.headline.specs.broker_spec.Past.{session_of}
+use Rattle.headline.specs.broker_spec.Place.{Client}
 use Rattle.escaping_nodes.specs.ways_out.Deliveries.{asked_and_answered, way_out}
 use Rattle.escaping_nodes.proofs.WelcomedKept.{welcomed_are_kept}
 use Rattle.escaping_nodes.specs.ways_out.Lengths.{WaysAreShort}

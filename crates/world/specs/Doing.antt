@@ -2,11 +2,11 @@
 use Rattle.std.specs.Prelude.{◌≡◌, ℕ, Bool, true, false, List, Option, Some, None, Err, slice_get, take}
 use Rattle.headline.specs.ballot.Config.{Config}
 use Rattle.headline.specs.ballot.Message.{Message}
-use Rattle.headline.specs.broker_base.Command.{Command}
+use Rattle.headline.specs.broker_spec.declared.command.Command.{Command}
 use Rattle.escaping_client.specs.client_base.Steps.{Call}
 use Rattle.escaping_client.specs.client_base.declared.error.ClientError.TheVariants as errors
 use Rattle.headline.specs.world_base.declared.item.Item.TheVariants as items
-use Rattle.escaping_nodes.specs.world_nodes.Goes.{Comes, CutsExactly, TakesExactly, behind_giving}
+use Rattle.escaping_nodes.specs.world_nodes.Goes.{Comes, CutsExactly, TakesExactly, after_giving}
 use Rattle.escaping_nodes.specs.world_nodes.Nodes.{NodesState}
 use Rattle.escaping_nodes.specs.world_nodes.Steps.{ComesIn, CutsIn, ExpelsIn, GivesIn}
 use Rattle.world_events.specs.world_pipes.Piped.{Hears, Piped}
@@ -20,7 +20,7 @@ use Rattle.world.specs.Opening.{OpensNone, OpensWhere}
 
 -- the master gives a ballot, or answers an Activate
 abbrev pub Assigns : Bool → Config → NodesState → NodesState → Type 0
-Assigns true config old new = new ≡ behind_giving config old
+Assigns true config old new = new ≡ after_giving config old
 Assigns false config old new = GivesIn config old new
 
 abbrev pub Delivers : Bool → Option (ℕ × Message Command) → NodesState → NodesState → Type 0

@@ -6,10 +6,10 @@ use Rattle.headline.specs.agreement.MasterState.{refusal}
 use Rattle.headline.specs.ballot.Config.{Config}
 use Rattle.headline.specs.ballot.Logs.{places}
 use Rattle.headline.specs.ballot.Serving.{most_places}
-use Rattle.headline.specs.broker_base.Command.{Command}
-use Rattle.headline.specs.broker_base.Commands.{past_of, usual_limits}
-use Rattle.headline.specs.broker_base.Past.{session_of}
-use Rattle.headline.specs.broker_base.Place.{Client}
+use Rattle.headline.specs.broker_spec.declared.command.Command.{Command}
+use Rattle.headline.specs.broker_spec.Commands.{past_of, usual_limits}
+use Rattle.headline.specs.broker_spec.Past.{session_of}
+use Rattle.headline.specs.broker_spec.Place.{Client}
 use Rattle.escaping_client.specs.client.Core.{Core}
 use Rattle.escaping_client.specs.client_base.State.{is_online}
 use Rattle.headline.specs.world_base.Core.{CountedCore}

@@ -8,7 +8,7 @@ use Rattle.headline.specs.world_base.declared.Handed.{Handed}
 use Rattle.headline.specs.world_base.declared.Handed.TheVariants as answers
 use Rattle.headline.specs.world_base.declared.item.Item.{Item}
 use Rattle.headline.specs.world_base.declared.Port.{Port}
-use Rattle.escaping_nodes.specs.world_nodes.Goes.{TakesExactly, behind_deed}
+use Rattle.escaping_nodes.specs.world_nodes.Goes.{TakesExactly, after_node_call}
 use Rattle.escaping_nodes.specs.world_nodes.Running.{node_of}
 use Rattle.escaping_nodes.specs.world_nodes.Nodes.{NodesState}
 use Rattle.escaping_nodes.specs.world_nodes.Steps.{TakesIn, forgetful}
@@ -35,7 +35,7 @@ is_told_open port (Some node) = is_more (answer_of (listed_at port node.core))
 -- it hands these bytes over
 abbrev pub Gives : Option CountedCore → ℕ → Port → NodesState → NodesState → Type 0
 Gives None node port old new = new ≡ old
-Gives (Some core) node port old new = new ≡ behind_deed (node - 1) core (gives port) old
+Gives (Some core) node port old new = new ≡ after_node_call (node - 1) core (gives port) old
 
 -- ---- one connection
 

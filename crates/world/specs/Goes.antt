@@ -5,10 +5,10 @@ use Rattle.headline.specs.ballot.Losses.{one_more}
 use Rattle.headline.specs.ballot.Config.{Config}
 use Rattle.headline.specs.snapshots.Agreeing.{Agrees, Holds, LeftInOrder}
 use Rattle.headline.specs.snapshots.Past.{IsAgreed}
-use Rattle.headline.specs.broker_base.Command.{Command}
+use Rattle.headline.specs.broker_spec.declared.command.Command.{Command}
 use Rattle.headline.specs.world_base.Core.{rules}
 use Rattle.headline.specs.node_group.Group.{Group, moment_of}
-use Rattle.headline.specs.node_group.Goes.{MayGo, Went, all_put, groups_of}
+use Rattle.headline.specs.node_group.Goes.{GroupStep, GroupTrace, all_put, groups_of}
 use Rattle.headline.specs.node_group.Order.{KeepsOrder}
 use Rattle.escaping_nodes.specs.world_nodes.Nodes.{NodesState, StandsFor}
 use Rattle.world.specs.World.{WorldState}
@@ -17,13 +17,13 @@ use Rattle.world.specs.World.{WorldState}
 
 pub data Goes (g : Group) : Group → Type 0 where
   rests : Goes g g
-  goes_on : {h k : Group} → Goes g h → MayGo h k → Goes g k
+  goes_on : {h k : Group} → Goes g h → GroupStep h k → Goes g k
 
 -- a group moves in this way, and then corresponds to these nodes
 pub record GoesTo (g : Group) (new : NodesState) : Type 0 where
-  pub behind : Group
-  pub goes : Goes g behind
-  pub stands : StandsFor behind new
+  pub after : Group
+  pub goes : Goes g after
+  pub stands : StandsFor after new
 
 -- each group that corresponds to the nodes before moves in this way
 abbrev pub NodesGo : NodesState → NodesState → Type 0
@@ -57,7 +57,7 @@ pub record WorldGoesOn (old new : WorldState) : Type 0 where
 -- the packets that nodes proposed for it, in order.
 pub record AreReached (nodes : ℕ) (config : Config) (new : NodesState) : Type 0 where
   pub group : Group
-  pub went : Went nodes config group
+  pub went : GroupTrace nodes config group
   pub stands : StandsFor group new
   pub order : KeepsOrder config group (groups_of went) (all_put went)
   pub list : List Command

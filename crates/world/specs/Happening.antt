@@ -2,7 +2,7 @@
 use Rattle.std.specs.Prelude.{◌≡◌, ◌⊎◌, ◌<◌, ◌^◌, ◌-◌, ℕ, true, false, List, [], ◌∷◌, Result, Ok, Err, map}
 use Rattle.headline.specs.ballot.Config.{Config}
 use Rattle.headline.specs.ballot.Losses.{one_more}
-use Rattle.headline.specs.broker_base.Place.{Client}
+use Rattle.headline.specs.broker_spec.Place.{Client}
 use Rattle.headline.specs.node_group.Group.{opening_group}
 use Rattle.escaping_nodes.specs.master.declared.event.Idle.{Idle}
 use Rattle.escaping_nodes.specs.world_nodes.Nodes.{StandsFor}

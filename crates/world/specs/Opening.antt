@@ -1,6 +1,6 @@
 -- What an Open does: a new connection, at its client and at its node, or none.
 use Rattle.std.specs.Prelude.{◌≡◌, ◌⊎◌, ℕ, suc, ◌-◌, Bool, true, false, not, List, [], ◌∷◌, ◌++◌, Option, Some, None, Ok, Err, length}
-use Rattle.headline.specs.broker_base.Connection.{is_connection_name}
+use Rattle.headline.specs.broker_spec.Connection.{is_connection_name}
 use Rattle.escaping_client.specs.client_base.Steps.{Call, keeper_step}
 use Rattle.escaping_client.specs.client_base.declared.error.ClientError.{ClientError}
 use Rattle.headline.specs.world_base.Core.{CountedCore}

@@ -1,7 +1,7 @@
 -- Which events take no memory, and so raise no count.
 use Rattle.std.specs.Prelude.{◌≡◌, ℕ, zero, suc, true, Option, Some, None, slice_get}
 use Rattle.headline.specs.ballot.Message.{Message}
-use Rattle.headline.specs.broker_base.Command.{Command}
+use Rattle.headline.specs.broker_spec.declared.command.Command.{Command}
 use Rattle.headline.specs.world_base.Core.{CountedCore}
 use Rattle.headline.specs.world_base.Losses.{WaitsNothing}
 use Rattle.headline.specs.world_base.declared.item.Item.{Item}

@@ -1,7 +1,7 @@
 -- Which worlds of the model a world in code corresponds to, and how these move.
 use Rattle.std.specs.Prelude.{◌≡◌, ℕ, List, [], ◌∷◌, ◌++◌, map, Option, Some, None, slice_get}
 use Rattle.headline.specs.ballot.Config.{Config}
-use Rattle.headline.specs.broker_base.Place.{Client}
+use Rattle.headline.specs.broker_spec.Place.{Client}
 use Rattle.headline.specs.packet_world.World.{AreApart}
 use Rattle.escaping_client.specs.session_base.declared.publication.Publication.{Publication}
 use Rattle.headline.specs.exactly_once.Sides.{Connection}
@@ -41,10 +41,10 @@ published_along (goes_on steps step) = published_along steps ++ published_in ste
 -- A world of the model moves by steps in which its clients publish this, and the world in code
 -- corresponds to the one after them.
 pub record GoesTo (asked : List (ℕ × Publication)) (m : World) (new : WorldState) : Type 0 where
-  pub behind : World
-  pub steps : Steps m behind
+  pub after : World
+  pub steps : Steps m after
   pub asked_is : published_along steps ≡ asked
-  pub stands : StandsFor behind new
+  pub stands : StandsFor after new
 
 -- each reachable world of the model that corresponded to it before moves in this way
 abbrev pub WorldGoesBy : List (ℕ × Publication) → WorldState → WorldState → Type 0

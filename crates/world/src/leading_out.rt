@@ -3,8 +3,8 @@
 ghost use Rattle.std.specs.Prelude.{ℕ, ◌≡◌, ◌≤◌, ◌<◌, ◌+◌, ◌*◌, ◌↔◌, true, false, None, Some, length, slice_get, IfOk, IfSome, IsErrOf, OnOk};
 ghost use Rattle.std.specs.List.{list_all, position};
 ghost use Rattle.headline.specs.agreement.MasterState.{refusal};
-ghost use Rattle.headline.specs.broker_base.Commands.{past_of, usual_limits};
-ghost use Rattle.headline.specs.broker_base.Past.{session_of};
+ghost use Rattle.headline.specs.broker_spec.Commands.{past_of, usual_limits};
+ghost use Rattle.headline.specs.broker_spec.Past.{session_of};
 ghost use Rattle.escaping_nodes.specs.world_nodes.Asking.{log_of};
 ghost use Rattle.world_events.specs.world_pipes.Piped.{is_holding};
 ghost use Rattle.world.specs.declared.world.WorldClient.{WorldClient};

@@ -3,7 +3,7 @@
 ghost use Rattle.std.specs.Prelude.{ℕ, List, ◌≡◌, ◌<◌, ◌-◌, ◌++◌, length, [], None, Some, IfSome, slice_get};
 ghost use Rattle.std.specs.List.{position};
 ghost use Rattle.headline.specs.ballot.Config.{Config};
-ghost use Rattle.headline.specs.broker_base.Place.{Client};
+ghost use Rattle.headline.specs.broker_spec.Place.{Client};
 ghost use Rattle.escaping_nodes.specs.world_nodes.Agreed.{AgreeOn, AgreeOnSoMany};
 ghost use Rattle.world.specs.Found.{core_named, is_named, place_numbered, way_of};
 ghost use Rattle.world.specs.Goes.{AreReached};

@@ -45,9 +45,9 @@ pub no_loss : (old new : ℕ) → new ≡ one_more old → new ≡ old → old <
 no_loss old new more same below = omega arith
 
 pub room_answered : (result : Result (Unit {0}) ProposeError) (old new : CountedReplica State Command) (command : Command)
-    (before behind : List (Effect Command Output)) →
+    (before after : List (Effect Command Output)) →
     is_active old.state.role ≡ true → old.state.stopped ≡ false →
-    Stepped rules old (proposed rules old.state command) new before behind →
+    Stepped rules old (proposed rules old.state command) new before after →
     (IsErrOf result Halted → new.state.stopped ≡ true) →
     (IsErrOf result NotActive → (old.state.stopped ≡ false) × (is_active old.state.role ≡ false)) →
     (IsErrOf result LogFull → most_places ≤ places old.state.log) →
@@ -55,20 +55,20 @@ pub room_answered : (result : Result (Unit {0}) ProposeError) (old new : Counted
     (IsErrOf result Memory → new ≡ record old { losses = one_more old.losses }) →
     new.losses ≡ old.losses → old.losses < 2 ^ 64 - 1 →
     is_ok result ≡ nat_lt (places old.state.log) most_places
-room_answered (Ok x) old new command before behind active running stepped halted inactive full is_full memory same below =
+room_answered (Ok x) old new command before after active running stepped halted inactive full is_full memory same below =
     by_order (cases_lt (places old.state.log) most_places)
   where
     by_order : (places old.state.log < most_places) ⊎ (most_places ≤ places old.state.log) →
         true ≡ nat_lt (places old.state.log) most_places
     by_order (inl room) = sym (lt-ltb (places old.state.log) most_places room)
     by_order (inr over) = let e = is_full over in absurd cc
-room_answered (Err NotActive) old new command before behind active running stepped halted inactive full is_full memory same below =
+room_answered (Err NotActive) old new command before after active running stepped halted inactive full is_full memory same below =
     let e = (inactive refl).1 in absurd cc
-room_answered (Err LogFull) old new command before behind active running stepped halted inactive full is_full memory same below =
+room_answered (Err LogFull) old new command before after active running stepped halted inactive full is_full memory same below =
     sym (le-ltb (places old.state.log) most_places (full refl))
-room_answered (Err Memory) old new command before behind active running stepped halted inactive full is_full memory same below =
+room_answered (Err Memory) old new command before after active running stepped halted inactive full is_full memory same below =
     absurd (no_loss old.losses new.losses (ap (λ (z : CountedReplica State Command). z.losses) (memory refl)) same below)
-room_answered (Err Halted) old new command before behind active running stepped halted inactive full is_full memory same below =
+room_answered (Err Halted) old new command before after active running stepped halted inactive full is_full memory same below =
     absurd (by_steps stepped.steps)
   where
     by_steps : Steps rules old (proposed rules old.state command) new stepped.given → ⊥

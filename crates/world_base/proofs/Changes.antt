@@ -60,7 +60,7 @@ named_nowhere name change = nowhere (is_open_named name) change
 
 -- the same for only the node
 abbrev as_running : CoreState → Running
-as_running core = record { core = core; wanting = false }
+as_running core = record { core = core; out_of_memory = false }
 
 pub core_there : (test : Connection → Bool) (change : Connection → Connection) (core : CoreState) (place : Option ℕ) (i : ℕ)
     (c new : Connection) → place ≡ position test core.connections → place ≡ Some i →

@@ -16,7 +16,7 @@ use Rattle.world_base.specs.Inside.{Running, Does, Turns}
 use Rattle.world_base.specs.Reading.{changes, ends, open_at}
 use Rattle.world_base.specs.Turns.{quiet, then_also, proposes, has_room}
 use Rattle.world_base.proofs.Asked.{left_true}
-use Rattle.world_base.proofs.TurnsJoin.{turns_idle, turns_join, turns_as, turns_behind, turns_quiet}
+use Rattle.world_base.proofs.TurnsJoin.{turns_idle, turns_join, turns_as, turns_after, turns_quiet}
 
 -- if no connection of the port is open nothing is done
 pub ends_none : (port : Port) (r : Running) (out : List (Effect Command Output)) → open_at port r.core ≡ None →
@@ -31,7 +31,7 @@ pub ends_proposed : (port : Port) (c : Connection) (a b r : Running) (x y : List
 unfolding ends
 ends_proposed port c a b r x y found heard shut turns =
     subst (λ (t : Turn). Turns a r x y t) (rw (found, heard) refl)
-    (turns_behind a b r x y (changes port closed a.core) (proposes (commands.Lost c.name)) shut turns)
+    (turns_after a b r x y (changes port closed a.core) (proposes (commands.Lost c.name)) shut turns)
 
 -- it did not
 pub ends_other : (port : Port) (c : Connection) (a b : Running) (x : List (Effect Command Output)) →
@@ -71,7 +71,7 @@ proposes_nothing command core e =
 
 -- a refused proposal closes the connection
 pub closes_refused : (port : Port) (command : Command) (a b c : Running)
-    (x y : List (Effect Command Output)) → (c.wanting ≡ false → false ≡ has_room a.core) →
+    (x y : List (Effect Command Output)) → (c.out_of_memory ≡ false → false ≡ has_room a.core) →
     Turns a b x y (proposes command a.core) → Does b c (changes port closed b.core) →
     Turns a c x y (if has_room a.core then proposes command a.core else quiet (changes port closed a.core))
 closes_refused port command a b c x y full turns shut =
@@ -79,7 +79,7 @@ closes_refused port command a b c x y full turns shut =
     (turns_join a b c x y y (proposes command a.core)
     (λ core. quiet (changes port closed core)) turns (turns_quiet b c y (changes port closed b.core) shut))
   where
-    same : c.wanting ≡ false →
+    same : c.out_of_memory ≡ false →
         then_also (proposes command a.core) (λ core. quiet (changes port closed core))
         ≡ (if has_room a.core then proposes command a.core else quiet (changes port closed a.core))
     same whole =

@@ -13,10 +13,10 @@ use Rattle.world_base.specs.Lossy.Delivers.{nothing, does, tells, loses}
 
 delivers_both : (xs ys : List (Effect Command Output)) (a b c : CoreState) (m n : List (Effect Command Output)) →
     Delivers xs a b m → Delivers ys b c n → Delivers (xs ++ ys) a c (m ++ n)
-delivers_both _ ys _ _ c _ n nothing behind = behind
-delivers_both _ ys _ _ c _ n (does served more) behind = does served (delivers_both _ ys _ _ c _ n more behind)
-delivers_both _ ys _ _ c _ n (tells more) behind = tells (delivers_both _ ys _ _ c _ n more behind)
-delivers_both _ ys _ _ c _ n (loses more) behind = loses (delivers_both _ ys _ _ c _ n more behind)
+delivers_both _ ys _ _ c _ n nothing after = after
+delivers_both _ ys _ _ c _ n (does served more) after = does served (delivers_both _ ys _ _ c _ n more after)
+delivers_both _ ys _ _ c _ n (tells more) after = tells (delivers_both _ ys _ _ c _ n more after)
+delivers_both _ ys _ _ c _ n (loses more) after = loses (delivers_both _ ys _ _ c _ n more after)
 
 -- if nothing was given nothing is done
 pub delivers_nothing : (given : List (Effect Command Output)) (a b : CoreState) (messages : List (Effect Command Output)) →

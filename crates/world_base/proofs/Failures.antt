@@ -11,7 +11,7 @@ use Rattle.world_base.specs.Core.{CoreState, Turn}
 use Rattle.world_base.specs.Failing.{closes_failed, loses_failed}
 use Rattle.world_base.specs.Inside.{Running, Turns}
 use Rattle.world_base.specs.Turns.{quiet, proposes}
-use Rattle.world_base.proofs.TurnsJoin.{turns_idle, turns_behind}
+use Rattle.world_base.proofs.TurnsJoin.{turns_idle, turns_after}
 
 -- none failed
 pub failed_next : (core : CoreState) → find has_failed core.connections ≡ None → loses_failed core ≡ quiet core
@@ -30,7 +30,7 @@ pub failed_one : (c : Connection) (a b r : Running) (x y : List (Effect Command 
 unfolding loses_failed
 failed_one c a b r x y found shut turns =
     subst (λ (t : Turn). Turns a r x y t) (rw found refl)
-    (turns_behind a b r x y (closes_failed a.core) (proposes (commands.Lost c.name)) shut turns)
+    (turns_after a b r x y (closes_failed a.core) (proposes (commands.Lost c.name)) shut turns)
 
 -- if none failed nothing is done, and then nothing more
 pub none_again : (a b c : Running) → (find has_failed a.core.connections ≡ None → b ≡ a) →

@@ -25,7 +25,7 @@ use Rattle.node_connections.specs.Inside.{TakesFront, IsFault}
 use Rattle.world_base.specs.Inside.{Running, Turns}
 use Rattle.world_base.specs.Reading.{begins, changes, loses, open_at, reads, reads_next, refused, says}
 use Rattle.world_base.specs.Turns.{proposes, quiet}
-use Rattle.world_base.proofs.TurnsJoin.{turns_idle, turns_quiet, turns_behind}
+use Rattle.world_base.proofs.TurnsJoin.{turns_idle, turns_quiet, turns_after}
 
 -- ---- changes of the connection that is found
 
@@ -88,16 +88,16 @@ unfolding reads_next
 reads_by now port core c v found is = rw (found, is) refl
 
 -- less than a packet: nothing changes
-same_behind : (now : ℕ) (port : Port) (c new : Connection) (a b : Running) → open_at port a.core ≡ Some c →
+same_after : (now : ℕ) (port : Port) (c new : Connection) (a b : Running) → open_at port a.core ≡ Some c →
     TakesFront now c fronts.More new → b ≡ record a { core = changes port (λ _. new) a.core } → b ≡ a
-same_behind now port c new a b found did is =
+same_after now port c new a b found did is =
     is ∙ ap (λ (k : CoreState). record a { core = k }) (becomes_itself port a.core c new found did.1)
 
 pub more_next : (now : ℕ) (port : Port) (c new : Connection) (a b : Running) → open_at port a.core ≡ Some c →
     TakesFront now c fronts.More new → b ≡ record a { core = changes port (λ _. new) a.core } →
     reads_next now port b.core ≡ quiet b.core
 more_next now port c new a b found did is =
-    subst (λ (r : Running). reads_next now port r.core ≡ quiet r.core) (sym (same_behind now port c new a b found did is))
+    subst (λ (r : Running). reads_next now port r.core ≡ quiet r.core) (sym (same_after now port c new a b found did is))
     (sym (reads_by now port a.core c (Err stops.More) found did.0))
 
 pub more_there : (now : ℕ) (port : Port) (c new : Connection) (a b : Running) (out : List (Effect Command Output)) →
@@ -117,7 +117,7 @@ pub packet_there : (now : ℕ) (port : Port) (c new : Connection) (packet : Pack
 packet_there now port c new packet a b r x y found did is turns =
     let rest = did.0 in
     subst (λ (t : Turn). Turns a r x y t) (reads_by now port a.core c (Ok (packet, rest)) found did.1)
-    (turns_behind a b r x y (changes port (left_with now rest) a.core)
+    (turns_after a b r x y (changes port (left_with now rest) a.core)
     (λ core. if is_first c.stage then begins port c.name packet core else says port c.name packet core)
     (is ∙ ap (λ (k : CoreState). record a { core = k }) (becomes_same port a.core c new (left_with now rest) found did.3)) turns)
 
@@ -151,7 +151,7 @@ fault_there now port c new a b r x y found did is turns = by (verdict c.unread) 
   where
     lost : Turns a r x y (loses port c a.core)
     lost =
-        turns_behind a b r x y (changes port closed a.core) (Told c)
+        turns_after a b r x y (changes port closed a.core) (Told c)
         (is ∙ ap (λ (k : CoreState). record a { core = k }) (becomes_same port a.core c new closed found did.1)) turns
 
     by : (v : Result (Packet × List ℕ) Stop) → verdict c.unread ≡ v → IsFault v → Turns a r x y (reads_next now port a.core)
@@ -167,18 +167,18 @@ pub refused_there : (now : ℕ) (port : Port) (c new : Connection) (code : Refus
 refused_there now port c new code a b r x y found did is turns =
     subst (λ (t : Turn). Turns a r x y t) (reads_by now port a.core c _ found did.0) (by c.stage refl did.1)
   where
-    behind : (change : Connection → Connection) → new ≡ change c → Turns a r x y (Told c (changes port change a.core))
-    behind change e =
-        turns_behind a b r x y (changes port change a.core) (Told c)
+    after : (change : Connection → Connection) → new ≡ change c → Turns a r x y (Told c (changes port change a.core))
+    after change e =
+        turns_after a b r x y (changes port change a.core) (Told c)
         (is ∙ ap (λ (k : CoreState). record a { core = k }) (becomes_same port a.core c new change found e)) turns
 
     by : (stage : Stage) → c.stage ≡ stage → new ≡ (if is_first c.stage then refused code c else closed c) →
         Turns a r x y (if is_first c.stage then quiet (changes port (refused code) a.core) else loses port c a.core)
     by Awaits e is_new =
-        rw (e) (rw (e) at (behind (refused code) (rw (e) at is_new)))
-    by Proposed e is_new = rw (e) (rw (e) at (behind closed (rw (e) at is_new)))
-    by Over e is_new = rw (e) (rw (e) at (behind closed (rw (e) at is_new)))
-    by Failed e is_new = rw (e) (rw (e) at (behind closed (rw (e) at is_new)))
+        rw (e) (rw (e) at (after (refused code) (rw (e) at is_new)))
+    by Proposed e is_new = rw (e) (rw (e) at (after closed (rw (e) at is_new)))
+    by Over e is_new = rw (e) (rw (e) at (after closed (rw (e) at is_new)))
+    by Failed e is_new = rw (e) (rw (e) at (after closed (rw (e) at is_new)))
 
 -- either of them
 pub gone_there : (now : ℕ) (port : Port) (c new : Connection) (front : Front) (a b r : Running) (x y : List (Effect Command Output)) →

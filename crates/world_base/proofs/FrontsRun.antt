@@ -125,10 +125,10 @@ ran_gone now port c new front a b r x y found did (inl (code, e)) is ran =
 ran_gone now port c new front a b r x y found did (inr e) is ran =
     closed_there now port c new a b r x y found (subst (λ (f : Front). TakesFront now c f new) e did).1 is ran
 
-pub ran_wanting : (now : ℕ) (port : Port) (c new : Connection) (a b r : CoreState) (x y : List (Effect Command Output)) →
-    open_at port a ≡ Some c → TakesFront now c fronts.Wanting new → b ≡ changes port (λ _. new) a →
+pub ran_out_of_memory : (now : ℕ) (port : Port) (c new : Connection) (a b r : CoreState) (x y : List (Effect Command Output)) →
+    open_at port a ≡ Some c → TakesFront now c fronts.OutOfMemory new → b ≡ changes port (λ _. new) a →
     Ran (TellsLost (is_proposed c.stage) c.name) b r x y → Ran (ReadsNext now port) a r x y
-ran_wanting now port c new a b r x y found did is ran = closed_there now port c new a b r x y found did is ran
+ran_out_of_memory now port c new a b r x y found did is ran = closed_there now port c new a b r x y found did is ran
 
 -- if no whole packet is at the front, the next time nothing is done either
 pub idle_open : (now : ℕ) (port : Port) (core : CoreState) → open_at port core ≡ None → ReadsNext now port core (quietly core)

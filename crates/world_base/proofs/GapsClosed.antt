@@ -43,8 +43,8 @@ quietly_on core new did is on apart =
     subst (λ (d : Account). EachGoesOn d.given core.connections d.core.connections) (sym is) on
 
 -- after a change in which the replica gave nothing
-behind_on : (core mid : CoreState) (did : Account) → EachGoesOn [] core.connections mid.connections → Goes mid did → Goes core did
-behind_on core mid did on more apart =
+after_on : (core mid : CoreState) (did : Account) → EachGoesOn [] core.connections mid.connections → Goes mid did → Goes core did
+after_on core mid did on more apart =
     each_both [] did.given core.connections mid.connections did.core.connections on
     (more (apart_on [] core.connections mid.connections on apart))
 
@@ -110,7 +110,7 @@ ends_on : (port : Port) (core : CoreState) (did : Account) → Ends port core di
 ends_on port core did (none_open none is) = quietly_on core core did is (each_itself core.connections)
 ends_on port core did (untold c found other is) = quietly_on core (changes port closed core) did is (closes_on port core)
 ends_on port core did (told c found heard proposes) =
-    behind_on core (changes port closed core) did (closes_on port core)
+    after_on core (changes port closed core) did (closes_on port core)
     (proposes_on (commands.Lost c.name) (changes port closed core) did proposes)
 
 silent_on : (now : ℕ) (core : CoreState) (did : Account) → EndsSilent now core did → Goes core did
@@ -120,7 +120,7 @@ silent_on now core did (ends_one port found runs) = ends_on port core did runs
 failed_on : (core : CoreState) (did : Account) → LosesFailed core did → Goes core did
 failed_on core did (none_failed none is) = quietly_on core core did is (each_itself core.connections)
 failed_on core did (tells_one c found proposes) =
-    behind_on core (closes_failed core) did (changed_on has_failed closed (λ d fails. goes_closed [] d) core.connections)
+    after_on core (closes_failed core) did (changed_on has_failed closed (λ d fails. goes_closed [] d) core.connections)
     (proposes_on (commands.Lost c.name) (closes_failed core) did proposes)
 
 -- ---- reads
@@ -136,7 +136,7 @@ shuts_on port core did (inr is) =
 begins_on : (port : Port) (name : ConnectionName) (packet : Packet) (core : CoreState) (did : Account) →
     Begins port name packet core did → Goes core did
 begins_on port name (packets.Connect connect) core did runs =
-    behind_on core (changes port (asked connect.keep_alive) core) did
+    after_on core (changes port (asked connect.keep_alive) core) did
     (changes_on port (asked connect.keep_alive) core (asked_on connect.keep_alive))
     (asks_on (commands.Connect name connect.client connect.clean) (Closes port) (shut_on port)
     (changes port (asked connect.keep_alive) core) did runs)
@@ -150,10 +150,10 @@ left_on port now rest core =
 reads_on : (now : ℕ) (port : Port) (core : CoreState) (did : Account) → ReadsNext now port core did → Goes core did
 reads_on now port core did (waits c found more is) = quietly_on core core did is (each_itself core.connections)
 reads_on now port core did (first c packet rest found awaits is runs) =
-    behind_on core (changes port (left_with now rest) core) did (left_on port now rest core)
+    after_on core (changes port (left_with now rest) core) did (left_on port now rest core)
     (begins_on port c.name packet (changes port (left_with now rest) core) did runs)
 reads_on now port core did (later c packet rest found proposed is runs) =
-    behind_on core (changes port (left_with now rest) core) did (left_on port now rest core)
+    after_on core (changes port (left_with now rest) core) did (left_on port now rest core)
     (asks_on (commands.Packet c.name packet) (Shuts port) (shuts_on port) (changes port (left_with now rest) core) did runs)
 reads_on now port core did (refuses c code found awaits is runs) =
     quietly_on core (changes port (refused code) core) did runs (changes_on port (refused code) core (goes_refused code))

@@ -40,20 +40,20 @@ given_nothing old o new given e (inr (inr (inl (same, is)), counted)) = is
 given_nothing old o new given e (inr (inr (inr (same, is)), counted)) = is
 
 -- only the replica
-pub heard_quietly : (message : Message Command) (old mid new : Running) (replica : CountedReplica State Command) (before behind : List (Effect Command Output)) (losses : ℕ) →
+pub heard_quietly : (message : Message Command) (old mid new : Running) (replica : CountedReplica State Command) (before after : List (Effect Command Output)) (losses : ℕ) →
     before ≡ [] →
     (old.core.replica.state.stopped ≡ false →
-    Stepped rules old.core.replica (replica_step rules old.core.replica.state (Receives message)) replica before behind) →
+    Stepped rules old.core.replica (replica_step rules old.core.replica.state (Receives message)) replica before after) →
     (old.core.replica.state.stopped ≡ false → IsQuiet old.core.replica.state (replica_step rules old.core.replica.state (Receives message)) →
     is_unread rules old.core.replica.state message.body ≡ false →
     replica ≡ record old.core.replica { state = (replica_step rules old.core.replica.state (Receives message)).state }) →
-    (old.core.replica.state.stopped ≡ true → (replica ≡ old.core.replica) × (behind ≡ before)) →
+    (old.core.replica.state.stopped ≡ true → (replica ≡ old.core.replica) × (after ≡ before)) →
     mid ≡ record old { core = record old.core { replica = replica } } → losses ≡ old.core.replica.losses →
     (mid.core.replica.losses ≡ losses → losses < 2 ^ 64 - 1 → new ≡ mid) →
-    IsHeardQuietly message old.core → ReadsNone message old.core → IsCalm old new × (behind ≡ [])
-heard_quietly message old mid new replica before behind losses empty step still stays is was notes quiet reads = (
+    IsHeardQuietly message old.core → ReadsNone message old.core → IsCalm old new × (after ≡ [])
+heard_quietly message old mid new replica before after losses empty step still stays is was notes quiet reads = (
   record {
-    wanting = ap (λ (r : Running). r.wanting) becomes;
+    out_of_memory = ap (λ (r : Running). r.out_of_memory) becomes;
     failed = λ none. ap (λ (r : Running). find has_failed r.core.connections) becomes ∙ none;
   },
   (by old.core.replica.state.stopped refl).1,
@@ -62,7 +62,7 @@ heard_quietly message old mid new replica before behind losses empty step still 
     r : ReplicaState State Command
     r = old.core.replica.state
 
-    by : (b : Bool) → old.core.replica.state.stopped ≡ b → (replica.losses ≡ old.core.replica.losses) × (behind ≡ [])
+    by : (b : Bool) → old.core.replica.state.stopped ≡ b → (replica.losses ≡ old.core.replica.losses) × (after ≡ [])
     by true e =
         let same = stays e in (ap (λ (c : CountedReplica State Command). c.losses) same.0, same.1 ∙ empty)
     by false e =

@@ -176,22 +176,22 @@ ran_ignored item a b x y idle ran =
 
 -- if nothing failed there are none
 pub quiet_ignored : (a b : Running) → (find has_failed a.core.connections ≡ None → b ≡ a) → find has_failed a.core.connections ≡ None →
-    b.wanting ≡ a.wanting
-quiet_ignored a b none failed = ap (λ (r : Running). r.wanting) (none failed)
+    b.out_of_memory ≡ a.out_of_memory
+quiet_ignored a b none failed = ap (λ (r : Running). r.out_of_memory) (none failed)
 
 calm_then : (a b c : Running) → IsCalm a b → (find has_failed b.core.connections ≡ None → c ≡ b) → find has_failed a.core.connections ≡ None →
-    c.wanting ≡ a.wanting
-calm_then a b c calm none failed = ap (λ (r : Running). r.wanting) (none (calm.failed failed)) ∙ calm.wanting
+    c.out_of_memory ≡ a.out_of_memory
+calm_then a b c calm none failed = ap (λ (r : Running). r.out_of_memory) (none (calm.failed failed)) ∙ calm.out_of_memory
 
 heeded : (item : Item) (a c : Running) (ignored : Bool) → ignored ≡ false → (ignored ≡ true) ↔ DoesNothing item a.core → DoesNothing item a.core →
-    c.wanting ≡ a.wanting
+    c.out_of_memory ≡ a.out_of_memory
 heeded item a c ignored is decides idle = (let e = decides.1 idle in absurd cc)
 
 -- a message that has an effect is heard quietly
 heard_then : (message : Message Command) (a b c : Running) (ignored : Bool) → ignored ≡ false → (ignored ≡ true) ↔ DoesNothing (Peer message) a.core →
     (IsHeardQuietly message a.core → ReadsNone message a.core → IsCalm a b) → (find has_failed b.core.connections ≡ None → c ≡ b) →
     IsIgnored (Receives message) a.core ⊎ IsHeardQuietly message a.core → ReadsNone message a.core → find has_failed a.core.connections ≡ None →
-    c.wanting ≡ a.wanting
+    c.out_of_memory ≡ a.out_of_memory
 heard_then message a b c ignored is decides heard none (inl idle) reads failed = heeded (Peer message) a c ignored is decides (idle, reads)
 heard_then message a b c ignored is decides heard none (inr quiet) reads failed = calm_then a b c (heard quiet reads) none failed
 
@@ -200,7 +200,7 @@ heard_then message a b c ignored is decides heard none (inr quiet) reads failed 
 pub quiet_otherwise : (item : Item) (a b c : Running) (ignored : Bool) → ignored ≡ false → (ignored ≡ true) ↔ DoesNothing item a.core →
     ((message : Message Command) → item ≡ Peer message → IsHeardQuietly message a.core → ReadsNone message a.core → IsCalm a b) →
     (item ≡ Crash → IsCalm a b) → ((port : Port) → item ≡ Ended port → is_told (open_at port a.core) ≡ false → IsCalm a b) →
-    (find has_failed b.core.connections ≡ None → c ≡ b) → TakesNoMemory item a.core → find has_failed a.core.connections ≡ None → c.wanting ≡ a.wanting
+    (find has_failed b.core.connections ≡ None → c ≡ b) → TakesNoMemory item a.core → find has_failed a.core.connections ≡ None → c.out_of_memory ≡ a.out_of_memory
 quiet_otherwise (Peer message) a b c ignored is decides heard crash ended none takes failed =
     heard_then message a b c ignored is decides (heard message refl) none takes.0 takes.1 failed
 quiet_otherwise (Tick now) a b c ignored is decides heard crash ended none takes failed = heeded (Tick now) a c ignored is decides takes
@@ -229,6 +229,6 @@ ended_calmly port q item a b is same closes untold =
     let e : q ≡ port = cc in
     let done = closes (subst (λ (p : Port). is_told (open_at p a.core) ≡ false) (sym e) untold) in
     record {
-      wanting = ap (λ (r : Running). r.wanting) done;
+      out_of_memory = ap (λ (r : Running). r.out_of_memory) done;
       failed = λ none. ap (λ (r : Running). find has_failed r.core.connections) done ∙ closing_fails_none (is_open_at q) a.core.connections none;
     }

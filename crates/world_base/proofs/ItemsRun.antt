@@ -44,30 +44,30 @@ ran_crashed a replica x is =
 -- ---- the step
 
 exactly_by : (old : CountedCore) (a b : Running) (turn : Turn) (new : CoreState) (losses : ℕ) (x y : List (Effect Command Output))
-    (turns : Turns a b x y turn) → new ≡ settled b.core → b.wanting ≡ false → losses ≡ old.losses →
+    (turns : Turns a b x y turn) → new ≡ settled b.core → b.out_of_memory ≡ false → losses ≡ old.losses →
     IsExactly old (record { core = settled turn.core; messages = turn.messages }) (record { core = new; losses = losses }) turns.given
 exactly_by old a b turn new losses x y turns settles e counted =
     let did = turns.exact e in
     (settles ∙ ap (λ (r : Running). settled r.core) did.0, did.1, counted)
 
 steps_by : (old : CountedCore) (a b : Running) (turn : Turn) (new : CoreState) (losses : ℕ) (x y : List (Effect Command Output))
-    (turns : Turns a b x y turn) → new ≡ settled b.core → (wanting : Bool) → b.wanting ≡ wanting →
-    losses ≡ (if wanting then one_more old.losses else old.losses) →
+    (turns : Turns a b x y turn) → new ≡ settled b.core → (out_of_memory : Bool) → b.out_of_memory ≡ out_of_memory →
+    losses ≡ (if out_of_memory then one_more old.losses else old.losses) →
     Steps old (record { core = settled turn.core; messages = turn.messages }) (record { core = new; losses = losses }) turns.given
 steps_by old a b turn new losses x y turns settles true e counted = inr counted
 steps_by old a b turn new losses x y turns settles false e counted = inl (exactly_by old a b turn new losses x y turns settles e counted)
 
 pub stepped_by : (old : CountedCore) (item : Item) (a b : Running) (new : CoreState) (losses : ℕ) (x y : List (Effect Command Output)) →
     a.core ≡ old.core → Turns a b x y (acts_on item a.core) → Ran (ActsOn item) a.core b.core x y → new ≡ settled b.core →
-    losses ≡ (if b.wanting then one_more old.losses else old.losses) → a.wanting ≡ false →
-    (TakesNoMemory item a.core → find has_failed a.core.connections ≡ None → b.wanting ≡ a.wanting) →
+    losses ≡ (if b.out_of_memory then one_more old.losses else old.losses) → a.out_of_memory ≡ false →
+    (TakesNoMemory item a.core → find has_failed a.core.connections ≡ None → b.out_of_memory ≡ a.out_of_memory) →
     Stepped old item (record { core = new; losses = losses }) x y
 stepped_by old item a b new losses x y same turns ran settles counted calm quiet =
     record {
       given = turns.given;
       appended = turns.appended;
       steps = subst (λ (k : CoreState). Steps old (node_step item k) (record { core = new; losses = losses }) turns.given) same
-          (steps_by old a b (acts_on item a.core) new losses x y turns settles b.wanting refl counted);
+          (steps_by old a b (acts_on item a.core) new losses x y turns settles b.out_of_memory refl counted);
       uncounted = subst (λ (k : CoreState). TakesNoMemory item k → find has_failed k.connections ≡ None →
           IsExactly old (node_step item k) (record { core = new; losses = losses }) turns.given) same
           (λ idle failed. let whole = quiet idle failed ∙ calm in

@@ -11,24 +11,24 @@ use Rattle.ballot.specs.Serving.{proposed}
 use Rattle.world_base.specs.Core.{Turn, rules, serves}
 use Rattle.world_base.specs.Inside.{Running, Hears, Turns}
 use Rattle.world_base.specs.Turns.{delivered, drives, heard, moved, proposes}
-use Rattle.world_base.proofs.TurnsJoin.{turns_idle, wanting_kept}
+use Rattle.world_base.proofs.TurnsJoin.{turns_idle, out_of_memory_kept}
 
 -- a step of the replica, and what it gave
-turns_moved : (a b c : Running) (outcome : Outcome State Command Output) (given before behind : List (Effect Command Output)) →
-    Hears a b outcome given → Turns b c before behind (delivered given b.core) →
-    Turns a c before behind (moved outcome a.core)
-turns_moved a b c outcome given before behind hears turns =
+turns_moved : (a b c : Running) (outcome : Outcome State Command Output) (given before after : List (Effect Command Output)) →
+    Hears a b outcome given → Turns b c before after (delivered given b.core) →
+    Turns a c before after (moved outcome a.core)
+turns_moved a b c outcome given before after hears turns =
     record {
       given = turns.given;
       appended = turns.appended;
       exact = λ whole. joined whole (turns.exact whole);
     }
   where
-    joined : c.wanting ≡ false →
+    joined : c.out_of_memory ≡ false →
         (c ≡ record b { core = (delivered given b.core).core }) × (turns.given ≡ (delivered given b.core).messages) →
         (c ≡ record a { core = (moved outcome a.core).core }) × (turns.given ≡ (moved outcome a.core).messages)
     joined whole did =
-        let did_hear = hears (wanting_kept b c (delivered given b.core).core did.0 whole) in (
+        let did_hear = hears (out_of_memory_kept b c (delivered given b.core).core did.0 whole) in (
           did.0 ∙ ap (λ (r : Running). record r { core = (delivered given r.core).core }) did_hear.0
               ∙ ap (λ (l : List (Effect Command Output)). record a {
                 core = (delivered l (record a.core {
@@ -45,17 +45,17 @@ unfolding proposes
 turns_refused r command out idle =
     subst (λ (t : Turn). Turns r r out out t) (rw idle refl) (turns_idle r out)
 
-pub turns_proposed : (a b c : Running) (command : Command) (given before behind : List (Effect Command Output)) →
+pub turns_proposed : (a b c : Running) (command : Command) (given before after : List (Effect Command Output)) →
     serves a.core ≡ true → Hears a b (proposed rules a.core.replica.state command) given →
-    Turns b c before behind (delivered given b.core) → Turns a c before behind (proposes command a.core)
+    Turns b c before after (delivered given b.core) → Turns a c before after (proposes command a.core)
 unfolding proposes
-turns_proposed a b c command given before behind serving hears turns =
-    subst (λ (t : Turn). Turns a c before behind t) (rw serving refl)
-    (turns_moved a b c (proposed rules a.core.replica.state command) given before behind hears turns)
+turns_proposed a b c command given before after serving hears turns =
+    subst (λ (t : Turn). Turns a c before after t) (rw serving refl)
+    (turns_moved a b c (proposed rules a.core.replica.state command) given before after hears turns)
 
 -- a message or a tick
-pub turns_driven : (a b c : Running) (input : Input Command) (given before behind : List (Effect Command Output)) →
-    Hears a b (heard input a.core.replica.state) given → Turns b c before behind (delivered given b.core) →
-    Turns a c before behind (drives input a.core)
+pub turns_driven : (a b c : Running) (input : Input Command) (given before after : List (Effect Command Output)) →
+    Hears a b (heard input a.core.replica.state) given → Turns b c before after (delivered given b.core) →
+    Turns a c before after (drives input a.core)
 unfolding drives
 turns_driven a b c input = turns_moved a b c (heard input a.core.replica.state)

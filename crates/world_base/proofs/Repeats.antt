@@ -59,12 +59,12 @@ module _ (next : CoreState → Turn) where
 
   -- the last one says that the next would do nothing
   pub repeats_enough : (n all : ℕ) (a b : Running) (x y : List (Effect Command Output)) → n ≤ all →
-      Turns a b x y (repeated n next a.core) → (b.wanting ≡ false → next b.core ≡ quiet b.core) →
+      Turns a b x y (repeated n next a.core) → (b.out_of_memory ≡ false → next b.core ≡ quiet b.core) →
       Turns a b x y (repeated all next a.core)
   repeats_enough n all a b x y few done last =
       turns_as a b x y (repeated n next a.core) (repeated all next a.core) same done
     where
-      same : b.wanting ≡ false → repeated n next a.core ≡ repeated all next a.core
+      same : b.out_of_memory ≡ false → repeated n next a.core ≡ repeated all next a.core
       same whole =
           let core : b.core ≡ (repeated n next a.core).core = ap (λ (r : Running). r.core) (done.exact whole).0 in
           let quiet_there = subst (λ (k : CoreState). next k ≡ quiet k) core (last whole) in

@@ -22,8 +22,8 @@ turns_quiet old new out core does =
     record { given = []; appended = sym (append-nil out); exact = λ whole. (does whole, refl) }
 
 -- the parts of a step that was done
-pub wanting_kept : (a b : Running) (core : CoreState) → b ≡ record a { core = core } → b.wanting ≡ false → a.wanting ≡ false
-wanting_kept a b core e whole = sym (ap (λ (z : Running). z.wanting) e) ∙ whole
+pub out_of_memory_kept : (a b : Running) (core : CoreState) → b ≡ record a { core = core } → b.out_of_memory ≡ false → a.out_of_memory ≡ false
+out_of_memory_kept a b core e whole = sym (ap (λ (z : Running). z.out_of_memory) e) ∙ whole
 
 -- one thing and then another
 pub turns_join : (a b c : Running) (x y z : List (Effect Command Output)) (first : Turn) (next : CoreState → Turn) →
@@ -36,11 +36,11 @@ turns_join a b c x y z first next one two =
       exact = λ whole. joined whole (two.exact whole);
     }
   where
-    joined : c.wanting ≡ false → (c ≡ record b { core = (next b.core).core }) × (two.given ≡ (next b.core).messages) →
+    joined : c.out_of_memory ≡ false → (c ≡ record b { core = (next b.core).core }) × (two.given ≡ (next b.core).messages) →
         (c ≡ record a { core = (then_also first next).core })
         × (one.given ++ two.given ≡ (then_also first next).messages)
     joined whole did =
-        let before = one.exact (wanting_kept b c (next b.core).core did.0 whole) in
+        let before = one.exact (out_of_memory_kept b c (next b.core).core did.0 whole) in
         let core : b.core ≡ first.core = ap (λ (r : Running). r.core) before.0 in (
           did.0 ∙ ap (λ (r : Running). record r { core = (next r.core).core }) before.0,
           ap (λ (l : List (Effect Command Output)). l ++ two.given) before.1
@@ -64,17 +64,17 @@ turns_push a b c x y z given e one two =
         (sym (filter-append is_message given (e ∷ [])))
 
 -- memory ran out before: nothing exact is said
-pub turns_wanting : (a b c : Running) (x y : List (Effect Command Output)) (t u : Turn) → b.wanting ≡ true →
+pub turns_out_of_memory : (a b c : Running) (x y : List (Effect Command Output)) (t u : Turn) → b.out_of_memory ≡ true →
     Turns b c x y t → Turns a c x y u
-turns_wanting a b c x y t u lost turns =
+turns_out_of_memory a b c x y t u lost turns =
     record {
       given = turns.given;
       appended = turns.appended;
-      exact = λ whole. (let kept = wanting_kept b c t.core (turns.exact whole).0 whole in absurd cc);
+      exact = λ whole. (let kept = out_of_memory_kept b c t.core (turns.exact whole).0 whole in absurd cc);
     }
 
 -- the same turn, if memory suffices
-pub turns_as : (a c : Running) (x y : List (Effect Command Output)) (t u : Turn) → (c.wanting ≡ false → t ≡ u) →
+pub turns_as : (a c : Running) (x y : List (Effect Command Output)) (t u : Turn) → (c.out_of_memory ≡ false → t ≡ u) →
     Turns a c x y t → Turns a c x y u
 turns_as a c x y t u same turns =
     record {
@@ -87,9 +87,9 @@ turns_as a c x y t u same turns =
     }
 
 -- something after a change without messages
-pub turns_behind : (a b c : Running) (x y : List (Effect Command Output)) (core : CoreState) (next : CoreState → Turn) →
+pub turns_after : (a b c : Running) (x y : List (Effect Command Output)) (core : CoreState) (next : CoreState → Turn) →
     b ≡ record a { core = core } → Turns b c x y (next b.core) → Turns a c x y (next core)
-turns_behind a b c x y core next e turns =
+turns_after a b c x y core next e turns =
     record {
       given = turns.given;
       appended = turns.appended;

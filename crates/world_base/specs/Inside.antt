@@ -22,28 +22,28 @@ use Rattle.world_base.specs.Turns.{has_room}
 -- a node during a step, and whether memory ran out in it
 pub record Running : Type 0 where
   pub core : CoreState
-  pub wanting : Bool
+  pub out_of_memory : Bool
 
 -- memory did not run out, and no connection failed
 pub record IsCalm (old new : Running) : Type 0 where
-  pub wanting : new.wanting ≡ old.wanting
+  pub out_of_memory : new.out_of_memory ≡ old.out_of_memory
   pub failed : find has_failed old.core.connections ≡ None → find has_failed new.core.connections ≡ None
 
 -- this is what was done, unless memory ran out
 abbrev pub Does : Running → Running → CoreState → Type 0
-Does old new core = new.wanting ≡ false → new ≡ record old { core = core }
+Does old new core = new.out_of_memory ≡ false → new ≡ record old { core = core }
 
 -- the same with messages, which were appended to what was there
-pub record Turns (old new : Running) (before behind : List (Effect Command Output)) (turn : Turn)
+pub record Turns (old new : Running) (before after : List (Effect Command Output)) (turn : Turn)
     : Type 0 where
   pub given : List (Effect Command Output)
-  pub appended : behind ≡ before ++ given
-  pub exact : new.wanting ≡ false → (new ≡ record old { core = turn.core }) × (given ≡ turn.messages)
+  pub appended : after ≡ before ++ given
+  pub exact : new.out_of_memory ≡ false → (new ≡ record old { core = turn.core }) × (given ≡ turn.messages)
 
 -- a step of the replica only
 abbrev pub Hears : Running → Running →
     Outcome State Command Output → List (Effect Command Output) → Type 0
-Hears old new outcome given = new.wanting ≡ false →
+Hears old new outcome given = new.out_of_memory ≡ false →
     (new ≡ record old {
       core = record old.core {
         replica = record old.core.replica { state = outcome.state };
@@ -54,18 +54,18 @@ Hears old new outcome given = new.wanting ≡ false →
 -- what was done, when memory may have run out; the messages that were sent were appended to what
 -- was there
 pub record Ran (Did : CoreState → Account → Type 0) (old new : CoreState)
-    (before behind : List (Effect Command Output)) : Type 0 where
+    (before after : List (Effect Command Output)) : Type 0 where
   pub did : Account
   pub runs : Did old did
   pub core : new ≡ did.core
-  pub appended : behind ≡ before ++ did.messages
+  pub appended : after ≡ before ++ did.messages
 
 -- the same for what the replica output
 pub record Delivered (given : List (Effect Command Output)) (old new : CoreState)
-    (before behind : List (Effect Command Output)) : Type 0 where
+    (before after : List (Effect Command Output)) : Type 0 where
   pub messages : List (Effect Command Output)
   pub delivers : Delivers given old new messages
-  pub appended : behind ≡ before ++ messages
+  pub appended : after ≡ before ++ messages
 
 -- a step of the replica only, or one with losses
 pub record Acts (outcome : Outcome State Command Output) (old new : CoreState)

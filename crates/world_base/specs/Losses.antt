@@ -88,9 +88,9 @@ Steps old turn new given = IsExactly old turn new given ⊎ (new.losses ≡ one_
 -- that is still to be reported to the broker. In any case it did no more than the step may do if
 -- memory runs out.
 pub record Stepped (old : CountedCore) (item : Item) (new : CountedCore)
-    (before behind : List (Effect Command Output)) : Type 0 where
+    (before after : List (Effect Command Output)) : Type 0 where
   pub given : List (Effect Command Output)
-  pub appended : behind ≡ before ++ given
+  pub appended : after ≡ before ++ given
   pub steps : Steps old (node_step item old.core) new given
   pub uncounted : TakesNoMemory item old.core → find has_failed old.core.connections ≡ None →
       IsExactly old (node_step item old.core) new given

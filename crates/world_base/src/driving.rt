@@ -22,7 +22,7 @@ impl NodeInStep {
             (proposes command self.old.core) }
         ensures run { Ran (ProposedBy result command) self.old.core self.new.core
             effects.old.items effects.new.items }
-        ensures taken { self.new.wanting ≡ false → result ≡ has_room self.old.core }
+        ensures taken { self.new.out_of_memory ≡ false → result ≡ has_room self.old.core }
     {
         if !self.serves() {
             return false;
@@ -40,7 +40,7 @@ impl NodeInStep {
         ensures hears { Hears self.old self.new
             (proposed rules self.old.core.replica.state command) given.new.items }
         ensures answered { Answered result command self.old.core self.new.core given.new.items }
-        ensures taken { self.new.wanting ≡ false → result ≡ has_room self.old.core }
+        ensures taken { self.new.out_of_memory ≡ false → result ≡ has_room self.old.core }
     {
         let before = self.replica.losses();
         let put = self.replica.propose(command, given);
@@ -116,15 +116,15 @@ impl NodeInStep {
     // `before` until then.
     fn note_losses(&mut self, before: u64)
         ensures kept { self.new.core ≡ self.old.core }
-        ensures none { self.new.wanting ≡ false →
-            (self.old.wanting ≡ false) ×
+        ensures none { self.new.out_of_memory ≡ false →
+            (self.old.out_of_memory ≡ false) ×
             ((self.old.core.replica.losses ≡ before) × (before < 2 ^ 64 - 1)) }
         ensures same { self.old.core.replica.losses ≡ before → before < 2 ^ 64 - 1 →
             self.new ≡ self.old }
     {
         let after = self.replica.losses();
         if after != before || after == u64::MAX {
-            self.wanting = true;
+            self.out_of_memory = true;
         }
     }
 
@@ -160,7 +160,7 @@ impl NodeInStep {
             Effect::Out(_, output) => self.serve(&output),
             Effect::To(receiver, message) => {
                 if effects.push(Effect::To(receiver, message)).is_err() {
-                    self.wanting = true;
+                    self.out_of_memory = true;
                 }
             }
         }

@@ -151,7 +151,7 @@ impl NodeCore {
     {
         self.serving.begin_step();
         self.serving.pass_over(message, effects);
-        self.losses = counted(self.losses, self.serving.is_wanting());
+        self.losses = counted(self.losses, self.serving.is_out_of_memory());
         self.serving.settle();
     }
 
@@ -163,7 +163,7 @@ impl NodeCore {
     {
         self.serving.begin_step();
         self.serving.act_on(item, effects);
-        self.losses = counted(self.losses, self.serving.is_wanting());
+        self.losses = counted(self.losses, self.serving.is_out_of_memory());
         self.serving.settle();
     }
 
@@ -200,10 +200,10 @@ impl NodeCore {
 }
 
 // Returns the count of steps in which memory ran out, after one more step.
-fn counted(losses: u64, wanting: bool) -> u64
-    ensures { result ≡ (if wanting then one_more losses else losses) }
+fn counted(losses: u64, out_of_memory: bool) -> u64
+    ensures { result ≡ (if out_of_memory then one_more losses else losses) }
 {
-    if wanting {
+    if out_of_memory {
         losses.saturating_add(1)
     } else {
         losses

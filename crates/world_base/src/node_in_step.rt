@@ -35,7 +35,7 @@ pub struct NodeInStep {
     pub(crate) last_ballot: u64,
     pub(crate) last_count: u64,
     pub(crate) connections: Vec<Connection>,
-    pub(crate) wanting: bool,
+    pub(crate) out_of_memory: bool,
 }
 
 impl Model for NodeInStep {
@@ -51,7 +51,7 @@ impl Model for NodeInStep {
             last_name = record { ballot = s.last_ballot; count = s.last_count };
             connections = s.connections.items;
           };
-          wanting = s.wanting;
+          out_of_memory = s.out_of_memory;
         } };
 
     ghost invariant = { λ s. s.last_count ≤ 2 ^ 40 };
@@ -63,7 +63,7 @@ impl NodeInStep {
         requires low { 1 ≤ id }
         requires high { id ≤ 15 }
         ensures ok { IfOk result (λ serving.
-            serving ≡ record { core = opening_core id config.now; wanting = false }) }
+            serving ≡ record { core = opening_core id config.now; out_of_memory = false }) }
         ensures bad { IsErrOf result OpeningError.BadMembers
             ↔ (is_lawful config.now.members config.now.primary ≡ false) }
     {
@@ -74,22 +74,22 @@ impl NodeInStep {
             last_ballot: 0,
             last_count: 0,
             connections: Vec::new(alloc),
-            wanting: false,
+            out_of_memory: false,
         })
     }
 
     /// Begins a step: memory has not run out yet.
     pub fn begin_step(&mut self)
-        ensures { self.new ≡ record self.old { wanting = false } }
+        ensures { self.new ≡ record self.old { out_of_memory = false } }
     {
-        self.wanting = false;
+        self.out_of_memory = false;
     }
 
     /// Says whether memory ran out in this step.
-    pub fn is_wanting(&self) -> bool
-        ensures { result ≡ self.now.wanting }
+    pub fn is_out_of_memory(&self) -> bool
+        ensures { result ≡ self.now.out_of_memory }
     {
-        self.wanting
+        self.out_of_memory
     }
 
     /// Returns what the replica shows of itself.
@@ -207,7 +207,7 @@ impl NodeInStep {
         ensures run { (self.new.core ≡ changes port closed self.old.core)
             ⊎ (self.new.core ≡ changes port failing self.old.core) }
     {
-        if !self.wanting {
+        if !self.out_of_memory {
             return self.close(port);
         }
         if let Some(index) = self.place_at(port) {
@@ -260,7 +260,7 @@ impl NodeInStep {
         if let Some(index) = self.place_of(name) {
             let whole = self.connections[index].put_or_fail(packet);
             if !whole {
-                self.wanting = true;
+                self.out_of_memory = true;
             }
         }
     }
@@ -319,7 +319,7 @@ impl NodeInStep {
         };
         let connection = Connection::new(self.alloc, port, name);
         if !push(&mut self.connections, connection) {
-            self.wanting = true;
+            self.out_of_memory = true;
             return;
         }
         self.last_ballot = name.ballot();

@@ -25,14 +25,14 @@ use node_connections::packet::{ClientId, Connect, Packet};
 use node_connections::{Front, Piece, Port, Stage};
 
 impl NodeInStep {
-    /// Takes an item, and reports each connection that fails in it to the broker. `is_wanting` says
+    /// Takes an item, and reports each connection that fails in it to the broker. `is_out_of_memory` says
     /// whether memory ran out.
     pub fn act_on(&mut self, item: Item, effects: &mut Vec<Effect<Command, Output>>)
         ensures turns { Turns self.old self.new effects.old.items effects.new.items
             (acts_on item self.old.core) }
         ensures run { Ran (ActsOn item) self.old.core self.new.core effects.old.items effects.new.items }
         ensures quiet { TakesNoMemory item self.old.core →
-            find has_failed self.old.core.connections ≡ None → self.new.wanting ≡ self.old.wanting }
+            find has_failed self.old.core.connections ≡ None → self.new.out_of_memory ≡ self.old.out_of_memory }
     {
         if self.ignores(&item) {
             return self.lose_failed(effects);
@@ -53,7 +53,7 @@ impl NodeInStep {
         ensures run { Ran (ActsOn (items.Peer message.now)) self.old.core self.new.core
             effects.old.items effects.new.items }
         ensures quiet { find has_failed self.old.core.connections ≡ None →
-            self.new.wanting ≡ self.old.wanting }
+            self.new.out_of_memory ≡ self.old.out_of_memory }
     {
         self.lose_failed(effects);
     }
@@ -119,7 +119,7 @@ impl NodeInStep {
         ensures run { Ran (Holds port piece) self.old.core self.new.core effects.old.items effects.new.items }
     {
         if !self.add(port, &piece) {
-            self.wanting = true;
+            self.out_of_memory = true;
             self.end(port, effects);
         }
     }
@@ -147,7 +147,7 @@ impl NodeInStep {
         ensures turns { Turns self.old self.new effects.old.items effects.new.items
             (reads_next now port self.old.core) }
         ensures run { Ran (ReadsNext now port) self.old.core self.new.core effects.old.items effects.new.items }
-        ensures done { result ≡ false → self.new.wanting ≡ false →
+        ensures done { result ≡ false → self.new.out_of_memory ≡ false →
             reads_next now port self.new.core ≡ quiet self.new.core }
         ensures idle { result ≡ false → ReadsNext now port self.new.core (quietly self.new.core) }
     {
@@ -161,8 +161,8 @@ impl NodeInStep {
             Front::More => return false,
             Front::Packet(packet) => self.take(port, name, stage, packet, effects),
             Front::Refused(_) | Front::Fault => self.lose(name, stage, effects),
-            Front::Wanting => {
-                self.wanting = true;
+            Front::OutOfMemory => {
+                self.out_of_memory = true;
                 self.lose(name, stage, effects);
             }
         }

@@ -8,23 +8,23 @@ use Rattle.master.specs.ballot.Losses.{one_more}
 use Rattle.master.specs.ballot.Message.{Message}
 use Rattle.master.specs.lists.Lists.{In}
 use Rattle.master.specs.snapshots.World.{messages}
-use Rattle.byte_world.specs.broker_base.Command.{Command}
-use Rattle.byte_world.specs.broker_base.Output.{Output}
+use Rattle.byte_world.specs.broker_spec.declared.command.Command.{Command}
+use Rattle.byte_world.specs.broker_spec.declared.command.Output.{Output}
 use Rattle.byte_world.specs.world_base.declared.item.Item.{Item}
 use Rattle.byte_world.specs.world_base.declared.item.Item.TheVariants.{Peer, Tick, Opened, Bytes, Ended, Expel, Cut, Crash}
 use Rattle.byte_world.specs.world_base.Core.{CoreState, CountedCore}
 use Rattle.byte_world.specs.world_base.Step.{node_step}
 use Rattle.byte_world.specs.node_moves.Moves.{NodeCall, done}
 use Rattle.byte_world.specs.node_moves.Moves.NodeCall.{takes}
-use Rattle.byte_world.specs.node_group.Group.{Group, behind_turn, with_record}
+use Rattle.byte_world.specs.node_group.Group.{Group, after_turn, with_record}
 use Rattle.byte_world.specs.node_group.Putting.{recorded_in}
 use Rattle.byte_world.specs.node_group.Goes.{all_given}
-use Rattle.byte_world.specs.node_group.Goes.MayGo.{node_acts}
-use Rattle.byte_world.specs.Deeds.{DeedWasSent, recorded_after}
-use Rattle.byte_world.proofs.DeedsCarry.{deeds_carry_their_bytes}
+use Rattle.byte_world.specs.node_group.Goes.GroupStep.{node_acts}
+use Rattle.byte_world.specs.NodeCalls.{NodeCallWasSent, recorded_after}
+use Rattle.byte_world.proofs.NodeCallsCarry.{node_calls_carry_their_bytes}
 use Rattle.byte_world.proofs.of_node_group.Placed.{get_mapped, set_mapped}
 use Rattle.world_nodes.specs.Nodes.{NodesState, StandsFor}
-use Rattle.world_nodes.specs.Goes.{Acts, behind_deed}
+use Rattle.world_nodes.specs.Goes.{Acts, after_node_call}
 use Rattle.world_nodes.specs.Steps.{TakesIn}
 use Rattle.world_nodes.specs.Inside.{RunsAt, TookItem, WasSent}
 
@@ -33,17 +33,17 @@ core_in c = c.core
 
 -- ---- a call
 
-pub acts : (old : NodesState) (at : ℕ) (node : CountedCore) (deed : NodeCall) → slice_get old.nodes at ≡ Some node
-    → ((g : Group) → StandsFor g old → DeedWasSent g at node.core deed)
-    → Acts at deed old (record (behind_deed at node deed old) { archive = recorded_after old.archive node.core deed })
-acts old at node deed there sent g s =
-    let r = deeds_carry_their_bytes g at deed node.core (sent g s) in
-    let turn = done deed node.core in
+pub acts : (old : NodesState) (at : ℕ) (node : CountedCore) (node_call : NodeCall) → slice_get old.nodes at ≡ Some node
+    → ((g : Group) → StandsFor g old → NodeCallWasSent g at node.core node_call)
+    → Acts at node_call old (record (after_node_call at node node_call old) { archive = recorded_after old.archive node.core node_call })
+acts old at node node_call there sent g s =
+    let r = node_calls_carry_their_bytes g at node_call node.core (sent g s) in
+    let turn = done node_call node.core in
     let found : slice_get g.nodes at ≡ Some node.core = ap (λ (l : List CoreState). slice_get l at) s.nodes ∙ get_mapped core_in old.nodes at node there in
     record {
       does = record {
-        behind = behind_turn (with_record g (recorded_in g.archive r.run)) at turn (all_given r.run);
-        step = node_acts at node.core deed turn r.run found refl r.first r.sent;
+        after = after_turn (with_record g (recorded_in g.archive r.run)) at turn (all_given r.run);
+        step = node_acts at node.core node_call turn r.run found refl r.first r.sent;
         is = refl;
         faithful = r.bytes;
       };
@@ -52,7 +52,7 @@ acts old at node deed there sent g s =
         nodes = ap (λ (l : List CoreState). slice_set l at turn.core) s.nodes
             ∙ sym (set_mapped core_in old.nodes at (let c : CountedCore = record node { core = turn.core } in c));
         sent = ap (λ (l : List (ℕ × Message Command)). l ++ messages turn.messages) s.sent;
-        archive = r.records g.archive ∙ ap (λ (l : List Command). recorded_after l node.core deed) s.archive;
+        archive = r.records g.archive ∙ ap (λ (l : List Command). recorded_after l node.core node_call) s.archive;
       };
     }
 
@@ -71,46 +71,46 @@ not_one_more losses low e = omega (arith, low, e)
 -- ---- an item
 
 -- what was sent to the node of a number was sent to the one at its place
-pub deed_sent : (old : NodesState) (node at : ℕ) (core : CoreState) (item : Item) → at ≡ node - 1 → 0 < node → WasSent node item old.sent
-    → (g : Group) → StandsFor g old → DeedWasSent g at core (takes item)
-deed_sent old zero at core item place positive sent g s = absurd (omega (arith, positive))
-deed_sent old (suc n) at core (Peer message) place positive sent g s =
+pub node_call_sent : (old : NodesState) (node at : ℕ) (core : CoreState) (item : Item) → at ≡ node - 1 → 0 < node → WasSent node item old.sent
+    → (g : Group) → StandsFor g old → NodeCallWasSent g at core (takes item)
+node_call_sent old zero at core item place positive sent g s = absurd (omega (arith, positive))
+node_call_sent old (suc n) at core (Peer message) place positive sent g s =
     subst (λ (l : List (ℕ × Message Command)). In (at + 1, message) l) (sym s.sent)
     (subst (λ (k : ℕ). In (k, message) old.sent) (let e : suc n ≡ at + 1 = omega (arith, place) in e) sent)
-deed_sent old (suc n) at core (Tick now) place positive sent g s = tt
-deed_sent old (suc n) at core (Opened port now) place positive sent g s = tt
-deed_sent old (suc n) at core (Bytes port piece now) place positive sent g s = tt
-deed_sent old (suc n) at core (Ended port) place positive sent g s = tt
-deed_sent old (suc n) at core (Expel client) place positive sent g s = tt
-deed_sent old (suc n) at core Cut place positive sent g s = absurd sent
-deed_sent old (suc n) at core Crash place positive sent g s = tt
+node_call_sent old (suc n) at core (Tick now) place positive sent g s = tt
+node_call_sent old (suc n) at core (Opened port now) place positive sent g s = tt
+node_call_sent old (suc n) at core (Bytes port piece now) place positive sent g s = tt
+node_call_sent old (suc n) at core (Ended port) place positive sent g s = tt
+node_call_sent old (suc n) at core (Expel client) place positive sent g s = tt
+node_call_sent old (suc n) at core Cut place positive sent g s = absurd sent
+node_call_sent old (suc n) at core Crash place positive sent g s = tt
 
 -- the nodes after the turn of one, with the changed record
-abbrev pub behind_turn_of : ℕ → CountedCore → List (ℕ × Message Command) → ℕ → NodesState → NodesState
-behind_turn_of at new more losses old = record old { nodes = slice_set old.nodes at new; sent = more; losses = losses }
+abbrev pub after_turn_of : ℕ → CountedCore → List (ℕ × Message Command) → ℕ → NodesState → NodesState
+after_turn_of at new more losses old = record old { nodes = slice_set old.nodes at new; sent = more; losses = losses }
 
-abbrev pub behind_turn_with : ℕ → CountedCore → List (ℕ × Message Command) → List Command → ℕ → NodesState → NodesState
-behind_turn_with at new more archive losses old =
+abbrev pub after_turn_with : ℕ → CountedCore → List (ℕ × Message Command) → List Command → ℕ → NodesState → NodesState
+after_turn_with at new more archive losses old =
     record old { nodes = slice_set old.nodes at new; sent = more; archive = archive; losses = losses }
 
 pub whole_turn : (old : NodesState) (at : ℕ) (core new : CountedCore) (item : Item) (more : List (ℕ × Message Command))
-    → TookItem core item new old.sent more true → behind_turn_of at new more old.losses old ≡ behind_deed at core (takes item) old
+    → TookItem core item new old.sent more true → after_turn_of at new more old.losses old ≡ after_node_call at core (takes item) old
 whole_turn old at core new item more t =
     let e = t.exact refl in
-    ap (λ (c : CountedCore). behind_turn_of at c more old.losses old) e.0
-    ∙ ap (λ (l : List (ℕ × Message Command)). behind_turn_of at (record core { core = (node_step item core.core).core }) l old.losses old)
+    ap (λ (c : CountedCore). after_turn_of at c more old.losses old) e.0
+    ∙ ap (λ (l : List (ℕ × Message Command)). after_turn_of at (record core { core = (node_step item core.core).core }) l old.losses old)
     (t.is ∙ ap (λ (l : List (Effect Command Output)). old.sent ++ messages l) e.1)
 
 pub turn_takes : (old : NodesState) (node at : ℕ) (x : RunsAt old.nodes node at) (new : CountedCore) (item : Item) (more : List (ℕ × Message Command))
     (whole : Bool) (losses : ℕ) → TookItem x.core item new old.sent more whole → losses ≡ (if whole && true then old.losses else one_more old.losses)
-    → TakesIn node item old (behind_turn_of at new more losses old)
+    → TakesIn node item old (after_turn_of at new more losses old)
 turn_takes old node at x new item more true losses t count =
     record {
       core = x.core;
       runs = x.runs;
       way = inl (
-          ap (λ (k : ℕ). behind_turn_of at new more k old) count ∙ whole_turn old at x.core new item more t
-          ∙ ap (λ (k : ℕ). behind_deed k x.core (takes item) old) x.place
+          ap (λ (k : ℕ). after_turn_of at new more k old) count ∙ whole_turn old at x.core new item more t
+          ∙ ap (λ (k : ℕ). after_node_call k x.core (takes item) old) x.place
           );
     }
 turn_takes old node at x new item more false losses t count =
@@ -124,9 +124,9 @@ turn_takes old node at x new item more false losses t count =
             kept = t.kept;
             runs = t.runs;
             thinned = t.thinned;
-            is = ap (λ (k : ℕ). behind_turn_of at new more k old) count
-                ∙ ap (λ (l : List (ℕ × Message Command)). behind_turn_of at new l (one_more old.losses) old) t.is
-                ∙ ap (λ (k : ℕ). behind_turn_of k new (old.sent ++ messages t.kept) (one_more old.losses) old) x.place;
+            is = ap (λ (k : ℕ). after_turn_of at new more k old) count
+                ∙ ap (λ (l : List (ℕ × Message Command)). after_turn_of at new l (one_more old.losses) old) t.is
+                ∙ ap (λ (k : ℕ). after_turn_of k new (old.sent ++ messages t.kept) (one_more old.losses) old) x.place;
           }
           );
     }

@@ -4,25 +4,25 @@ use Rattle.std.proofs.Common.{◌≡◌, ◌-◌, ℕ, Bool, false, List, ◌++�
 use Rattle.std.specs.Prelude.{slice_get, slice_set}
 use Rattle.master.specs.ballot.Message.{Message}
 use Rattle.master.specs.snapshots.World.{messages}
-use Rattle.byte_world.specs.broker_base.Command.{Command}
+use Rattle.byte_world.specs.broker_spec.declared.command.Command.{Command}
 use Rattle.byte_world.specs.world_base.declared.item.Item.{Item}
 use Rattle.byte_world.specs.world_base.declared.item.Item.TheVariants.{Peer, Tick, Opened, Bytes, Ended, Expel, Cut, Crash}
 use Rattle.byte_world.specs.world_base.Core.{CoreState, CountedCore, Turn}
 use Rattle.byte_world.specs.node_moves.LossyRuns.{IsRunOn, heard_with, is_cut}
 use Rattle.byte_world.specs.node_moves.Moves.NodeCall.{takes}
 use Rattle.byte_world.proofs.of_node_moves.LossesAreMoves.{losses_are_moves}
-use Rattle.byte_world.specs.node_group.Group.{Group, behind_turn, with_record}
+use Rattle.byte_world.specs.node_group.Group.{Group, after_turn, with_record}
 use Rattle.byte_world.specs.node_group.Goes.{keeping}
-use Rattle.byte_world.specs.node_group.Goes.MayGo.{node_loses}
+use Rattle.byte_world.specs.node_group.Goes.GroupStep.{node_loses}
 use Rattle.byte_world.specs.node_group.Losing.{WereSent, all_given, recorded_in}
-use Rattle.byte_world.specs.Deeds.{DeedWasSent}
+use Rattle.byte_world.specs.NodeCalls.{NodeCallWasSent}
 use Rattle.byte_world.proofs.of_node_group.Placed.{get_mapped, set_mapped}
 use Rattle.byte_world.proofs.of_node_group.Recorded.{records_none, records_to}
 use Rattle.world_nodes.specs.Nodes.{NodesState, StandsFor}
 use Rattle.world_nodes.specs.Goes.{Acts}
 use Rattle.world_nodes.specs.Inside.{RunsAt, TookItem, WasSent}
 use Rattle.world_nodes.specs.Steps.{recorded_if_cut}
-use Rattle.world_nodes.proofs.Acts.{behind_turn_of, behind_turn_with, core_in, deed_sent}
+use Rattle.world_nodes.proofs.Acts.{after_turn_of, after_turn_with, core_in, node_call_sent}
 
 -- ---- any item
 
@@ -35,13 +35,13 @@ run_of {core = core} {new = new} {item = item} t = losses_are_moves item core.co
 -- a node that took an item in, whether memory sufficed or not; the record has what the moves of its step add
 loses_so : (old : NodesState) (at : ℕ) (core new : CountedCore) (item : Item) (more : List (ℕ × Message Command)) (archive : List Command) (whole : Bool) (losses : ℕ)
     → slice_get old.nodes at ≡ Some core → (t : TookItem core item new old.sent more whole) → ((g : Group) → StandsFor g old → WereSent g at (heard_with item))
-    → recorded_in old.archive (run_of t).run ≡ archive → Acts at (takes item) old (behind_turn_with at new more archive losses old)
+    → recorded_in old.archive (run_of t).run ≡ archive → Acts at (takes item) old (after_turn_with at new more archive losses old)
 loses_so old at core new item more archive whole losses there t sent records g s =
     let by = run_of t in
     let found : slice_get g.nodes at ≡ Some core.core = ap (λ (l : List CoreState). slice_get l at) s.nodes ∙ get_mapped core_in old.nodes at core there in
     record {
       does = record {
-        behind = behind_turn (with_record g (recorded_in g.archive by.run)) at (keeping t.kept (turn_of t)) (all_given by.run);
+        after = after_turn (with_record g (recorded_in g.archive by.run)) at (keeping t.kept (turn_of t)) (all_given by.run);
         step = node_loses at core.core item (turn_of t) t.kept by found t.runs (sent g s) t.thinned;
         is = refl;
         faithful = tt;
@@ -56,7 +56,7 @@ loses_so old at core new item more archive whole losses there t sent records g s
 
 -- ---- an item that is no cut
 
-were_sent : (g : Group) (at : ℕ) (core : CoreState) (item : Item) → DeedWasSent g at core (takes item) → WereSent g at (heard_with item)
+were_sent : (g : Group) (at : ℕ) (core : CoreState) (item : Item) → NodeCallWasSent g at core (takes item) → WereSent g at (heard_with item)
 were_sent g at core (Peer message) sent = (sent, tt)
 were_sent g at core (Tick now) sent = (tt, tt)
 were_sent g at core (Opened port now) sent = tt
@@ -77,19 +77,19 @@ no_cut node Cut sent was = absurd was
 no_cut node Crash sent was = refl
 
 pub turn_loses : (old : NodesState) (node at : ℕ) (x : RunsAt old.nodes node at) (new : CountedCore) (item : Item) (more : List (ℕ × Message Command)) (whole : Bool) (losses : ℕ)
-    → TookItem x.core item new old.sent more whole → WasSent node item old.sent → Acts (node - 1) (takes item) old (behind_turn_of at new more losses old)
+    → TookItem x.core item new old.sent more whole → WasSent node item old.sent → Acts (node - 1) (takes item) old (after_turn_of at new more losses old)
 turn_loses old node at x new item more whole losses t sent =
     let by = run_of t in
-    subst (λ (k : ℕ). Acts k (takes item) old (behind_turn_of at new more losses old)) x.place
+    subst (λ (k : ℕ). Acts k (takes item) old (after_turn_of at new more losses old)) x.place
     (loses_so old at x.core new item more old.archive whole losses x.stands t
-    (λ g s. were_sent g at x.core.core item (deed_sent old node at x.core.core item x.place x.positive sent g s))
+    (λ g s. were_sent g at x.core.core item (node_call_sent old node at x.core.core item x.place x.positive sent g s))
     (records_none old.archive by.run (by.cuts (no_cut node item old.sent sent))))
 
 -- ---- a cut
 
 pub cut_loses : (old : NodesState) (at : ℕ) (core new : CountedCore) (more : List (ℕ × Message Command)) (archive : List Command) (whole : Bool) (losses : ℕ)
     → slice_get old.nodes at ≡ Some core → TookItem core Cut new old.sent more whole → archive ≡ recorded_if_cut old.archive core new
-    → Acts at (takes Cut) old (behind_turn_with at new more archive losses old)
+    → Acts at (takes Cut) old (after_turn_with at new more archive losses old)
 cut_loses old at core new more archive whole losses there t is =
     let by = run_of t in
     loses_so old at core new Cut more archive whole losses there t (λ g s. tt) (records_to old.archive by.run by.first by.hears ∙ sym is)

@@ -7,7 +7,7 @@ use Rattle.master.specs.ballot.Message.{Message}
 use Rattle.master.specs.ballot.Replica.{ReplicaState, status_of}
 use Rattle.master.specs.ballot.Status.{Status}
 use Rattle.master.specs.agreement.MasterState.{MasterState}
-use Rattle.byte_world.specs.broker_base.Command.{Command}
+use Rattle.byte_world.specs.broker_spec.declared.command.Command.{Command}
 use Rattle.byte_world.specs.broker_base.State.{State}
 use Rattle.byte_world.specs.world_base.Core.{CoreState, CountedCore, rules}
 use Rattle.byte_world.specs.node_group.Group.{Group, moment_of, replica_of}

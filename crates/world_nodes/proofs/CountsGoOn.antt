@@ -4,10 +4,10 @@ use Rattle.master.specs.ballot.Config.{Config}
 use Rattle.master.specs.ballot.Message.{Message}
 use Rattle.master.specs.agreement.MasterState.{MasterState}
 use Rattle.master.specs.agreement.World.{can_open}
-use Rattle.byte_world.specs.broker_base.Command.{Command}
+use Rattle.byte_world.specs.broker_spec.declared.command.Command.{Command}
 use Rattle.byte_world.specs.node_moves.Moves.{NodeCall}
 use Rattle.byte_world.specs.node_group.Group.{opening_group}
-use Rattle.byte_world.specs.node_group.Goes.Went.{opened}
+use Rattle.byte_world.specs.node_group.Goes.GroupTrace.{opened}
 use Rattle.byte_world.proofs.of_node_group.GroupsArePasts.{goes_on, groups_are_pasts}
 use Rattle.master.specs.Inside.{HasCounted, ToldIn}
 use Rattle.master.proofs.Groups.{front_of}
@@ -41,15 +41,15 @@ loses_counting n losses told next c =
     record { group = c.group; stands = record { master = c.stands.master; nodes = c.stands.nodes; archive = c.stands.archive; sent = c.stands.sent }; counts = c.counts }
 
 -- a node does something, and what it acknowledged is counted
-pub acts_counting : (old new : NodesState) (at : ℕ) (deed : NodeCall) (told next told' next' : ToldIn) → HaveCounted old told next → Acts at deed old new
+pub acts_counting : (old new : NodesState) (at : ℕ) (node_call : NodeCall) (told next told' next' : ToldIn) → HaveCounted old told next → Acts at node_call old new
     → new.master ≡ old.master → told'.ballot ≡ told.ballot → next'.ballot ≡ next.ballot
     → (HasCounted old.sent told → HasCounted new.sent told') → (HasCounted old.sent next → HasCounted new.sent next') → HaveCounted new told' next'
-acts_counting old new at deed told next told' next' c acts same one two counts counts_next =
+acts_counting old new at node_call told next told' next' c acts same one two counts counts_next =
     let g = acts c.group c.stands in
-    let on = goes_on c.counts.config c.group g.does.behind g.does.step c.counts.past c.counts.came in
-    let master : c.group.master ≡ g.does.behind.master = c.stands.master ∙ sym same ∙ sym g.stands.master in
+    let on = goes_on c.counts.config c.group g.does.after g.does.step c.counts.past c.counts.came in
+    let master : c.group.master ≡ g.does.after.master = c.stands.master ∙ sym same ∙ sym g.stands.master in
     record {
-      group = g.does.behind;
+      group = g.does.after;
       stands = g.stands;
       counts = record {
         config = c.counts.config;
@@ -64,7 +64,7 @@ acts_counting old new at deed told next told' next' c acts same one two counts c
     }
 
 -- what comes after the earlier messages is counted
-pub heard_behind : (sent more now kept : Sent) (from : ℕ) (t u : ToldIn) → now ≡ more → more ≡ sent ++ kept → from ≡ length sent
+pub heard_after : (sent more now kept : Sent) (from : ℕ) (t u : ToldIn) → now ≡ more → more ≡ sent ++ kept → from ≡ length sent
     → (HasCounted (take from now) t → HasCounted now u) → HasCounted sent t → HasCounted more u
-heard_behind sent more now kept from t u same is at hears counted =
+heard_after sent more now kept from t u same is at hears counted =
     subst (λ (l : Sent). HasCounted l u) same (hears (subst (λ (l : Sent). HasCounted l t) (sym (front_of from sent kept now (same ∙ is) at)) counted))

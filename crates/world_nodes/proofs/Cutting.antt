@@ -7,7 +7,7 @@ use Rattle.master.specs.ballot.Losses.{one_more}
 use Rattle.master.specs.ballot.Message.{Message}
 use Rattle.master.specs.ballot.Replica.{status_of}
 use Rattle.master.specs.ballot.Status.{Status}
-use Rattle.byte_world.specs.broker_base.Command.{Command}
+use Rattle.byte_world.specs.broker_spec.declared.command.Command.{Command}
 use Rattle.master.specs.Inside.{ToldIn}
 use Rattle.master.specs.snapshots.World.{messages, recorded}
 use Rattle.master.proofs.Archived.{begins_by, recorded_by, taken_back}
@@ -18,11 +18,11 @@ use Rattle.byte_world.specs.node_group.Group.{replica_of}
 use Rattle.byte_world.proofs.of_node_group.Placed.{get_mapped}
 use Rattle.byte_world.proofs.of_node_moves.BaseStays.{cut_step_base}
 use Rattle.world_nodes.specs.Nodes.{NodesState, cores_of}
-use Rattle.world_nodes.specs.Goes.{CutsExactly, behind_deed}
+use Rattle.world_nodes.specs.Goes.{CutsExactly, after_node_call}
 use Rattle.world_nodes.specs.Running.{cutting, unless_stopped, unless_whole}
 use Rattle.world_nodes.specs.Inside.{HaveCounted, TookItem}
 use Rattle.world_nodes.specs.Steps.{CutsIn, CutsWithLosses, LosesNothing, forgetful, recorded_if_cut}
-use Rattle.world_nodes.proofs.Acts.{behind_turn_with, core_in, not_one_more, same_core, whole_turn}
+use Rattle.world_nodes.proofs.Acts.{after_turn_with, core_in, not_one_more, same_core, whole_turn}
 use Rattle.world_nodes.proofs.AgreedCounted.{within_at}
 
 -- a place that is there
@@ -104,27 +104,27 @@ module _ (old : NodesState) (at : ℕ) (core : CountedCore) (there : slice_get o
   -- ---- what it did
 
   whole_cut : (new : CountedCore) (more : List (ℕ × Message Command)) → TookItem core Cut new old.sent more true
-      → behind_turn_with at new more (recorded_if_cut old.archive core new) old.losses old
-      ≡ record (behind_deed (at + 1 - 1) core (takes Cut) old) { archive = recorded old.archive core.core.replica.state }
+      → after_turn_with at new more (recorded_if_cut old.archive core new) old.losses old
+      ≡ record (after_node_call (at + 1 - 1) core (takes Cut) old) { archive = recorded old.archive core.core.replica.state }
   whole_cut new more t =
       let base : new.core.replica.state.log.base ≡ core.core.replica.state.committed =
       ap (λ (c : CountedCore). c.core.replica.state.log.base) (t.exact refl).0 ∙ cut_step_base core.core can in
       let up = ltb-true core.core.replica.state.log.base core.core.replica.state.committed parts.1 in
       let place : at ≡ at + 1 - 1 = omega arith in
-      ap (λ (l : List Command). behind_turn_with at new more l old.losses old) (over new (omega (arith, base, up)))
+      ap (λ (l : List Command). after_turn_with at new more l old.losses old) (over new (omega (arith, base, up)))
       ∙ ap (λ (n : NodesState). let k : NodesState = record n { archive = recorded old.archive core.core.replica.state } in k) (whole_turn old at core new Cut more t)
-      ∙ ap (λ (k : ℕ). let n : NodesState = record (behind_deed k core (takes Cut) old) { archive = recorded old.archive core.core.replica.state } in n) place
+      ∙ ap (λ (k : ℕ). let n : NodesState = record (after_node_call k core (takes Cut) old) { archive = recorded old.archive core.core.replica.state } in n) place
 
   pub cut_takes : (new : CountedCore) (more : List (ℕ × Message Command)) (archive : List Command) (whole : Bool) (losses : ℕ) → TookItem core Cut new old.sent more whole
       → archive ≡ recorded_if_cut old.archive core new → losses ≡ (if whole && true then old.losses else one_more old.losses)
-      → CutsIn (at + 1) old (behind_turn_with at new more archive losses old)
+      → CutsIn (at + 1) old (after_turn_with at new more archive losses old)
   cut_takes new more archive true losses t is count =
       record {
         core = core;
         cuts = is_cutting;
         way = inl (
-            ap (λ (k : ℕ). behind_turn_with at new more archive k old) count
-            ∙ ap (λ (l : List Command). behind_turn_with at new more l old.losses old) is ∙ whole_cut new more t
+            ap (λ (k : ℕ). after_turn_with at new more archive k old) count
+            ∙ ap (λ (l : List Command). after_turn_with at new more l old.losses old) is ∙ whole_cut new more t
             );
       }
   cut_takes new more archive false losses t is count =
@@ -139,10 +139,10 @@ module _ (old : NodesState) (at : ℕ) (core : CountedCore) (there : slice_get o
               kept = t.kept;
               runs = t.runs;
               thinned = t.thinned;
-              is = ap (λ (k : ℕ). behind_turn_with at new more archive k old) count
-                  ∙ ap (λ (l : List Command). behind_turn_with at new more l (one_more old.losses) old) is
-                  ∙ ap (λ (l : List (ℕ × Message Command)). behind_turn_with at new l (recorded_if_cut old.archive core new) (one_more old.losses) old) t.is
-                  ∙ ap (λ (k : ℕ). behind_turn_with k new (old.sent ++ messages t.kept) (recorded_if_cut old.archive core new) (one_more old.losses) old) place;
+              is = ap (λ (k : ℕ). after_turn_with at new more archive k old) count
+                  ∙ ap (λ (l : List Command). after_turn_with at new more l (one_more old.losses) old) is
+                  ∙ ap (λ (l : List (ℕ × Message Command)). after_turn_with at new l (recorded_if_cut old.archive core new) (one_more old.losses) old) t.is
+                  ∙ ap (λ (k : ℕ). after_turn_with k new (old.sent ++ messages t.kept) (recorded_if_cut old.archive core new) (one_more old.losses) old) place;
             }
             ));
       }
@@ -174,7 +174,7 @@ cuts_exactly node old new t none = by t.way
     never : (later : NodesState) → new ≡ later → later.losses ≡ one_more old.losses → ⊥
     never later is counted = not_one_more old.losses none.1 (sym (ap (λ (n : NodesState). n.losses) is ∙ counted) ∙ none.0)
 
-    by : (new ≡ record (behind_deed (node - 1) t.core (takes Cut) old) { archive = recorded old.archive t.core.core.replica.state })
+    by : (new ≡ record (after_node_call (node - 1) t.core (takes Cut) old) { archive = recorded old.archive t.core.core.replica.state })
         ⊎ CutsWithLosses (node - 1) t.core old new
         ⊎ (new ≡ forgetful old) → CutsExactly node old new
     by (inl is) = record { core = t.core; cuts = t.cuts; is = is }

@@ -8,7 +8,7 @@ use Rattle.byte_world.specs.world_base.declared.Port.{Port}
 use Rattle.byte_world.specs.world_base.Core.{CountedCore}
 use Rattle.byte_world.specs.node_moves.Moves.NodeCall.{takes, gives}
 use Rattle.world_nodes.specs.Nodes.{NodesState}
-use Rattle.world_nodes.specs.Goes.{Acts, GivesExactly, TakesExactly, behind_deed}
+use Rattle.world_nodes.specs.Goes.{Acts, GivesExactly, TakesExactly, after_node_call}
 use Rattle.world_nodes.specs.Running.{node_of}
 use Rattle.world_nodes.specs.Steps.{ActsWithLosses, LosesNothing, TakesIn}
 use Rattle.world_nodes.proofs.Acts.{acts, not_one_more}
@@ -16,7 +16,7 @@ use Rattle.world_nodes.proofs.Acts.{acts, not_one_more}
 pub exactly : (node : ℕ) (item : Item) (old new : NodesState) → TakesIn node item old new → LosesNothing old new → TakesExactly node item old new
 exactly node item old new t none = by t.way
   where
-    by : (new ≡ behind_deed (node - 1) t.core (takes item) old) ⊎ ActsWithLosses (node - 1) item t.core old new → TakesExactly node item old new
+    by : (new ≡ after_node_call (node - 1) t.core (takes item) old) ⊎ ActsWithLosses (node - 1) item t.core old new → TakesExactly node item old new
     by (inl is) = record { core = t.core; runs = t.runs; is = is }
     by (inr loses) = absurd (not_one_more old.losses none.1 (sym (ap (λ (n : NodesState). n.losses) loses.is) ∙ none.0))
 

@@ -1,7 +1,7 @@
 -- A node that runs and has room takes the item Expel, or there was no memory for it.
 use Rattle.std.proofs.Common.{◌≡◌, inl, inr, ◌-◌, ℕ, refl, subst}
 use Rattle.std.specs.Prelude.{OnOk, Result, Ok, Err}
-use Rattle.byte_world.specs.broker_base.Place.{Client}
+use Rattle.byte_world.specs.broker_spec.Place.{Client}
 use Rattle.master.specs.declared.event.Idle.{Idle}
 use Rattle.byte_world.specs.world_base.declared.item.Item.TheVariants.{Expel}
 use Rattle.byte_world.specs.node_moves.Moves.NodeCall.{takes}

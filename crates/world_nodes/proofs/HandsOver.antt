@@ -3,7 +3,7 @@ use Rattle.std.proofs.Common.{◌≡◌, ◌<◌, ◌≤◌, ◌-◌, ℕ, zero,
 use Rattle.std.specs.Prelude.{get_or, slice_get, slice_set}
 use Rattle.std.proofs.lemmas.List.{append-nil}
 use Rattle.master.specs.ballot.Message.{Message}
-use Rattle.byte_world.specs.broker_base.Command.{Command}
+use Rattle.byte_world.specs.broker_spec.declared.command.Command.{Command}
 use Rattle.byte_world.specs.world_base.declared.Handed.{Handed}
 use Rattle.byte_world.specs.world_base.declared.Port.{Port}
 use Rattle.byte_world.specs.world_base.Core.{CountedCore}
@@ -52,10 +52,10 @@ rests old at z new found same =
 pub same_node : (nodes : List CountedCore) (node : ℕ) (z core : CountedCore) → node_of nodes node ≡ Some z → node_of nodes node ≡ Some core → z ≡ core
 same_node nodes node z core a b = same_some z core (sym a ∙ b)
 
-pub hands_bytes : (n : NodesState) (node : ℕ) (port : Port) (z : CountedCore) (before behind : List ℕ) → node_of n.nodes node ≡ Some z
-    → behind ≡ before ++ bytes_of (listed_at port z.core) → HandsOver node port n before behind
-hands_bytes n node port z before behind is bytes core there =
-    subst (λ (y : CountedCore). behind ≡ before ++ bytes_of (listed_at port y.core)) (same_node n.nodes node z core is there) bytes
+pub hands_bytes : (n : NodesState) (node : ℕ) (port : Port) (z : CountedCore) (before after : List ℕ) → node_of n.nodes node ≡ Some z
+    → after ≡ before ++ bytes_of (listed_at port z.core) → HandsOver node port n before after
+hands_bytes n node port z before after is bytes core there =
+    subst (λ (y : CountedCore). after ≡ before ++ bytes_of (listed_at port y.core)) (same_node n.nodes node z core is there) bytes
 
 pub answers_so : (n : NodesState) (node : ℕ) (port : Port) (z : CountedCore) (handed : Handed) → node_of n.nodes node ≡ Some z
     → handed ≡ answer_of (listed_at port z.core) → AnswersFor node port n handed

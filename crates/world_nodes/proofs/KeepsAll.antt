@@ -9,8 +9,8 @@ use Rattle.master.specs.ballot.Losses.Thinned.{none, keeps, loses}
 use Rattle.master.specs.ballot.Message.{Message}
 use Rattle.master.specs.snapshots.World.{messages}
 use Rattle.master.proofs.of_snapshots.Effects.{messages-append}
-use Rattle.byte_world.specs.broker_base.Command.{Command}
-use Rattle.byte_world.specs.broker_base.Output.{Output}
+use Rattle.byte_world.specs.broker_spec.declared.command.Command.{Command}
+use Rattle.byte_world.specs.broker_spec.declared.command.Output.{Output}
 use Rattle.world_nodes.specs.Inside.{Keeps}
 
 abbrev Given : Type 0

@@ -12,15 +12,15 @@ use Rattle.master.specs.ballot.Losses.{one_more}
 use Rattle.master.specs.ballot.Message.{Message}
 use Rattle.master.specs.agreement.MasterState.{AssignRefusal, MasterState, activating, assigning, is_granted, master_after, refusal}
 use Rattle.master.specs.snapshots.Masters.{activated, assigned}
-use Rattle.byte_world.specs.broker_base.Command.{Command}
+use Rattle.byte_world.specs.broker_spec.declared.command.Command.{Command}
 use Rattle.byte_world.specs.world_base.declared.item.Item.TheVariants.{Peer}
 use Rattle.byte_world.specs.node_moves.Moves.NodeCall.{takes}
 use Rattle.byte_world.specs.node_group.Group.{Group, told_by_master, with_master}
-use Rattle.byte_world.specs.node_group.Goes.{MayGo, behind_assign}
-use Rattle.byte_world.specs.node_group.Goes.MayGo.{master_assigns, master_hears, assigns_unheard, answers_unheard}
-use Rattle.byte_world.specs.Goes.{Does, IsFaithful, deed_of}
+use Rattle.byte_world.specs.node_group.Goes.{GroupStep, after_assign}
+use Rattle.byte_world.specs.node_group.Goes.GroupStep.{master_assigns, master_hears, assigns_unheard, answers_unheard}
+use Rattle.byte_world.specs.Goes.{Does, IsFaithful, node_call_of}
 use Rattle.world_nodes.specs.Nodes.{NodesState, StandsFor}
-use Rattle.world_nodes.specs.Goes.{Acts, Comes, GoesBy, HeardByMaster, behind_answer, behind_giving}
+use Rattle.world_nodes.specs.Goes.{Acts, Comes, GoesBy, HeardByMaster, after_answer, after_giving}
 use Rattle.world_nodes.specs.Steps.{ComesIn, GivesIn, HearsIn, LosesNothing, TakesIn, forgetful, unheard}
 use Rattle.world_nodes.specs.GroupSteps.{ActsOrRests, ComesOrRests, MasterGoes, MasterHears}
 use Rattle.master.specs.Inside.{asks_for}
@@ -45,19 +45,19 @@ group_answer from ballot g =
 -- each group that corresponds to the nodes before continues so, and then corresponds to the nodes
 -- after
 abbrev pub MasterActs : (Group → Group) → NodesState → NodesState → Type 0
-MasterActs next old new = (g : Group) → StandsFor g old → (goes : GoesBy None g new) × (goes.does.behind ≡ next g)
+MasterActs next old new = (g : Group) → StandsFor g old → (goes : GoesBy None g new) × (goes.does.after ≡ next g)
 
 record ByMaster (g h : Group) : Type 0 where
-  pub step : MayGo g h
-  pub is : deed_of step ≡ None
+  pub step : GroupStep g h
+  pub is : node_call_of step ≡ None
   pub faithful : IsFaithful step
 
 does_by : {g h : Group} → ByMaster g h → Does g None
-does_by {h = h} b = record { behind = h; step = b.step; is = b.is; faithful = b.faithful }
+does_by {h = h} b = record { after = h; step = b.step; is = b.is; faithful = b.faithful }
 
 assigns_by : (g : Group) (config : Config) → refusal g.master config ≡ None → ByMaster g (group_giving config g)
 assigns_by g config e =
-    subst (λ (r : Option AssignRefusal). ByMaster g (with_master (behind_assign g config r) (master_after g.master config r))) e
+    subst (λ (r : Option AssignRefusal). ByMaster g (with_master (after_assign g config r) (master_behind g.master config r))) e
     (record { step = master_assigns config; is = refl; faithful = tt })
 
 hears_by : (g : Group) (from ballot : ℕ) → In (0, record { from = from; body = Activate ballot }) g.sent → ByMaster g (group_answer from ballot g)
@@ -141,7 +141,7 @@ pub gives_ballot : (old : NodesState) (config : Config) (state : MasterState) (b
 gives_ballot old config state body more told losses state_is body_is kept lost count =
     by (told_or_counted old _ state config.primary body _ more told losses state_is body_is kept lost count)
   where
-    by : (master_turn state more losses old ≡ behind_giving config old) ⊎ (master_turn state more losses old ≡ unheard (behind_giving config old) old)
+    by : (master_turn state more losses old ≡ after_giving config old) ⊎ (master_turn state more losses old ≡ unheard (after_giving config old) old)
         → GivesIn config old (master_turn state more losses old)
     by (inl is) = inl is
     by (inr is) = inr (inl is)
@@ -158,14 +158,14 @@ answers_ballot old from ballot state body more told losses state_is body_is kept
 pub counts : (n old new : NodesState) → n.losses ≡ one_more old.losses → new ≡ n → LosesNothing old new → ⊥
 counts n old new more is none = not_one_more old.losses none.1 (sym more ∙ sym (ap (λ (n : NodesState). n.losses) is) ∙ none.0)
 
-pub gives_where : (config : Config) (old new : NodesState) → GivesIn config old new → LosesNothing old new → new ≡ behind_giving config old
+pub gives_where : (config : Config) (old new : NodesState) → GivesIn config old new → LosesNothing old new → new ≡ after_giving config old
 gives_where config old new (inl is) none = is
-gives_where config old new (inr (inl is)) none = absurd (counts (unheard (behind_giving config old) old) old new refl is none)
+gives_where config old new (inr (inl is)) none = absurd (counts (unheard (after_giving config old) old) old new refl is none)
 gives_where config old new (inr (inr is)) none = absurd (counts (forgetful old) old new refl is none)
 
-pub answers_where : (from ballot : ℕ) (old new : NodesState) → HearsIn from (Activate ballot) old new → LosesNothing old new → new ≡ behind_answer from ballot old
+pub answers_where : (from ballot : ℕ) (old new : NodesState) → HearsIn from (Activate ballot) old new → LosesNothing old new → new ≡ after_answer from ballot old
 answers_where from ballot old new (inl is) none = is
-answers_where from ballot old new (inr is) none = absurd (counts (unheard (behind_answer from ballot old) old) old new refl is none)
+answers_where from ballot old new (inr is) none = absurd (counts (unheard (after_answer from ballot old) old) old new refl is none)
 
 -- ---- even if memory runs out
 

@@ -9,7 +9,7 @@ use Rattle.master.specs.ballot.Body.TheVariants.{NewBallot, Activate, Activated,
 use Rattle.master.specs.ballot.Config.{Config}
 use Rattle.master.specs.agreement.MasterState.AssignRefusal.{bad_members, ballots_spent}
 use Rattle.master.specs.agreement.MasterState.{AssignRefusal, MasterState, activating, assigning, is_granted, refusal}
-use Rattle.byte_world.specs.broker_base.Command.{Command}
+use Rattle.byte_world.specs.broker_spec.declared.command.Command.{Command}
 use Rattle.byte_world.specs.world_base.Core.{rules}
 use Rattle.byte_world.specs.node_group.Group.{Group, moment_of, with_master}
 use Rattle.master.specs.declared.error.AssignError.{AssignError}

@@ -4,7 +4,7 @@ use Rattle.std.proofs.lemmas.List.{map-append}
 use Rattle.master.specs.agreement.MasterState.{MasterState, opening_master}
 use Rattle.master.specs.ballot.Config.{Config}
 use Rattle.master.specs.ballot.Message.{Message}
-use Rattle.byte_world.specs.broker_base.Command.{Command}
+use Rattle.byte_world.specs.broker_spec.declared.command.Command.{Command}
 use Rattle.byte_world.specs.world_base.Core.{CoreState, CountedCore, opening_core}
 use Rattle.byte_world.specs.node_group.Group.{opening_cores, opening_group}
 use Rattle.world_nodes.specs.Nodes.{StandsFor, cores_of}

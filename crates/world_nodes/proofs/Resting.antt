@@ -17,8 +17,8 @@ use Rattle.master.specs.ballot.Replica.{ReplicaState}
 use Rattle.master.specs.ballot.Sending.{nothing_done}
 use Rattle.master.specs.lists.Lists.{In}
 use Rattle.master.proofs.of_lists.Members.{in_at}
-use Rattle.byte_world.specs.broker_base.Command.{Command}
-use Rattle.byte_world.specs.broker_base.Output.{Output}
+use Rattle.byte_world.specs.broker_spec.declared.command.Command.{Command}
+use Rattle.byte_world.specs.broker_spec.declared.command.Output.{Output}
 use Rattle.byte_world.specs.broker_base.State.{State as BrokerState}
 use Rattle.byte_world.specs.world_base.Connections.{has_failed}
 use Rattle.byte_world.specs.world_base.declared.item.Item.{Item}
@@ -31,13 +31,13 @@ use Rattle.byte_world.proofs.of_world_base.Calmly.{says_nothing}
 use Rattle.byte_world.specs.node_group.Group.{moment_of}
 use Rattle.byte_world.specs.node_moves.Moves.NodeCall.{takes}
 use Rattle.world_nodes.specs.Nodes.{NodesState}
-use Rattle.world_nodes.specs.Goes.{Acts, Comes, HeardByMaster, TakesExactly, behind_deed}
+use Rattle.world_nodes.specs.Goes.{Acts, Comes, HeardByMaster, TakesExactly, after_node_call}
 use Rattle.world_nodes.specs.Running.{running}
 use Rattle.world_nodes.specs.Quiet.{ComesUnheeded, IsUnheeded, RestsAt}
 use Rattle.world_nodes.specs.Steps.{ComesIn, LosesNothing, TakesIn}
 use Rattle.world_nodes.specs.GroupSteps.{ActsOrRests, ComesOrRests}
 use Rattle.world_nodes.specs.Inside.{HaveCounted, IsPassedOver, Keeps, RunsAt, TookItem}
-use Rattle.world_nodes.proofs.Acts.{behind_turn_of, not_one_more, same_core, took_by, whole_turn}
+use Rattle.world_nodes.proofs.Acts.{after_turn_of, not_one_more, same_core, took_by, whole_turn}
 use Rattle.world_nodes.proofs.Exactly.{exactly}
 
 -- ---- the turn of one node
@@ -83,7 +83,7 @@ same_node nodes node at x core runs = same_Some core x.core (sym runs ∙ x.runs
 
 pub turn_rests : (old : NodesState) (node at : ℕ) (x : RunsAt old.nodes node at) (new : CountedCore) (item : Item) (more : List (ℕ × Message Command)) (whole : Bool) (losses : ℕ)
     → TookItem x.core item new old.sent more whole → losses ≡ (if whole && true then old.losses else one_more old.losses) → RestsAt node item old
-    → TakesExactly node item old (behind_turn_of at new more losses old)
+    → TakesExactly node item old (after_turn_of at new more losses old)
 turn_rests old node at x new item more whole losses t count rests = by whole (t.rests
     (subst (λ (c : CountedCore). TakesNoMemory item c.core) same rests.takes)
     (subst (λ (c : CountedCore). find has_failed c.core.connections ≡ None) same rests.none_failed)
@@ -93,14 +93,14 @@ turn_rests old node at x new item more whole losses t count rests = by whole (t.
     same = same_node old.nodes node at x rests.core rests.runs
 
     by : (w : Bool) → w ≡ true → TookItem x.core item new old.sent more w → losses ≡ (if w && true then old.losses else one_more old.losses)
-        → TakesExactly node item old (behind_turn_of at new more losses old)
+        → TakesExactly node item old (after_turn_of at new more losses old)
     by false e took counted = absurd cc
     by true e took counted =
         record {
           core = x.core;
           runs = x.runs;
-          is = ap (λ (k : ℕ). behind_turn_of at new more k old) counted ∙ whole_turn old at x.core new item more took
-              ∙ ap (λ (k : ℕ). behind_deed k x.core (takes item) old) x.place;
+          is = ap (λ (k : ℕ). after_turn_of at new more k old) counted ∙ whole_turn old at x.core new item more took
+              ∙ ap (λ (k : ℕ). after_node_call k x.core (takes item) old) x.place;
         }
 
 -- ---- a message that is skipped

@@ -6,9 +6,9 @@ use Rattle.std.proofs.lemmas.Option.{same_Some}
 use Rattle.master.specs.ballot.Logs.{Log}
 use Rattle.master.specs.ballot.Machine.{replay, replay_from}
 use Rattle.master.specs.ballot.Replica.{ReplicaState}
-use Rattle.byte_world.specs.broker_base.Command.{Command}
-use Rattle.byte_world.specs.broker_base.Command.TheVariants as commands
-use Rattle.byte_world.specs.broker_base.Place.{Client}
+use Rattle.byte_world.specs.broker_spec.declared.command.Command.{Command}
+use Rattle.byte_world.specs.broker_spec.declared.command.Command.TheVariants as commands
+use Rattle.byte_world.specs.broker_spec.Place.{Client}
 use Rattle.byte_world.specs.broker_base.State.{State}
 use Rattle.master.specs.Inside.{ToldIn}
 use Rattle.master.specs.snapshots.Laws.{IsCutRight}

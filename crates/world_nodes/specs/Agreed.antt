@@ -2,8 +2,8 @@
 use Rattle.std.specs.Prelude.{◌≡◌, ℕ, List, ◌∷◌, length}
 use Rattle.master.specs.ballot.Config.{Config}
 use Rattle.master.specs.snapshots.Past.{IsAgreed, Moment, Past}
-use Rattle.byte_world.specs.broker_base.Command.{Command}
-use Rattle.byte_world.specs.broker_base.Output.{Output}
+use Rattle.byte_world.specs.broker_spec.declared.command.Command.{Command}
+use Rattle.byte_world.specs.broker_spec.declared.command.Output.{Output}
 use Rattle.byte_world.specs.broker_base.State.{State}
 use Rattle.byte_world.specs.world_base.Core.{rules}
 use Rattle.byte_world.specs.node_group.Group.{Group, moment_of}

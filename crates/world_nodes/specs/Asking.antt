@@ -5,12 +5,12 @@ use Rattle.master.specs.ballot.Machine.{replay}
 use Rattle.master.specs.snapshots.Whole.{whole_log}
 use Rattle.byte_world.specs.packet.declared.connack.Connack.TheVariants.{Accepted}
 use Rattle.byte_world.specs.packet.declared.packet.Packet.TheVariants.{Connack}
-use Rattle.byte_world.specs.broker_base.Command.{Command}
-use Rattle.byte_world.specs.broker_base.Command.TheVariants as commands
-use Rattle.byte_world.specs.broker_base.Connection.{ConnectionName}
-use Rattle.byte_world.specs.broker_base.Output.{Output}
-use Rattle.byte_world.specs.broker_base.Output.TheVariants.{Send}
-use Rattle.byte_world.specs.broker_base.Place.{Client}
+use Rattle.byte_world.specs.broker_spec.declared.command.Command.{Command}
+use Rattle.byte_world.specs.broker_spec.declared.command.Command.TheVariants as commands
+use Rattle.byte_world.specs.broker_spec.Connection.{ConnectionName}
+use Rattle.byte_world.specs.broker_spec.declared.command.Output.{Output}
+use Rattle.byte_world.specs.broker_spec.declared.command.Output.TheVariants.{Send}
+use Rattle.byte_world.specs.broker_spec.Place.{Client}
 use Rattle.byte_world.specs.world_base.Core.{CountedCore, rules}
 use Rattle.world_nodes.specs.Running.{node_of}
 use Rattle.world_nodes.specs.Nodes.{NodesState}

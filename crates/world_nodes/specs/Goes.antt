@@ -7,7 +7,7 @@ use Rattle.master.specs.ballot.Message.{Message}
 use Rattle.master.specs.ballot.Sending.{master}
 use Rattle.master.specs.snapshots.Masters.{MasterOutcome, activated, assigned}
 use Rattle.master.specs.snapshots.World.{messages, recorded}
-use Rattle.byte_world.specs.broker_base.Command.{Command}
+use Rattle.byte_world.specs.broker_spec.declared.command.Command.{Command}
 use Rattle.byte_world.specs.world_base.Core.{CountedCore}
 use Rattle.byte_world.specs.world_base.declared.Handed.{Handed}
 use Rattle.byte_world.specs.world_base.declared.item.Item.{Item}
@@ -24,11 +24,11 @@ use Rattle.world_nodes.specs.Running.{running, node_of, cutting}
 -- ---- a call of a node
 
 -- the nodes after a call of the one at this place
-abbrev pub behind_deed : ℕ → CountedCore → NodeCall → NodesState → NodesState
-behind_deed at node deed n =
+abbrev pub after_node_call : ℕ → CountedCore → NodeCall → NodesState → NodesState
+after_node_call at node node_call n =
     record n {
-      nodes = slice_set n.nodes at (record node { core = (done deed node.core).core });
-      sent = n.sent ++ messages (done deed node.core).messages;
+      nodes = slice_set n.nodes at (record node { core = (done node_call node.core).core });
+      sent = n.sent ++ messages (done node_call node.core).messages;
     }
 
 -- The node of this number runs, and took just this item: its step is the definitions' step, and all
@@ -36,14 +36,14 @@ behind_deed at node deed n =
 pub record TakesExactly (node : ℕ) (item : Item) (old new : NodesState) : Type 0 where
   pub core : CountedCore
   pub runs : running old.nodes node ≡ Some core
-  pub is : new ≡ behind_deed (node - 1) core (takes item) old
+  pub is : new ≡ after_node_call (node - 1) core (takes item) old
 
 -- The node of this number had something to cut, and took just that item; what it had applied is in
 -- the record.
 pub record CutsExactly (node : ℕ) (old new : NodesState) : Type 0 where
   pub core : CountedCore
   pub cuts : cutting old.nodes node ≡ Some core
-  pub is : new ≡ record (behind_deed (node - 1) core (takes Cut) old) {
+  pub is : new ≡ record (after_node_call (node - 1) core (takes Cut) old) {
     archive = recorded old.archive core.core.replica.state;
   }
 
@@ -51,24 +51,24 @@ pub record CutsExactly (node : ℕ) (old new : NodesState) : Type 0 where
 pub record GivesExactly (node : ℕ) (port : Port) (old new : NodesState) : Type 0 where
   pub core : CountedCore
   pub there : node_of old.nodes node ≡ Some core
-  pub is : new ≡ behind_deed (node - 1) core (gives port) old
+  pub is : new ≡ after_node_call (node - 1) core (gives port) old
 
 -- a group does a call of a node, or of the master, exactly or with losses, and then corresponds to
 -- these nodes
-pub record GoesBy (deed : Option (ℕ × NodeCall)) (g : Group) (new : NodesState) : Type 0 where
-  pub does : Does g deed
-  pub stands : StandsFor does.behind new
+pub record GoesBy (node_call : Option (ℕ × NodeCall)) (g : Group) (new : NodesState) : Type 0 where
+  pub does : Does g node_call
+  pub stands : StandsFor does.after new
 
 -- each group that corresponds to the nodes before does so: the node at this place does this call
 abbrev pub Acts : ℕ → NodeCall → NodesState → NodesState → Type 0
-Acts at deed old new = (g : Group) → StandsFor g old → GoesBy (Some (at, deed)) g new
+Acts at node_call old new = (g : Group) → StandsFor g old → GoesBy (Some (at, node_call)) g new
 
 -- ---- what is handed over
 
 -- what the node of this number queued for a port is appended
 abbrev pub HandsOver : ℕ → Port → NodesState → List ℕ → List ℕ → Type 0
-HandsOver node port n before behind =
-    (core : CountedCore) → node_of n.nodes node ≡ Some core → behind ≡ before ++ bytes_of (listed_at port core.core)
+HandsOver node port n before after =
+    (core : CountedCore) → node_of n.nodes node ≡ Some core → after ≡ before ++ bytes_of (listed_at port core.core)
 
 -- .. and the answer says whether more may come
 abbrev pub AnswersFor : ℕ → Port → NodesState → Handed → Type 0
@@ -78,21 +78,21 @@ AnswersFor node port n handed =
 -- ---- the master
 
 -- the nodes after a step of the master, whose message was sent
-abbrev pub behind_master : MasterOutcome Command → NodesState → NodesState
-behind_master o n = record n { master = o.state; sent = n.sent ++ (o.receiver, record { from = master; body = o.body }) ∷ [] }
+abbrev pub after_master : MasterOutcome Command → NodesState → NodesState
+after_master o n = record n { master = o.state; sent = n.sent ++ (o.receiver, record { from = master; body = o.body }) ∷ [] }
 
 -- after an Assign that is not refused, and after an Activate of a node
-abbrev pub behind_giving : Config → NodesState → NodesState
-behind_giving config n = behind_master (assigned Command n.master config) n
+abbrev pub after_giving : Config → NodesState → NodesState
+after_giving config n = after_master (assigned Command n.master config) n
 
-abbrev pub behind_answer : ℕ → ℕ → NodesState → NodesState
-behind_answer from ballot n = behind_master (activated Command n.master ballot from n.master.waiting) n
+abbrev pub after_answer : ℕ → ℕ → NodesState → NodesState
+after_answer from ballot n = after_master (activated Command n.master ballot from n.master.waiting) n
 
 -- ---- a message reaches its receiver
 
 -- the master answers an Activate, and ignores every other message
 abbrev pub HeardByMaster : ℕ → Body Command → NodesState → NodesState → Type 0
-HeardByMaster from (Activate ballot) old new = new ≡ behind_answer from ballot old
+HeardByMaster from (Activate ballot) old new = new ≡ after_answer from ballot old
 HeardByMaster from _ old new = new ≡ old
 
 -- a message that was sent reaches the master, or a node, which takes just it

@@ -4,7 +4,7 @@ use Rattle.std.specs.Prelude.{◌≡◌, ◌⊎◌, ℕ, zero, suc, Option, Some
 use Rattle.master.specs.ballot.Body.{Body}
 use Rattle.master.specs.ballot.Body.TheVariants.{Activate}
 use Rattle.master.specs.ballot.Message.{Message}
-use Rattle.byte_world.specs.broker_base.Command.{Command}
+use Rattle.byte_world.specs.broker_spec.declared.command.Command.{Command}
 use Rattle.byte_world.specs.world_base.declared.item.Item.TheVariants.{Peer}
 use Rattle.byte_world.specs.node_moves.Moves.{NodeCall}
 use Rattle.byte_world.specs.node_moves.Moves.NodeCall.{takes}
@@ -15,7 +15,7 @@ use Rattle.world_nodes.specs.Steps.{forgetful}
 
 -- by a call of the node at this place; or nothing happened
 abbrev pub ActsOrRests : ℕ → NodeCall → NodesState → NodesState → Type 0
-ActsOrRests at deed old new = Acts at deed old new ⊎ (new ≡ forgetful old)
+ActsOrRests at node_call old new = Acts at node_call old new ⊎ (new ≡ forgetful old)
 
 -- by a step of the master, whose message may be lost; or nothing happened
 abbrev pub MasterGoes : NodesState → NodesState → Type 0

@@ -8,8 +8,8 @@ use Rattle.master.specs.snapshots.World.{messages}
 use Rattle.master.specs.ballot.Effect.{Effect}
 use Rattle.master.specs.ballot.Losses.{Thinned}
 use Rattle.master.specs.ballot.Message.{Message}
-use Rattle.byte_world.specs.broker_base.Command.{Command}
-use Rattle.byte_world.specs.broker_base.Output.{Output}
+use Rattle.byte_world.specs.broker_spec.declared.command.Command.{Command}
+use Rattle.byte_world.specs.broker_spec.declared.command.Output.{Output}
 use Rattle.byte_world.specs.world_base.declared.item.Item.{Item}
 use Rattle.byte_world.specs.world_base.declared.item.Item.TheVariants.{Cut, Peer}
 use Rattle.byte_world.specs.world_base.Core.{CountedCore, rules}

@@ -2,7 +2,7 @@
 use Rattle.std.specs.Prelude.{◌≡◌, ℕ, List, map}
 use Rattle.master.specs.ballot.Message.{Message}
 use Rattle.master.specs.agreement.MasterState.{MasterState}
-use Rattle.byte_world.specs.broker_base.Command.{Command}
+use Rattle.byte_world.specs.broker_spec.declared.command.Command.{Command}
 use Rattle.byte_world.specs.world_base.Core.{CoreState, CountedCore}
 use Rattle.byte_world.specs.node_group.Group.{Group}
 

@@ -7,8 +7,8 @@ use Rattle.master.specs.ballot.Body.TheVariants.{Activate}
 use Rattle.master.specs.ballot.Config.{Config}
 use Rattle.master.specs.ballot.Losses.{Thinned, one_more}
 use Rattle.master.specs.ballot.Message.{Message}
-use Rattle.byte_world.specs.broker_base.Command.{Command}
-use Rattle.byte_world.specs.broker_base.Output.{Output}
+use Rattle.byte_world.specs.broker_spec.declared.command.Command.{Command}
+use Rattle.byte_world.specs.broker_spec.declared.command.Output.{Output}
 use Rattle.byte_world.specs.world_base.declared.Handed.{Handed}
 use Rattle.byte_world.specs.world_base.declared.Handed.TheVariants as answers
 use Rattle.byte_world.specs.world_base.declared.item.Item.{Item}
@@ -17,7 +17,7 @@ use Rattle.byte_world.specs.world_base.declared.Port.{Port}
 use Rattle.byte_world.specs.world_base.Core.{CountedCore}
 use Rattle.byte_world.specs.world_base.LossyStep.{RunsOn}
 use Rattle.byte_world.specs.node_moves.Moves.NodeCall.{takes}
-use Rattle.world_nodes.specs.Goes.{AnswersFor, GivesExactly, HandsOver, behind_answer, behind_deed, behind_giving}
+use Rattle.world_nodes.specs.Goes.{AnswersFor, GivesExactly, HandsOver, after_answer, after_node_call, after_giving}
 use Rattle.world_nodes.specs.Running.{cutting, running}
 use Rattle.world_nodes.specs.Nodes.{NodesState}
 
@@ -69,7 +69,7 @@ pub record CutsWithLosses (at : ℕ) (core : CountedCore) (old new : NodesState)
 pub record TakesIn (node : ℕ) (item : Item) (old new : NodesState) : Type 0 where
   pub core : CountedCore
   pub runs : running old.nodes node ≡ Some core
-  pub way : (new ≡ behind_deed (node - 1) core (takes item) old) ⊎ ActsWithLosses (node - 1) item core old new
+  pub way : (new ≡ after_node_call (node - 1) core (takes item) old) ⊎ ActsWithLosses (node - 1) item core old new
 
 -- An Expel of a client is proposed by a node, exactly or with losses; or there is no memory for it,
 -- and that is counted.
@@ -81,7 +81,7 @@ ExpelsIn client node old new = TakesIn node (Expel client) old new ⊎ (new ≡ 
 pub record CutsIn (node : ℕ) (old new : NodesState) : Type 0 where
   pub core : CountedCore
   pub cuts : cutting old.nodes node ≡ Some core
-  pub way : (new ≡ record (behind_deed (node - 1) core (takes Cut) old) {
+  pub way : (new ≡ record (after_node_call (node - 1) core (takes Cut) old) {
     archive = recorded old.archive core.core.replica.state;
   })
       ⊎ CutsWithLosses (node - 1) core old new
@@ -89,19 +89,19 @@ pub record CutsIn (node : ℕ) (old new : NodesState) : Type 0 where
 
 -- the master's message is lost, and that is counted
 abbrev pub unheard : NodesState → NodesState → NodesState
-unheard behind n = record n { master = behind.master; losses = one_more n.losses }
+unheard after n = record n { master = after.master; losses = one_more n.losses }
 
 -- The master gave a ballot, and sent it to its primary. Or it was not sent, or nothing happened:
 -- both are counted.
 abbrev pub GivesIn : Config → NodesState → NodesState → Type 0
 GivesIn config old new =
-    (new ≡ behind_giving config old) ⊎ (new ≡ unheard (behind_giving config old) old) ⊎ (new ≡ forgetful old)
+    (new ≡ after_giving config old) ⊎ (new ≡ unheard (after_giving config old) old) ⊎ (new ≡ forgetful old)
 
 -- The master answered a node that asked it to activate a ballot. Or the answer was lost, and that
 -- is counted. It ignores every other message.
 abbrev pub HearsIn : ℕ → Body Command → NodesState → NodesState → Type 0
 HearsIn from (Activate ballot) old new =
-    (new ≡ behind_answer from ballot old) ⊎ (new ≡ unheard (behind_answer from ballot old) old)
+    (new ≡ after_answer from ballot old) ⊎ (new ≡ unheard (after_answer from ballot old) old)
 HearsIn from _ old new = new ≡ old
 
 -- A message that was sent came to the master, or to a node, which took it. Or there was no memory
@@ -114,6 +114,6 @@ ComesIn (Some (suc at, message)) old new = TakesIn (suc at) (Peer message) old n
 -- What was queued was handed over and appended, and the answer says whether more may come. Or
 -- nothing was, more may come, and that is counted.
 abbrev pub HandsIn : ℕ → Port → NodesState → NodesState → List ℕ → List ℕ → Handed → Type 0
-HandsIn node port old new before behind handed =
-    (GivesExactly node port old new × HandsOver node port old before behind × AnswersFor node port old handed)
-    ⊎ ((new ≡ forgetful old) × (behind ≡ before) × (handed ≡ answers.Open))
+HandsIn node port old new before after handed =
+    (GivesExactly node port old new × HandsOver node port old before after × AnswersFor node port old handed)
+    ⊎ ((new ≡ forgetful old) × (after ≡ before) × (handed ≡ answers.Open))

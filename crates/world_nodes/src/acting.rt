@@ -155,8 +155,8 @@ impl Nodes {
     {
         let (before, _) = self.master.active();
         let activation = self.master.activate(ballot);
-        let (behind, _) = self.master.active();
-        self.counters.turn_over(before, behind);
+        let (after, _) = self.master.active();
+        self.counters.turn_over(before, after);
         let told = tell(&mut self.sent, from, answer_of(activation, ballot));
         self.losses = counted(self.losses, told, true);
     }

@@ -41,13 +41,13 @@ impl Counters {
     }
 
     /// Notes that the active ballot was this one, and is that one now.
-    pub fn turn_over(&mut self, before: u64, behind: u64)
-        ensures stays { before ≡ behind →
+    pub fn turn_over(&mut self, before: u64, after: u64)
+        ensures stays { before ≡ after →
             (self.new.told ≡ self.old.told) × (self.new.next ≡ self.old.next) }
-        ensures turns { (before ≡ behind → ⊥) →
+        ensures turns { (before ≡ after → ⊥) →
             (self.new.told ≡ self.old.next) × (self.new.next ≡ self.old.told) }
     {
-        turn_over(&mut self.told, &mut self.next, before, behind);
+        turn_over(&mut self.told, &mut self.next, before, after);
     }
 
     /// Counts what the messages from an index on acknowledge.

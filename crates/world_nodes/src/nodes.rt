@@ -7,7 +7,7 @@ ghost use Rattle.master.specs.agreement.World.{can_open};
 ghost use Rattle.byte_world.specs.node_group.Group.{Group, opening_group};
 ghost use Rattle.byte_world.specs.node_moves.Moves.NodeCall.{takes};
 ghost use Rattle.world_nodes.specs.Nodes.{NodesState, StandsFor};
-ghost use Rattle.world_nodes.specs.Goes.{Acts, AnswersFor, Comes, ComesToNobody, CutsExactly, GivesExactly, HandsOver, TakesExactly, behind_giving};
+ghost use Rattle.world_nodes.specs.Goes.{Acts, AnswersFor, Comes, ComesToNobody, CutsExactly, GivesExactly, HandsOver, TakesExactly, after_giving};
 ghost use Rattle.world_nodes.specs.Running.{cutting, node_of, proposing, running};
 ghost use Rattle.world_nodes.specs.Quiet.{ComesUnheeded, RestsAt, WaitsAtNone};
 ghost use Rattle.world_nodes.specs.Steps.{ComesIn, CutsIn, ExpelsIn, GivesIn, HandsIn, LosesNothing, TakesIn};
@@ -99,7 +99,7 @@ impl Nodes {
     pub fn assign(&mut self, config: &Config) -> Result<(), Idle>
         ensures step { OnOk result (GivesIn config.now self.old self.new) }
         ensures goes { LosesNothing self.old self.new →
-            OnOk result (self.new ≡ behind_giving config.now self.old) }
+            OnOk result (self.new ≡ after_giving config.now self.old) }
         ensures acts { OnOk result (MasterGoesOrRests self.old self.new) }
         ensures rises { self.old.losses ≤ self.new.losses }
         ensures idle { IsErr result ↔ (refusal self.old.master config.now ≡ None → ⊥) }

@@ -6,7 +6,7 @@ use Rattle.client.specs.packet.ClientId.{is_client}
 use Rattle.client.proofs.of_packet.Clients.{client_short}
 use Rattle.client.specs.packet.Spelling.{IsPacket}
 use Rattle.client.specs.packet.declared.packet.Packet.TheVariants as packets
-use Rattle.byte_world.specs.broker_base.Connection.{ConnectionName}
+use Rattle.byte_world.specs.broker_spec.Connection.{ConnectionName}
 use Rattle.client.specs.client_base.declared.error.ClientError.{ClientError}
 use Rattle.client.specs.client_base.State.{ClientState, is_open}
 use Rattle.client.specs.client_base.Called as called

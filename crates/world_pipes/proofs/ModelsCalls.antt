@@ -7,7 +7,7 @@ use Rattle.client.specs.packet.declared.qos.QoS.{QoS}
 use Rattle.client.specs.session_base.declared.publication.Publication.{Publication}
 use Rattle.client.specs.session_base.Identifiers.{least_free}
 use Rattle.client.proofs.of_session_base.IdentifiersOfFills.{least_free_is}
-use Rattle.byte_world.specs.broker_base.Commands.{usual_limits}
+use Rattle.byte_world.specs.broker_spec.Commands.{usual_limits}
 use Rattle.client.specs.client_base.declared.request.Request.TheVariants as requests
 use Rattle.client.specs.client_base.declared.stage.Stage.{Stage}
 use Rattle.client.specs.client_base.declared.stage.Stage.TheVariants as stages
@@ -24,7 +24,7 @@ use Rattle.client.specs.client_base.Written.{plain, writes_first}
 use Rattle.client.proofs.of_client_base.Follows.{calls_follow}
 use Rattle.byte_world.specs.packet_world.Goes.{is_call}
 use Rattle.byte_world.specs.exactly_once.Sides.{Connection}
-use Rattle.byte_world.specs.exactly_once.Story.{Happens}
+use Rattle.byte_world.specs.exactly_once.Story.{StoryStep}
 use Rattle.byte_world.specs.World.{ClientPipes, packets_of}
 use Rattle.byte_world.specs.Goes.{story_alone}
 use Rattle.byte_world.specs.Published.{published_by}
@@ -34,7 +34,7 @@ use Rattle.world_pipes.proofs.NotRefused.{asked_so, is_published, not_refused}
 pub record IsCalled (turn : Turn) (m : ClientPipes) : Type 0 where
   pub keeper : Keeper
   pub connections : List Connection
-  pub call : Happens usual_limits (story_alone m) (record { past = []; connections = connections; keeper = keeper })
+  pub call : StoryStep usual_limits (story_alone m) (record { past = []; connections = connections; keeper = keeper })
   pub is_one : is_call call ≡ true
   pub stands : history.StandsFor keeper turn.state
   pub more : List Written
@@ -55,7 +55,7 @@ publishes_too p m state s zero taken =
     record {
       keeper = called.adds_own p m.keeper;
       connections = writes_first (called.written_for p m.keeper) m.connections;
-      call = Happens.publishes_one p (λ e. sym s.is_online ∙ is.goes_out e);
+      call = StoryStep.publishes_one p (λ e. sym s.is_online ∙ is.goes_out e);
       is_one = refl;
       stands = f.0;
       more = called.written_for p m.keeper;
@@ -78,7 +78,7 @@ subscribes_too filter qos m state s zero taken =
     record {
       keeper = called.asks (requests.Subscribes (least_free (ids_in_use m.keeper))) m.keeper;
       connections = writes_first (plain (called.subscribe_of filter qos m.keeper) ∷ []) m.connections;
-      call = Happens.subscribes (record { id = least_free (ids_in_use m.keeper); filters = record { filter = filter; qos = qos } ∷ [] })
+      call = StoryStep.subscribes (record { id = least_free (ids_in_use m.keeper); filters = record { filter = filter; qos = qos } ∷ [] })
           (sym s.is_online ∙ is.0) refl;
       is_one = refl;
       stands = f.0;
@@ -100,7 +100,7 @@ unsubscribes_too filter m state s zero taken =
     record {
       keeper = called.asks (requests.Unsubscribes (least_free (ids_in_use m.keeper))) m.keeper;
       connections = writes_first (plain (called.unsubscribe_of filter m.keeper) ∷ []) m.connections;
-      call = Happens.unsubscribes (record { id = least_free (ids_in_use m.keeper); filters = filter ∷ [] }) (sym s.is_online ∙ is.0) refl;
+      call = StoryStep.unsubscribes (record { id = least_free (ids_in_use m.keeper); filters = filter ∷ [] }) (sym s.is_online ∙ is.0) refl;
       is_one = refl;
       stands = f.0;
       more = plain (called.unsubscribe_of filter m.keeper) ∷ [];
@@ -130,7 +130,7 @@ leaves_too m state s zero taken =
     record {
       keeper = handling.lost m.keeper;
       connections = if m.keeper.is_online then writes_first (plain packets.Disconnect ∷ []) m.connections else m.connections;
-      call = Happens.disconnects;
+      call = StoryStep.disconnects;
       is_one = refl;
       stands = f.0;
       more = called.disconnects m.keeper;

@@ -54,21 +54,21 @@ some_left ways after left core some m =
     let is : after ≡ older ++ record sent.1 { up = sent.1.up ++ core.out } ∷ [] = ap (λ (p : Piped). p.ways) sent.3 in
     rw is (omega (arith, length-append older (record sent.1 { up = sent.1.up ++ core.out } ∷ [])))
 
-held_behind : (holds : Bool) (core left : Core) (ways after : List Way) (sending : Sending) (holding : Bool) → holds ≡ is_open core.state.stage
+held_after : (holds : Bool) (core left : Core) (ways after : List Way) (sending : Sending) (holding : Bool) → holds ≡ is_open core.state.stage
     → (holds ≡ true → 0 < length ways) → SendsUp holds core ways sending holding left after → IsHeld holding left after
-held_behind false core left ways after sending holding known leads s =
+held_after false core left ways after sending holding known leads s =
     record {
       known = s.1 ∙ known ∙ ap (λ (c : Core). is_open c.state.stage) (sym s.2);
       leads = λ up. absurd (both_ways holding s.1 up);
       sent = λ up. absurd (both_ways holding s.1 up);
     }
-held_behind true core left ways after sendings.Sent holding known leads s =
+held_after true core left ways after sendings.Sent holding known leads s =
     record {
       known = s.0 ∙ known ∙ ap (λ (c : Core). is_open c.state.stage) (sym s.1.handed);
       leads = λ up. some_left ways after left core (leads refl) s.1;
       sent = λ up. ap (λ (c : Core). c.out) s.1.handed;
     }
-held_behind true core left ways after sendings.Lost holding known leads s =
+held_after true core left ways after sendings.Lost holding known leads s =
     record {
       known = s.0 ∙ ap (λ (c : Core). is_open c.state.stage) (sym s.1);
       leads = λ up. absurd (both_ways holding s.0 up);
@@ -79,7 +79,7 @@ held_behind true core left ways after sendings.Lost holding known leads s =
 pub held_so : (turn : Turn) (before core left : Core) (ways after : List Way) (sending : Sending) (holds holding : Bool) → IsHeld holds before ways
     → turn.state.stage ≡ before.state.stage → Does turn before (Ok tt) core → SendsUp holds core ways sending holding left after → IsHeld holding left after
 held_so turn before core left ways after sending holds holding held stays does s =
-    held_behind holds core left ways after sending holding
+    held_after holds core left ways after sending holding
     (held.known ∙ ap is_open (sym stays) ∙ ap (λ (state : ClientState). is_open state.stage) (sym does.1.0))
     held.leads s
 

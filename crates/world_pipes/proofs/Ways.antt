@@ -8,7 +8,7 @@ use Rattle.client.specs.client_base.Handled.{lost}
 use Rattle.client.proofs.of_client_base.FollowsHandled.{lost_stands}
 use Rattle.client.specs.Core.{Core, gone}
 use Rattle.byte_world.specs.exactly_once.Sides.{Connection}
-use Rattle.byte_world.specs.exactly_once.Story.{Happens}
+use Rattle.byte_world.specs.exactly_once.Story.{StoryStep}
 use Rattle.byte_world.specs.World.{ClientPipes, Pipe, newly_written, sent_up}
 use Rattle.byte_world.proofs.OnTheWay.{newly_is}
 use Rattle.world_pipes.specs.declared.way.Way.{Way}
@@ -51,7 +51,7 @@ same_pipes m = ap (λ l. sent_up l m.pipes) (none_newly m.connections) ∙ none_
 
 pub losing : (m : ClientPipes) → ClientStep m (after_losing m)
 losing m =
-    ClientStep.calls (record { past = []; connections = m.connections; keeper = lost m.keeper }) Happens.loses refl
+    ClientStep.calls (record { past = []; connections = m.connections; keeper = lost m.keeper }) StoryStep.loses refl
     (subst (Each IsPacket) (sym (none_newly m.connections)) tt)
 
 pub losing_silent : (m : ClientPipes) → published_with (losing m) ≡ []

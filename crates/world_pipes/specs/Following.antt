@@ -2,14 +2,14 @@
 use Rattle.std.specs.Prelude.{◌≡◌, ◌-◌, ℕ, true, false, List, [], ◌++◌, length, take, slice_get, IfSome, Some, Result, Ok, Err}
 use Rattle.client.specs.packet.Spelling.{IsPacket}
 use Rattle.client.specs.packet.declared.packet.Packet.TheVariants as packets
-use Rattle.byte_world.specs.broker_base.Commands.{usual_limits}
-use Rattle.byte_world.specs.broker_base.Connection.{ConnectionName}
+use Rattle.byte_world.specs.broker_spec.Commands.{usual_limits}
+use Rattle.byte_world.specs.broker_spec.Connection.{ConnectionName}
 use Rattle.client.specs.client_base.declared.error.ClientError.{ClientError}
 use Rattle.client.specs.client_base.Handled.{lost}
 use Rattle.byte_world.specs.packet_world.Goes.{is_call}
 use Rattle.client.specs.session_base.declared.publication.Publication.{Publication}
 use Rattle.byte_world.specs.exactly_once.Sides.{Connection}
-use Rattle.byte_world.specs.exactly_once.Story.{Happens, Story}
+use Rattle.byte_world.specs.exactly_once.Story.{StoryStep, Story}
 use Rattle.byte_world.specs.world_base.declared.Port.{Port}
 use Rattle.byte_world.specs.World.{ClientPipes, Pipe, after_writing, with_pipe}
 use Rattle.byte_world.specs.Goes.{CanBeSpelled, after_connecting, story_alone}
@@ -61,7 +61,7 @@ ConnectingFollows node port old (Err cause) new = FollowsAll old new
 -- one call of the model's client, which publishes this, leads to one that this corresponds to
 pub record FollowsCalling (published : List Publication) (m : ClientPipes) (new : Piped) : Type 0 where
   pub story : Story
-  pub call : Happens usual_limits (story_alone m) story
+  pub call : StoryStep usual_limits (story_alone m) story
   pub is_one : is_call call ≡ true
   pub publishes : published_by call ≡ published
   pub spelled : CanBeSpelled m.connections story.connections

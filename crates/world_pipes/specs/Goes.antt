@@ -2,11 +2,11 @@
 use Rattle.std.specs.Prelude.{◌≡◌, ℕ, true, List, [], ◌∷◌, ◌++◌, Some, Ok, slice_get}
 use Rattle.client.specs.packet.declared.packet.Packet.{Packet}
 use Rattle.client.specs.cutter.Stream.{Stream, Takes}
-use Rattle.byte_world.specs.broker_base.Commands.{usual_limits}
+use Rattle.byte_world.specs.broker_spec.Commands.{usual_limits}
 use Rattle.client.specs.session_base.declared.publication.Publication.{Publication}
 use Rattle.client.specs.client_base.Handled.{handled}
 use Rattle.byte_world.specs.exactly_once.Sides.{Connection}
-use Rattle.byte_world.specs.exactly_once.Story.{Story, Happens}
+use Rattle.byte_world.specs.exactly_once.Story.{Story, StoryStep}
 use Rattle.byte_world.specs.packet_world.Goes.{is_call}
 use Rattle.byte_world.specs.World.{ClientPipes, Pipe, World, after_writing, with_client, with_pipe}
 use Rattle.byte_world.specs.Goes.{CanBeSpelled, WorldStep, after_packet, story_alone}
@@ -14,7 +14,7 @@ use Rattle.byte_world.specs.Published.{from_client, published_by, published_in}
 
 -- a step of a world, as the client that takes it sees it
 pub data ClientStep (c : ClientPipes) : ClientPipes → Type 0 where
-  calls : (t : Story) (h : Happens usual_limits (story_alone c) t) → is_call h ≡ true → CanBeSpelled c.connections t.connections →
+  calls : (t : Story) (h : StoryStep usual_limits (story_alone c) t) → is_call h ≡ true → CanBeSpelled c.connections t.connections →
       ClientStep c (after_writing t.keeper t.connections c)
   arrives : (j : ℕ) (κ : Connection) (p : Pipe) (piece rest : List ℕ) → slice_get c.connections j ≡ Some κ → slice_get c.pipes j ≡ Some p →
       p.down ≡ piece ++ rest →

@@ -10,19 +10,19 @@ use Rattle.client_base.specs.packet.declared.packet.Packet.{Packet}
 use Rattle.client_base.specs.packet.declared.packet.Packet.TheVariants as packets
 use Rattle.client_base.specs.session_base.declared.publication.Publication.{Publication}
 use Rattle.client_base.specs.session_base.Publication.{publication_of}
-use Rattle.broker_base.specs.Connection.{ConnectionName}
-use Rattle.broker_base.specs.Place.{Client, Mark, Place, Past, Limits}
-use Rattle.broker_base.specs.Received.{is_new, is_exactly_once, is_repeat}
-use Rattle.broker_base.specs.Owner.{clients}
-use Rattle.broker_base.specs.Marks.{is_refused, packet_mark_of}
-use Rattle.broker_base.specs.Sends.{deliveries_to}
-use Rattle.broker_base.specs.Answers.{acknowledged, answers_at}
-use Rattle.broker_base.specs.AnswerLaws.{is_unasked}
-use Rattle.broker_base.specs.EndingLaws.{StandsAt}
-use Rattle.broker_base.specs.Command.{Command}
-use Rattle.broker_base.specs.Command.TheVariants as commands
-use Rattle.broker_base.specs.Output.{Output}
-use Rattle.broker_base.specs.Output.TheVariants.{Send, Close}
+use Rattle.broker_base.specs.broker_spec.Connection.{ConnectionName}
+use Rattle.broker_base.specs.broker_spec.Place.{Client, Mark, Place, Past, Limits}
+use Rattle.broker_base.specs.broker_spec.Received.{is_new, is_exactly_once, is_repeat}
+use Rattle.broker_base.specs.broker_spec.Owner.{clients}
+use Rattle.broker_base.specs.broker_spec.Marks.{is_refused, packet_mark_of}
+use Rattle.broker_base.specs.broker_spec.Sends.{deliveries_to}
+use Rattle.broker_base.specs.broker_spec.Answers.{acknowledged, answers_at}
+use Rattle.broker_base.specs.broker_spec.AnswerLaws.{is_unasked}
+use Rattle.broker_base.specs.broker_spec.EndingLaws.{StandsAt}
+use Rattle.broker_base.specs.broker_spec.declared.command.Command.{Command}
+use Rattle.broker_base.specs.broker_spec.declared.command.Command.TheVariants as commands
+use Rattle.broker_base.specs.broker_spec.declared.command.Output.{Output}
+use Rattle.broker_base.specs.broker_spec.declared.command.Output.TheVariants.{Send, Close}
 use Rattle.broker_base.proofs.CopiesAreUnasked.{AnswersNothing, copies_are_unasked}
 use Rattle.client_base.specs.lists.Lists.{In}
 use Rattle.client_base.specs.lists.Lists.In.{here, there}

@@ -7,16 +7,16 @@ use Rattle.client_base.specs.packet.declared.packet.Packet.{Packet}
 use Rattle.client_base.specs.packet.declared.packet.Packet.TheVariants as packets
 use Rattle.client_base.specs.session_base.declared.publication.Publication.{Publication}
 use Rattle.client_base.specs.session_base.Publication.{publication_of}
-use Rattle.broker_base.specs.Connection.{ConnectionName}
-use Rattle.broker_base.specs.Place.{Client, Mark, Place, Past, Limits}
-use Rattle.broker_base.specs.Received.{is_new, is_exactly_once}
-use Rattle.broker_base.specs.Marks.{mark_of}
-use Rattle.broker_base.specs.Answers.{answers_at}
-use Rattle.broker_base.specs.AnswerLaws.{is_unasked}
-use Rattle.broker_base.specs.EndingLaws.{StandsAt}
-use Rattle.broker_base.specs.Command.{Command}
-use Rattle.broker_base.specs.Command.TheVariants as commands
-use Rattle.broker_base.specs.Output.TheVariants.{Send}
+use Rattle.broker_base.specs.broker_spec.Connection.{ConnectionName}
+use Rattle.broker_base.specs.broker_spec.Place.{Client, Mark, Place, Past, Limits}
+use Rattle.broker_base.specs.broker_spec.Received.{is_new, is_exactly_once}
+use Rattle.broker_base.specs.broker_spec.Marks.{mark_of}
+use Rattle.broker_base.specs.broker_spec.Answers.{answers_at}
+use Rattle.broker_base.specs.broker_spec.AnswerLaws.{is_unasked}
+use Rattle.broker_base.specs.broker_spec.EndingLaws.{StandsAt}
+use Rattle.broker_base.specs.broker_spec.declared.command.Command.{Command}
+use Rattle.broker_base.specs.broker_spec.declared.command.Command.TheVariants as commands
+use Rattle.broker_base.specs.broker_spec.declared.command.Output.TheVariants.{Send}
 use Rattle.broker_base.proofs.MarksOfPlaces.{mark_is}
 use Rattle.client_base.specs.lists.Lists.{In}
 use Rattle.client_base.specs.lists.Lists.In.{here, there}

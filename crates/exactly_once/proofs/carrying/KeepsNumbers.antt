@@ -1,15 +1,15 @@
 -- No event changes which publications the places of the list carry.
 use Rattle.std.proofs.Common.{Bool, true, false, if◌then◌else◌, List, [], ◌∷◌, refl, sym, subst, ◌≤◌, length}
 use Rattle.client_base.specs.packet.declared.packet.Packet.TheVariants as packets
-use Rattle.broker_base.specs.Place.{Past, Limits}
+use Rattle.broker_base.specs.broker_spec.Place.{Past, Limits}
 use Rattle.client_base.specs.lists.Lists.{Each}
 use Rattle.client_base.specs.Keeper.{Written}
 use Rattle.client_base.specs.Written.{plain, writes, writes_first}
 use Rattle.client_base.specs.Called.{new_connection, written_for}
 use Rattle.client_base.specs.Handled.{handled}
 use Rattle.exactly_once.specs.Sides.{Connection}
-use Rattle.exactly_once.specs.Story.{Story, Happens, count_of}
-use Rattle.exactly_once.specs.Story.Happens.{takes, others_take, receives, opens_anew, loses, disconnects, publishes_one, subscribes, unsubscribes}
+use Rattle.exactly_once.specs.Story.{Story, StoryStep, count_of}
+use Rattle.exactly_once.specs.Story.StoryStep.{takes, others_take, receives, opens_anew, loses, disconnects, publishes_one, subscribes, unsubscribes}
 use Rattle.exactly_once.specs.Inside.Shape.{HasShape}
 use Rattle.exactly_once.specs.Inside.ConnectionShape.{ConnectionInShape}
 use Rattle.exactly_once.proofs.publishing.First.{counted_within}
@@ -30,7 +30,7 @@ pub first_written : (past : Past) (connections : List Connection) (more : List W
 first_written past [] more within = same_itself past []
 first_written past (κ ∷ others) more within = same_written past κ (writes more κ) others more refl refl within.0
 
-pub numbers_keep : (limits : Limits) (s t : Story) → AreWithin s.past s.connections → Happens limits s t → SameNumbers s.connections t.connections s.past
+pub numbers_keep : (limits : Limits) (s t : Story) → AreWithin s.past s.connections → StoryStep limits s t → SameNumbers s.connections t.connections s.past
 numbers_keep limits s t within (takes i κ w stands next) = same_counted s.past i s.connections
 numbers_keep limits s t within (others_take command other none) = same_itself s.past s.connections
 numbers_keep limits s t within (receives κ others packet are opened next) =
@@ -54,5 +54,5 @@ pub shape_within : (limits : Limits) (s : Story) → HasShape limits s → AreWi
 shape_within limits s shape =
     each_then (ConnectionInShape limits s.past s.keeper.client) (λ (κ : Connection). count_of κ.name s.past ≤ length κ.written) s.connections (λ κ. counted_within limits s.past s.keeper κ) shape.connections
 
-pub events_keep_numbers : (limits : Limits) (s t : Story) → HasShape limits s → Happens limits s t → SameNumbers s.connections t.connections s.past
+pub events_keep_numbers : (limits : Limits) (s t : Story) → HasShape limits s → StoryStep limits s t → SameNumbers s.connections t.connections s.past
 events_keep_numbers limits s t shape = numbers_keep limits s t (shape_within limits s shape)

@@ -1,24 +1,24 @@
 -- In every story each place says what it carries, and each PUBLISH that is written is of the client's.
 use Rattle.std.proofs.Common.{◌≡◌, false, if◌then◌else◌, List, [], ◌∷◌, Some, None, refl, sym, ◌∙◌, ap, subst, ◌++◌, length}
 use Rattle.client_base.specs.packet.declared.packet.Packet.TheVariants as packets
-use Rattle.broker_base.specs.Connection.{ConnectionName, same_connection}
-use Rattle.broker_base.specs.Place.{Client, Past, Limits}
-use Rattle.broker_base.specs.Commands.{place_of, past_of}
-use Rattle.broker_base.specs.QuietLaws.{IsSteady}
-use Rattle.broker_base.specs.Command.{Command}
-use Rattle.broker_base.specs.Command.TheVariants as commands
+use Rattle.broker_base.specs.broker_spec.Connection.{ConnectionName, same_connection}
+use Rattle.broker_base.specs.broker_spec.Place.{Client, Past, Limits}
+use Rattle.broker_base.specs.broker_spec.Commands.{place_of, past_of}
+use Rattle.broker_base.specs.broker_spec.QuietLaws.{IsSteady}
+use Rattle.broker_base.specs.broker_spec.declared.command.Command.{Command}
+use Rattle.broker_base.specs.broker_spec.declared.command.Command.TheVariants as commands
 use Rattle.broker_base.proofs.MarksOfPlaces.{AreMarked, past_is_marked}
 use Rattle.client_base.specs.lists.Lists.{Each}
 use Rattle.client_base.proofs.of_lists.Tests.{or_none}
 use Rattle.exactly_once.specs.Sides.{Connection}
-use Rattle.exactly_once.specs.Story.{Story, Happens, any_named, is_packet_of, counted_at, command_of}
-use Rattle.exactly_once.specs.Told.{Told}
-use Rattle.exactly_once.specs.Told.Told.{begins, goes_on, begins_at}
-use Rattle.exactly_once.specs.Story.Happens.{takes, others_take, receives, opens_anew, loses, disconnects, publishes_one, subscribes, unsubscribes}
+use Rattle.exactly_once.specs.Story.{Story, StoryStep, any_named, is_packet_of, counted_at, command_of}
+use Rattle.exactly_once.specs.StoryTrace.{StoryTrace}
+use Rattle.exactly_once.specs.StoryTrace.StoryTrace.{begins, goes_on, begins_at}
+use Rattle.exactly_once.specs.Story.StoryStep.{takes, others_take, receives, opens_anew, loses, disconnects, publishes_one, subscribes, unsubscribes}
 use Rattle.exactly_once.specs.Carried.{carries, connection_named, number_at, publications_of}
 use Rattle.exactly_once.specs.Inside.Shape.{IsSoundStory}
 use Rattle.exactly_once.proofs.keeping.KeepsShape.{same_story}
-use Rattle.exactly_once.proofs.keeping.Told.{told_stories_are_sound}
+use Rattle.exactly_once.proofs.keeping.StoryTrace.{told_stories_are_sound}
 use Rattle.exactly_once.proofs.publishing.Last.{each_there}
 use Rattle.exactly_once.proofs.publishing.events.Receives.{each_at}
 use Rattle.exactly_once.proofs.carrying.Publications.{IsOfOwn, AreOfOwn}
@@ -59,7 +59,7 @@ none_carried connections (commands.Expel d) past e = refl
 -- ---- the events
 
 -- if no place is added
-stays_carried : (limits : Limits) (s t : Story) → AreWithin s.past s.connections → Happens limits s t → t.past ≡ s.past → IsCarried limits s → IsCarried limits t
+stays_carried : (limits : Limits) (s t : Story) → AreWithin s.past s.connections → StoryStep limits s t → t.past ≡ s.past → IsCarried limits s → IsCarried limits t
 stays_carried limits s t within h same c =
     record {
       written = events_keep_of limits s t c.numbers.1 h c.written;
@@ -82,12 +82,12 @@ place_carried limits s command none c =
     }
 
 -- what is left to show: what the place says if the client's next packet is taken
-abbrev pub SaysNext : {limits : Limits} {s t : Story} → Happens limits s t → Type 0
+abbrev pub SaysNext : {limits : Limits} {s t : Story} → StoryStep limits s t → Type 0
 SaysNext {limits = limits} {s = s} (takes i κ w stands next) =
     Says s.keeper.client (publications_of (all_own s.keeper)) (counted_at i s.connections) (place_of limits s.past (command_of κ.name κ.taken w.packet)) s.past
 SaysNext _ = Unit {0}
 
-pub keeps_carried : (limits : Limits) (s t : Story) → AreWithin s.past s.connections → (h : Happens limits s t) → SaysNext h → IsCarried limits s → IsCarried limits t
+pub keeps_carried : (limits : Limits) (s t : Story) → AreWithin s.past s.connections → (h : StoryStep limits s t) → SaysNext h → IsCarried limits s → IsCarried limits t
 keeps_carried limits s t within (takes i κ w stands next) says c =
     let ps = publications_of (all_own s.keeper) in
     record {
@@ -106,7 +106,7 @@ keeps_carried limits s t within (subscribes p on id) says c = stays_carried limi
 keeps_carried limits s t within (unsubscribes p on id) says c = stays_carried limits s t within (unsubscribes p on id) refl c
 
 -- in a story of one session
-says_next : (limits : Limits) (s t : Story) → IsSoundStory limits s → IsCarried limits s → (h : Happens limits s t) → SaysNext h
+says_next : (limits : Limits) (s t : Story) → IsSoundStory limits s → IsCarried limits s → (h : StoryStep limits s t) → SaysNext h
 says_next limits s t sound c (takes i κ w stands next) =
     let ps = publications_of (all_own s.keeper) in
     taken_says limits s.past s.keeper s.connections ps i κ w.packet w.number κ.taken sound.shape sound.publisher stands next refl
@@ -120,7 +120,7 @@ says_next limits s t sound c (publishes_one p needs) = tt
 says_next limits s t sound c (subscribes p on id) = tt
 says_next limits s t sound c (unsubscribes p on id) = tt
 
-events_keep_carried : (limits : Limits) (s t : Story) → IsSoundStory limits s → Happens limits s t → IsCarried limits s → IsCarried limits t
+events_keep_carried : (limits : Limits) (s t : Story) → IsSoundStory limits s → StoryStep limits s t → IsCarried limits s → IsCarried limits t
 events_keep_carried limits s t sound h c = keeps_carried limits s t (shape_within limits s sound.shape) h (says_next limits s t sound c h) c
 
 -- without connections no place carries anything
@@ -129,7 +129,7 @@ nothing_said c ps [] = tt
 nothing_said c ps (place ∷ past) = (says_nothing c ps [] place past (none_carried [] place.command past refl), nothing_said c ps past)
 
 -- every story
-pub told_carried : (limits : Limits) → IsSteady limits → (c : Client) (s : Story) → Told limits c s → IsCarried limits s
+pub told_carried : (limits : Limits) → IsSteady limits → (c : Client) (s : Story) → StoryTrace limits c s → IsCarried limits s
 told_carried limits steady c s begins = record { written = tt; places = tt; marked = tt; numbers = (tt, tt) }
 told_carried limits steady c s (begins_at list earlier own none numbers unsent apart) =
     record {

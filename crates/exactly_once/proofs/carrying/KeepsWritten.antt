@@ -6,7 +6,7 @@ use Rattle.client_base.specs.packet.declared.packet.Packet.TheVariants as packet
 use Rattle.client_base.specs.session_base.declared.publication.Publication.{Publication}
 use Rattle.client_base.specs.session_base.Publication.{is_answered, publication_of, publish_of}
 use Rattle.client_base.specs.session_base.Identifiers.{least_free}
-use Rattle.broker_base.specs.Place.{Limits}
+use Rattle.broker_base.specs.broker_spec.Place.{Limits}
 use Rattle.client_base.specs.lists.Lists.{Each, IsPrefixOf}
 use Rattle.client_base.proofs.of_lists.Beginnings.{prefix_same}
 use Rattle.client_base.proofs.of_lists.OfEach.{each_append, each_then}
@@ -16,8 +16,8 @@ use Rattle.client_base.specs.Written.{plain, publishes, writes_first}
 use Rattle.client_base.specs.Called.{adds_own, written_for}
 use Rattle.exactly_once.specs.Sides.{Connection}
 use Rattle.exactly_once.specs.Carried.{publication_in, publications_of}
-use Rattle.exactly_once.specs.Story.{Story, Happens, counted_at}
-use Rattle.exactly_once.specs.Story.Happens.{takes, others_take, receives, opens_anew, loses, disconnects, publishes_one, subscribes, unsubscribes}
+use Rattle.exactly_once.specs.Story.{Story, StoryStep, counted_at}
+use Rattle.exactly_once.specs.Story.StoryStep.{takes, others_take, receives, opens_anew, loses, disconnects, publishes_one, subscribes, unsubscribes}
 use Rattle.client_base.specs.OrderLaws.{AreNumbered}
 use Rattle.exactly_once.proofs.carrying.Publications.{IsOfOwn, AreOfOwn, of_more, carried_is}
 use Rattle.exactly_once.proofs.carrying.Handles.{handles}
@@ -47,7 +47,7 @@ same_said : (ps qs : List Publication) → qs ≡ ps → IsPrefixOf ps qs
 same_said ps qs e = subst (λ (rs : List Publication). IsPrefixOf ps rs) (sym e) (prefix_same ps)
 
 -- no event loses what was published
-pub events_say : (limits : Limits) (s t : Story) → IsNumbered s.keeper → Happens limits s t → IsPrefixOf (publications_of (all_own s.keeper)) (publications_of (all_own t.keeper))
+pub events_say : (limits : Limits) (s t : Story) → IsNumbered s.keeper → StoryStep limits s t → IsPrefixOf (publications_of (all_own s.keeper)) (publications_of (all_own t.keeper))
 events_say limits s t numbered (takes i κ w stands next) = prefix_same (publications_of (all_own s.keeper))
 events_say limits s t numbered (others_take command other none) = prefix_same (publications_of (all_own s.keeper))
 events_say limits s t numbered (receives κ others packet are opened next) =
@@ -94,7 +94,7 @@ published_of keeper p = by keeper.is_online
     by true = (there', tt)
     by false = tt
 
-pub events_keep_of : (limits : Limits) (s t : Story) → IsNumbered s.keeper → Happens limits s t → AreOfOwn (publications_of (all_own s.keeper)) s.connections → AreOfOwn (publications_of (all_own t.keeper)) t.connections
+pub events_keep_of : (limits : Limits) (s t : Story) → IsNumbered s.keeper → StoryStep limits s t → AreOfOwn (publications_of (all_own s.keeper)) s.connections → AreOfOwn (publications_of (all_own t.keeper)) t.connections
 events_keep_of limits s t numbered (takes i κ w stands next) all = counted_of (publications_of (all_own s.keeper)) i s.connections all
 events_keep_of limits s t numbered (others_take command other none) all = all
 events_keep_of limits s t numbered (receives κ others packet are opened next) all =

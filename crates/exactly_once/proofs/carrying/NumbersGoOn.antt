@@ -1,10 +1,10 @@
 -- Every event keeps the numbers of a client's publications: each has that of its place, over all sessions.
-use Rattle.exactly_once.specs.Story.{Story, Happens}
-use Rattle.exactly_once.specs.Story.Happens.{takes, others_take, receives, opens_anew, loses, disconnects, publishes_one, subscribes, unsubscribes}
-use Rattle.broker_base.specs.Place.{Limits}
+use Rattle.exactly_once.specs.Story.{Story, StoryStep}
+use Rattle.exactly_once.specs.Story.StoryStep.{takes, others_take, receives, opens_anew, loses, disconnects, publishes_one, subscribes, unsubscribes}
+use Rattle.broker_base.specs.broker_spec.Place.{Limits}
 use Rattle.client_base.proofs.NumbersStay.{AreAllNumbered, publishes_numbers, handled_numbers}
 
-pub numbers_go_on : (limits : Limits) (s t : Story) → Happens limits s t → AreAllNumbered s.keeper → AreAllNumbered t.keeper
+pub numbers_go_on : (limits : Limits) (s t : Story) → StoryStep limits s t → AreAllNumbered s.keeper → AreAllNumbered t.keeper
 numbers_go_on limits s t (takes i κ w stands next) numbered = numbered
 numbers_go_on limits s t (others_take command other none) numbered = numbered
 numbers_go_on limits s t (receives κ others packet are opened next) numbered = handled_numbers packet (record { keeper = s.keeper; connection = κ }) numbered

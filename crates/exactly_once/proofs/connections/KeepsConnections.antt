@@ -1,10 +1,10 @@
 -- Each event keeps the shape of the client's connections.
 use Rattle.std.proofs.Common.{List, [], ◌∷◌, sym, subst}
-use Rattle.broker_base.specs.Place.{Client, Past, Limits}
+use Rattle.broker_base.specs.broker_spec.Place.{Client, Past, Limits}
 use Rattle.client_base.specs.lists.Lists.{Each}
 use Rattle.client_base.proofs.of_lists.OfEach.{each_then}
 use Rattle.exactly_once.specs.Sides.{Connection}
-use Rattle.exactly_once.specs.Story.{Story, Happens}
+use Rattle.exactly_once.specs.Story.{Story, StoryStep}
 use Rattle.exactly_once.specs.Inside.Shape.{HasShape}
 use Rattle.exactly_once.specs.Inside.ConnectionShape.{ConnectionInShape}
 use Rattle.exactly_once.proofs.publishing.kept.KeepsCounts.{CountsOf, events_keep_counts}
@@ -38,7 +38,7 @@ all_shape limits past c [] w f n r = tt
 all_shape limits past c (κ ∷ connections) w f n r = (rows_shape limits past c κ w.0 f.0 n.0 r.0, all_shape limits past c connections w.1 f.1 n.1 r.1)
 
 -- every event
-pub events_keep_connections : (limits : Limits) (s t : Story) → HasShape limits s → Happens limits s t
+pub events_keep_connections : (limits : Limits) (s t : Story) → HasShape limits s → StoryStep limits s t
     → Each (ConnectionInShape limits t.past t.keeper.client) t.connections
 events_keep_connections limits s t shape happens =
     let counts =

@@ -4,12 +4,12 @@ use Rattle.std.specs.Prelude.{slice_get}
 use Rattle.std.proofs.lemmas.List.{append-nil}
 use Rattle.client_base.specs.packet.declared.packet.Packet.{Packet}
 use Rattle.client_base.specs.packet.declared.packet.Packet.TheVariants as packets
-use Rattle.broker_base.specs.Connection.{ConnectionName, same_connection}
-use Rattle.broker_base.specs.Place.{Place, Past, Limits}
-use Rattle.broker_base.specs.Answers.{answers_by, answers_at, closed}
-use Rattle.broker_base.specs.Commands.{place_of}
-use Rattle.broker_base.specs.Command.{Command}
-use Rattle.broker_base.specs.Command.TheVariants as commands
+use Rattle.broker_base.specs.broker_spec.Connection.{ConnectionName, same_connection}
+use Rattle.broker_base.specs.broker_spec.Place.{Place, Past, Limits}
+use Rattle.broker_base.specs.broker_spec.Answers.{answers_by, answers_at, closed}
+use Rattle.broker_base.specs.broker_spec.Commands.{place_of}
+use Rattle.broker_base.specs.broker_spec.declared.command.Command.{Command}
+use Rattle.broker_base.specs.broker_spec.declared.command.Command.TheVariants as commands
 use Rattle.broker_base.proofs.ConnectionsOfSessions.{same_turned}
 use Rattle.client_base.specs.lists.Lists.{Each}
 use Rattle.client_base.proofs.of_lists.OfEach.{each_then}
@@ -18,10 +18,10 @@ use Rattle.client_base.specs.Keeper.{Written}
 use Rattle.exactly_once.specs.Sides.{Connection}
 use Rattle.client_base.specs.Written.{plain}
 use Rattle.client_base.specs.Handled.{handled}
-use Rattle.exactly_once.specs.Story.{Story, Happens, is_packet_of, count_of, command_of, counted_at, any_named}
+use Rattle.exactly_once.specs.Story.{Story, StoryStep, is_packet_of, count_of, command_of, counted_at, any_named}
 use Rattle.client_base.specs.Written.{writes_first}
 use Rattle.client_base.specs.Called.{written_for}
-use Rattle.exactly_once.specs.Story.Happens.{takes, others_take, receives, opens_anew, loses, disconnects, publishes_one, subscribes, unsubscribes}
+use Rattle.exactly_once.specs.Story.StoryStep.{takes, others_take, receives, opens_anew, loses, disconnects, publishes_one, subscribes, unsubscribes}
 use Rattle.exactly_once.specs.Inside.Projections.{backward_of_own}
 use Rattle.exactly_once.specs.Inside.Shape.{NamesApart, HasShape}
 use Rattle.exactly_once.specs.Inside.ConnectionShape.{ConnackFirst, ConnectionInShape}
@@ -33,7 +33,7 @@ use Rattle.exactly_once.proofs.publishing.Last.{each_there, none_named, taken_mo
 use Rattle.exactly_once.proofs.publishing.Grown.{handled_grows}
 use Rattle.exactly_once.proofs.connections.GoRight.{not_its_connect, place_no_connack, place_nothing}
 use Rattle.exactly_once.proofs.connections.Opens.{FirstOf, connack_more, own_first}
-use Rattle.broker_base.specs.Past.{current_connection}
+use Rattle.broker_base.specs.broker_spec.Past.{current_connection}
 
 -- ---- a place of another connection
 
@@ -133,7 +133,7 @@ first_same limits past κ after name taken r =
     }
 
 -- the rows are kept by every event
-pub events_keep_first : (limits : Limits) (s t : Story) → HasShape limits s → Happens limits s t → Each (FirstOf limits t.past) t.connections
+pub events_keep_first : (limits : Limits) (s t : Story) → HasShape limits s → StoryStep limits s t → Each (FirstOf limits t.past) t.connections
 events_keep_first limits s t shape (takes i κ w stands next) =
     let this = each_there (ConnectionInShape limits s.past s.keeper.client) i s.connections κ stands shape.connections in
     first_taken limits (place_of limits s.past (command_of κ.name κ.taken w.packet)) s.past i s.connections κ (λ y. command_named κ.name y κ.taken w.packet) shape.names_apart stands

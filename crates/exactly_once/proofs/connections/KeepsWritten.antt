@@ -4,17 +4,17 @@ use Rattle.std.proofs.lemmas.Bool.{both_ways}
 use Rattle.std.proofs.lemmas.List.{append-nil}
 use Rattle.client_base.specs.packet.declared.packet.Packet.TheVariants as packets
 use Rattle.client_base.specs.session_base.Identifiers.{least_free}
-use Rattle.broker_base.specs.Place.{Client, Past, Limits}
+use Rattle.broker_base.specs.broker_spec.Place.{Client, Past, Limits}
 use Rattle.client_base.specs.lists.Lists.{Each}
 use Rattle.client_base.proofs.of_lists.OfEach.{each_append, each_then}
 use Rattle.client_base.specs.Keeper.{Written, Keeper, ids_in_use, next_number}
 use Rattle.exactly_once.specs.Sides.{Connection}
 use Rattle.client_base.specs.Written.{plain, publishes, writes}
 use Rattle.client_base.specs.Handled.{handled}
-use Rattle.exactly_once.specs.Story.{Story, Happens, counted_at}
+use Rattle.exactly_once.specs.Story.{Story, StoryStep, counted_at}
 use Rattle.client_base.specs.Called.{opens}
 use Rattle.client_base.specs.Written.{writes_first}
-use Rattle.exactly_once.specs.Story.Happens.{takes, others_take, receives, opens_anew, loses, disconnects, publishes_one, subscribes, unsubscribes}
+use Rattle.exactly_once.specs.Story.StoryStep.{takes, others_take, receives, opens_anew, loses, disconnects, publishes_one, subscribes, unsubscribes}
 use Rattle.exactly_once.specs.Inside.Shape.{HeldInShape, HasShape}
 use Rattle.exactly_once.specs.Inside.ConnectionShape.{is_connect, ConnectionInShape}
 use Rattle.exactly_once.proofs.publishing.Grown.{IsLater, Grown, handled_grows}
@@ -92,7 +92,7 @@ writes_none c (κ ∷ connections) rows =
     (record { more = rows.0.more; written = same ∙ rows.0.written; one_connect = rows.0.one_connect; silent = rows.0.silent; handled_some = rows.0.handled_some }, rows.1)
 
 -- the rows are kept by every event
-pub events_keep_written : (limits : Limits) (s t : Story) → HasShape limits s → Happens limits s t → Each (WritesOf s.keeper.client) t.connections
+pub events_keep_written : (limits : Limits) (s t : Story) → HasShape limits s → StoryStep limits s t → Each (WritesOf s.keeper.client) t.connections
 events_keep_written limits s t shape (takes i κ w stands next) = writes_counted s.keeper.client i s.connections (writes_of limits s shape)
 events_keep_written limits s t shape (others_take command other none) = writes_of limits s shape
 events_keep_written limits s t shape (receives κ others packet are opened next) =

@@ -6,12 +6,12 @@ use Rattle.std.proofs.lemmas.Bool.{both_ways}
 use Rattle.client_base.specs.packet.declared.connack.Connack.TheVariants as connacks
 use Rattle.client_base.specs.packet.declared.packet.Packet.{Packet}
 use Rattle.client_base.specs.packet.declared.packet.Packet.TheVariants as packets
-use Rattle.broker_base.specs.Connection.{ConnectionName}
-use Rattle.broker_base.specs.Place.{Client, Mark, Place, Past, Limits, only_if}
-use Rattle.broker_base.specs.Past.{accepts, session_of, is_beginning, begins}
-use Rattle.broker_base.specs.Answers.{answers_at}
-use Rattle.broker_base.specs.Commands.{place_of}
-use Rattle.broker_base.specs.Command.TheVariants as commands
+use Rattle.broker_base.specs.broker_spec.Connection.{ConnectionName}
+use Rattle.broker_base.specs.broker_spec.Place.{Client, Mark, Place, Past, Limits, only_if}
+use Rattle.broker_base.specs.broker_spec.Past.{accepts, session_of, is_beginning, begins}
+use Rattle.broker_base.specs.broker_spec.Answers.{answers_at}
+use Rattle.broker_base.specs.broker_spec.Commands.{place_of}
+use Rattle.broker_base.specs.broker_spec.declared.command.Command.TheVariants as commands
 use Rattle.broker_base.proofs.ClientsInOrder.{same_self}
 use Rattle.client_base.specs.lists.Lists.{Each}
 use Rattle.client_base.proofs.of_lists.Tests.{or_none}
@@ -21,10 +21,10 @@ use Rattle.client_base.specs.declared.request.Request.{Request}
 use Rattle.exactly_once.specs.Sides.{Connection, Side}
 use Rattle.client_base.specs.Written.{plain}
 use Rattle.client_base.specs.Handled.{handled, lost}
-use Rattle.exactly_once.specs.Story.{Story, Happens, any_named, is_packet_of, command_of, counted_at}
+use Rattle.exactly_once.specs.Story.{Story, StoryStep, any_named, is_packet_of, command_of, counted_at}
 use Rattle.client_base.specs.Written.{writes_first}
 use Rattle.client_base.specs.Called.{written_for, adds_own}
-use Rattle.exactly_once.specs.Story.Happens.{takes, others_take, receives, opens_anew, loses, disconnects, publishes_one, subscribes, unsubscribes}
+use Rattle.exactly_once.specs.Story.StoryStep.{takes, others_take, receives, opens_anew, loses, disconnects, publishes_one, subscribes, unsubscribes}
 use Rattle.exactly_once.specs.Inside.Shape.{HeldInShape, IsSoundStory}
 use Rattle.exactly_once.specs.Inside.ConnectionShape.{is_connack, ConnectionInShape}
 use Rattle.exactly_once.proofs.publishing.Last.{each_there}
@@ -102,7 +102,7 @@ held_settled limits past side others (inr h) =
 -- ---- the events
 
 -- the row is kept
-pub events_keep_held : (limits : Limits) (s t : Story) → IsSoundStory limits s → Happens limits s t → HeldInShape limits t.past t.keeper t.connections
+pub events_keep_held : (limits : Limits) (s t : Story) → IsSoundStory limits s → StoryStep limits s t → HeldInShape limits t.past t.keeper t.connections
 events_keep_held limits s t sound (takes i κ w stands next) =
     let c = s.keeper.client in
     let place = place_of limits s.past (command_of κ.name κ.taken w.packet) in

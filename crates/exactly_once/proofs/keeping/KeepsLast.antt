@@ -1,19 +1,19 @@
 -- The row of shape that the current connection is the last confirmed one, or an unconfirmed one, is kept by every event.
 use Rattle.std.proofs.Common.{Bool, true, false, if◌then◌else◌, [], ◌∷◌, refl, sym, subst}
 use Rattle.client_base.specs.packet.declared.packet.Packet.TheVariants as packets
-use Rattle.broker_base.specs.Place.{Client, Limits}
-use Rattle.broker_base.specs.Past.{current_connection}
-use Rattle.broker_base.specs.Marks.{mark_of}
-use Rattle.broker_base.specs.Commands.{place_of}
+use Rattle.broker_base.specs.broker_spec.Place.{Client, Limits}
+use Rattle.broker_base.specs.broker_spec.Past.{current_connection}
+use Rattle.broker_base.specs.broker_spec.Marks.{mark_of}
+use Rattle.broker_base.specs.broker_spec.Commands.{place_of}
 use Rattle.client_base.specs.lists.Lists.{Each}
 use Rattle.exactly_once.specs.Sends.{put_to}
 use Rattle.exactly_once.specs.Sides.{Side}
 use Rattle.client_base.specs.Written.{plain}
 use Rattle.client_base.specs.Handled.{handled}
-use Rattle.exactly_once.specs.Story.{Story, Happens}
+use Rattle.exactly_once.specs.Story.{Story, StoryStep}
 use Rattle.client_base.specs.Called.{new_connection, written_for}
 use Rattle.client_base.specs.Written.{writes_first}
-use Rattle.exactly_once.specs.Story.Happens.{takes, others_take, receives, opens_anew, loses, disconnects, publishes_one, subscribes, unsubscribes}
+use Rattle.exactly_once.specs.Story.StoryStep.{takes, others_take, receives, opens_anew, loses, disconnects, publishes_one, subscribes, unsubscribes}
 use Rattle.exactly_once.specs.Inside.Shape.{LastIsCurrent, NewestIsServed, NamesApart, HasShape, IsSoundStory}
 use Rattle.exactly_once.specs.Inside.ConnectionShape.{ConnectionInShape}
 use Rattle.exactly_once.proofs.subscribing.Newest.{stays_or_none}
@@ -21,10 +21,10 @@ use Rattle.exactly_once.proofs.subscribing.Given.{stays_handled}
 use Rattle.exactly_once.proofs.keeping.CurrentOnes.{IsTopOne, top_one, last_one, top_stays, none_opened, one_written, one_taken, one_handled, some_taken, one_new}
 
 -- said from the newest connection on
-keeps_top : (limits : Limits) (s t : Story) → HasShape limits s → Happens limits s t → IsTopOne (current_connection t.past t.keeper.client) t.connections
+keeps_top : (limits : Limits) (s t : Story) → HasShape limits s → StoryStep limits s t → IsTopOne (current_connection t.past t.keeper.client) t.connections
 keeps_top limits s t shape h = by h (top_one (current_connection s.past s.keeper.client) s.connections shape.names_apart shape.last_is_current)
   where
-    by : {t : Story} → Happens limits s t → IsTopOne (current_connection s.past s.keeper.client) s.connections → IsTopOne (current_connection t.past t.keeper.client) t.connections
+    by : {t : Story} → StoryStep limits s t → IsTopOne (current_connection s.past s.keeper.client) s.connections → IsTopOne (current_connection t.past t.keeper.client) t.connections
     by (takes i κ w stands next) g = one_taken limits s shape g i κ w stands next
     by (others_take command other none) g =
         top_stays (current_connection s.past s.keeper.client) (current_connection (place_of limits s.past command ∷ s.past) s.keeper.client) s.connections g
@@ -50,5 +50,5 @@ keeps_top limits s t shape h = by h (top_one (current_connection s.past s.keeper
     by (unsubscribes p on id) g = one_written (current_connection s.past s.keeper.client) (plain (packets.Unsubscribe p) ∷ []) s.connections g
 
 -- the row is kept
-pub events_keep_last : (limits : Limits) (s t : Story) → IsSoundStory limits s → Happens limits s t → LastIsCurrent (current_connection t.past t.keeper.client) t.connections
+pub events_keep_last : (limits : Limits) (s t : Story) → IsSoundStory limits s → StoryStep limits s t → LastIsCurrent (current_connection t.past t.keeper.client) t.connections
 events_keep_last limits s t sound h = last_one (current_connection t.past t.keeper.client) t.connections (keeps_top limits s t sound.shape h)

@@ -2,14 +2,14 @@
 use Rattle.std.proofs.Common.{◌≡◌, ℕ, zero, suc, true, false, List, [], ◌∷◌, Some, sym, subst, ◌⊎◌, inl, inr}
 use Rattle.std.specs.Prelude.{slice_get}
 use Rattle.client_base.specs.packet.declared.packet.Packet.{Packet}
-use Rattle.broker_base.specs.Place.{Client, Limits}
-use Rattle.broker_base.specs.Past.{session_of}
-use Rattle.broker_base.specs.Commands.{place_of}
+use Rattle.broker_base.specs.broker_spec.Place.{Client, Limits}
+use Rattle.broker_base.specs.broker_spec.Past.{session_of}
+use Rattle.broker_base.specs.broker_spec.Commands.{place_of}
 use Rattle.client_base.specs.lists.Lists.{Each}
 use Rattle.exactly_once.specs.Sends.{put_to}
 use Rattle.exactly_once.specs.Sides.{Side}
-use Rattle.exactly_once.specs.Story.{Story, Happens, command_of}
-use Rattle.exactly_once.specs.Story.Happens.{takes, others_take, receives, opens_anew, loses, disconnects, publishes_one, subscribes, unsubscribes}
+use Rattle.exactly_once.specs.Story.{Story, StoryStep, command_of}
+use Rattle.exactly_once.specs.Story.StoryStep.{takes, others_take, receives, opens_anew, loses, disconnects, publishes_one, subscribes, unsubscribes}
 use Rattle.exactly_once.specs.Inside.Shape.{IsMeant, AreWelcomed, IsSoundStory}
 use Rattle.exactly_once.proofs.publishing.kept.KeepsNames.{events_keep_session}
 use Rattle.exactly_once.proofs.subscribing.Given.{stays_handled}
@@ -24,7 +24,7 @@ packet_at P (y ∷ xs) zero x h e = let f : y ≡ x = cc in subst P f h.0
 packet_at P (y ∷ xs) (suc n) x h e = packet_at P xs n x h.1 e
 
 -- the row is kept
-pub events_keep_served : (limits : Limits) (s t : Story) → IsSoundStory limits s → AreWelcomed limits s.past s.keeper.client s.connections → Happens limits s t
+pub events_keep_served : (limits : Limits) (s t : Story) → IsSoundStory limits s → AreWelcomed limits s.past s.keeper.client s.connections → StoryStep limits s t
     → t.keeper.was_served ≡ true → session_of t.past t.keeper.client ≡ Some false
 events_keep_served limits s t sound h (takes i κ w stands next) e =
     still_there (place_of limits s.past (command_of κ.name κ.taken w.packet)) s.past s.keeper.client (inl (taken_spares κ.name κ.taken w.packet s.keeper.client)) (sound.shape.served e) (events_keep_session limits s t sound (takes i κ w stands next))

@@ -1,10 +1,10 @@
 -- Each event keeps the shape of a story, if it keeps that of the client's connections.
 use Rattle.std.proofs.Common.{◌≡◌, refl, subst, sym}
-use Rattle.broker_base.specs.Place.{Client, Limits}
-use Rattle.broker_base.specs.Past.{session_of}
+use Rattle.broker_base.specs.broker_spec.Place.{Client, Limits}
+use Rattle.broker_base.specs.broker_spec.Past.{session_of}
 use Rattle.client_base.specs.lists.Lists.{Each}
-use Rattle.exactly_once.specs.Story.{Story, Happens}
-use Rattle.exactly_once.specs.Story.Happens.{takes, others_take, receives, opens_anew, loses, disconnects, publishes_one, subscribes, unsubscribes}
+use Rattle.exactly_once.specs.Story.{Story, StoryStep}
+use Rattle.exactly_once.specs.Story.StoryStep.{takes, others_take, receives, opens_anew, loses, disconnects, publishes_one, subscribes, unsubscribes}
 use Rattle.exactly_once.specs.Inside.Shape.{HasShape, IsSoundStory}
 use Rattle.exactly_once.specs.Inside.ConnectionShape.{ConnectionInShape}
 use Rattle.exactly_once.proofs.places.After.{IsKeptSession}
@@ -20,7 +20,7 @@ use Rattle.exactly_once.proofs.keeping.KeepsServed.{events_keep_served}
 use Rattle.exactly_once.proofs.keeping.KeepsHeld.{events_keep_held}
 
 -- whose story it is
-pub same_story : (limits : Limits) (s t : Story) → Happens limits s t → t.keeper.client ≡ s.keeper.client
+pub same_story : (limits : Limits) (s t : Story) → StoryStep limits s t → t.keeper.client ≡ s.keeper.client
 same_story limits s t (takes i κ w stands next) = refl
 same_story limits s t (others_take command other none) = refl
 same_story limits s t (receives κ others packet are opened next) = (stays_handled packet (record { keeper = s.keeper; connection = κ })).client
@@ -32,7 +32,7 @@ same_story limits s t (subscribes p on id) = refl
 same_story limits s t (unsubscribes p on id) = refl
 
 -- all rows, with those of its connections after the event
-pub events_keep_rest : (limits : Limits) (s t : Story) → IsSoundStory limits s → Happens limits s t
+pub events_keep_rest : (limits : Limits) (s t : Story) → IsSoundStory limits s → StoryStep limits s t
     → Each (ConnectionInShape limits t.past t.keeper.client) t.connections → HasShape limits t
 events_keep_rest limits s t sound h connections =
     record {

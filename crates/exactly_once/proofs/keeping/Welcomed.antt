@@ -4,12 +4,12 @@ use Rattle.std.proofs.Common.{◌≡◌, ℕ, zero, suc, Bool, true, false, if�
 use Rattle.std.proofs.lemmas.Bool.{both_ways}
 use Rattle.client_base.specs.packet.declared.packet.Packet.{Packet}
 use Rattle.client_base.specs.packet.declared.packet.Packet.TheVariants as packets
-use Rattle.broker_base.specs.Connection.{ConnectionName}
-use Rattle.broker_base.specs.Place.{Client, Mark, Place, Past, Limits, only_if}
-use Rattle.broker_base.specs.Past.{accepts, session_of}
-use Rattle.broker_base.specs.Answers.{answers_at}
-use Rattle.broker_base.specs.Commands.{place_of}
-use Rattle.broker_base.specs.Command.TheVariants as commands
+use Rattle.broker_base.specs.broker_spec.Connection.{ConnectionName}
+use Rattle.broker_base.specs.broker_spec.Place.{Client, Mark, Place, Past, Limits, only_if}
+use Rattle.broker_base.specs.broker_spec.Past.{accepts, session_of}
+use Rattle.broker_base.specs.broker_spec.Answers.{answers_at}
+use Rattle.broker_base.specs.broker_spec.Commands.{place_of}
+use Rattle.broker_base.specs.broker_spec.declared.command.Command.TheVariants as commands
 use Rattle.broker_base.proofs.ClientsInOrder.{same_self}
 use Rattle.client_base.specs.lists.Lists.{Each}
 use Rattle.client_base.proofs.of_lists.OfEach.{each_then}
@@ -19,10 +19,10 @@ use Rattle.client_base.specs.Keeper.{Written}
 use Rattle.exactly_once.specs.Sides.{Connection, Side}
 use Rattle.client_base.specs.Written.{plain}
 use Rattle.client_base.specs.Handled.{handled}
-use Rattle.exactly_once.specs.Story.{Story, Happens, any_named, is_packet_of, command_of, counted_at}
+use Rattle.exactly_once.specs.Story.{Story, StoryStep, any_named, is_packet_of, command_of, counted_at}
 use Rattle.client_base.specs.Written.{writes_first}
 use Rattle.client_base.specs.Called.{written_for}
-use Rattle.exactly_once.specs.Story.Happens.{takes, others_take, receives, opens_anew, loses, disconnects, publishes_one, subscribes, unsubscribes}
+use Rattle.exactly_once.specs.Story.StoryStep.{takes, others_take, receives, opens_anew, loses, disconnects, publishes_one, subscribes, unsubscribes}
 use Rattle.exactly_once.specs.Inside.Shape.{IsMeant, IsWelcomed, AreWelcomed, IsSoundStory}
 use Rattle.exactly_once.specs.Inside.ConnectionShape.{is_connack, ConnectionInShape}
 use Rattle.exactly_once.proofs.places.After.{IsKeptSession, IsSpared, session_spared, session_opens}
@@ -89,7 +89,7 @@ welcomed_other limits place past c (κ ∷ others) spared kept none sends h =
 -- ---- the events
 
 -- the row is kept
-pub events_keep_welcomed : (limits : Limits) (s t : Story) → IsSoundStory limits s → AreWelcomed limits s.past s.keeper.client s.connections → Happens limits s t
+pub events_keep_welcomed : (limits : Limits) (s t : Story) → IsSoundStory limits s → AreWelcomed limits s.past s.keeper.client s.connections → StoryStep limits s t
     → AreWelcomed limits t.past t.keeper.client t.connections
 events_keep_welcomed limits s t sound h (takes i κ w stands next) =
     let c = s.keeper.client in

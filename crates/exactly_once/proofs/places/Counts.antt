@@ -2,11 +2,11 @@
 -- there.
 use Rattle.std.proofs.Common.{◌≡◌, ◌≤◌, ◌<◌, suc, Bool, true, false, not, if◌then◌else◌, [], ◌∷◌, Option, Some, None, refl, subst, arith, inl, inr, ◌⊎◌}
 use Rattle.std.proofs.lemmas.Bool.{both_ways}
-use Rattle.broker_base.specs.Connection.{ConnectionName}
-use Rattle.broker_base.specs.Place.{Client, Mark, Place, Past, only_if, same_client}
-use Rattle.broker_base.specs.Past.{accepts, ends_any, newest_connection, current_connection}
-use Rattle.broker_base.specs.Command.{Command}
-use Rattle.broker_base.specs.Command.TheVariants as commands
+use Rattle.broker_base.specs.broker_spec.Connection.{ConnectionName}
+use Rattle.broker_base.specs.broker_spec.Place.{Client, Mark, Place, Past, only_if, same_client}
+use Rattle.broker_base.specs.broker_spec.Past.{accepts, ends_any, newest_connection, current_connection}
+use Rattle.broker_base.specs.broker_spec.declared.command.Command.{Command}
+use Rattle.broker_base.specs.broker_spec.declared.command.Command.TheVariants as commands
 use Rattle.exactly_once.specs.Story.{is_packet_of, count_of}
 use Rattle.broker_base.proofs.ConnectionNames.{same_itself}
 

@@ -3,10 +3,10 @@
 use Rattle.std.proofs.Common.{◌≡◌, Bool, true, false, List, Option, Some, None, refl, ap, sym, subst}
 use Rattle.std.specs.Prelude.{is_some}
 use Rattle.std.proofs.lemmas.Bool.{both_ways}
-use Rattle.broker_base.specs.Connection.{ConnectionName, same_connection}
-use Rattle.broker_base.specs.Place.{Client, Past, same_client}
-use Rattle.broker_base.specs.Past.{any_connection, current_connection}
-use Rattle.broker_base.specs.Owner.{owner_of}
+use Rattle.broker_base.specs.broker_spec.Connection.{ConnectionName, same_connection}
+use Rattle.broker_base.specs.broker_spec.Place.{Client, Past, same_client}
+use Rattle.broker_base.specs.broker_spec.Past.{any_connection, current_connection}
+use Rattle.broker_base.specs.broker_spec.Owner.{owner_of}
 use Rattle.broker_base.proofs.ClientsInOrder.{same_is}
 use Rattle.exactly_once.specs.Sides.{Connection}
 use Rattle.exactly_once.specs.Story.{any_named}

@@ -5,11 +5,11 @@ use Rattle.std.proofs.lemmas.List.{append-nil}
 use Rattle.std.proofs.lemmas.Bool.{both_ways}
 use Rattle.client_base.specs.packet.declared.packet.Packet.TheVariants as packets
 use Rattle.client_base.specs.lists.Lists.{has_id}
-use Rattle.broker_base.specs.Place.{Past, Limits}
-use Rattle.broker_base.specs.Past.{current_connection}
+use Rattle.broker_base.specs.broker_spec.Place.{Past, Limits}
+use Rattle.broker_base.specs.broker_spec.Past.{current_connection}
 use Rattle.exactly_once.specs.Items.{Item, has_sent}
 use Rattle.exactly_once.specs.Handshake.{Forward, Backward, Link, Handshake, heard, reply}
-use Rattle.exactly_once.specs.HandshakeSides.{IsGood, IsDue, IsLinked}
+use Rattle.exactly_once.specs.HandshakeInvariant.{IsGood, IsDue, IsLinked}
 use Rattle.client_base.proofs.of_lists.Tests.{or_then}
 use Rattle.exactly_once.specs.Sends.{put_to}
 use Rattle.exactly_once.specs.Sides.{Connection, Side}

@@ -4,16 +4,16 @@ use Rattle.std.specs.Prelude.{flat_map}
 use Rattle.client_base.specs.packet.declared.packet.Packet.{Packet}
 use Rattle.client_base.specs.packet.declared.packet.Packet.TheVariants as packets
 use Rattle.client_base.specs.session_base.Publication.{publish_of}
-use Rattle.broker_base.specs.Connection.{ConnectionName, same_connection}
-use Rattle.broker_base.specs.Place.{Client, Mark, Place, Past, Limits}
-use Rattle.broker_base.specs.Past.{current_connection, begins}
-use Rattle.broker_base.specs.Entries.{Entry}
-use Rattle.broker_base.specs.Readings.{released_below}
-use Rattle.broker_base.specs.Times.{entries_of}
-use Rattle.broker_base.specs.Sends.{publish, sent_again, all_started, resent}
-use Rattle.broker_base.specs.Answers.{closed, welcome, turned_away, connect_answers}
-use Rattle.broker_base.specs.Output.{Output}
-use Rattle.broker_base.specs.Output.TheVariants.{Send, Close}
+use Rattle.broker_base.specs.broker_spec.Connection.{ConnectionName, same_connection}
+use Rattle.broker_base.specs.broker_spec.Place.{Client, Mark, Place, Past, Limits}
+use Rattle.broker_base.specs.broker_spec.Past.{current_connection, begins}
+use Rattle.broker_base.specs.broker_spec.Entries.{Entry}
+use Rattle.broker_base.specs.broker_spec.Readings.{released_below}
+use Rattle.broker_base.specs.broker_spec.Times.{entries_of}
+use Rattle.broker_base.specs.broker_spec.Sends.{publish, sent_again, all_started, resent}
+use Rattle.broker_base.specs.broker_spec.Answers.{closed, welcome, turned_away, connect_answers}
+use Rattle.broker_base.specs.broker_spec.declared.command.Output.{Output}
+use Rattle.broker_base.specs.broker_spec.declared.command.Output.TheVariants.{Send, Close}
 use Rattle.exactly_once.specs.Sends.{sends_to}
 use Rattle.exactly_once.specs.Inside.Projections.{backward_of_own}
 use Rattle.exactly_once.proofs.Deliveries.{sends_append}

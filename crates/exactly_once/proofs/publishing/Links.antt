@@ -1,7 +1,7 @@
 -- The link of a publisher by two tests, and what a run does to a handshake's items and link.
 use Rattle.std.proofs.Common.{◌≡◌, ℕ, Bool, true, false, if◌then◌else◌, List, [], ◌∷◌, ◌++◌, Option, Some, None, refl, ap, ◌∙◌}
-use Rattle.broker_base.specs.Connection.{ConnectionName}
-use Rattle.broker_base.specs.Place.{Past, Limits}
+use Rattle.broker_base.specs.broker_spec.Connection.{ConnectionName}
+use Rattle.broker_base.specs.broker_spec.Place.{Past, Limits}
 use Rattle.exactly_once.specs.Items.{Item}
 use Rattle.exactly_once.specs.Handshake.{Forward, Backward, Link, Handshake, Run, Moves, with_items, heard, reply}
 use Rattle.exactly_once.specs.Handshake.Moves.{hears, hears_alone, sender_leaves, receiver_leaves, parts}

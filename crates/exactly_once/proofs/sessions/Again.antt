@@ -4,24 +4,24 @@ use Rattle.std.proofs.Common.{◌≡◌, ℕ, zero, suc, true, false, not, ◌&&
 use Rattle.std.specs.Prelude.{slice_get}
 use Rattle.client_base.specs.lists.Lists.{IsDistinct}
 use Rattle.client_base.specs.packet.declared.packet.Packet.{Packet}
-use Rattle.broker_base.specs.Connection.{ConnectionName}
-use Rattle.broker_base.specs.Place.{Client, Mark, Place, Past, Limits}
-use Rattle.broker_base.specs.Past.{begins, is_beginning, current_connection, session_of}
-use Rattle.broker_base.specs.Marks.{mark_of}
-use Rattle.broker_base.specs.Commands.{place_of, past_of}
-use Rattle.broker_base.specs.Answers.{welcome, answers_at}
-use Rattle.broker_base.specs.Sends.{resent}
-use Rattle.broker_base.specs.Times.{entries_of}
-use Rattle.broker_base.specs.Command.{Command}
-use Rattle.broker_base.specs.Command.TheVariants as commands
+use Rattle.broker_base.specs.broker_spec.Connection.{ConnectionName}
+use Rattle.broker_base.specs.broker_spec.Place.{Client, Mark, Place, Past, Limits}
+use Rattle.broker_base.specs.broker_spec.Past.{begins, is_beginning, current_connection, session_of}
+use Rattle.broker_base.specs.broker_spec.Marks.{mark_of}
+use Rattle.broker_base.specs.broker_spec.Commands.{place_of, past_of}
+use Rattle.broker_base.specs.broker_spec.Answers.{welcome, answers_at}
+use Rattle.broker_base.specs.broker_spec.Sends.{resent}
+use Rattle.broker_base.specs.broker_spec.Times.{entries_of}
+use Rattle.broker_base.specs.broker_spec.declared.command.Command.{Command}
+use Rattle.broker_base.specs.broker_spec.declared.command.Command.TheVariants as commands
 use Rattle.client_base.specs.Keeper.{Keeper, ids_in_use}
 use Rattle.client_base.specs.Called.{opens}
 use Rattle.exactly_once.specs.Sides.{Connection}
 use Rattle.exactly_once.specs.Sends.{sends_to, put_to}
 use Rattle.exactly_once.specs.Story.{command_of}
-use Rattle.exactly_once.specs.Told.{Told, unserved}
-use Rattle.exactly_once.specs.Told.Told.{goes_on}
-use Rattle.exactly_once.specs.Story.Happens.{takes}
+use Rattle.exactly_once.specs.StoryTrace.{StoryTrace, unserved}
+use Rattle.exactly_once.specs.StoryTrace.StoryTrace.{goes_on}
+use Rattle.exactly_once.specs.Story.StoryStep.{takes}
 use Rattle.exactly_once.specs.InStep.{opens_on, has_begun, began_again}
 use Rattle.exactly_once.specs.Inside.Shape.{NamesApart}
 use Rattle.exactly_once.proofs.Takes.{same_name_self}
@@ -97,7 +97,7 @@ begins_awaiting limits list c keeper κ others none before mark apart fresh name
         first = told.1;
         head = tt;
         gone = all_gone others;
-        told = λ earlier numbers. subst (λ (p : Place). Told limits c (with_connections (p ∷ past) (waiting c earlier [] keeper.is_open) (record κ { taken = suc κ.taken } ∷ kept_of (flags_of others) others))) place
+        told = λ earlier numbers. subst (λ (p : Place). StoryTrace limits c (with_connections (p ∷ past) (waiting c earlier [] keeper.is_open) (record κ { taken = suc κ.taken } ∷ kept_of (flags_of others) others))) place
             (goes_on (opens_again limits list c earlier [] κ others keeper.is_open none numbers tt apart fresh names new) (takes 0 κ (opens c) refl next));
       };
     }

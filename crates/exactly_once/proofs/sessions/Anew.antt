@@ -4,20 +4,20 @@ use Rattle.client_base.specs.lists.Lists.{Each, IsDistinct}
 use Rattle.client_base.specs.packet.declared.connack.Connack.TheVariants as connacks
 use Rattle.client_base.specs.packet.declared.packet.Packet.{Packet}
 use Rattle.client_base.specs.packet.declared.packet.Packet.TheVariants as packets
-use Rattle.broker_base.specs.Connection.{same_connection}
-use Rattle.broker_base.specs.Place.{Client, Past, Limits}
-use Rattle.broker_base.specs.Past.{session_of}
-use Rattle.broker_base.specs.Commands.{past_of}
-use Rattle.broker_base.specs.Command.{Command}
+use Rattle.broker_base.specs.broker_spec.Connection.{same_connection}
+use Rattle.broker_base.specs.broker_spec.Place.{Client, Past, Limits}
+use Rattle.broker_base.specs.broker_spec.Past.{session_of}
+use Rattle.broker_base.specs.broker_spec.Commands.{past_of}
+use Rattle.broker_base.specs.broker_spec.declared.command.Command.{Command}
 use Rattle.client_base.specs.Keeper.{Own, Keeper, ids_in_use, all_own}
 use Rattle.client_base.specs.Called.{new_connection}
 use Rattle.client_base.specs.Handled.{handled}
 use Rattle.exactly_once.specs.Sides.{Connection, Side}
 use Rattle.exactly_once.specs.Sends.{put_to}
 use Rattle.exactly_once.specs.Story.{count_of, any_named}
-use Rattle.exactly_once.specs.Told.{Told, AreUnsent, unserved}
-use Rattle.exactly_once.specs.Told.Told.{begins_at, goes_on}
-use Rattle.exactly_once.specs.Story.Happens.{opens_anew, loses}
+use Rattle.exactly_once.specs.StoryTrace.{StoryTrace, AreUnsent, unserved}
+use Rattle.exactly_once.specs.StoryTrace.StoryTrace.{begins_at, goes_on}
+use Rattle.exactly_once.specs.Story.StoryStep.{opens_anew, loses}
 use Rattle.exactly_once.specs.Inside.Shape.{NamesApart}
 use Rattle.exactly_once.proofs.sessions.Beside.{kept_of, with_connections, none_kept}
 use Rattle.client_base.specs.OrderLaws.{AreNumbered}
@@ -46,16 +46,16 @@ waiting c earlier own open_now = record (unserved c earlier own) { is_open = ope
 
 -- the story in which these are opened, the oldest first
 abbrev Opened : Limits → Past → Client → List Own → List Own → List Bool → List Connection → Type 0
-Opened limits past c earlier own flags connections = (open_now : Bool) × Told limits c (with_connections past (waiting c earlier own open_now) (kept_of flags connections))
+Opened limits past c earlier own flags connections = (open_now : Bool) × StoryTrace limits c (with_connections past (waiting c earlier own open_now) (kept_of flags connections))
 
 one_more : (limits : Limits) (past : Past) (c : Client) (earlier own : List Own) (κ : Connection) (connections : List Connection) → any_named (same_connection κ.name) connections ≡ false
     → IsUntouched limits past c κ → Opened limits past c earlier own (flags_of connections) connections
-    → Told limits c (with_connections past (waiting c earlier own true) (κ ∷ kept_of (flags_of connections) connections))
+    → StoryTrace limits c (with_connections past (waiting c earlier own true) (κ ∷ kept_of (flags_of connections) connections))
 one_more limits past c earlier own κ connections apart u before =
-    subst (λ (z : Connection). Told limits c (with_connections past (waiting c earlier own true) (z ∷ kept_of (flags_of connections) connections))) (sym u.is)
+    subst (λ (z : Connection). StoryTrace limits c (with_connections past (waiting c earlier own true) (z ∷ kept_of (flags_of connections) connections))) (sym u.is)
     (goes_on before.1 (opens_anew κ.name (none_kept (same_connection κ.name) (flags_of connections) connections apart) u.unsent u.uncounted))
 
-opens_all : (limits : Limits) (past : Past) (c : Client) (earlier own : List Own) → Told limits c (with_connections past (unserved c earlier own) []) → (connections : List Connection)
+opens_all : (limits : Limits) (past : Past) (c : Client) (earlier own : List Own) → StoryTrace limits c (with_connections past (unserved c earlier own) []) → (connections : List Connection)
     → AreUntouched limits past c connections → NamesApart connections → Opened limits past c earlier own (flags_of connections) connections
 opens_all limits past c earlier own told [] fresh apart = (false, told)
 opens_all limits past c earlier own told (κ ∷ connections) fresh apart = by κ.taken refl (opens_all limits past c earlier own told connections fresh.1 apart.1)
@@ -67,16 +67,16 @@ opens_all limits past c earlier own told (κ ∷ connections) fresh apart = by �
 -- a session may begin again at the newest connection, whether the client still holds it or not
 pub opens_again : (limits : Limits) (list : List Command) (c : Client) (earlier own : List Own) (κ : Connection) (others : List Connection) (held : Bool) → session_of (past_of limits list) c ≡ None → AreNumbered 0 earlier → AreUnsent (length earlier) own
     → IsDistinct (ids_in_use (unserved c earlier own)) → AreUntouched limits (past_of limits list) c (κ ∷ others) → NamesApart (κ ∷ others) → κ.taken ≡ 0
-    → Told limits c (with_connections (past_of limits list) (waiting c earlier own held) (κ ∷ kept_of (flags_of others) others))
+    → StoryTrace limits c (with_connections (past_of limits list) (waiting c earlier own held) (κ ∷ kept_of (flags_of others) others))
 opens_again limits list c earlier own κ others held none numbers unsent apart fresh names new = by held
   where
     past : Past
     past = past_of limits list
 
-    opened : Told limits c (with_connections past (waiting c earlier own true) (κ ∷ kept_of (flags_of others) others))
+    opened : StoryTrace limits c (with_connections past (waiting c earlier own true) (κ ∷ kept_of (flags_of others) others))
     opened = one_more limits past c earlier own κ others names.0 (fresh.0 new) (opens_all limits past c earlier own (begins_at list earlier own none numbers unsent apart) others fresh.1 names.1)
 
-    by : (b : Bool) → Told limits c (with_connections past (waiting c earlier own b) (κ ∷ kept_of (flags_of others) others))
+    by : (b : Bool) → StoryTrace limits c (with_connections past (waiting c earlier own b) (κ ∷ kept_of (flags_of others) others))
     by true = opened
     by false = goes_on opened loses
 

@@ -4,19 +4,19 @@ use Rattle.std.proofs.Common.{◌≡◌, ℕ, zero, suc, Bool, true, false, if�
 use Rattle.std.specs.Prelude.{slice_get}
 use Rattle.client_base.specs.packet.declared.packet.Packet.{Packet}
 use Rattle.client_base.specs.packet.declared.packet.Packet.TheVariants as packets
-use Rattle.broker_base.specs.Connection.{ConnectionName}
-use Rattle.broker_base.specs.Place.{Client, Place, Past, Limits}
-use Rattle.broker_base.specs.Answers.{answers_at}
-use Rattle.broker_base.specs.Commands.{place_of}
+use Rattle.broker_base.specs.broker_spec.Connection.{ConnectionName}
+use Rattle.broker_base.specs.broker_spec.Place.{Client, Place, Past, Limits}
+use Rattle.broker_base.specs.broker_spec.Answers.{answers_at}
+use Rattle.broker_base.specs.broker_spec.Commands.{place_of}
 use Rattle.client_base.specs.Keeper.{Written, Keeper, ids_in_use, next_number, Own, all_own}
 use Rattle.client_base.specs.Handled.{handled, lost}
 use Rattle.client_base.specs.Written.{plain, writes_first, publishes}
 use Rattle.exactly_once.specs.Sides.{Connection, Side}
 use Rattle.exactly_once.specs.Sends.{sends_to, put_to}
-use Rattle.exactly_once.specs.Story.{Story, Happens, command_of, counted_at, any_named, is_packet_of, with_side, names_client}
-use Rattle.exactly_once.specs.Told.{Told}
-use Rattle.exactly_once.specs.Told.Told.{goes_on}
-use Rattle.exactly_once.specs.Story.Happens.{takes, others_take, receives, opens_anew, loses, disconnects, publishes_one, subscribes, unsubscribes}
+use Rattle.exactly_once.specs.Story.{Story, StoryStep, command_of, counted_at, any_named, is_packet_of, with_side, names_client}
+use Rattle.exactly_once.specs.StoryTrace.{StoryTrace}
+use Rattle.exactly_once.specs.StoryTrace.StoryTrace.{goes_on}
+use Rattle.exactly_once.specs.Story.StoryStep.{takes, others_take, receives, opens_anew, loses, disconnects, publishes_one, subscribes, unsubscribes}
 use Rattle.exactly_once.specs.InStep.{began_again, IsInStep, WasWelcome}
 use Rattle.exactly_once.specs.Inside.Shape.{NamesApart}
 use Rattle.exactly_once.proofs.sessions.StepsBefore.{began_stays}
@@ -42,7 +42,7 @@ pub record Awaits (limits : Limits) (c : Client) (flags : List Bool) (past : Pas
   pub head : IsHeadKept flags
   pub gone : AreGone flags (κ ∷ others)
   -- whatever it published before
-  pub told : (earlier : List Own) → AreNumbered 0 earlier → Told limits c (with_connections past (waiting c earlier [] keeper.is_open) (kept_of flags (κ ∷ others)))
+  pub told : (earlier : List Own) → AreNumbered 0 earlier → StoryTrace limits c (with_connections past (waiting c earlier [] keeper.is_open) (kept_of flags (κ ∷ others)))
 
 pub record HasAwaiting (limits : Limits) (c : Client) (flags : List Bool) (s : Story) : Type 0 where
   pub newest : Connection
@@ -61,7 +61,7 @@ first_more limits place past x more e = ap (λ xs. xs ++ sends_to x (answers_at 
 -- a place, with the story after it
 placed : (limits : Limits) (c : Client) (flags : List Bool) (past : Past) (keeper : Keeper) (κ κ' : Connection) (others later : List Connection) (place : Place) → (a : Awaits limits c flags past keeper κ others)
     → κ'.name ≡ κ.name → κ'.confirmed ≡ κ.confirmed → κ'.handled ≡ κ.handled → AreGone flags (κ' ∷ later)
-    → ((earlier : List Own) → AreNumbered 0 earlier → Told limits c (with_connections (place ∷ past) (waiting c earlier [] keeper.is_open) (kept_of flags (κ' ∷ later)))) → Awaits limits c flags (place ∷ past) keeper κ' later
+    → ((earlier : List Own) → AreNumbered 0 earlier → StoryTrace limits c (with_connections (place ∷ past) (waiting c earlier [] keeper.is_open) (kept_of flags (κ' ∷ later)))) → Awaits limits c flags (place ∷ past) keeper κ' later
 placed limits c flags past keeper κ κ' others later place a name confirmed handled gone told =
     record {
       client = a.client;
@@ -80,12 +80,12 @@ placed limits c flags past keeper κ κ' others later place a name confirmed han
 
 -- a packet of one that is kept, or of one that is left out
 told_taken : (limits : Limits) (c : Client) (flags : List Bool) (past : Past) (keeper : Keeper) (connections : List Connection) (i : ℕ) (μ : Connection) (w : Written) → keeper.client ≡ c
-    → slice_get μ.written μ.taken ≡ Some w → Told limits c (with_connections past keeper (kept_of flags connections)) → IsKept flags connections i μ ⊎ IsLeft flags connections i μ
-    → Told limits c (with_connections (place_of limits past (command_of μ.name μ.taken w.packet) ∷ past) keeper (kept_of flags (counted_at i connections)))
+    → slice_get μ.written μ.taken ≡ Some w → StoryTrace limits c (with_connections past keeper (kept_of flags connections)) → IsKept flags connections i μ ⊎ IsLeft flags connections i μ
+    → StoryTrace limits c (with_connections (place_of limits past (command_of μ.name μ.taken w.packet) ∷ past) keeper (kept_of flags (counted_at i connections)))
 told_taken limits c flags past keeper connections i μ w client next told (inl k) =
-    subst (λ (l : List Connection). Told limits c (with_connections (place_of limits past (command_of μ.name μ.taken w.packet) ∷ past) keeper l)) (sym k.counted) (goes_on told (takes k.j μ w k.stands next))
+    subst (λ (l : List Connection). StoryTrace limits c (with_connections (place_of limits past (command_of μ.name μ.taken w.packet) ∷ past) keeper l)) (sym k.counted) (goes_on told (takes k.j μ w k.stands next))
 told_taken limits c flags past keeper connections i μ w client next told (inr l) =
-    subst (λ (l : List Connection). Told limits c (with_connections (place_of limits past (command_of μ.name μ.taken w.packet) ∷ past) keeper l)) (sym l.counted)
+    subst (λ (l : List Connection). StoryTrace limits c (with_connections (place_of limits past (command_of μ.name μ.taken w.packet) ∷ past) keeper l)) (sym l.counted)
     (goes_on told
     (others_take (command_of μ.name μ.taken w.packet) (later_other past keeper.client μ.name μ.taken w.packet l.taken)
     (later_named μ.name μ.taken w.packet (kept_of flags connections) l.taken l.none)))
@@ -140,8 +140,8 @@ settled limits c flags past keeper κ others a packet numbers opened next = subs
     P : Side → Type 0
     P side = HasBeside limits c flags (with_side (with_connections past keeper (κ ∷ others)) others side)
 
-    now : Told limits c (with_connections past (waiting c (all_own keeper) [] true) (kept_of flags (κ ∷ others)))
-    now = subst (λ (b : Bool). Told limits c (with_connections past (waiting c (all_own keeper) [] b) (kept_of flags (κ ∷ others)))) opened (a.told (all_own keeper) numbers)
+    now : StoryTrace limits c (with_connections past (waiting c (all_own keeper) [] true) (kept_of flags (κ ∷ others)))
+    now = subst (λ (b : Bool). StoryTrace limits c (with_connections past (waiting c (all_own keeper) [] b) (kept_of flags (κ ∷ others)))) opened (a.told (all_own keeper) numbers)
 
     heard : P (handled packet (let side : Side = record { keeper = waiting c (all_own keeper) [] true; connection = κ } in side))
     heard = goes_received limits c (with_connections past (waiting c (all_own keeper) [] true) (κ ∷ others)) flags κ others packet a.head a.gone now refl refl next
@@ -151,7 +151,7 @@ settled limits c flags past keeper κ others a packet numbers opened next = subs
 -- with the same connections, which do not change
 abbrev pub kept_awaiting : (limits : Limits) (c : Client) (flags : List Bool) (past : Past) (keeper : Keeper) (later : Keeper) (κ : Connection) (others : List Connection)
     → (a : Awaits limits c flags past keeper κ others) → later.client ≡ keeper.client → later.is_online ≡ false → later.was_served ≡ keeper.was_served → later.requests ≡ []
-    → ((earlier : List Own) → AreNumbered 0 earlier → Told limits c (with_connections past (waiting c earlier [] later.is_open) (kept_of flags (κ ∷ others)))) → Awaits limits c flags past later κ others
+    → ((earlier : List Own) → AreNumbered 0 earlier → StoryTrace limits c (with_connections past (waiting c earlier [] later.is_open) (kept_of flags (κ ∷ others)))) → Awaits limits c flags past later κ others
 kept_awaiting limits c flags past keeper later κ others a client offline served unasked told =
     record {
       client = client ∙ a.client;
@@ -184,7 +184,7 @@ moves keeper κ offline served = rw (offline, served) refl
 
 -- a client that awaits that CONNACK continues awaiting it, or takes it in; as long as it is in step
 -- it opens no further connection
-pub awaiting_goes : (limits : Limits) (c : Client) (flags : List Bool) (s t : Story) → NamesApart s.connections → HasAwaiting limits c flags s → (h : Happens limits s t) → AreAllNumbered s.keeper → IsInStep t
+pub awaiting_goes : (limits : Limits) (c : Client) (flags : List Bool) (s t : Story) → NamesApart s.connections → HasAwaiting limits c flags s → (h : StoryStep limits s t) → AreAllNumbered s.keeper → IsInStep t
     → HasAwaiting limits c (flags_after flags h) t ⊎ IsSettled limits c (flags_after flags h) s t
 awaiting_goes limits c flags s t apart b (takes i κ w stands next) numbers step =
     inl (subst (λ (l : List Connection). HasAwaiting limits c flags (with_connections (place_of limits s.past (command_of κ.name κ.taken w.packet) ∷ s.past) s.keeper (counted_at i l))) (sym b.are)

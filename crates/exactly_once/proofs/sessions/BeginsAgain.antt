@@ -6,21 +6,21 @@ use Rattle.std.specs.Prelude.{slice_get, ◌==◌}
 use Rattle.std.proofs.lemmas.Bool.{both_ways}
 use Rattle.client_base.specs.lists.Lists.{Each}
 use Rattle.client_base.proofs.of_lists.Tests.{or_none}
-use Rattle.broker_base.specs.Connection.{ConnectionName, same_connection}
-use Rattle.broker_base.specs.Place.{Client, Mark, Place, Past, Limits}
-use Rattle.broker_base.specs.Past.{accepts, session_of, session_start}
-use Rattle.broker_base.specs.Marks.{mark_of}
-use Rattle.broker_base.specs.Commands.{place_of, past_of}
-use Rattle.broker_base.specs.Command.{Command}
-use Rattle.broker_base.specs.Command.TheVariants as commands
+use Rattle.broker_base.specs.broker_spec.Connection.{ConnectionName, same_connection}
+use Rattle.broker_base.specs.broker_spec.Place.{Client, Mark, Place, Past, Limits}
+use Rattle.broker_base.specs.broker_spec.Past.{accepts, session_of, session_start}
+use Rattle.broker_base.specs.broker_spec.Marks.{mark_of}
+use Rattle.broker_base.specs.broker_spec.Commands.{place_of, past_of}
+use Rattle.broker_base.specs.broker_spec.declared.command.Command.{Command}
+use Rattle.broker_base.specs.broker_spec.declared.command.Command.TheVariants as commands
 use Rattle.broker_base.proofs.ConnectionsOfSessions.{same_turned}
 use Rattle.client_base.specs.Keeper.{Keeper}
 use Rattle.client_base.specs.Called.{opens}
 use Rattle.exactly_once.specs.Sides.{Connection}
 use Rattle.exactly_once.specs.Story.{any_named, command_of, Story}
-use Rattle.exactly_once.specs.Told.{Told}
-use Rattle.exactly_once.specs.Told.Told.{goes_on}
-use Rattle.exactly_once.specs.Story.Happens.{takes}
+use Rattle.exactly_once.specs.StoryTrace.{StoryTrace}
+use Rattle.exactly_once.specs.StoryTrace.StoryTrace.{goes_on}
+use Rattle.exactly_once.specs.Story.StoryStep.{takes}
 use Rattle.exactly_once.specs.Acceptance.{accepted_on}
 use Rattle.exactly_once.specs.InStep.{has_begun, opens_on, is_at, opened_in, accepted_in}
 use Rattle.exactly_once.specs.Inside.Shape.{NamesApart}
@@ -42,15 +42,15 @@ use Rattle.exactly_once.proofs.sessions.Awaiting.{HasAwaiting}
 -- of a client that was never served: what it published goes with it
 begins_unserved : (limits : Limits) (list : List Command) (c : Client) (keeper : Keeper) (κ : Connection) (others : List Connection) → session_of (past_of limits list) c ≡ None
     → mark_of limits (past_of limits list) (commands.Connect κ.name c false) ≡ Mark.Accepted → AreUntouched limits (past_of limits list) c (κ ∷ others) → NamesApart (κ ∷ others) → κ.taken ≡ 0 → IsUnserved c keeper
-    → Told limits c (with_connections (accepted_at κ.name c ∷ past_of limits list) keeper (record κ { taken = suc κ.taken } ∷ kept_of (flags_of others) others))
+    → StoryTrace limits c (with_connections (accepted_at κ.name c ∷ past_of limits list) keeper (record κ { taken = suc κ.taken } ∷ kept_of (flags_of others) others))
 begins_unserved limits list c keeper κ others none mark fresh names new u =
     let past = past_of limits list in
     let next : slice_get κ.written κ.taken ≡ Some (opens c) = ap (λ (z : Connection). slice_get z.written z.taken) (fresh.0 new).is in
     let command : command_of κ.name κ.taken (opens c).packet ≡ commands.Connect κ.name c false = ap (λ n. command_of κ.name n (opens c).packet) new in
     let place : place_of limits past (command_of κ.name κ.taken (opens c).packet) ≡ accepted_at κ.name c =
     ap (place_of limits past) command ∙ ap (λ m. let p : Place = record { command = commands.Connect κ.name c false; mark = m } in p) mark in
-    subst (λ (k : Keeper). Told limits c (with_connections (accepted_at κ.name c ∷ past) k (record κ { taken = suc κ.taken } ∷ kept_of (flags_of others) others))) (sym u.is)
-    (subst (λ (p : Place). Told limits c (with_connections (p ∷ past) (waiting c [] keeper.own keeper.is_open) (record κ { taken = suc κ.taken } ∷ kept_of (flags_of others) others))) place
+    subst (λ (k : Keeper). StoryTrace limits c (with_connections (accepted_at κ.name c ∷ past) k (record κ { taken = suc κ.taken } ∷ kept_of (flags_of others) others))) (sym u.is)
+    (subst (λ (p : Place). StoryTrace limits c (with_connections (p ∷ past) (waiting c [] keeper.own keeper.is_open) (record κ { taken = suc κ.taken } ∷ kept_of (flags_of others) others))) place
     (goes_on (opens_again limits list c [] keeper.own κ others keeper.is_open none tt u.unsent u.apart fresh names new) (takes 0 κ (opens c) refl next)))
 
 -- the client is offline, since the newest connection is not confirmed

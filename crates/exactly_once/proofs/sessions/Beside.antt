@@ -5,18 +5,18 @@ use Rattle.std.specs.Prelude.{slice_get}
 use Rattle.client_base.specs.packet.declared.packet.Packet.{Packet}
 use Rattle.client_base.specs.packet.declared.packet.Packet.TheVariants as packets
 use Rattle.client_base.proofs.of_lists.Tests.{or_none}
-use Rattle.broker_base.specs.Connection.{ConnectionName, same_connection}
-use Rattle.broker_base.specs.Place.{Client, Past, Limits}
-use Rattle.broker_base.specs.Commands.{place_of}
+use Rattle.broker_base.specs.broker_spec.Connection.{ConnectionName, same_connection}
+use Rattle.broker_base.specs.broker_spec.Place.{Client, Past, Limits}
+use Rattle.broker_base.specs.broker_spec.Commands.{place_of}
 use Rattle.broker_base.proofs.ConnectionsOfSessions.{same_turned}
 use Rattle.client_base.specs.Keeper.{Written, Keeper}
 use Rattle.client_base.specs.Called.{written_for}
 use Rattle.client_base.specs.Written.{plain, writes_first}
 use Rattle.exactly_once.specs.Sides.{Connection}
-use Rattle.exactly_once.specs.Story.{Story, Happens, command_of, counted_at, names_client, any_named, is_packet_of, with_side}
-use Rattle.exactly_once.specs.Told.{Told}
-use Rattle.exactly_once.specs.Told.Told.{goes_on}
-use Rattle.exactly_once.specs.Story.Happens.{takes, others_take, receives, opens_anew, loses, disconnects, publishes_one, subscribes, unsubscribes}
+use Rattle.exactly_once.specs.Story.{Story, StoryStep, command_of, counted_at, names_client, any_named, is_packet_of, with_side}
+use Rattle.exactly_once.specs.StoryTrace.{StoryTrace}
+use Rattle.exactly_once.specs.StoryTrace.StoryTrace.{goes_on}
+use Rattle.exactly_once.specs.Story.StoryStep.{takes, others_take, receives, opens_anew, loses, disconnects, publishes_one, subscribes, unsubscribes}
 use Rattle.exactly_once.specs.Inside.Shape.{NamesApart}
 use Rattle.client_base.specs.Handled.{handled, lost}
 use Rattle.exactly_once.specs.Sends.{put_to}
@@ -49,10 +49,10 @@ beside flags s = record { past = s.past; connections = kept_of flags s.connectio
 pub record HasBeside (limits : Limits) (c : Client) (flags : List Bool) (s : Story) : Type 0 where
   pub head : IsHeadKept flags
   pub gone : AreGone flags s.connections
-  pub told : Told limits c (beside flags s)
+  pub told : StoryTrace limits c (beside flags s)
 
 -- after an event: a connection that it opens is kept
-abbrev pub flags_after : {limits : Limits} {s t : Story} → List Bool → Happens limits s t → List Bool
+abbrev pub flags_after : {limits : Limits} {s t : Story} → List Bool → StoryStep limits s t → List Bool
 flags_after flags (opens_anew x fresh none uncounted) = true ∷ flags
 flags_after flags _ = flags
 
@@ -146,21 +146,21 @@ with_connections past keeper connections = record { past = past; connections = c
 
 goes_taken : (limits : Limits) (c : Client) (flags : List Bool) (s : Story) (b : HasBeside limits c flags s) (i : ℕ) (κ : Connection) (w : Written) → slice_get κ.written κ.taken ≡ Some w
     → IsKept flags s.connections i κ ⊎ IsLeft flags s.connections i κ
-    → Told limits c (with_connections (place_of limits s.past (command_of κ.name κ.taken w.packet) ∷ s.past) s.keeper (kept_of flags (counted_at i s.connections)))
+    → StoryTrace limits c (with_connections (place_of limits s.past (command_of κ.name κ.taken w.packet) ∷ s.past) s.keeper (kept_of flags (counted_at i s.connections)))
 goes_taken limits c flags s b i κ w next (inl k) =
-    subst (λ (l : List Connection). Told limits c (with_connections (place_of limits s.past (command_of κ.name κ.taken w.packet) ∷ s.past) s.keeper l)) (sym k.counted)
+    subst (λ (l : List Connection). StoryTrace limits c (with_connections (place_of limits s.past (command_of κ.name κ.taken w.packet) ∷ s.past) s.keeper l)) (sym k.counted)
     (goes_on b.told (takes k.j κ w k.stands next))
 goes_taken limits c flags s b i κ w next (inr l) =
-    subst (λ (l : List Connection). Told limits c (with_connections (place_of limits s.past (command_of κ.name κ.taken w.packet) ∷ s.past) s.keeper l)) (sym l.counted)
+    subst (λ (l : List Connection). StoryTrace limits c (with_connections (place_of limits s.past (command_of κ.name κ.taken w.packet) ∷ s.past) s.keeper l)) (sym l.counted)
     (goes_on b.told (others_take (command_of κ.name κ.taken w.packet) (later_other s.past s.keeper.client κ.name κ.taken w.packet l.taken) (later_named κ.name κ.taken w.packet (kept_of flags s.connections) l.taken l.none)))
 
 goes_written : (limits : Limits) (c : Client) (past : Past) (keeper : Keeper) (flags : List Bool) (more : List Written) (connections : List Connection) → IsHeadKept flags
-    → Told limits c (with_connections past keeper (writes_first more (kept_of flags connections))) → Told limits c (with_connections past keeper (kept_of flags (writes_first more connections)))
-goes_written limits c past keeper flags more connections h = subst (λ (l : List Connection). Told limits c (with_connections past keeper l)) (sym (kept_writes more flags connections h))
+    → StoryTrace limits c (with_connections past keeper (writes_first more (kept_of flags connections))) → StoryTrace limits c (with_connections past keeper (kept_of flags (writes_first more connections)))
+goes_written limits c past keeper flags more connections h = subst (λ (l : List Connection). StoryTrace limits c (with_connections past keeper l)) (sym (kept_writes more flags connections h))
 
 -- a packet is handled on the newest one
 pub goes_received : (limits : Limits) (c : Client) (s : Story) (flags : List Bool) (κ : Connection) (others : List Connection) (packet : Packet) → IsHeadKept flags → AreGone flags s.connections
-    → Told limits c (beside flags s) → s.connections ≡ κ ∷ others → s.keeper.is_open ≡ true → slice_get (put_to limits s.past κ.name) κ.handled ≡ Some packet
+    → StoryTrace limits c (beside flags s) → s.connections ≡ κ ∷ others → s.keeper.is_open ≡ true → slice_get (put_to limits s.past κ.name) κ.handled ≡ Some packet
     → HasBeside limits c flags (with_side s others (handled packet (record { keeper = s.keeper; connection = κ })))
 goes_received limits c s [] κ others packet h gone told are opened next = record { head = tt; gone = tt; told = goes_on told (receives κ others packet are opened next) }
 goes_received limits c s (true ∷ flags) κ others packet h gone told are opened next =
@@ -183,7 +183,7 @@ gone_either more flags connections h g true = gone_writes more flags connections
 gone_either more flags connections h g false = g
 
 -- while the session lasts, and before the first one begins
-pub goes_beside : (limits : Limits) (c : Client) (flags : List Bool) (s t : Story) → NamesApart s.connections → HasBeside limits c flags s → (h : Happens limits s t) → HasBeside limits c (flags_after flags h) t
+pub goes_beside : (limits : Limits) (c : Client) (flags : List Bool) (s t : Story) → NamesApart s.connections → HasBeside limits c flags s → (h : StoryStep limits s t) → HasBeside limits c (flags_after flags h) t
 goes_beside limits c flags s t apart b (takes i κ w stands next) =
     record {
       head = b.head;
@@ -204,7 +204,7 @@ goes_beside limits c flags s t apart b disconnects =
     record {
       head = b.head;
       gone = gone_either (plain packets.Disconnect ∷ []) flags s.connections b.head b.gone s.keeper.is_online;
-      told = subst (λ (l : List Connection). Told limits c (with_connections s.past (lost s.keeper) l)) (sym (kept_either (plain packets.Disconnect ∷ []) flags s.connections b.head s.keeper.is_online))
+      told = subst (λ (l : List Connection). StoryTrace limits c (with_connections s.past (lost s.keeper) l)) (sym (kept_either (plain packets.Disconnect ∷ []) flags s.connections b.head s.keeper.is_online))
           (goes_on b.told disconnects);
     }
 goes_beside limits c flags s t apart b (publishes_one p needs) =

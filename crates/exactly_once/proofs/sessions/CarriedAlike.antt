@@ -7,14 +7,14 @@ use Rattle.client_base.specs.packet.declared.packet.Packet.{Packet}
 use Rattle.client_base.specs.packet.declared.packet.Packet.TheVariants as packets
 use Rattle.client_base.specs.packet.declared.publish.Publish.{Publish}
 use Rattle.client_base.specs.lists.Lists.{Each}
-use Rattle.broker_base.specs.Connection.{ConnectionName, same_connection}
-use Rattle.broker_base.specs.Place.{Client, Mark, Place, Past, Limits}
-use Rattle.broker_base.specs.Past.{current_connection}
-use Rattle.broker_base.specs.Received.{is_new}
-use Rattle.broker_base.specs.Marks.{mark_of}
-use Rattle.broker_base.specs.Commands.{place_of}
-use Rattle.broker_base.specs.Command.{Command}
-use Rattle.broker_base.specs.Command.TheVariants as commands
+use Rattle.broker_base.specs.broker_spec.Connection.{ConnectionName, same_connection}
+use Rattle.broker_base.specs.broker_spec.Place.{Client, Mark, Place, Past, Limits}
+use Rattle.broker_base.specs.broker_spec.Past.{current_connection}
+use Rattle.broker_base.specs.broker_spec.Received.{is_new}
+use Rattle.broker_base.specs.broker_spec.Marks.{mark_of}
+use Rattle.broker_base.specs.broker_spec.Commands.{place_of}
+use Rattle.broker_base.specs.broker_spec.declared.command.Command.{Command}
+use Rattle.broker_base.specs.broker_spec.declared.command.Command.TheVariants as commands
 use Rattle.client_base.specs.session_base.declared.publication.Publication.{Publication}
 use Rattle.client_base.specs.session_base.Publication.{publication_of}
 use Rattle.client_base.specs.Keeper.{Written}
@@ -22,8 +22,8 @@ use Rattle.client_base.specs.Called.{new_connection, written_for}
 use Rattle.client_base.specs.Written.{plain, writes_first}
 use Rattle.client_base.specs.Handled.{handled}
 use Rattle.exactly_once.specs.Sides.{Connection}
-use Rattle.exactly_once.specs.Story.{Story, Happens, any_named, counted_at, count_of}
-use Rattle.exactly_once.specs.Story.Happens.{takes, others_take, receives, opens_anew, loses, disconnects, publishes_one, subscribes, unsubscribes}
+use Rattle.exactly_once.specs.Story.{Story, StoryStep, any_named, counted_at, count_of}
+use Rattle.exactly_once.specs.Story.StoryStep.{takes, others_take, receives, opens_anew, loses, disconnects, publishes_one, subscribes, unsubscribes}
 use Rattle.exactly_once.specs.Carried.{carries, connection_named, number_at, more_by}
 use Rattle.exactly_once.specs.Inside.Shape.{NamesApart, LastIsCurrent}
 use Rattle.exactly_once.proofs.Packets.{at_packet}
@@ -125,7 +125,7 @@ kept_handled past (true ∷ flags) κ after others more head name written within
 kept_handled past (false ∷ flags) κ after others more head name written within = absurd head
 
 -- what the places below carry stays
-pub kept_numbers : (limits : Limits) (flags : List Bool) (s t : Story) → IsHeadKept flags → AreGone flags s.connections → NamesApart s.connections → AreWithin s.past s.connections → (h : Happens limits s t)
+pub kept_numbers : (limits : Limits) (flags : List Bool) (s t : Story) → IsHeadKept flags → AreGone flags s.connections → NamesApart s.connections → AreWithin s.past s.connections → (h : StoryStep limits s t)
     → SameNumbers (kept_of flags s.connections) (kept_of (flags_after flags h) t.connections) s.past
 kept_numbers limits flags s t head gone apart within (takes i κ w stands next) = kept_taken s.past flags s.connections i κ (find flags s.connections i κ apart gone stands)
 kept_numbers limits flags s t head gone apart within (others_take command other none) = same_itself s.past (kept_of flags s.connections)

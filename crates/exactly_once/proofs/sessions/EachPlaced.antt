@@ -5,13 +5,13 @@ use Rattle.std.specs.Prelude.{slice_get}
 use Rattle.client_base.specs.packet.declared.packet.Packet.{Packet}
 use Rattle.client_base.specs.lists.Lists.{Each}
 use Rattle.client_base.proofs.of_lists.Tests.{or_none}
-use Rattle.broker_base.specs.Connection.{ConnectionName, same_connection}
-use Rattle.broker_base.specs.Place.{Client, Place, Past, Limits}
-use Rattle.broker_base.specs.Past.{accepts}
-use Rattle.broker_base.specs.Marks.{mark_of}
-use Rattle.broker_base.specs.Commands.{place_of}
-use Rattle.broker_base.specs.Command.{Command}
-use Rattle.broker_base.specs.Command.TheVariants as commands
+use Rattle.broker_base.specs.broker_spec.Connection.{ConnectionName, same_connection}
+use Rattle.broker_base.specs.broker_spec.Place.{Client, Place, Past, Limits}
+use Rattle.broker_base.specs.broker_spec.Past.{accepts}
+use Rattle.broker_base.specs.broker_spec.Marks.{mark_of}
+use Rattle.broker_base.specs.broker_spec.Commands.{place_of}
+use Rattle.broker_base.specs.broker_spec.declared.command.Command.{Command}
+use Rattle.broker_base.specs.broker_spec.declared.command.Command.TheVariants as commands
 use Rattle.client_base.specs.Keeper.{Written}
 use Rattle.client_base.specs.Called.{opens}
 use Rattle.exactly_once.specs.Sides.{Connection}

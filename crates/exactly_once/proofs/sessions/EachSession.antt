@@ -1,13 +1,13 @@
 -- In each of its sessions a client that is in step accepts a prefix of the QoS 2 entries, in order,
 -- and each that is released.
 use Rattle.std.proofs.Common.{ℕ, [], ◌∷◌, length, refl, ◌∙◌, ap, subst, inl, inr, ◌⊎◌}
-use Rattle.broker_base.specs.Place.{Client, Limits}
-use Rattle.broker_base.specs.Past.{current_connection, session_of, session_start}
-use Rattle.broker_base.specs.QuietLaws.{IsSteady}
-use Rattle.broker_base.specs.Commands.{place_of, past_from}
-use Rattle.broker_base.specs.Command.TheVariants as commands
-use Rattle.exactly_once.specs.Story.{Story, Happens, no_story}
-use Rattle.exactly_once.specs.Told.Told.{begins}
+use Rattle.broker_base.specs.broker_spec.Place.{Client, Limits}
+use Rattle.broker_base.specs.broker_spec.Past.{current_connection, session_of, session_start}
+use Rattle.broker_base.specs.broker_spec.QuietLaws.{IsSteady}
+use Rattle.broker_base.specs.broker_spec.Commands.{place_of, past_from}
+use Rattle.broker_base.specs.broker_spec.declared.command.Command.TheVariants as commands
+use Rattle.exactly_once.specs.Story.{Story, StoryStep, no_story}
+use Rattle.exactly_once.specs.StoryTrace.StoryTrace.{begins}
 use Rattle.exactly_once.specs.InStep.{IsInStep, entries_in, accepted_in}
 use Rattle.exactly_once.specs.Acceptance.{two_entries}
 use Rattle.exactly_once.specs.Lives.{Lived, AcceptsInEachSession}
@@ -87,7 +87,7 @@ after_expel : (limits : Limits) (c : Client) (t : Story) → LastsStill limits c
 after_expel limits c t (inl l) = lasts l
 after_expel limits c t (inr o) = over o
 
-goes : (limits : Limits) → IsSteady limits → (c : Client) (s t : Story) → IsLife limits c s → IsAt limits c s → Happens limits s t → IsInStep t → IsAt limits c t
+goes : (limits : Limits) → IsSteady limits → (c : Client) (s t : Story) → IsLife limits c s → IsAt limits c s → StoryStep limits s t → IsInStep t → IsAt limits c t
 goes limits steady c s t life (lasts l) h step =
     lasts (record {
       flags = _;

@@ -5,18 +5,18 @@ use Rattle.std.specs.Prelude.{is_some}
 use Rattle.std.proofs.lemmas.Bool.{both_ways}
 use Rattle.std.proofs.lemmas.List.{append-nil}
 use Rattle.client_base.proofs.of_lists.Tests.{or_right}
-use Rattle.broker_base.specs.Connection.{ConnectionName}
-use Rattle.broker_base.specs.Place.{Client, Place, Past, Limits}
-use Rattle.broker_base.specs.Past.{accepts, session_of, session_start, current_connection, begins}
-use Rattle.broker_base.specs.QuietLaws.{IsSteady}
-use Rattle.broker_base.specs.Commands.{place_of}
-use Rattle.broker_base.specs.Command.TheVariants as commands
+use Rattle.broker_base.specs.broker_spec.Connection.{ConnectionName}
+use Rattle.broker_base.specs.broker_spec.Place.{Client, Place, Past, Limits}
+use Rattle.broker_base.specs.broker_spec.Past.{accepts, session_of, session_start, current_connection, begins}
+use Rattle.broker_base.specs.broker_spec.QuietLaws.{IsSteady}
+use Rattle.broker_base.specs.broker_spec.Commands.{place_of}
+use Rattle.broker_base.specs.broker_spec.declared.command.Command.TheVariants as commands
 use Rattle.client_base.specs.Keeper.{Keeper}
 use Rattle.exactly_once.specs.Sides.{Connection}
 use Rattle.exactly_once.specs.Sends.{put_to}
 use Rattle.exactly_once.specs.Story.{Story}
-use Rattle.exactly_once.specs.Told.Told.{goes_on}
-use Rattle.exactly_once.specs.Story.Happens.{others_take}
+use Rattle.exactly_once.specs.StoryTrace.StoryTrace.{goes_on}
+use Rattle.exactly_once.specs.Story.StoryStep.{others_take}
 use Rattle.exactly_once.specs.InStep.{has_begun, began_again, AreWelcome, IsInStep, opens_on, opened_in}
 use Rattle.exactly_once.proofs.places.After.{IsKeptSession}
 use Rattle.exactly_once.proofs.publishing.AtPlaces.{put_more}

@@ -4,14 +4,14 @@ use Rattle.std.proofs.Common.{◌≡◌, ◌≤◌, ℕ, ◌+◌, Bool, true, fa
 use Rattle.std.proofs.lemmas.Bool.{both_ways}
 use Rattle.std.proofs.lemmas.List.{append-nil, length-append}
 use Rattle.client_base.specs.lists.Lists.{Each}
-use Rattle.broker_base.specs.Connection.{ConnectionName}
-use Rattle.broker_base.specs.Place.{Client, Place, Past, Limits, same_client}
-use Rattle.broker_base.specs.Past.{accepts, begins, begins_session, is_beginning, session_of, session_start}
-use Rattle.broker_base.specs.Commands.{place_of}
+use Rattle.broker_base.specs.broker_spec.Connection.{ConnectionName}
+use Rattle.broker_base.specs.broker_spec.Place.{Client, Place, Past, Limits, same_client}
+use Rattle.broker_base.specs.broker_spec.Past.{accepts, begins, begins_session, is_beginning, session_of, session_start}
+use Rattle.broker_base.specs.broker_spec.Commands.{place_of}
 use Rattle.broker_base.proofs.ClientsInOrder.{same_self}
 use Rattle.exactly_once.specs.Sides.{Connection}
-use Rattle.exactly_once.specs.Story.{Story, Happens, command_of, names_client}
-use Rattle.exactly_once.specs.Story.Happens.{takes, others_take, receives, opens_anew, loses, disconnects, publishes_one, subscribes, unsubscribes}
+use Rattle.exactly_once.specs.Story.{Story, StoryStep, command_of, names_client}
+use Rattle.exactly_once.specs.Story.StoryStep.{takes, others_take, receives, opens_anew, loses, disconnects, publishes_one, subscribes, unsubscribes}
 use Rattle.exactly_once.specs.InStep.{AreWelcome, IsFirstSession, WasWelcome, began_again, has_begun, opens_on, sessions_begun, starts_of}
 use Rattle.exactly_once.specs.Lives.{HasOneSession, IsUnexpelled, Lived, UnexpelledLivesAreInStep}
 use Rattle.exactly_once.specs.Lives.Lived.{opens, goes_on, is_expelled}
@@ -99,7 +99,7 @@ first_placed place past c session kept spared (inl none) = by (begins place past
 
 -- ---- the events
 
-first_goes : (limits : Limits) (c : Client) (s t : Story) → IsLife limits c s → IsFirstSession s.past c → Happens limits s t → IsFirstSession t.past c
+first_goes : (limits : Limits) (c : Client) (s t : Story) → IsLife limits c s → IsFirstSession s.past c → StoryStep limits s t → IsFirstSession t.past c
 first_goes limits c s t life first (takes i κ w stands next) =
     let command = command_of κ.name κ.taken w.packet in
     let kind = life_command limits c s i κ w life stands next in
@@ -116,7 +116,7 @@ first_goes limits c s t life first (publishes_one p needs) = first
 first_goes limits c s t life first (subscribes p on id) = first
 first_goes limits c s t life first (unsubscribes p on id) = first
 
-unexpelled_before : (limits : Limits) (c : Client) (s t : Story) → Happens limits s t → IsUnexpelled c t.past → IsUnexpelled c s.past
+unexpelled_before : (limits : Limits) (c : Client) (s t : Story) → StoryStep limits s t → IsUnexpelled c t.past → IsUnexpelled c s.past
 unexpelled_before limits c s t (takes i κ w stands next) h = h.1
 unexpelled_before limits c s t (others_take command other none) h = h.1
 unexpelled_before limits c s t (receives κ others packet are opened next) h = h

@@ -7,8 +7,8 @@ use Rattle.std.proofs.lemmas.List.{append_assoc, append-nil}
 use Rattle.client_base.specs.lists.Lists.{Each}
 use Rattle.client_base.proofs.of_lists.Tests.{eq_same}
 use Rattle.client_base.specs.session_base.declared.publication.Publication.{Publication}
-use Rattle.broker_base.specs.Place.{Client, Place, Past}
-use Rattle.broker_base.specs.Past.{begins}
+use Rattle.broker_base.specs.broker_spec.Place.{Client, Place, Past}
+use Rattle.broker_base.specs.broker_spec.Past.{begins}
 use Rattle.client_base.specs.Keeper.{Written}
 use Rattle.client_base.specs.Written.{writes_first}
 use Rattle.exactly_once.specs.Sides.{Connection}

@@ -1,15 +1,15 @@
 -- What a client accepted stays in turn, whatever happens: on its newest connection it accepts in the session that began last.
 use Rattle.std.proofs.Common.{◌≡◌, ℕ, List, [], ◌∷◌, length, Option, Some, None, refl, sym, ◌∙◌, ap, subst, inl, inr, ◌⊎◌}
 use Rattle.client_base.specs.packet.declared.packet.Packet.TheVariants as packets
-use Rattle.broker_base.specs.Place.{Client, Past, Limits}
-use Rattle.broker_base.specs.Past.{session_start}
-use Rattle.broker_base.specs.Command.TheVariants as commands
-use Rattle.broker_base.specs.Commands.{place_of}
+use Rattle.broker_base.specs.broker_spec.Place.{Client, Past, Limits}
+use Rattle.broker_base.specs.broker_spec.Past.{session_start}
+use Rattle.broker_base.specs.broker_spec.declared.command.Command.TheVariants as commands
+use Rattle.broker_base.specs.broker_spec.Commands.{place_of}
 use Rattle.client_base.specs.Called.{written_for}
 use Rattle.client_base.specs.Written.{plain}
 use Rattle.exactly_once.specs.Sides.{Connection}
-use Rattle.exactly_once.specs.Story.{Story, Happens, command_of, names_client}
-use Rattle.exactly_once.specs.Story.Happens.{takes, others_take, receives, opens_anew, loses, disconnects, publishes_one, subscribes, unsubscribes}
+use Rattle.exactly_once.specs.Story.{Story, StoryStep, command_of, names_client}
+use Rattle.exactly_once.specs.Story.StoryStep.{takes, others_take, receives, opens_anew, loses, disconnects, publishes_one, subscribes, unsubscribes}
 use Rattle.exactly_once.specs.InStep.{opened_in, starts_of}
 use Rattle.exactly_once.proofs.keeping.CurrentOnes.{none_opened}
 use Rattle.exactly_once.proofs.publishing.Last.{each_there}
@@ -58,7 +58,7 @@ head_over limits c s life (parts p) = head_parted limits s.past c s.connections 
 
 -- ---- the events
 
-pub turn_goes : (limits : Limits) (c : Client) (s t : Story) → IsLife limits c s → IsHeadOfLast s.past c s.connections → IsTailInTurn s.past c s.connections → Happens limits s t
+pub turn_goes : (limits : Limits) (c : Client) (s t : Story) → IsLife limits c s → IsHeadOfLast s.past c s.connections → IsTailInTurn s.past c s.connections → StoryStep limits s t
     → IsTailInTurn t.past c t.connections
 turn_goes limits c s t life head h (takes i κ w stands next) =
     let command = command_of κ.name κ.taken w.packet in

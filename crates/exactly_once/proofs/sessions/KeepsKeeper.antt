@@ -8,12 +8,12 @@ use Rattle.client_base.specs.session_base.declared.publication.Publication.{Publ
 use Rattle.client_base.specs.session_base.Publication.{is_answered}
 use Rattle.client_base.specs.session_base.Identifiers.{least_free}
 use Rattle.client_base.specs.lists.Lists.{IsDistinct}
-use Rattle.broker_base.specs.Place.{Client}
+use Rattle.broker_base.specs.broker_spec.Place.{Client}
 use Rattle.client_base.specs.Keeper.{Own, Keeper, ids_in_use}
 use Rattle.client_base.specs.Called.{adds_own}
 use Rattle.client_base.specs.Handled.{handled, handled_online, handled_first, lost}
 use Rattle.exactly_once.specs.Sides.{Side}
-use Rattle.exactly_once.specs.Told.{AreUnsent, unserved}
+use Rattle.exactly_once.specs.StoryTrace.{AreUnsent, unserved}
 use Rattle.exactly_once.proofs.publishing.kept.KeepsCalls.{ids_next}
 use Rattle.exactly_once.proofs.subscribing.Given.{one_handled}
 use Rattle.exactly_once.proofs.keeping.Settled.{leaves_online}

@@ -2,17 +2,17 @@
 use Rattle.std.proofs.Common.{◌≡◌, ℕ, Bool, true, false, if◌then◌else◌, List, [], ◌∷◌, Option, Some, None, refl, sym, ◌∙◌, ap, subst, inl, inr}
 use Rattle.std.specs.Prelude.{◌==◌}
 use Rattle.client_base.proofs.of_lists.Tests.{eq_same, eq_is}
-use Rattle.broker_base.specs.Place.{Client, Past, Limits}
-use Rattle.broker_base.specs.Past.{session_start}
-use Rattle.broker_base.specs.QuietLaws.{IsSteady}
-use Rattle.broker_base.specs.Times.{entries_of}
+use Rattle.broker_base.specs.broker_spec.Place.{Client, Past, Limits}
+use Rattle.broker_base.specs.broker_spec.Past.{session_start}
+use Rattle.broker_base.specs.broker_spec.QuietLaws.{IsSteady}
+use Rattle.broker_base.specs.broker_spec.Times.{entries_of}
 use Rattle.client_base.specs.Keeper.{Keeper}
 use Rattle.exactly_once.specs.Sides.{Connection}
 use Rattle.exactly_once.specs.Story.{Story}
-use Rattle.exactly_once.specs.Told.{Told}
+use Rattle.exactly_once.specs.StoryTrace.{StoryTrace}
 use Rattle.exactly_once.specs.Acceptance.{two_entries}
 use Rattle.exactly_once.specs.InStep.{is_at, entries_in}
-use Rattle.exactly_once.proofs.keeping.Told.{told_stories_accept}
+use Rattle.exactly_once.proofs.keeping.StoryTrace.{told_stories_accept}
 use Rattle.exactly_once.proofs.sessions.Beside.{kept_of, IsHeadKept, with_connections}
 use Rattle.exactly_once.proofs.sessions.Anew.{waiting}
 use Rattle.exactly_once.proofs.sessions.AcceptedShares.{Accepts}
@@ -27,7 +27,7 @@ entries_now limits [] c start e = absurd (cc)
 entries_now limits (place ∷ past) c start e = ap (λ b. if b then entries_of limits (place ∷ past) c else entries_in limits past c start) (ap (is_at start) e ∙ eq_same start)
 
 accepts_now : (limits : Limits) → IsSteady limits → (c : Client) (flags : List Bool) (past : Past) (keeper : Keeper) (connections : List Connection) (start : ℕ) → keeper.client ≡ c → IsHeadKept flags
-    → AreShutUnopened limits past c connections → Lasts limits c flags past connections → Told limits c (with_connections past keeper (kept_of flags connections)) → session_start past c ≡ Some start
+    → AreShutUnopened limits past c connections → Lasts limits c flags past connections → StoryTrace limits c (with_connections past keeper (kept_of flags connections)) → session_start past c ≡ Some start
     → Accepts limits c past connections start
 accepts_now limits steady c flags past keeper connections start client head shut h told e =
     let a = told_stories_accept limits steady c (with_connections past keeper (kept_of flags connections)) told in

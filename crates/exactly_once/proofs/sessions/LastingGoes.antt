@@ -2,16 +2,16 @@
 use Rattle.std.proofs.Common.{◌≡◌, ℕ, Bool, true, false, if◌then◌else◌, List, [], ◌∷◌, ◌++◌, length, Some, None, refl, sym, ◌∙◌, ap, ap₂, subst, inl, inr, ◌⊎◌}
 use Rattle.client_base.proofs.of_lists.Tests.{eq_same}
 use Rattle.client_base.specs.packet.declared.packet.Packet.TheVariants as packets
-use Rattle.broker_base.specs.Place.{Client, Place, Past, Limits}
-use Rattle.broker_base.specs.Past.{accepts, session_start}
-use Rattle.broker_base.specs.Commands.{place_of}
+use Rattle.broker_base.specs.broker_spec.Place.{Client, Place, Past, Limits}
+use Rattle.broker_base.specs.broker_spec.Past.{accepts, session_start}
+use Rattle.broker_base.specs.broker_spec.Commands.{place_of}
 use Rattle.client_base.specs.Keeper.{Written}
 use Rattle.client_base.specs.Called.{new_connection, written_for}
 use Rattle.client_base.specs.Handled.{handled}
 use Rattle.client_base.specs.Written.{plain, writes_first}
 use Rattle.exactly_once.specs.Sides.{Connection, Side}
-use Rattle.exactly_once.specs.Story.{Story, Happens, command_of, names_client}
-use Rattle.exactly_once.specs.Story.Happens.{takes, others_take, receives, opens_anew, loses, disconnects, publishes_one, subscribes, unsubscribes}
+use Rattle.exactly_once.specs.Story.{Story, StoryStep, command_of, names_client}
+use Rattle.exactly_once.specs.Story.StoryStep.{takes, others_take, receives, opens_anew, loses, disconnects, publishes_one, subscribes, unsubscribes}
 use Rattle.exactly_once.specs.Acceptance.{accepted_on}
 use Rattle.exactly_once.specs.InStep.{IsInStep, opens_on, is_at, opened_in, accepted_in}
 use Rattle.exactly_once.proofs.keeping.CurrentOnes.{none_opened}
@@ -104,7 +104,7 @@ pub stands_head : (limits : Limits) (c : Client) (flags : List Bool) (s : Story)
 stands_head limits c flags s (inl a) = a.awaits.head
 stands_head limits c flags s (inr b) = b.head
 
-pub stands_goes : (limits : Limits) (c : Client) (flags : List Bool) (s t : Story) → IsLife limits c s → Stands limits c flags s → (h : Happens limits s t) → IsInStep t → Stands limits c (flags_after flags h) t
+pub stands_goes : (limits : Limits) (c : Client) (flags : List Bool) (s t : Story) → IsLife limits c s → Stands limits c flags s → (h : StoryStep limits s t) → IsInStep t → Stands limits c (flags_after flags h) t
 stands_goes limits c flags s t life (inl a) h step = by (awaiting_goes limits c flags s t life.connections.names a h life.keeper.numbers step)
   where
     by : HasAwaiting limits c (flags_after flags h) t ⊎ IsSettled limits c (flags_after flags h) s t → Stands limits c (flags_after flags h) t
@@ -112,7 +112,7 @@ stands_goes limits c flags s t life (inl a) h step = by (awaiting_goes limits c 
     by (inr settled) = inr settled.beside
 stands_goes limits c flags s t life (inr b) h step = inr (goes_beside limits c flags s t life.connections.names b h)
 
-pub lasts_goes : (limits : Limits) (c : Client) (flags : List Bool) (s t : Story) → IsLife limits c s → IsHeadKept flags → Lasts limits c flags s.past s.connections → (h : Happens limits s t)
+pub lasts_goes : (limits : Limits) (c : Client) (flags : List Bool) (s t : Story) → IsLife limits c s → IsHeadKept flags → Lasts limits c flags s.past s.connections → (h : StoryStep limits s t)
     → Lasts limits c (flags_after flags h) t.past t.connections
 lasts_goes limits c flags s t life head l (takes i κ w stands next) =
     let command = command_of κ.name κ.taken w.packet in

@@ -4,15 +4,15 @@ use Rattle.client_base.specs.packet.declared.connack.Connack.TheVariants as conn
 use Rattle.client_base.specs.packet.declared.packet.Packet.{Packet}
 use Rattle.client_base.specs.packet.declared.packet.Packet.TheVariants as packets
 use Rattle.client_base.specs.lists.Lists.{Each, IsDistinct}
-use Rattle.broker_base.specs.Place.{Client, Past, Limits}
-use Rattle.broker_base.specs.Past.{session_of}
-use Rattle.broker_base.specs.Commands.{past_of}
-use Rattle.broker_base.specs.Command.{Command}
+use Rattle.broker_base.specs.broker_spec.Place.{Client, Past, Limits}
+use Rattle.broker_base.specs.broker_spec.Past.{session_of}
+use Rattle.broker_base.specs.broker_spec.Commands.{past_of}
+use Rattle.broker_base.specs.broker_spec.declared.command.Command.{Command}
 use Rattle.client_base.specs.Keeper.{Keeper, ids_in_use}
 use Rattle.exactly_once.specs.Sides.{Connection}
 use Rattle.exactly_once.specs.Sends.{put_to}
 use Rattle.exactly_once.specs.Story.{Story, count_of}
-use Rattle.exactly_once.specs.Told.{AreUnsent, unserved}
+use Rattle.exactly_once.specs.StoryTrace.{AreUnsent, unserved}
 use Rattle.client_base.specs.Called.{opens}
 use Rattle.client_base.proofs.NumbersStay.{AreAllNumbered}
 use Rattle.exactly_once.specs.InStep.{has_begun, opened_in}

@@ -3,12 +3,12 @@ use Rattle.std.proofs.Common.{false, [], ◌∷◌, refl, sym, ap, subst, arith}
 use Rattle.std.proofs.lemmas.Bool.{both_ways}
 use Rattle.client_base.specs.packet.declared.packet.Packet.TheVariants as packets
 use Rattle.client_base.specs.session_base.Identifiers.{least_free}
-use Rattle.broker_base.specs.Place.{Client, Limits}
+use Rattle.broker_base.specs.broker_spec.Place.{Client, Limits}
 use Rattle.client_base.specs.Keeper.{Keeper, ids_in_use, next_number}
 use Rattle.client_base.specs.Called.{new_connection, adds_own, written_for, opens}
 use Rattle.client_base.specs.Written.{plain, publishes}
-use Rattle.exactly_once.specs.Story.{Story, Happens, names_client}
-use Rattle.exactly_once.specs.Story.Happens.{takes, others_take, receives, opens_anew, loses, disconnects, publishes_one, subscribes, unsubscribes}
+use Rattle.exactly_once.specs.Story.{Story, StoryStep, names_client}
+use Rattle.exactly_once.specs.Story.StoryStep.{takes, others_take, receives, opens_anew, loses, disconnects, publishes_one, subscribes, unsubscribes}
 use Rattle.exactly_once.proofs.publishing.kept.KeepsNobody.{nobody_opened}
 use Rattle.exactly_once.proofs.sessions.KeepsKeeper.{unserved_opened, unserved_publishes}
 use Rattle.exactly_once.proofs.sessions.LifePlaces.{life_taken, life_other}
@@ -17,7 +17,7 @@ use Rattle.exactly_once.proofs.sessions.LifeWritten.{connections_written, connec
 use Rattle.exactly_once.proofs.sessions.LifeReceived.{life_received}
 use Rattle.client_base.proofs.NumbersStay.{publishes_numbers}
 
-pub life_goes : (limits : Limits) (c : Client) (s t : Story) → IsLife limits c s → Happens limits s t → IsLife limits c t
+pub life_goes : (limits : Limits) (c : Client) (s t : Story) → IsLife limits c s → StoryStep limits s t → IsLife limits c t
 life_goes limits c s t life (takes i κ w stands next) = life_taken limits c s i κ w life stands next
 life_goes limits c s t life (others_take command other none) =
     life_other limits c s command life (λ h. other (subst (λ (d : Client). names_client s.past d command) (sym life.keeper.client) h)) none

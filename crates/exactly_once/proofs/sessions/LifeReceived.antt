@@ -3,8 +3,8 @@ use Rattle.std.proofs.Common.{◌≡◌, ℕ, true, false, ◌||◌, List, [], �
 use Rattle.std.specs.Prelude.{slice_get}
 use Rattle.std.proofs.lemmas.Bool.{both_ways}
 use Rattle.client_base.specs.packet.declared.packet.Packet.{Packet}
-use Rattle.broker_base.specs.Connection.{same_connection}
-use Rattle.broker_base.specs.Place.{Client, Past, Limits}
+use Rattle.broker_base.specs.broker_spec.Connection.{same_connection}
+use Rattle.broker_base.specs.broker_spec.Place.{Client, Past, Limits}
 use Rattle.client_base.specs.Keeper.{Keeper, Written}
 use Rattle.client_base.specs.Handled.{handled}
 use Rattle.exactly_once.specs.Sides.{Connection, Side}

@@ -4,15 +4,15 @@ use Rattle.std.proofs.Common.{◌≡◌, ◌≤◌, ℕ, zero, suc, Bool, true, 
 use Rattle.std.proofs.lemmas.List.{append-nil}
 use Rattle.client_base.specs.lists.Lists.{Each}
 use Rattle.client_base.proofs.of_lists.Tests.{or_right}
-use Rattle.broker_base.specs.Connection.{ConnectionName}
-use Rattle.broker_base.specs.Place.{Client, Place, Past, Limits}
-use Rattle.broker_base.specs.Past.{accepts, session_of, begins}
-use Rattle.broker_base.specs.QuietLaws.{IsSteady}
-use Rattle.broker_base.specs.Answers.{answers_at}
+use Rattle.broker_base.specs.broker_spec.Connection.{ConnectionName}
+use Rattle.broker_base.specs.broker_spec.Place.{Client, Place, Past, Limits}
+use Rattle.broker_base.specs.broker_spec.Past.{accepts, session_of, begins}
+use Rattle.broker_base.specs.broker_spec.QuietLaws.{IsSteady}
+use Rattle.broker_base.specs.broker_spec.Answers.{answers_at}
 use Rattle.client_base.specs.Keeper.{Keeper}
 use Rattle.exactly_once.specs.Sides.{Connection}
 use Rattle.exactly_once.specs.Sends.{sends_to, put_to}
-use Rattle.exactly_once.specs.Story.{Story, Happens, counted_at}
+use Rattle.exactly_once.specs.Story.{Story, StoryStep, counted_at}
 use Rattle.exactly_once.specs.InStep.{has_begun, WasWelcome, AreWelcome, IsInStep, opens_on, is_at, opened_in, entries_in, accepted_in, starts_of}
 use Rattle.exactly_once.proofs.places.After.{none_opens}
 use Rattle.exactly_once.proofs.publishing.AtPlaces.{put_more}
@@ -68,7 +68,7 @@ lingers_accepts limits steady c s l start =
 -- ---- the client continues
 
 pub frozen_goes : (limits : Limits) (c : Client) (flags : List Bool) (earlier : Past) (keeper later : Keeper) (newest after : Connection) (before connections : List Connection)
-    → IsFrozen limits c flags earlier keeper newest before → (h : Happens limits (with_connections earlier keeper (newest ∷ before)) (with_connections earlier later connections)) → flags_after flags h ≡ flags
+    → IsFrozen limits c flags earlier keeper newest before → (h : StoryStep limits (with_connections earlier keeper (newest ∷ before)) (with_connections earlier later connections)) → flags_after flags h ≡ flags
     → connections ≡ after ∷ before → IsFrozen limits c flags earlier later after before
 frozen_goes limits c flags earlier keeper later newest after before connections f h same are =
     let s = with_connections earlier keeper (newest ∷ before) in

@@ -4,18 +4,18 @@ use Rattle.std.proofs.Common.{◌≡◌, Bool, true, false, if◌then◌else◌,
 use Rattle.std.specs.Prelude.{slice_get}
 use Rattle.client_base.specs.packet.declared.packet.Packet.{Packet}
 use Rattle.client_base.specs.packet.declared.packet.Packet.TheVariants as packets
-use Rattle.broker_base.specs.Place.{Client, Limits}
-use Rattle.broker_base.specs.QuietLaws.{IsSteady}
-use Rattle.broker_base.specs.Marks.{mark_of}
-use Rattle.broker_base.specs.Commands.{place_of}
+use Rattle.broker_base.specs.broker_spec.Place.{Client, Limits}
+use Rattle.broker_base.specs.broker_spec.QuietLaws.{IsSteady}
+use Rattle.broker_base.specs.broker_spec.Marks.{mark_of}
+use Rattle.broker_base.specs.broker_spec.Commands.{place_of}
 use Rattle.client_base.specs.Keeper.{Written, Keeper}
 use Rattle.client_base.specs.Called.{new_connection, written_for}
 use Rattle.client_base.specs.Handled.{handled, lost}
 use Rattle.client_base.specs.Written.{plain, writes_first}
 use Rattle.exactly_once.specs.Sides.{Connection, Side}
 use Rattle.exactly_once.specs.Sends.{put_to}
-use Rattle.exactly_once.specs.Story.{Story, Happens, command_of, counted_at, names_client, is_packet_of, with_side}
-use Rattle.exactly_once.specs.Story.Happens.{takes, others_take, receives, opens_anew, loses, disconnects, publishes_one, subscribes, unsubscribes}
+use Rattle.exactly_once.specs.Story.{Story, StoryStep, command_of, counted_at, names_client, is_packet_of, with_side}
+use Rattle.exactly_once.specs.Story.StoryStep.{takes, others_take, receives, opens_anew, loses, disconnects, publishes_one, subscribes, unsubscribes}
 use Rattle.exactly_once.specs.InStep.{AreWelcome, IsInStep}
 use Rattle.exactly_once.proofs.keeping.CurrentOnes.{none_opened}
 use Rattle.exactly_once.proofs.subscribing.Given.{stays_handled}
@@ -91,7 +91,7 @@ with_handled limits c s κ others packet are opened next l =
 
 -- ---- the events
 
-pub lingers_goes : (limits : Limits) → IsSteady limits → (c : Client) (s t : Story) → IsLife limits c s → Lingers limits c s → Happens limits s t → IsInStep t → Lingers limits c t ⊎ Parts limits c t.past t.connections
+pub lingers_goes : (limits : Limits) → IsSteady limits → (c : Client) (s t : Story) → IsLife limits c s → Lingers limits c s → StoryStep limits s t → IsInStep t → Lingers limits c t ⊎ Parts limits c t.past t.connections
 lingers_goes limits steady c s t life l (takes i κ w stands next) step =
     inl (lingers_takes limits c s i κ w life l stands next
     (subst (λ (d : Client). AreWelcome (place_of limits s.past (command_of κ.name κ.taken w.packet) ∷ s.past) d (counted_at i s.connections)) life.keeper.client step))

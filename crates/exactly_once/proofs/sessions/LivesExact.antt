@@ -1,17 +1,17 @@
 -- A client that is in step is promised all, over all its sessions.
 use Rattle.std.proofs.Common.{◌≡◌, ◌≤◌, ℕ, true, List, [], ◌∷◌, length, Option, Some, None, refl, sym, ◌∙◌, ap, subst, inl, inr, ◌⊎◌, Bool, ◌++◌}
 use Rattle.client_base.specs.lists.Lists.{Each}
-use Rattle.broker_base.specs.Place.{Client, Past, Limits}
-use Rattle.broker_base.specs.Past.{session_of, session_start}
-use Rattle.broker_base.specs.QuietLaws.{IsSteady}
-use Rattle.broker_base.specs.Commands.{place_of}
-use Rattle.broker_base.specs.Command.TheVariants as commands
+use Rattle.broker_base.specs.broker_spec.Place.{Client, Past, Limits}
+use Rattle.broker_base.specs.broker_spec.Past.{session_of, session_start}
+use Rattle.broker_base.specs.broker_spec.QuietLaws.{IsSteady}
+use Rattle.broker_base.specs.broker_spec.Commands.{place_of}
+use Rattle.broker_base.specs.broker_spec.declared.command.Command.TheVariants as commands
 use Rattle.client_base.specs.Keeper.{all_own}
 use Rattle.exactly_once.specs.Sides.{Connection}
-use Rattle.exactly_once.specs.Story.{Story, Happens, no_story, counted_at, command_of}
-use Rattle.exactly_once.specs.Story.Happens.{takes, others_take, receives, opens_anew, loses, disconnects, publishes_one, subscribes, unsubscribes}
-use Rattle.exactly_once.specs.Told.{Told}
-use Rattle.exactly_once.specs.Told.Told.{begins}
+use Rattle.exactly_once.specs.Story.{Story, StoryStep, no_story, counted_at, command_of}
+use Rattle.exactly_once.specs.Story.StoryStep.{takes, others_take, receives, opens_anew, loses, disconnects, publishes_one, subscribes, unsubscribes}
+use Rattle.exactly_once.specs.StoryTrace.{StoryTrace}
+use Rattle.exactly_once.specs.StoryTrace.StoryTrace.{begins}
 use Rattle.exactly_once.specs.Carried.{publications_of, new_numbers}
 use Rattle.exactly_once.specs.InStep.{IsInStep, AreWelcome, IsFirstSession, has_begun, sessions_begun}
 use Rattle.exactly_once.specs.Lives.{Lived, PublishedOverSessions, LivesAreExact}
@@ -69,7 +69,7 @@ stage_rises limits steady c s life (over o r) = r
 
 -- ---- an event
 
-stage_goes : (limits : Limits) → IsSteady limits → (c : Client) (s t : Story) → IsLife limits c s → IsLife limits c t → Stage limits c s → Happens limits s t → IsInStep t → Stage limits c t
+stage_goes : (limits : Limits) → IsSteady limits → (c : Client) (s t : Story) → IsLife limits c s → IsLife limits c t → Stage limits c s → StoryStep limits s t → IsInStep t → Stage limits c t
 stage_goes limits steady c s t life later (lasting flags n l) h step =
     lasting (flags_after flags h) (numbered_goes limits steady c flags s t life n h step) (lasts_goes limits c flags s t life (stands_head limits c flags s (stands_numbered limits c flags s n)) l h)
 stage_goes limits steady c s t life later (over (parts p) r) h step = by (parted_goes limits c s t life p h step)
@@ -121,7 +121,7 @@ stage_expelled limits steady c s life later (over (lingers l) r) step = over (li
 -- ---- what the places say
 
 lasting_says : (limits : Limits) → IsSteady limits → (c : Client) (flags : List Bool) (s t : Story) → IsLife limits c s → Numbered limits c flags s → (olds : List ℕ)
-    → new_numbers s.connections s.past ≡ olds ++ new_numbers (kept_of flags s.connections) s.past → IsCarried limits s → (h : Happens limits s t) → SaysNext h
+    → new_numbers s.connections s.past ≡ olds ++ new_numbers (kept_of flags s.connections) s.past → IsCarried limits s → (h : StoryStep limits s t) → SaysNext h
 lasting_says limits steady c flags s t life n olds is carried (takes i κ w stands next) =
     let ps = publications_of (all_own s.keeper) in
     subst (λ (d : Client). Says d ps (counted_at i s.connections) (place_of limits s.past (command_of κ.name κ.taken w.packet)) s.past) (sym life.keeper.client)
@@ -136,7 +136,7 @@ lasting_says limits steady c flags s t life n olds is carried (publishes_one p n
 lasting_says limits steady c flags s t life n olds is carried (subscribes p on id) = tt
 lasting_says limits steady c flags s t life n olds is carried (unsubscribes p on id) = tt
 
-stage_says : (limits : Limits) → IsSteady limits → (c : Client) (s t : Story) → IsLife limits c s → Stage limits c s → IsCarried limits s → (h : Happens limits s t) → SaysNext h
+stage_says : (limits : Limits) → IsSteady limits → (c : Client) (s t : Story) → IsLife limits c s → Stage limits c s → IsCarried limits s → (h : StoryStep limits s t) → SaysNext h
 stage_says limits steady c s t life (lasting flags (lasts b o alone) l) carried h = lasting_says limits steady c flags s t life (lasts b o alone) o.olds o.is carried h
 stage_says limits steady c s t life (lasting flags (awaits a o again) l) carried h = lasting_says limits steady c flags s t life (awaits a o again) o.olds o.is carried h
 stage_says limits steady c s t life (over o r) carried h = says_over limits c s t life (none_over limits c s o) carried h
@@ -219,7 +219,7 @@ lives_in_turn limits steady c s lived step =
 -- the life has a story of that session, with the same client and the same new publications
 pub record HasOneStory (limits : Limits) (c : Client) (s : Story) : Type 0 where
   pub flags : List Bool
-  pub told : Told limits c (beside flags s)
+  pub told : StoryTrace limits c (beside flags s)
   pub alone : s.keeper.earlier ≡ []
   pub same : new_numbers s.connections s.past ≡ new_numbers (kept_of flags s.connections) s.past
 

@@ -3,19 +3,19 @@
 use Rattle.std.proofs.Common.{◌≡◌, ◌<◌, ◌≤◌, ℕ, Bool, List, [], ◌∷◌, ◌++◌, length, refl, sym, ◌∙◌, ap, subst, arith, inl, inr}
 use Rattle.client_base.specs.lists.Lists.{Each, IsPrefixOf}
 use Rattle.client_base.proofs.of_lists.OfEach.{each_append, each_then}
-use Rattle.broker_base.specs.Place.{Client, Past, Limits}
-use Rattle.broker_base.specs.QuietLaws.{IsSteady}
+use Rattle.broker_base.specs.broker_spec.Place.{Client, Past, Limits}
+use Rattle.broker_base.specs.broker_spec.QuietLaws.{IsSteady}
 use Rattle.client_base.specs.Keeper.{Own, Keeper, all_own, next_number}
 use Rattle.client_base.specs.OrderLaws.{AreNumbered}
 use Rattle.std.proofs.lemmas.List.{append-nil}
 use Rattle.exactly_once.specs.Sides.{Connection}
 use Rattle.exactly_once.specs.Story.{Story}
-use Rattle.exactly_once.specs.Told.{Told}
+use Rattle.exactly_once.specs.StoryTrace.{StoryTrace}
 use Rattle.exactly_once.specs.Carried.{new_numbers, published}
 use Rattle.exactly_once.specs.InStep.{sessions_begun}
 use Rattle.exactly_once.specs.Lives.{IsRising}
 use Rattle.exactly_once.proofs.Ends.{numbers_in_order}
-use Rattle.exactly_once.proofs.keeping.Told.{told_stories_are_sound}
+use Rattle.exactly_once.proofs.keeping.StoryTrace.{told_stories_are_sound}
 use Rattle.exactly_once.proofs.sessions.Beside.{kept_of, HasBeside, with_connections}
 use Rattle.exactly_once.proofs.sessions.Anew.{waiting}
 use Rattle.exactly_once.proofs.sessions.Awaiting.{HasAwaiting}
@@ -51,7 +51,7 @@ stands_numbered limits c flags s (awaits a o again) = inl a
 -- ---- they rise
 
 -- what is new in the story of the session
-in_order : (limits : Limits) → IsSteady limits → (c : Client) (past : Past) (keeper : Keeper) (kept : List Connection) → Told limits c (with_connections past keeper kept)
+in_order : (limits : Limits) → IsSteady limits → (c : Client) (past : Past) (keeper : Keeper) (kept : List Connection) → StoryTrace limits c (with_connections past keeper kept)
     → IsPrefixOf (new_numbers kept past) (published keeper.own)
 in_order limits steady c past keeper kept told = numbers_in_order limits (with_connections past keeper kept) (told_stories_are_sound limits steady c (with_connections past keeper kept) told).publisher
 

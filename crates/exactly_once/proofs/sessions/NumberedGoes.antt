@@ -6,19 +6,19 @@ use Rattle.client_base.specs.packet.declared.packet.Packet.{Packet}
 use Rattle.client_base.specs.packet.declared.packet.Packet.TheVariants as packets
 use Rattle.client_base.specs.lists.Lists.{Each}
 use Rattle.client_base.proofs.of_lists.OfEach.{each_then}
-use Rattle.broker_base.specs.Place.{Client, Place, Past, Limits}
-use Rattle.broker_base.specs.Past.{begins}
-use Rattle.broker_base.specs.QuietLaws.{IsSteady}
-use Rattle.broker_base.specs.Received.{is_new}
-use Rattle.broker_base.specs.Commands.{place_of}
+use Rattle.broker_base.specs.broker_spec.Place.{Client, Place, Past, Limits}
+use Rattle.broker_base.specs.broker_spec.Past.{begins}
+use Rattle.broker_base.specs.broker_spec.QuietLaws.{IsSteady}
+use Rattle.broker_base.specs.broker_spec.Received.{is_new}
+use Rattle.broker_base.specs.broker_spec.Commands.{place_of}
 use Rattle.client_base.specs.Keeper.{Keeper, next_number}
-use Rattle.broker_base.specs.Command.{Command}
+use Rattle.broker_base.specs.broker_spec.declared.command.Command.{Command}
 use Rattle.std.specs.Prelude.{slice_get}
-use Rattle.exactly_once.proofs.keeping.Told.{told_stories_are_sound}
+use Rattle.exactly_once.proofs.keeping.StoryTrace.{told_stories_are_sound}
 use Rattle.exactly_once.specs.Sends.{put_to}
 use Rattle.exactly_once.specs.Sides.{Connection}
-use Rattle.exactly_once.specs.Story.{Story, Happens, command_of, count_of, is_packet_of}
-use Rattle.exactly_once.specs.Story.Happens.{takes, others_take, receives, opens_anew, loses, disconnects, publishes_one, subscribes, unsubscribes}
+use Rattle.exactly_once.specs.Story.{Story, StoryStep, command_of, count_of, is_packet_of}
+use Rattle.exactly_once.specs.Story.StoryStep.{takes, others_take, receives, opens_anew, loses, disconnects, publishes_one, subscribes, unsubscribes}
 use Rattle.exactly_once.specs.Carried.{carries, more_by, new_numbers}
 use Rattle.exactly_once.specs.InStep.{sessions_begun, IsInStep}
 use Rattle.exactly_once.specs.Inside.Shape.{HeldInShape}
@@ -49,7 +49,7 @@ placed new command past l l' k k' olds e f more is =
     ap₂ (λ a b. a ++ b) (e ∙ is ∙ ap (λ xs. olds ++ xs) (sym f)) more ∙ append_assoc olds (new_numbers k' past) (more_by new (carries k' command past))
 
 olds_is : (limits : Limits) (c : Client) (flags : List Bool) (s t : Story) (olds : List ℕ) → IsLife limits c s → HasSound limits c flags s
-    → new_numbers s.connections s.past ≡ olds ++ new_numbers (kept_of flags s.connections) s.past → (h : Happens limits s t)
+    → new_numbers s.connections s.past ≡ olds ++ new_numbers (kept_of flags s.connections) s.past → (h : StoryStep limits s t)
     → new_numbers t.connections s.past ≡ new_numbers s.connections s.past → new_numbers (kept_of (flags_after flags h) t.connections) s.past ≡ new_numbers (kept_of flags s.connections) s.past
     → new_numbers t.connections t.past ≡ olds ++ new_numbers (kept_of (flags_after flags h) t.connections) t.past
 olds_is limits c flags s t olds life sound is (takes i κ w stands next) e f =
@@ -77,7 +77,7 @@ fewer false n h = omega (arith, h)
 pub one_below : (place : Place) (past : Past) (c : Client) → sessions_begun (place ∷ past) c ≤ 1 → sessions_begun past c ≤ 1
 one_below place past c h = fewer (begins place past c) (sessions_begun past c) h
 
-pub one_before : (limits : Limits) (c : Client) (s t : Story) → Happens limits s t → sessions_begun t.past c ≤ 1 → sessions_begun s.past c ≤ 1
+pub one_before : (limits : Limits) (c : Client) (s t : Story) → StoryStep limits s t → sessions_begun t.past c ≤ 1 → sessions_begun s.past c ≤ 1
 one_before limits c s t (takes i κ w stands next) h = one_below (place_of limits s.past (command_of κ.name κ.taken w.packet)) s.past c h
 one_before limits c s t (others_take command other none) h = one_below (place_of limits s.past command) s.past c h
 one_before limits c s t (receives κ others packet are opened next) h = h
@@ -90,7 +90,7 @@ one_before limits c s t (unsubscribes p on id) h = h
 
 -- ---- the rows
 
-olds_goes : (limits : Limits) (c : Client) (flags : List Bool) (s t : Story) (bound later : ℕ) → IsLife limits c s → HasSound limits c flags s → bound ≤ later → (h : Happens limits s t)
+olds_goes : (limits : Limits) (c : Client) (flags : List Bool) (s t : Story) (bound later : ℕ) → IsLife limits c s → HasSound limits c flags s → bound ≤ later → (h : StoryStep limits s t)
     → HasOlds c flags s.past s.connections bound → HasOlds c (flags_after flags h) t.past t.connections later
 olds_goes limits c flags s t bound later life sound less h o =
     let within = counted_all_within s.past s.connections life.connections.counted in
@@ -112,7 +112,7 @@ keeping (true ∷ flags) limits past keeper κ others packet n head held opened 
     packet_at (λ (p : Packet). (p ≡ packets.Connack (connacks.Accepted false)) → ⊥) (put_to limits past κ.name) n packet (held.2 opened off served) next
 keeping (false ∷ flags) limits past keeper κ others packet n head held opened off served next = absurd head
 
-beside_earlier : (limits : Limits) (c : Client) (flags : List Bool) (s t : Story) → IsHeadKept flags → HeldInShape limits s.past s.keeper (kept_of flags s.connections) → Happens limits s t → t.keeper.earlier ≡ s.keeper.earlier
+beside_earlier : (limits : Limits) (c : Client) (flags : List Bool) (s t : Story) → IsHeadKept flags → HeldInShape limits s.past s.keeper (kept_of flags s.connections) → StoryStep limits s t → t.keeper.earlier ≡ s.keeper.earlier
 beside_earlier limits c flags s t head held (takes i κ w stands next) = refl
 beside_earlier limits c flags s t head held (others_take command other none) = refl
 beside_earlier limits c flags s t head held (receives κ others packet are opened next) =
@@ -125,7 +125,7 @@ beside_earlier limits c flags s t head held (publishes_one p needs) = refl
 beside_earlier limits c flags s t head held (subscribes p on id) = refl
 beside_earlier limits c flags s t head held (unsubscribes p on id) = refl
 
-pub numbered_goes : (limits : Limits) → IsSteady limits → (c : Client) (flags : List Bool) (s t : Story) → IsLife limits c s → Numbered limits c flags s → (h : Happens limits s t) → IsInStep t
+pub numbered_goes : (limits : Limits) → IsSteady limits → (c : Client) (flags : List Bool) (s t : Story) → IsLife limits c s → Numbered limits c flags s → (h : StoryStep limits s t) → IsInStep t
     → Numbered limits c (flags_after flags h) t
 numbered_goes limits steady c flags s t life (lasts b o alone) h step =
     let told = told_stories_are_sound limits steady c (with_connections s.past s.keeper (kept_of flags s.connections)) b.told in

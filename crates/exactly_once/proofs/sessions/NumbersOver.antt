@@ -6,19 +6,19 @@ use Rattle.std.proofs.lemmas.List.{append-nil}
 use Rattle.client_base.specs.lists.Lists.{Each, IsPrefixOf}
 use Rattle.client_base.proofs.of_lists.Beginnings.{prefix_then}
 use Rattle.client_base.proofs.of_lists.OfEach.{each_then}
-use Rattle.broker_base.specs.Connection.{ConnectionName}
-use Rattle.broker_base.specs.Place.{Client, Past, Limits}
-use Rattle.broker_base.specs.Past.{current_connection, session_of}
-use Rattle.broker_base.specs.Received.{is_new}
-use Rattle.broker_base.specs.Marks.{mark_of}
-use Rattle.broker_base.specs.Commands.{place_of}
-use Rattle.broker_base.specs.Command.{Command}
+use Rattle.broker_base.specs.broker_spec.Connection.{ConnectionName}
+use Rattle.broker_base.specs.broker_spec.Place.{Client, Past, Limits}
+use Rattle.broker_base.specs.broker_spec.Past.{current_connection, session_of}
+use Rattle.broker_base.specs.broker_spec.Received.{is_new}
+use Rattle.broker_base.specs.broker_spec.Marks.{mark_of}
+use Rattle.broker_base.specs.broker_spec.Commands.{place_of}
+use Rattle.broker_base.specs.broker_spec.declared.command.Command.{Command}
 use Rattle.broker_base.proofs.QuietPasts.{no_connection}
 use Rattle.client_base.specs.session_base.declared.publication.Publication.{Publication}
 use Rattle.client_base.specs.Keeper.{Written, all_own, next_number}
 use Rattle.exactly_once.specs.Sides.{Connection}
-use Rattle.exactly_once.specs.Story.{Story, Happens, command_of, counted_at}
-use Rattle.exactly_once.specs.Story.Happens.{takes, others_take, receives, opens_anew, loses, disconnects, publishes_one, subscribes, unsubscribes}
+use Rattle.exactly_once.specs.Story.{Story, StoryStep, command_of, counted_at}
+use Rattle.exactly_once.specs.Story.StoryStep.{takes, others_take, receives, opens_anew, loses, disconnects, publishes_one, subscribes, unsubscribes}
 use Rattle.exactly_once.specs.Carried.{carries, more_by, new_numbers, published, publications_of}
 use Rattle.exactly_once.specs.Lives.{IsRising}
 use Rattle.exactly_once.proofs.publishing.Last.{each_there}
@@ -55,7 +55,7 @@ takes_nothing limits c s i κ w life none stands command (inr k) =
     more_none (is_new command (mark_of limits s.past command)) (carries (counted_at i s.connections) command s.past)
     (ap (λ d. is_new d (mark_of limits s.past d)) k.1 ∙ nobodys_new limits s.past c i s.connections κ w.packet life.connections.nobody stands (nobody_current s.past c κ.name none))
 
-over_same : (limits : Limits) (c : Client) (s t : Story) → IsLife limits c s → session_of s.past c ≡ None → Happens limits s t → new_numbers t.connections s.past ≡ new_numbers s.connections s.past
+over_same : (limits : Limits) (c : Client) (s t : Story) → IsLife limits c s → session_of s.past c ≡ None → StoryStep limits s t → new_numbers t.connections s.past ≡ new_numbers s.connections s.past
     → new_numbers t.connections t.past ≡ new_numbers s.connections s.past
 over_same limits c s t life none (takes i κ w stands next) e =
     ap₂ (λ xs ys. xs ++ ys) e (takes_nothing limits c s i κ w life none stands (command_of κ.name κ.taken w.packet) (life_command limits c s i κ w life stands next)) ∙ append-nil (new_numbers s.connections s.past)
@@ -70,7 +70,7 @@ over_same limits c s t life none (publishes_one p needs) e = e
 over_same limits c s t life none (subscribes p on id) e = e
 over_same limits c s t life none (unsubscribes p on id) e = e
 
-pub rises_over : (limits : Limits) (c : Client) (s t : Story) → IsLife limits c s → IsLife limits c t → session_of s.past c ≡ None → (h : Happens limits s t) → RisesSoFar c s.past s.keeper s.connections
+pub rises_over : (limits : Limits) (c : Client) (s t : Story) → IsLife limits c s → IsLife limits c t → session_of s.past c ≡ None → (h : StoryStep limits s t) → RisesSoFar c s.past s.keeper s.connections
     → RisesSoFar c t.past t.keeper t.connections
 rises_over limits c s t life later none h r =
     let within = counted_all_within s.past s.connections life.connections.counted in
@@ -100,7 +100,7 @@ rises_placed limits c s command none r =
 
 -- ---- what the places say
 
-pub says_over : (limits : Limits) (c : Client) (s t : Story) → IsLife limits c s → session_of s.past c ≡ None → IsCarried limits s → (h : Happens limits s t) → SaysNext h
+pub says_over : (limits : Limits) (c : Client) (s t : Story) → IsLife limits c s → session_of s.past c ≡ None → IsCarried limits s → (h : StoryStep limits s t) → SaysNext h
 says_over limits c s t life none carried (takes i κ w stands next) =
     subst (λ (d : Client). Says d ps (counted_at i s.connections) (place_of limits s.past command) s.past) (sym life.keeper.client) (by (life_command limits c s i κ w life stands next))
   where

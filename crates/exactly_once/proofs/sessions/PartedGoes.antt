@@ -4,19 +4,19 @@ use Rattle.std.proofs.Common.{◌≡◌, ℕ, zero, suc, Bool, true, false, if�
 use Rattle.std.specs.Prelude.{slice_get}
 use Rattle.client_base.specs.packet.declared.packet.Packet.TheVariants as packets
 use Rattle.client_base.specs.lists.Lists.{Each}
-use Rattle.broker_base.specs.Place.{Client, Mark, Place, Past, Limits}
-use Rattle.broker_base.specs.Past.{accepts}
-use Rattle.broker_base.specs.Marks.{mark_of}
-use Rattle.broker_base.specs.Commands.{place_of, past_of}
-use Rattle.broker_base.specs.Command.{Command}
-use Rattle.broker_base.specs.Command.TheVariants as commands
+use Rattle.broker_base.specs.broker_spec.Place.{Client, Mark, Place, Past, Limits}
+use Rattle.broker_base.specs.broker_spec.Past.{accepts}
+use Rattle.broker_base.specs.broker_spec.Marks.{mark_of}
+use Rattle.broker_base.specs.broker_spec.Commands.{place_of, past_of}
+use Rattle.broker_base.specs.broker_spec.declared.command.Command.{Command}
+use Rattle.broker_base.specs.broker_spec.declared.command.Command.TheVariants as commands
 use Rattle.client_base.specs.Keeper.{Written, Keeper}
 use Rattle.client_base.specs.Called.{new_connection, written_for}
 use Rattle.client_base.specs.Handled.{handled}
 use Rattle.client_base.specs.Written.{plain, writes_first}
 use Rattle.exactly_once.specs.Sides.{Connection, Side}
-use Rattle.exactly_once.specs.Story.{Story, Happens, command_of, counted_at, names_client}
-use Rattle.exactly_once.specs.Story.Happens.{takes, others_take, receives, opens_anew, loses, disconnects, publishes_one, subscribes, unsubscribes}
+use Rattle.exactly_once.specs.Story.{Story, StoryStep, command_of, counted_at, names_client}
+use Rattle.exactly_once.specs.Story.StoryStep.{takes, others_take, receives, opens_anew, loses, disconnects, publishes_one, subscribes, unsubscribes}
 use Rattle.exactly_once.specs.InStep.{AreWelcome, IsInStep, is_at, opened_in, sessions_begun}
 use Rattle.exactly_once.proofs.keeping.CurrentOnes.{none_opened}
 use Rattle.exactly_once.proofs.publishing.Last.{each_there}
@@ -123,7 +123,7 @@ parts_maybe limits c past false more connections p = p
 
 -- ---- the events
 
-pub parted_goes : (limits : Limits) (c : Client) (s t : Story) → IsLife limits c s → Parts limits c s.past s.connections → Happens limits s t → IsInStep t → Parts limits c t.past t.connections ⊎ Begins limits c t
+pub parted_goes : (limits : Limits) (c : Client) (s t : Story) → IsLife limits c s → Parts limits c s.past s.connections → StoryStep limits s t → IsInStep t → Parts limits c t.past t.connections ⊎ Begins limits c t
 parted_goes limits c s t life p (takes i κ w stands next) step =
     parted_takes limits c s i κ w s.connections life p stands next
     (subst (λ (d : Client). AreWelcome (place_of limits s.past (command_of κ.name κ.taken w.packet) ∷ s.past) d (counted_at i s.connections)) life.keeper.client step)

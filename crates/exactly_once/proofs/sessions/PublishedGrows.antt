@@ -10,7 +10,7 @@ use Rattle.client_base.specs.session_base.declared.publication.Publication.{Publ
 use Rattle.client_base.specs.session_base.Publication.{publication_of}
 use Rattle.client_base.specs.lists.Lists.{IsPrefixOf, has_id}
 use Rattle.client_base.proofs.of_lists.Beginnings.{prefix_length}
-use Rattle.broker_base.specs.Place.{Limits}
+use Rattle.broker_base.specs.broker_spec.Place.{Limits}
 use Rattle.client_base.specs.Keeper.{Own, Keeper, all_own, next_number}
 use Rattle.client_base.specs.OrderLaws.{AreNumbered}
 use Rattle.client_base.specs.Written.{plain, writing}
@@ -18,7 +18,7 @@ use Rattle.client_base.specs.Handled.{discarded, handled, handled_online, handle
 use Rattle.client_base.specs.Handshakes.{at_pubrec, is_sent_with, takes_in, releasing}
 use Rattle.client_base.proofs.NumbersStay.{AreAllNumbered, joined_numbers}
 use Rattle.exactly_once.specs.Sides.{Side}
-use Rattle.exactly_once.specs.Story.{Story, Happens}
+use Rattle.exactly_once.specs.Story.{Story, StoryStep}
 use Rattle.exactly_once.specs.Carried.{is_two, published, publications_of, publication_in}
 use Rattle.exactly_once.proofs.carrying.Distinct.{number_first}
 use Rattle.exactly_once.proofs.carrying.KeepsWritten.{events_say}
@@ -48,7 +48,7 @@ twos_more n (p ∷ ps) qs = by (is_two p.qos) (twos_more (suc n) ps qs ∙ (let 
 all_numbered : (keeper : Keeper) → AreAllNumbered keeper → AreNumbered 0 (all_own keeper)
 all_numbered keeper h = joined_numbers keeper.earlier keeper.own h.0 h.1
 
-pub published_grows : (limits : Limits) (s t : Story) → AreAllNumbered s.keeper → AreAllNumbered t.keeper → Happens limits s t → IsPrefixOf (published (all_own s.keeper)) (published (all_own t.keeper))
+pub published_grows : (limits : Limits) (s t : Story) → AreAllNumbered s.keeper → AreAllNumbered t.keeper → StoryStep limits s t → IsPrefixOf (published (all_own s.keeper)) (published (all_own t.keeper))
 published_grows limits s t before after h =
     let p = events_say limits s t before.1 h in
     let ps = publications_of (all_own s.keeper) in
@@ -61,7 +61,7 @@ published_grows limits s t before after h =
 long : (keeper : Keeper) → length (publications_of (all_own keeper)) ≡ next_number keeper
 long keeper = length-map (all_own keeper) publication_in ∙ length-append keeper.earlier keeper.own
 
-pub next_grows : (limits : Limits) (s t : Story) → AreAllNumbered s.keeper → Happens limits s t → next_number s.keeper ≤ next_number t.keeper
+pub next_grows : (limits : Limits) (s t : Story) → AreAllNumbered s.keeper → StoryStep limits s t → next_number s.keeper ≤ next_number t.keeper
 next_grows limits s t before h =
     let l = prefix_length (events_say limits s t before.1 h) in
     let a = long s.keeper in

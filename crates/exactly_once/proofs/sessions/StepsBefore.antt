@@ -2,17 +2,17 @@
 use Rattle.std.proofs.Common.{◌≡◌, ℕ, zero, suc, Bool, true, false, ◌&&◌, ◌||◌, if◌then◌else◌, List, [], ◌∷◌, refl, sym, subst}
 use Rattle.client_base.specs.lists.Lists.{Each}
 use Rattle.client_base.specs.packet.declared.packet.Packet.TheVariants as packets
-use Rattle.broker_base.specs.Connection.{ConnectionName}
-use Rattle.broker_base.specs.Place.{Client, Place, Past, Limits}
-use Rattle.broker_base.specs.Past.{accepts, begins}
-use Rattle.broker_base.specs.Commands.{place_of}
-use Rattle.broker_base.specs.Command.TheVariants as commands
+use Rattle.broker_base.specs.broker_spec.Connection.{ConnectionName}
+use Rattle.broker_base.specs.broker_spec.Place.{Client, Place, Past, Limits}
+use Rattle.broker_base.specs.broker_spec.Past.{accepts, begins}
+use Rattle.broker_base.specs.broker_spec.Commands.{place_of}
+use Rattle.broker_base.specs.broker_spec.declared.command.Command.TheVariants as commands
 use Rattle.client_base.specs.Keeper.{Written}
 use Rattle.client_base.specs.Called.{written_for}
 use Rattle.client_base.specs.Written.{plain, writes_first}
 use Rattle.exactly_once.specs.Sides.{Connection, Side}
-use Rattle.exactly_once.specs.Story.{Story, Happens, command_of, counted_at}
-use Rattle.exactly_once.specs.Story.Happens.{takes, others_take, receives, opens_anew, loses, disconnects, publishes_one, subscribes, unsubscribes}
+use Rattle.exactly_once.specs.Story.{Story, StoryStep, command_of, counted_at}
+use Rattle.exactly_once.specs.Story.StoryStep.{takes, others_take, receives, opens_anew, loses, disconnects, publishes_one, subscribes, unsubscribes}
 use Rattle.exactly_once.specs.InStep.{opens_on, has_begun, began_again, WasWelcome, AreWelcome, IsInStep}
 use Rattle.exactly_once.proofs.subscribing.Given.{stays_handled}
 
@@ -55,7 +55,7 @@ unopened_welcome past c [] h = tt
 unopened_welcome past c (κ ∷ connections) h = h.1
 
 -- an event keeps who is out of step out of step
-pub in_step_before : (limits : Limits) (s t : Story) → Happens limits s t → IsInStep t → IsInStep s
+pub in_step_before : (limits : Limits) (s t : Story) → StoryStep limits s t → IsInStep t → IsInStep s
 in_step_before limits s t (takes i κ w stands next) h =
     let place = place_of limits s.past (command_of κ.name κ.taken w.packet) in
     below_welcome place s.past s.keeper.client s.connections (fewer_welcome (place ∷ s.past) s.keeper.client i s.connections h)

@@ -9,7 +9,7 @@ use Rattle.client_base.specs.packet.declared.packet.Packet.TheVariants as packet
 use Rattle.client_base.specs.session_base.declared.publication.Publication.{Publication}
 use Rattle.client_base.specs.session_base.Publication.{publication_of}
 use Rattle.client_base.specs.lists.Lists.{has_id}
-use Rattle.broker_base.specs.Place.{Limits}
+use Rattle.broker_base.specs.broker_spec.Place.{Limits}
 use Rattle.exactly_once.specs.Handshake.{Forward, Link, Handshake, taking, accepting}
 use Rattle.exactly_once.specs.Sides.{Connection, Side}
 use Rattle.client_base.specs.Written.{plain, writing}

@@ -2,9 +2,9 @@
 use Rattle.std.proofs.Common.{◌≡◌, ℕ, List, [], ◌∷◌, ◌++◌, length, map, refl, ap, ap₂, sym, ◌∙◌, subst}
 use Rattle.client_base.specs.packet.declared.packet.Packet.{Packet}
 use Rattle.client_base.specs.packet.declared.packet.Packet.TheVariants as packets
-use Rattle.broker_base.specs.Place.{Limits}
-use Rattle.broker_base.specs.Past.{current_connection}
-use Rattle.broker_base.specs.Times.{at_puback, at_pubcomp, window_at, entries_of}
+use Rattle.broker_base.specs.broker_spec.Place.{Limits}
+use Rattle.broker_base.specs.broker_spec.Past.{current_connection}
+use Rattle.broker_base.specs.broker_spec.Times.{at_puback, at_pubcomp, window_at, entries_of}
 use Rattle.exactly_once.specs.Handshake.{Backward, heard, reply, with_items}
 use Rattle.exactly_once.specs.Handshake.Run.{stays}
 use Rattle.client_base.specs.Keeper.{Written}

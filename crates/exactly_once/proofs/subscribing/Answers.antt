@@ -2,13 +2,13 @@
 use Rattle.std.proofs.Common.{◌≡◌, ℕ, Bool, true, false, if◌then◌else◌, List, [], ◌∷◌, ◌++◌, length, map, Option, Some, None, refl, ap, sym, ◌∙◌}
 use Rattle.client_base.specs.packet.declared.packet.Packet.{Packet}
 use Rattle.client_base.specs.session_base.declared.publication.Publication.{Publication}
-use Rattle.broker_base.specs.Connection.{ConnectionName, same_connection}
-use Rattle.broker_base.specs.Place.{Client, same_client, Mark, Place, Past, Limits}
-use Rattle.broker_base.specs.Past.{current_connection, session_of}
-use Rattle.broker_base.specs.Entries.{Entry, copies_at, queued}
-use Rattle.broker_base.specs.Times.{answered_by, start_all, started, window_at, entries_of}
-use Rattle.broker_base.specs.Sends.{all_started}
-use Rattle.broker_base.specs.Command.TheVariants as commands
+use Rattle.broker_base.specs.broker_spec.Connection.{ConnectionName, same_connection}
+use Rattle.broker_base.specs.broker_spec.Place.{Client, same_client, Mark, Place, Past, Limits}
+use Rattle.broker_base.specs.broker_spec.Past.{current_connection, session_of}
+use Rattle.broker_base.specs.broker_spec.Entries.{Entry, copies_at, queued}
+use Rattle.broker_base.specs.broker_spec.Times.{answered_by, start_all, started, window_at, entries_of}
+use Rattle.broker_base.specs.broker_spec.Sends.{all_started}
+use Rattle.broker_base.specs.broker_spec.declared.command.Command.TheVariants as commands
 use Rattle.broker_base.proofs.ClientsInOrder.{same_self}
 use Rattle.broker_base.proofs.ConnectionsOfSessions.{same_turned}
 use Rattle.broker_base.proofs.EntriesStartedBefore.{before_below, before_answered, before_new}

@@ -6,11 +6,11 @@ use Rattle.client_base.specs.packet.declared.qos.QoS.TheVariants as levels
 use Rattle.client_base.specs.session_base.declared.publication.Publication.{Publication}
 use Rattle.client_base.specs.session_base.Publication.{is_answered}
 use Rattle.client_base.specs.session_base.Identifiers.{least_free}
-use Rattle.broker_base.specs.Connection.{ConnectionName}
-use Rattle.broker_base.specs.Entries.{Entry, queued}
-use Rattle.broker_base.specs.Readings.{made_at, waiting_of, busy_ids}
-use Rattle.broker_base.specs.Times.{start_all}
-use Rattle.broker_base.specs.Sends.{publish, all_started, handed}
+use Rattle.broker_base.specs.broker_spec.Connection.{ConnectionName}
+use Rattle.broker_base.specs.broker_spec.Entries.{Entry, queued}
+use Rattle.broker_base.specs.broker_spec.Readings.{made_at, waiting_of, busy_ids}
+use Rattle.broker_base.specs.broker_spec.Times.{start_all}
+use Rattle.broker_base.specs.broker_spec.Sends.{publish, all_started, handed}
 use Rattle.client_base.proofs.of_session_base.CountedIdentifiers.{count, same_length}
 use Rattle.broker_base.proofs.SoundEntries.{Sound}
 use Rattle.broker_base.proofs.flights.IdentifiersInFlight.{append_none}

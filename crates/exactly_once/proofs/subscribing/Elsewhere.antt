@@ -6,21 +6,21 @@ use Rattle.client_base.specs.packet.declared.packet.Packet.{Packet}
 use Rattle.client_base.specs.packet.declared.packet.Packet.TheVariants as packets
 use Rattle.client_base.specs.lists.Lists.{has_id}
 use Rattle.client_base.specs.session_base.Publication.{publication_of}
-use Rattle.broker_base.specs.Connection.{ConnectionName, same_connection}
-use Rattle.broker_base.specs.Place.{Client, same_client, Mark, Place, Past, Limits}
-use Rattle.broker_base.specs.Past.{is_leaving, ends_any}
-use Rattle.broker_base.specs.Subscriptions.{subscriptions_of}
-use Rattle.broker_base.specs.Received.{is_repeat}
-use Rattle.broker_base.specs.Retained.{retained_publications}
-use Rattle.broker_base.specs.Marks.{is_refused, grants, packet_mark}
-use Rattle.broker_base.specs.Entries.{Entry, copies_at}
-use Rattle.broker_base.specs.Readings.{released_below}
-use Rattle.broker_base.specs.Times.{at_puback, at_pubrec, at_pubcomp, answered_by, entries_of, room_of}
-use Rattle.broker_base.specs.Sends.{deliveries_to}
-use Rattle.broker_base.specs.Answers.{answers_at}
-use Rattle.broker_base.specs.Command.TheVariants as commands
-use Rattle.broker_base.specs.Output.{Output}
-use Rattle.broker_base.specs.Output.TheVariants.{Send}
+use Rattle.broker_base.specs.broker_spec.Connection.{ConnectionName, same_connection}
+use Rattle.broker_base.specs.broker_spec.Place.{Client, same_client, Mark, Place, Past, Limits}
+use Rattle.broker_base.specs.broker_spec.Past.{is_leaving, ends_any}
+use Rattle.broker_base.specs.broker_spec.Subscriptions.{subscriptions_of}
+use Rattle.broker_base.specs.broker_spec.Received.{is_repeat}
+use Rattle.broker_base.specs.broker_spec.Retained.{retained_publications}
+use Rattle.broker_base.specs.broker_spec.Marks.{is_refused, grants, packet_mark}
+use Rattle.broker_base.specs.broker_spec.Entries.{Entry, copies_at}
+use Rattle.broker_base.specs.broker_spec.Readings.{released_below}
+use Rattle.broker_base.specs.broker_spec.Times.{at_puback, at_pubrec, at_pubcomp, answered_by, entries_of, room_of}
+use Rattle.broker_base.specs.broker_spec.Sends.{deliveries_to}
+use Rattle.broker_base.specs.broker_spec.Answers.{answers_at}
+use Rattle.broker_base.specs.broker_spec.declared.command.Command.TheVariants as commands
+use Rattle.broker_base.specs.broker_spec.declared.command.Output.{Output}
+use Rattle.broker_base.specs.broker_spec.declared.command.Output.TheVariants.{Send}
 use Rattle.exactly_once.specs.Sends.{sends_to}
 use Rattle.exactly_once.specs.Inside.AsSubscriber.{forward_of}
 use Rattle.exactly_once.proofs.Deliveries.{started_elsewhere}

@@ -10,17 +10,16 @@ use Rattle.client_base.specs.packet.declared.packet.Packet.TheVariants as packet
 use Rattle.client_base.specs.session_base.declared.publication.Publication.{Publication}
 use Rattle.client_base.specs.session_base.Publication.{publication_of}
 use Rattle.client_base.specs.lists.Lists.{has_id, Each}
-use Rattle.broker_base.specs.Place.{Place, Past, Limits}
-use Rattle.broker_base.specs.Answers.{answers_at}
+use Rattle.broker_base.specs.broker_spec.Place.{Place, Past, Limits}
+use Rattle.broker_base.specs.broker_spec.Answers.{answers_at}
 use Rattle.client_base.proofs.of_lists.OfEach.{each_then}
 use Rattle.exactly_once.specs.Sends.{sends_to, put_to}
 use Rattle.client_base.specs.Keeper.{Written}
 use Rattle.exactly_once.specs.Sides.{Connection, Side}
-use Rattle.client_base.specs.Handled.{handled_online, handled_first, handled}
-use Rattle.client_base.specs.Handshakes.{is_sent_with, takes_in, releasing}
-use Rattle.exactly_once.specs.Story.{Story, Happens, counted_at}
+use Rattle.client_base.specs.Handled.{is_sent_with, takes_in, releasing, handled_online, handled_first, handled}
+use Rattle.exactly_once.specs.Story.{Story, StoryStep, counted_at}
 use Rattle.client_base.specs.Written.{writes_first}
-use Rattle.exactly_once.specs.Story.Happens.{takes, others_take, receives, opens_anew, loses, disconnects, publishes_one, subscribes, unsubscribes}
+use Rattle.exactly_once.specs.Story.StoryStep.{takes, others_take, receives, opens_anew, loses, disconnects, publishes_one, subscribes, unsubscribes}
 use Rattle.exactly_once.specs.Inside.Shape.{HasShape}
 use Rattle.exactly_once.specs.Inside.ConnectionShape.{ConnectionInShape}
 
@@ -115,7 +114,7 @@ within (y ∷ xs) zero x e = omega arith
 within (y ∷ xs) (suc n) x e = let h = within xs n x e in omega (arith, h)
 
 -- the row is kept
-pub keeps_given : (limits : Limits) (s t : Story) → HasShape limits s → Happens limits s t → Each (IsGiven limits t.past) t.connections
+pub keeps_given : (limits : Limits) (s t : Story) → HasShape limits s → StoryStep limits s t → Each (IsGiven limits t.past) t.connections
 keeps_given limits s t shape h = by h (each_then (ConnectionInShape limits s.past s.keeper.client) (IsGiven limits s.past) s.connections (λ κ g. g.handled_within) shape.connections)
   where
     placed : (place : Place) → Each (IsGiven limits s.past) s.connections → Each (IsGiven limits (place ∷ s.past)) s.connections
@@ -125,7 +124,7 @@ keeps_given limits s t shape h = by h (each_then (ConnectionInShape limits s.pas
     if_online true more g = given_writes limits s.past more s.connections g
     if_online false more g = g
 
-    by : {t : Story} → Happens limits s t → Each (IsGiven limits s.past) s.connections → Each (IsGiven limits t.past) t.connections
+    by : {t : Story} → StoryStep limits s t → Each (IsGiven limits s.past) s.connections → Each (IsGiven limits t.past) t.connections
     by (takes i κ w at next) g = given_counted limits _ i s.connections (placed _ g)
     by (others_take command other fresh) g = placed _ g
     by (receives κ others packet e is_open next) g =

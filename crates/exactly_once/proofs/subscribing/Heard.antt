@@ -6,7 +6,7 @@ use Rattle.exactly_once.specs.Items.{Item, has_sent}
 use Rattle.exactly_once.specs.Handshake.{Forward, Backward, Link, Handshake, Run, heard, reply, with_items}
 use Rattle.exactly_once.specs.Handshake.Moves.{hears, hears_alone}
 use Rattle.exactly_once.specs.Handshake.Run.{stays, goes_on}
-use Rattle.exactly_once.specs.HandshakeSides.{IsGood, IsLinked, IsJoined, IsBehind}
+use Rattle.exactly_once.specs.HandshakeInvariant.{IsGood, IsLinked, IsJoined, IsBehind}
 use Rattle.client_base.proofs.of_lists.Tests.{or_then}
 use Rattle.exactly_once.proofs.subscribing.Standing.{Stands}
 use Rattle.exactly_once.proofs.subscribing.Views.{View, link_as, grown}

@@ -4,24 +4,24 @@ use Rattle.std.proofs.Common.{◌≡◌, ◌≤◌, ℕ, zero, suc, Bool, true, 
 use Rattle.std.specs.Prelude.{slice_get}
 use Rattle.std.proofs.lemmas.Bool.{both_ways, cases_Bool}
 use Rattle.client_base.specs.packet.declared.packet.Packet.TheVariants as packets
-use Rattle.broker_base.specs.Connection.{ConnectionName, same_connection}
-use Rattle.broker_base.specs.Place.{Client, same_client, Mark, Past, Limits}
-use Rattle.broker_base.specs.Past.{accepts, current_connection, session_of}
-use Rattle.broker_base.specs.Owner.{clients, owner_of}
-use Rattle.broker_base.specs.Marks.{mark_of, connect_mark}
-use Rattle.broker_base.specs.Commands.{place_of}
-use Rattle.broker_base.specs.Command.{Command}
-use Rattle.broker_base.specs.Command.TheVariants as commands
+use Rattle.broker_base.specs.broker_spec.Connection.{ConnectionName, same_connection}
+use Rattle.broker_base.specs.broker_spec.Place.{Client, same_client, Mark, Past, Limits}
+use Rattle.broker_base.specs.broker_spec.Past.{accepts, current_connection, session_of}
+use Rattle.broker_base.specs.broker_spec.Owner.{clients, owner_of}
+use Rattle.broker_base.specs.broker_spec.Marks.{mark_of, connect_mark}
+use Rattle.broker_base.specs.broker_spec.Commands.{place_of}
+use Rattle.broker_base.specs.broker_spec.declared.command.Command.{Command}
+use Rattle.broker_base.specs.broker_spec.declared.command.Command.TheVariants as commands
 use Rattle.broker_base.proofs.ClientsInOrder.{same_is}
 use Rattle.broker_base.proofs.QuietPasts.{no_connection}
 use Rattle.client_base.specs.Keeper.{Written}
 use Rattle.exactly_once.specs.Sides.{Connection, Side}
 use Rattle.client_base.specs.Written.{plain}
 use Rattle.client_base.specs.Handled.{handled}
-use Rattle.exactly_once.specs.Story.{Story, Happens, names_client, command_of, count_of, counted_at}
+use Rattle.exactly_once.specs.Story.{Story, StoryStep, names_client, command_of, count_of, counted_at}
 use Rattle.client_base.specs.Called.{new_connection, written_for}
 use Rattle.client_base.specs.Written.{writes_first}
-use Rattle.exactly_once.specs.Story.Happens.{takes, others_take, receives, opens_anew, loses, disconnects, publishes_one, subscribes, unsubscribes}
+use Rattle.exactly_once.specs.Story.StoryStep.{takes, others_take, receives, opens_anew, loses, disconnects, publishes_one, subscribes, unsubscribes}
 use Rattle.exactly_once.specs.Inside.Shape.{NewestIsServed, HasShape}
 use Rattle.exactly_once.specs.Inside.ConnectionShape.{ConnectionInShape}
 use Rattle.exactly_once.proofs.subscribing.Counted.{each_at}
@@ -121,7 +121,7 @@ newest_taken limits s shape i κ w at next = by κ.taken refl
         (stays_or_none (place_of limits s.past (commands.Packet κ.name w.packet)) s.past s.keeper.client refl)
 
 -- the row is kept
-pub keeps_newest : (limits : Limits) (s t : Story) → HasShape limits s → Happens limits s t → IsServed t
+pub keeps_newest : (limits : Limits) (s t : Story) → HasShape limits s → StoryStep limits s t → IsServed t
 keeps_newest limits s t shape (takes i κ w at next) = newest_taken limits s shape i κ w at next
 keeps_newest limits s t shape (others_take command other fresh) =
     newest_stays (current_connection s.past s.keeper.client) (current_connection (place_of limits s.past command ∷ s.past) s.keeper.client) s.connections shape.newest_is_served

@@ -5,17 +5,17 @@ use Rattle.client_base.specs.packet.declared.publish.Publish.{Publish}
 use Rattle.client_base.specs.packet.declared.packet.Packet.{Packet}
 use Rattle.client_base.specs.packet.declared.packet.Packet.TheVariants as packets
 use Rattle.client_base.specs.session_base.Publication.{publication_of}
-use Rattle.broker_base.specs.Connection.{ConnectionName, same_connection}
-use Rattle.broker_base.specs.Place.{Client, Mark, Place, Limits}
-use Rattle.broker_base.specs.Past.{is_leaving, ends_any, current_connection}
-use Rattle.broker_base.specs.Received.{is_repeat}
-use Rattle.broker_base.specs.Marks.{is_refused, packet_mark}
-use Rattle.broker_base.specs.Entries.{copies_at}
-use Rattle.broker_base.specs.Times.{answered_by, entries_of}
-use Rattle.broker_base.specs.Sends.{deliveries_to}
-use Rattle.broker_base.specs.Answers.{answers_at}
-use Rattle.broker_base.specs.QuietLaws.{IsSteady}
-use Rattle.broker_base.specs.Command.TheVariants as commands
+use Rattle.broker_base.specs.broker_spec.Connection.{ConnectionName, same_connection}
+use Rattle.broker_base.specs.broker_spec.Place.{Client, Mark, Place, Limits}
+use Rattle.broker_base.specs.broker_spec.Past.{is_leaving, ends_any, current_connection}
+use Rattle.broker_base.specs.broker_spec.Received.{is_repeat}
+use Rattle.broker_base.specs.broker_spec.Marks.{is_refused, packet_mark}
+use Rattle.broker_base.specs.broker_spec.Entries.{copies_at}
+use Rattle.broker_base.specs.broker_spec.Times.{answered_by, entries_of}
+use Rattle.broker_base.specs.broker_spec.Sends.{deliveries_to}
+use Rattle.broker_base.specs.broker_spec.Answers.{answers_at}
+use Rattle.broker_base.specs.broker_spec.QuietLaws.{IsSteady}
+use Rattle.broker_base.specs.broker_spec.declared.command.Command.TheVariants as commands
 use Rattle.exactly_once.specs.Handshake.{Backward}
 use Rattle.exactly_once.specs.Sends.{sends_to}
 use Rattle.client_base.specs.Keeper.{Written}

@@ -2,11 +2,11 @@
 use Rattle.std.proofs.Common.{◌≡◌, ℕ, zero, suc, Bool, true, false, ◌||◌, if◌then◌else◌, List, [], ◌∷◌, ◌++◌, Option, Some, None, refl, ap, ap₂, sym, ◌∙◌}
 use Rattle.std.proofs.lemmas.List.{append-nil}
 use Rattle.client_base.specs.session_base.declared.publication.Publication.{Publication}
-use Rattle.broker_base.specs.Connection.{ConnectionName, same_connection}
-use Rattle.broker_base.specs.Place.{Client, Place, Past, Limits}
-use Rattle.broker_base.specs.Past.{current_connection}
-use Rattle.broker_base.specs.Times.{entries_of}
-use Rattle.broker_base.specs.Answers.{answers_at}
+use Rattle.broker_base.specs.broker_spec.Connection.{ConnectionName, same_connection}
+use Rattle.broker_base.specs.broker_spec.Place.{Client, Place, Past, Limits}
+use Rattle.broker_base.specs.broker_spec.Past.{current_connection}
+use Rattle.broker_base.specs.broker_spec.Times.{entries_of}
+use Rattle.broker_base.specs.broker_spec.Answers.{answers_at}
 use Rattle.client_base.specs.lists.Lists.{Each}
 use Rattle.exactly_once.specs.Handshake.{Backward, Link, Handshake, with_items}
 use Rattle.exactly_once.specs.Handshake.Moves.{sender_leaves, parts}

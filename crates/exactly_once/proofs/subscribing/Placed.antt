@@ -2,11 +2,11 @@
 use Rattle.std.proofs.Common.{◌≡◌, ℕ, suc, true, false, List, ◌∷◌, ◌++◌, length, map, Option, Some, None, refl, ap, sym, ◌∙◌, append_assoc}
 use Rattle.client_base.specs.session_base.declared.publication.Publication.{Publication}
 use Rattle.client_base.specs.lists.Lists.{has_id}
-use Rattle.broker_base.specs.Connection.{ConnectionName}
-use Rattle.broker_base.specs.Place.{Place, Limits}
-use Rattle.broker_base.specs.Past.{current_connection}
-use Rattle.broker_base.specs.Entries.{Entry}
-use Rattle.broker_base.specs.Times.{started, window_at, entries_of}
+use Rattle.broker_base.specs.broker_spec.Connection.{ConnectionName}
+use Rattle.broker_base.specs.broker_spec.Place.{Place, Limits}
+use Rattle.broker_base.specs.broker_spec.Past.{current_connection}
+use Rattle.broker_base.specs.broker_spec.Entries.{Entry}
+use Rattle.broker_base.specs.broker_spec.Times.{started, window_at, entries_of}
 use Rattle.broker_base.proofs.SoundEntries.{Sound}
 use Rattle.exactly_once.specs.Handshake.{Forward, Backward, Handshake, Run, publishing}
 use Rattle.exactly_once.specs.Sides.{Connection}

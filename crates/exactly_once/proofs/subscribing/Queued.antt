@@ -7,13 +7,13 @@ use Rattle.client_base.specs.packet.declared.packet.Packet.TheVariants as packet
 use Rattle.client_base.specs.session_base.declared.publication.Publication.{Publication}
 use Rattle.client_base.specs.session_base.Publication.{is_acknowledged, is_answered}
 use Rattle.client_base.specs.session_base.Identifiers.{least_free}
-use Rattle.broker_base.specs.Connection.{ConnectionName}
-use Rattle.broker_base.specs.Place.{Client, same_client, Mark, Past, Limits}
-use Rattle.broker_base.specs.Past.{current_connection, session_of, begins, in_session}
-use Rattle.broker_base.specs.Entries.{Entry, copies_at, queued}
-use Rattle.broker_base.specs.Times.{at_puback, at_pubrec, at_pubcomp, answered_by, start_all, started, window_at, entries_of}
-use Rattle.broker_base.specs.Command.{Command}
-use Rattle.broker_base.specs.Command.TheVariants as commands
+use Rattle.broker_base.specs.broker_spec.Connection.{ConnectionName}
+use Rattle.broker_base.specs.broker_spec.Place.{Client, same_client, Mark, Past, Limits}
+use Rattle.broker_base.specs.broker_spec.Past.{current_connection, session_of, begins, in_session}
+use Rattle.broker_base.specs.broker_spec.Entries.{Entry, copies_at, queued}
+use Rattle.broker_base.specs.broker_spec.Times.{at_puback, at_pubrec, at_pubcomp, answered_by, start_all, started, window_at, entries_of}
+use Rattle.broker_base.specs.broker_spec.declared.command.Command.{Command}
+use Rattle.broker_base.specs.broker_spec.declared.command.Command.TheVariants as commands
 use Rattle.exactly_once.specs.Carried.{is_two}
 
 -- each is of QoS 1 or 2, and a released one of QoS 2

@@ -4,13 +4,13 @@ use Rattle.std.specs.Prelude.{flat_map}
 use Rattle.client_base.specs.packet.declared.packet.Packet.TheVariants as packets
 use Rattle.client_base.specs.session_base.declared.publication.Publication.{Publication}
 use Rattle.client_base.specs.session_base.Identifiers.{least_free}
-use Rattle.broker_base.specs.Connection.{ConnectionName}
-use Rattle.broker_base.specs.Entries.{Entry}
-use Rattle.broker_base.specs.Readings.{released_below}
-use Rattle.broker_base.specs.Times.{start_all}
-use Rattle.broker_base.specs.Sends.{sent_again, all_started, resent}
-use Rattle.broker_base.specs.Output.{Output}
-use Rattle.broker_base.specs.Output.TheVariants.{Send}
+use Rattle.broker_base.specs.broker_spec.Connection.{ConnectionName}
+use Rattle.broker_base.specs.broker_spec.Entries.{Entry}
+use Rattle.broker_base.specs.broker_spec.Readings.{released_below}
+use Rattle.broker_base.specs.broker_spec.Times.{start_all}
+use Rattle.broker_base.specs.broker_spec.Sends.{sent_again, all_started, resent}
+use Rattle.broker_base.specs.broker_spec.declared.command.Output.{Output}
+use Rattle.broker_base.specs.broker_spec.declared.command.Output.TheVariants.{Send}
 use Rattle.broker_base.proofs.flights.StartsInFlight.{released_started}
 use Rattle.broker_base.proofs.EntriesStartedBefore.{StartedBefore}
 use Rattle.exactly_once.specs.Handshake.{Forward, publishing, resend}

@@ -2,8 +2,8 @@
 -- client holds, or with what may still come on the broker's.
 use Rattle.std.proofs.Common.{◌≡◌, ◌≤◌, ℕ, zero, suc, Bool, true, false, if◌then◌else◌, List, [], ◌∷◌, drop, Option, Some, None, refl, ap, ◌∙◌, ◌⊎◌, inl, inr, arith}
 use Rattle.client_base.specs.session_base.declared.publication.Publication.{Publication}
-use Rattle.broker_base.specs.Connection.{ConnectionName, same_connection}
-use Rattle.broker_base.specs.Place.{Client, Past, Limits}
+use Rattle.broker_base.specs.broker_spec.Connection.{ConnectionName, same_connection}
+use Rattle.broker_base.specs.broker_spec.Place.{Client, Past, Limits}
 use Rattle.client_base.specs.lists.Lists.{Each}
 use Rattle.exactly_once.specs.Handshake.{Forward, Backward, Link}
 use Rattle.client_base.specs.Keeper.{Written, Keeper}

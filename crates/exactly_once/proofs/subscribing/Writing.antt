@@ -5,9 +5,9 @@ use Rattle.client_base.specs.packet.declared.unsubscribe.Unsubscribe.{Unsubscrib
 use Rattle.client_base.specs.packet.declared.packet.Packet.TheVariants as packets
 use Rattle.client_base.specs.session_base.declared.publication.Publication.{Publication}
 use Rattle.client_base.specs.session_base.Identifiers.{least_free}
-use Rattle.broker_base.specs.Connection.{ConnectionName}
-use Rattle.broker_base.specs.Place.{Client, Past, Limits}
-use Rattle.broker_base.specs.Past.{current_connection}
+use Rattle.broker_base.specs.broker_spec.Connection.{ConnectionName}
+use Rattle.broker_base.specs.broker_spec.Place.{Client, Past, Limits}
+use Rattle.broker_base.specs.broker_spec.Past.{current_connection}
 use Rattle.client_base.specs.lists.Lists.{Each}
 use Rattle.exactly_once.specs.Handshake.{Backward, Link}
 use Rattle.exactly_once.specs.Handshake.Run.{stays}

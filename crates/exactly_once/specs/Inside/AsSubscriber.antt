@@ -8,11 +8,11 @@ use Rattle.client_base.specs.packet.declared.packet.Packet.TheVariants as packet
 use Rattle.client_base.specs.session_base.declared.publication.Publication.{Publication}
 use Rattle.client_base.specs.session_base.Publication.{publication_of}
 use Rattle.client_base.specs.lists.Lists.{has_id}
-use Rattle.broker_base.specs.Connection.{ConnectionName, same_connection}
-use Rattle.broker_base.specs.Place.{Past, Limits}
-use Rattle.broker_base.specs.Past.{current_connection}
-use Rattle.broker_base.specs.Entries.{Entry}
-use Rattle.broker_base.specs.Times.{entries_of}
+use Rattle.broker_base.specs.broker_spec.Connection.{ConnectionName, same_connection}
+use Rattle.broker_base.specs.broker_spec.Place.{Past, Limits}
+use Rattle.broker_base.specs.broker_spec.Past.{current_connection}
+use Rattle.broker_base.specs.broker_spec.Entries.{Entry}
+use Rattle.broker_base.specs.broker_spec.Times.{entries_of}
 use Rattle.exactly_once.specs.Items.{Item}
 use Rattle.exactly_once.specs.Handshake.{Forward, Backward, Link, Handshake}
 use Rattle.client_base.specs.Keeper.{Written, Keeper}

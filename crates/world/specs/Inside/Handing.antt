@@ -40,8 +40,8 @@ PutsDown at node port old client new later is_open =
 
 -- it may have no memory: then it hands over nothing
 abbrev pub MayHandDown : ℕ → Port → NodesState → List ℕ → NodesState → List ℕ → Type 0
-MayHandDown node port old before new behind =
-    (NodesStay old new × (behind ≡ before)) ⊎ (Acts (node - 1) (gives port) old new × HandsOver node port old before behind)
+MayHandDown node port old before new after =
+    (NodesStay old new × (after ≡ before)) ⊎ (Acts (node - 1) (gives port) old new × HandsOver node port old before after)
 
 abbrev pub MayPutDown : ℕ → ℕ → Port → NodesState → Piped → NodesState → Piped → Type 0
 MayPutDown at node port old client new later =

@@ -1,6 +1,6 @@
 // An administrator ends a client's session.
 
-use crate::tests::row::{Deed, Row, Said, Table, fault_in};
+use crate::tests::row::{Action, Row, Said, Table, fault_in};
 
 // CONNACK (3.2): no session, and accepted.
 const ABSENT: &[u8] = b"\x20\x02\x00\x00";
@@ -25,52 +25,52 @@ const AGREED: &[Said] = &[
 /// while it is connected, and once more while it has none. What is published then is sent to no
 /// client. When b comes back there is no session, and it subscribes in its second one.
 pub const EXPELLED: &[Row] = &[
-    Row::Does(Deed::Open("b", 1), 0, 0),
-    Row::Does(Deed::Up(1), 0, 1),
-    Row::Does(Deed::Down(1), 0, 1),
-    Row::Does(Deed::Subscribe("b"), 0, 1),
-    Row::Does(Deed::Up(1), 0, 2),
-    Row::Does(Deed::Open("a", 1), 0, 2),
-    Row::Does(Deed::Up(2), 0, 3),
-    Row::Does(Deed::Down(2), 0, 3),
-    Row::Does(Deed::Publish("a"), 0, 3),
-    Row::Does(Deed::Up(2), 0, 4),
+    Row::Does(Action::Open("b", 1), 0, 0),
+    Row::Does(Action::Up(1), 0, 1),
+    Row::Does(Action::Down(1), 0, 1),
+    Row::Does(Action::Subscribe("b"), 0, 1),
+    Row::Does(Action::Up(1), 0, 2),
+    Row::Does(Action::Open("a", 1), 0, 2),
+    Row::Does(Action::Up(2), 0, 3),
+    Row::Does(Action::Down(2), 0, 3),
+    Row::Does(Action::Publish("a"), 0, 3),
+    Row::Does(Action::Up(2), 0, 4),
     Row::HasDown(1, GRANTED_AND_SENT),
-    Row::Does(Deed::Expel("b", 1), 0, 5),
-    Row::Does(Deed::Publish("a"), 0, 5),
-    Row::Does(Deed::Up(2), 0, 6),
+    Row::Does(Action::Expel("b", 1), 0, 5),
+    Row::Does(Action::Publish("a"), 0, 5),
+    Row::Does(Action::Up(2), 0, 6),
     Row::HasDown(1, GRANTED_AND_SENT),
-    Row::Does(Deed::Down(1), 0, 6),
+    Row::Does(Action::Down(1), 0, 6),
     Row::Took("b", 1, 1),
-    Row::Idle(Deed::Up(1)),
-    Row::Does(Deed::Expel("b", 1), 0, 7),
-    Row::Does(Deed::Abandon("b"), 0, 7),
-    Row::Does(Deed::Open("b", 1), 0, 7),
-    Row::Does(Deed::Up(3), 0, 8),
+    Row::Idle(Action::Up(1)),
+    Row::Does(Action::Expel("b", 1), 0, 7),
+    Row::Does(Action::Abandon("b"), 0, 7),
+    Row::Does(Action::Open("b", 1), 0, 7),
+    Row::Does(Action::Up(3), 0, 8),
     Row::HasDown(3, ABSENT),
-    Row::Does(Deed::Down(3), 0, 8),
+    Row::Does(Action::Down(3), 0, 8),
     Row::Took("b", 1, 1),
-    Row::Does(Deed::Subscribe("b"), 0, 8),
-    Row::Does(Deed::Up(3), 0, 9),
-    Row::Does(Deed::Publish("a"), 0, 9),
-    Row::Does(Deed::Up(2), 0, 10),
-    Row::Does(Deed::Down(3), 0, 10),
+    Row::Does(Action::Subscribe("b"), 0, 8),
+    Row::Does(Action::Up(3), 0, 9),
+    Row::Does(Action::Publish("a"), 0, 9),
+    Row::Does(Action::Up(2), 0, 10),
+    Row::Does(Action::Down(3), 0, 10),
     Row::Took("b", 2, 2),
     Row::Agrees(AGREED),
 ];
 
 // It is idle if there is no such client, or if the node is unknown, a backup, or has crashed.
 const IDLE: &[Row] = &[
-    Row::Idle(Deed::Expel("c", 1)),
-    Row::Idle(Deed::Expel("a", 0)),
-    Row::Idle(Deed::Expel("a", 2)),
-    Row::Idle(Deed::Expel("a", 3)),
-    Row::Does(Deed::Expel("a", 1), 1, 0),
-    Row::Does(Deed::Deliver(0), 2, 1),
-    Row::Does(Deed::Deliver(1), 3, 1),
+    Row::Idle(Action::Expel("c", 1)),
+    Row::Idle(Action::Expel("a", 0)),
+    Row::Idle(Action::Expel("a", 2)),
+    Row::Idle(Action::Expel("a", 3)),
+    Row::Does(Action::Expel("a", 1), 1, 0),
+    Row::Does(Action::Deliver(0), 2, 1),
+    Row::Does(Action::Deliver(1), 3, 1),
     Row::Agrees(&[Said::Expel("a")]),
-    Row::Does(Deed::Crash(1), 3, 1),
-    Row::Idle(Deed::Expel("a", 1)),
+    Row::Does(Action::Crash(1), 3, 1),
+    Row::Idle(Action::Expel("a", 1)),
 ];
 
 const TABLES: &[Table] = &[

@@ -1,6 +1,6 @@
 // A ballot that waits for its activation when the next one is given.
 
-use crate::tests::row::{Deed, Row, Said, Table, fault_in};
+use crate::tests::row::{Action, Row, Said, Table, fault_in};
 
 // CONNECT of client `a` with CleanSession 0 and keep alive 0, and CONNACK 0 without a session
 // present (MQTT 3.1, 3.2).
@@ -14,33 +14,33 @@ const AFTER: &[Said] = &[Said::Start(3), Said::Connect("a")];
 /// asks for its activation by message 5, and is refused by message 7, since ballot 3 was given
 /// meanwhile. A client finds only the primary of ballot 3.
 pub const PUT_OUT: &[Row] = &[
-    Row::Does(Deed::Assign(&[1, 2], 2), 1, 0),
-    Row::Does(Deed::Deliver(0), 2, 0),
-    Row::Does(Deed::Deliver(1), 3, 0),
-    Row::Does(Deed::Deliver(2), 4, 0),
-    Row::Does(Deed::Deliver(3), 5, 0),
-    Row::Does(Deed::Deliver(4), 6, 0),
-    Row::Does(Deed::Assign(&[3], 3), 7, 0),
-    Row::Does(Deed::Deliver(5), 8, 0),
+    Row::Does(Action::Assign(&[1, 2], 2), 1, 0),
+    Row::Does(Action::Deliver(0), 2, 0),
+    Row::Does(Action::Deliver(1), 3, 0),
+    Row::Does(Action::Deliver(2), 4, 0),
+    Row::Does(Action::Deliver(3), 5, 0),
+    Row::Does(Action::Deliver(4), 6, 0),
+    Row::Does(Action::Assign(&[3], 3), 7, 0),
+    Row::Does(Action::Deliver(5), 8, 0),
     Row::Active(1),
-    Row::Does(Deed::Deliver(7), 8, 0),
-    Row::Does(Deed::Deliver(6), 9, 0),
-    Row::Does(Deed::Deliver(8), 10, 0),
-    Row::Does(Deed::Deliver(9), 11, 0),
+    Row::Does(Action::Deliver(7), 8, 0),
+    Row::Does(Action::Deliver(6), 9, 0),
+    Row::Does(Action::Deliver(8), 10, 0),
+    Row::Does(Action::Deliver(9), 11, 0),
     Row::Active(1),
-    Row::Does(Deed::Deliver(10), 12, 0),
+    Row::Does(Action::Deliver(10), 12, 0),
     Row::Active(3),
-    Row::Does(Deed::Deliver(11), 12, 1),
+    Row::Does(Action::Deliver(11), 12, 1),
     Row::Agrees(&[Said::Start(3)]),
-    Row::Idle(Deed::Open("a", 1)),
-    Row::Idle(Deed::Open("a", 2)),
-    Row::Does(Deed::Open("a", 3), 12, 1),
+    Row::Idle(Action::Open("a", 1)),
+    Row::Idle(Action::Open("a", 2)),
+    Row::Does(Action::Open("a", 3), 12, 1),
     Row::HasUp(1, CONNECT),
     Row::HasDown(1, b""),
-    Row::Does(Deed::Up(1), 12, 2),
+    Row::Does(Action::Up(1), 12, 2),
     Row::HasUp(1, b""),
     Row::HasDown(1, ACCEPTED),
-    Row::Does(Deed::Down(1), 12, 2),
+    Row::Does(Action::Down(1), 12, 2),
     Row::HasDown(1, b""),
     Row::Took("a", 0, 0),
     Row::Active(3),

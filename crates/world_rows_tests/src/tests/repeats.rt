@@ -1,42 +1,42 @@
 // Messages that come again, or in another order.
 
-use crate::tests::row::{Deed, Row, Table, fault_in};
+use crate::tests::row::{Action, Row, Table, fault_in};
 
 // A CONNECT is answered once the backup holds it. Then the Commit comes again, the Held, and the
 // Append, which is held again; an Append that is already there adds nothing.
 const REPEATED: &[Row] = &[
-    Row::Does(Deed::Open("a", 1), 0, 0),
+    Row::Does(Action::Open("a", 1), 0, 0),
     Row::HasUp(1, b"\x10\x0D\x00\x04MQTT\x04\x00\x00\x00\x00\x01a"),
-    Row::Does(Deed::Up(1), 1, 0),
+    Row::Does(Action::Up(1), 1, 0),
     Row::HasDown(1, b""),
-    Row::Idle(Deed::Deliver(1)),
-    Row::Does(Deed::Deliver(0), 2, 1),
+    Row::Idle(Action::Deliver(1)),
+    Row::Does(Action::Deliver(0), 2, 1),
     Row::HasDown(1, b""),
-    Row::Does(Deed::Deliver(1), 3, 1),
+    Row::Does(Action::Deliver(1), 3, 1),
     Row::HasDown(1, b"\x20\x02\x00\x00"),
-    Row::Does(Deed::Down(1), 3, 1),
-    Row::Does(Deed::Deliver(2), 3, 1),
-    Row::Does(Deed::Deliver(1), 3, 1),
-    Row::Does(Deed::Deliver(0), 4, 1),
+    Row::Does(Action::Down(1), 3, 1),
+    Row::Does(Action::Deliver(2), 3, 1),
+    Row::Does(Action::Deliver(1), 3, 1),
+    Row::Does(Action::Deliver(0), 4, 1),
     Row::HasDown(1, b""),
-    Row::Idle(Deed::Down(1)),
-    Row::Idle(Deed::Deliver(4)),
+    Row::Idle(Action::Down(1)),
+    Row::Idle(Action::Deliver(4)),
     Row::Active(1),
 ];
 
 // What a tick sends again is a message of its own.
 const TICKED: &[Row] = &[
-    Row::Does(Deed::Open("a", 1), 0, 0),
-    Row::Does(Deed::Up(1), 1, 0),
-    Row::Does(Deed::Tick(1), 3, 0),
-    Row::Does(Deed::Tick(2), 3, 0),
-    Row::Idle(Deed::Tick(3)),
-    Row::Idle(Deed::Tick(0)),
-    Row::Does(Deed::Deliver(1), 4, 1),
-    Row::Does(Deed::Deliver(3), 5, 1),
+    Row::Does(Action::Open("a", 1), 0, 0),
+    Row::Does(Action::Up(1), 1, 0),
+    Row::Does(Action::Tick(1), 3, 0),
+    Row::Does(Action::Tick(2), 3, 0),
+    Row::Idle(Action::Tick(3)),
+    Row::Idle(Action::Tick(0)),
+    Row::Does(Action::Deliver(1), 4, 1),
+    Row::Does(Action::Deliver(3), 5, 1),
     Row::HasDown(1, b"\x20\x02\x00\x00"),
-    Row::Does(Deed::Deliver(0), 6, 1),
-    Row::Does(Deed::Deliver(5), 6, 1),
+    Row::Does(Action::Deliver(0), 6, 1),
+    Row::Does(Action::Deliver(5), 6, 1),
     Row::HasDown(1, b"\x20\x02\x00\x00"),
 ];
 

@@ -7,7 +7,7 @@ use world::topics::{Filter, TopicName};
 use world::{Command, Config, Event, Members, Memory, World};
 
 /// What happens.
-pub enum Deed {
+pub enum Action {
     Assign(&'static [u8], u8),
     Deliver(u64),
     Tick(u8),
@@ -46,9 +46,9 @@ pub enum Said {
 /// What happens in a world, or is seen of it.
 pub enum Row {
     /// This happens. Then this many messages were sent, and this many commands are agreed.
-    Does(Deed, u64, u64),
+    Does(Action, u64, u64),
     /// This cannot happen.
-    Idle(Deed),
+    Idle(Action),
     /// These bytes wait to go up on a connection, or down.
     HasUp(u64, &'static [u8]),
     HasDown(u64, &'static [u8]),
@@ -123,12 +123,12 @@ fn first_fault(alloc: Global, world: &mut World, rows: &[Row]) -> Option<usize> 
 /// Says whether a row holds for a world.
 pub fn is_right(alloc: Global, world: &mut World, row: &Row) -> bool {
     match row {
-        Row::Does(deed, messages, agreed) => {
-            does(alloc, world, deed)
+        Row::Does(action, messages, agreed) => {
+            does(alloc, world, action)
                 && world.messages() == *messages
                 && world.agreed_len() == *agreed
         }
-        Row::Idle(deed) => !does(alloc, world, deed),
+        Row::Idle(action) => !does(alloc, world, action),
         Row::HasUp(connection, bytes) => has_up(world, *connection, bytes),
         Row::HasDown(connection, bytes) => has_down(world, *connection, bytes),
         Row::Took(client, count, session) => took(alloc, world, client, *count, *session),
@@ -180,41 +180,41 @@ fn has_down(world: &World, connection: u64, bytes: &[u8]) -> bool {
 }
 
 /// Says whether the event can happen.
-pub fn does(alloc: Global, world: &mut World, deed: &Deed) -> bool {
-    match event_of(alloc, world, deed) {
+pub fn does(alloc: Global, world: &mut World, action: &Action) -> bool {
+    match event_of(alloc, world, action) {
         Some(event) => world.step(&event).is_ok(),
         None => false,
     }
 }
 
 // Returns the event for a row's entry.
-fn event_of(alloc: Global, world: &World, deed: &Deed) -> Option<Event> {
-    match deed {
-        Deed::Assign(members, primary) => {
+fn event_of(alloc: Global, world: &World, action: &Action) -> Option<Event> {
+    match action {
+        Action::Assign(members, primary) => {
             Some(Event::Assign(config_of(alloc, members, *primary)?))
         }
-        Deed::Deliver(number) => Some(Event::Deliver(*number)),
-        Deed::Tick(node) => Some(Event::Tick(*node)),
-        Deed::Cut(node) => Some(Event::Cut(*node)),
-        Deed::Crash(node) => Some(Event::Crash(*node)),
-        Deed::Up(number) => Some(Event::CarryUp(*number, world.up(*number).len() as u64)),
-        Deed::Down(number) => Some(Event::CarryDown(*number, world.down(*number).len() as u64)),
-        Deed::UpSome(number, count) => Some(Event::CarryUp(*number, *count)),
-        Deed::DownSome(number, count) => Some(Event::CarryDown(*number, *count)),
-        Deed::Notice(number) => Some(Event::Notice(*number)),
-        _ => call_of(alloc, deed),
+        Action::Deliver(number) => Some(Event::Deliver(*number)),
+        Action::Tick(node) => Some(Event::Tick(*node)),
+        Action::Cut(node) => Some(Event::Cut(*node)),
+        Action::Crash(node) => Some(Event::Crash(*node)),
+        Action::Up(number) => Some(Event::CarryUp(*number, world.up(*number).len() as u64)),
+        Action::Down(number) => Some(Event::CarryDown(*number, world.down(*number).len() as u64)),
+        Action::UpSome(number, count) => Some(Event::CarryUp(*number, *count)),
+        Action::DownSome(number, count) => Some(Event::CarryDown(*number, *count)),
+        Action::Notice(number) => Some(Event::Notice(*number)),
+        _ => call_of(alloc, action),
     }
 }
 
 // Returns the event of what a client does.
-fn call_of(alloc: Global, deed: &Deed) -> Option<Event> {
-    match deed {
-        Deed::Open(client, node) => Some(Event::Open(named(alloc, client)?, *node)),
-        Deed::Expel(client, node) => Some(Event::Expel(named(alloc, client)?, *node)),
-        Deed::Abandon(client) => Some(Event::Abandon(named(alloc, client)?)),
-        Deed::Disconnect(client) => Some(Event::Disconnect(named(alloc, client)?)),
-        Deed::Publish(client) => Some(Event::Publish(named(alloc, client)?, publication(alloc)?)),
-        Deed::Subscribe(client) => {
+fn call_of(alloc: Global, action: &Action) -> Option<Event> {
+    match action {
+        Action::Open(client, node) => Some(Event::Open(named(alloc, client)?, *node)),
+        Action::Expel(client, node) => Some(Event::Expel(named(alloc, client)?, *node)),
+        Action::Abandon(client) => Some(Event::Abandon(named(alloc, client)?)),
+        Action::Disconnect(client) => Some(Event::Disconnect(named(alloc, client)?)),
+        Action::Publish(client) => Some(Event::Publish(named(alloc, client)?, publication(alloc)?)),
+        Action::Subscribe(client) => {
             let filter = Filter::new(alloc, "t/#").ok()?;
             Some(Event::Subscribe(named(alloc, client)?, filter, QoS::ExactlyOnce))
         }

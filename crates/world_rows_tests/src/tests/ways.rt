@@ -4,7 +4,7 @@
 use crate::tests::crashes::CRASHED;
 use crate::tests::expelled::EXPELLED;
 use crate::tests::put_out::PUT_OUT;
-use crate::tests::row::{Deed, Row, does, is_right, named, opened};
+use crate::tests::row::{Action, Row, does, is_right, named, opened};
 use crate::tests::stale::STALE;
 use crate::tests::travelling::TRAVELLED;
 use std::alloc::Global;
@@ -13,25 +13,25 @@ use world::{Command, EscapeError, Event, World};
 
 // The primary answers a CONNECT once its backup holds it.
 const WAITS: &[Row] = &[
-    Row::Does(Deed::Open("a", 1), 0, 0),
-    Row::Does(Deed::Up(1), 1, 0),
-    Row::Does(Deed::Deliver(0), 2, 1),
-    Row::Does(Deed::Deliver(1), 3, 1),
-    Row::Does(Deed::Down(1), 3, 1),
+    Row::Does(Action::Open("a", 1), 0, 0),
+    Row::Does(Action::Up(1), 1, 0),
+    Row::Does(Action::Deliver(0), 2, 1),
+    Row::Does(Action::Deliver(1), 3, 1),
+    Row::Does(Action::Down(1), 3, 1),
 ];
 
 // A sole member is joined by another one, which becomes the primary. No client comes.
 const CHANGED: &[Row] = &[
-    Row::Does(Deed::Assign(&[1, 2], 2), 1, 0),
-    Row::Does(Deed::Deliver(0), 2, 0),
-    Row::Does(Deed::Deliver(1), 3, 0),
-    Row::Does(Deed::Deliver(2), 4, 0),
-    Row::Does(Deed::Deliver(3), 5, 0),
-    Row::Does(Deed::Deliver(4), 6, 0),
-    Row::Does(Deed::Deliver(5), 7, 0),
-    Row::Does(Deed::Deliver(6), 8, 0),
-    Row::Does(Deed::Deliver(7), 9, 1),
-    Row::Does(Deed::Deliver(8), 10, 1),
+    Row::Does(Action::Assign(&[1, 2], 2), 1, 0),
+    Row::Does(Action::Deliver(0), 2, 0),
+    Row::Does(Action::Deliver(1), 3, 0),
+    Row::Does(Action::Deliver(2), 4, 0),
+    Row::Does(Action::Deliver(3), 5, 0),
+    Row::Does(Action::Deliver(4), 6, 0),
+    Row::Does(Action::Deliver(5), 7, 0),
+    Row::Does(Action::Deliver(6), 8, 0),
+    Row::Does(Action::Deliver(7), 9, 1),
+    Row::Does(Action::Deliver(8), 10, 1),
 ];
 
 // A client has a session in the log that is fetched, after this many rows and until this many.
@@ -190,7 +190,7 @@ fn has_crashed(rows: &[Row], node: u8) -> bool {
 
 fn is_crash(row: &Row, node: u8) -> bool {
     match row {
-        Row::Does(Deed::Crash(crashed), _, _) => *crashed == node,
+        Row::Does(Action::Crash(crashed), _, _) => *crashed == node,
         _ => false,
     }
 }
@@ -208,7 +208,7 @@ fn last_ballot(rows: &[Row]) -> u64 {
 
 fn is_assign(row: &Row) -> bool {
     match row {
-        Row::Does(Deed::Assign(_, _), _, _) => true,
+        Row::Does(Action::Assign(_, _), _, _) => true,
         _ => false,
     }
 }
@@ -339,8 +339,8 @@ const PRESENT: &[u8] = b"\x20\x02\x01\x00";
 
 // Says whether the client that was answered comes back at node 2 as sole member after these events:
 // before the last event its CONNACK waits, and at the end three commands are agreed in ballot 2.
-fn comes_back(alloc: Global, deeds: &[Deed]) -> Option<bool> {
-    let mut world = answered(alloc, deeds)?;
+fn comes_back(alloc: Global, actions: &[Action]) -> Option<bool> {
+    let mut world = answered(alloc, actions)?;
     let way = world.escape(&[2], &named(alloc, "a")?).ok()?;
     let (last, front) = way.as_slice().split_last()?;
     world.run(front);
@@ -351,15 +351,15 @@ fn comes_back(alloc: Global, deeds: &[Deed]) -> Option<bool> {
 }
 
 // Returns the world in which the client was answered, after these events.
-fn answered(alloc: Global, deeds: &[Deed]) -> Option<World> {
+fn answered(alloc: Global, actions: &[Action]) -> Option<World> {
     let mut world = opened(alloc, 2, &[1, 2])?;
     for row in WAITS {
         if !is_right(alloc, &mut world, row) {
             return None;
         }
     }
-    for deed in deeds {
-        if !does(alloc, &mut world, deed) {
+    for action in actions {
+        if !does(alloc, &mut world, action) {
             return None;
         }
     }
@@ -367,8 +367,8 @@ fn answered(alloc: Global, deeds: &[Deed]) -> Option<World> {
 }
 
 // Says whether there is no way out for these members and this client after these events.
-fn is_idle(alloc: Global, deeds: &[Deed], members: &[u8], client: &str) -> Option<bool> {
-    let world = answered(alloc, deeds)?;
+fn is_idle(alloc: Global, actions: &[Action], members: &[u8], client: &str) -> Option<bool> {
+    let world = answered(alloc, actions)?;
     match world.escape(members, &named(alloc, client)?) {
         Ok(_) => Some(false),
         Err(error) => Some(error == EscapeError::Idle && error.number() == 24),
@@ -402,9 +402,9 @@ fn a_way_out_without_memory(rt: HostRuntime) {
 #[test]
 fn a_client_comes_back(rt: HostRuntime) {
     assert_eq!(rt; comes_back(rt.alloc(), &[]), Some(true));
-    assert_eq!(rt; comes_back(rt.alloc(), &[Deed::Crash(1)]), Some(true));
+    assert_eq!(rt; comes_back(rt.alloc(), &[Action::Crash(1)]), Some(true));
     assert_eq!(rt;
-        is_idle(rt.alloc(), &[Deed::Crash(1)], &[1], "a"),
+        is_idle(rt.alloc(), &[Action::Crash(1)], &[1], "a"),
         Some(true)
     );
     assert_eq!(rt; is_idle(rt.alloc(), &[], &[2], "z"), Some(true));
@@ -413,7 +413,12 @@ fn a_client_comes_back(rt: HostRuntime) {
 #[test]
 fn nothing_leads_out_where_nobody_lives(rt: HostRuntime) {
     for members in LISTS {
-        let idle = is_idle(rt.alloc(), &[Deed::Crash(1), Deed::Crash(2)], members, "a");
+        let idle = is_idle(
+            rt.alloc(),
+            &[Action::Crash(1), Action::Crash(2)],
+            members,
+            "a",
+        );
         assert_eq!(rt; idle, Some(true));
     }
 }

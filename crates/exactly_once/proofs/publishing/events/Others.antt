@@ -6,16 +6,16 @@ use Rattle.std.proofs.lemmas.Bool.{cases_Bool}
 use Rattle.client_base.specs.packet.declared.packet.Packet.{Packet}
 use Rattle.client_base.specs.packet.declared.packet.Packet.TheVariants as packets
 use Rattle.client_base.specs.session_base.Publication.{publication_of}
-use Rattle.broker_base.specs.Connection.{ConnectionName, same_connection}
-use Rattle.broker_base.specs.Place.{Client, Mark, Place, Past, Limits, same_client, only_if}
-use Rattle.broker_base.specs.Past.{accepts, ends_any, current_connection}
-use Rattle.broker_base.specs.Owner.{owner_of}
-use Rattle.broker_base.specs.Received.{is_new, is_repeat, receives, received_by, received_of}
+use Rattle.broker_base.specs.broker_spec.Connection.{ConnectionName, same_connection}
+use Rattle.broker_base.specs.broker_spec.Place.{Client, Mark, Place, Past, Limits, same_client, only_if}
+use Rattle.broker_base.specs.broker_spec.Past.{accepts, ends_any, current_connection}
+use Rattle.broker_base.specs.broker_spec.Owner.{owner_of}
+use Rattle.broker_base.specs.broker_spec.Received.{is_new, is_repeat, receives, received_by, received_of}
 use Rattle.client_base.specs.session_base.Identifiers.{without_id}
-use Rattle.broker_base.specs.Marks.{is_refused, packet_mark, packet_mark_of}
-use Rattle.broker_base.specs.Commands.{place_of}
-use Rattle.broker_base.specs.Command.{Command}
-use Rattle.broker_base.specs.Command.TheVariants as commands
+use Rattle.broker_base.specs.broker_spec.Marks.{is_refused, packet_mark, packet_mark_of}
+use Rattle.broker_base.specs.broker_spec.Commands.{place_of}
+use Rattle.broker_base.specs.broker_spec.declared.command.Command.{Command}
+use Rattle.broker_base.specs.broker_spec.declared.command.Command.TheVariants as commands
 use Rattle.broker_base.proofs.ClientsInOrder.{same_is}
 use Rattle.broker_base.proofs.ConnectionsOfSessions.{same_turned}
 use Rattle.client_base.proofs.of_lists.Tests.{or_none}
@@ -34,7 +34,7 @@ use Rattle.exactly_once.proofs.publishing.Last.{each_last, none_named}
 use Rattle.exactly_once.proofs.publishing.Elsewhere.{connect_none, NoneSent}
 use Rattle.exactly_once.proofs.publishing.PacketAnswers.{packet_none}
 use Rattle.exactly_once.proofs.publishing.AtPlaces.{NoneToLast, come_same, StaysOrLeaves, goes_place}
-use Rattle.broker_base.specs.Answers.{closed}
+use Rattle.broker_base.specs.broker_spec.Answers.{closed}
 
 -- ---- it carries none of the client's publications
 

@@ -7,8 +7,8 @@ use Rattle.client_base.specs.packet.declared.qos.QoS.TheVariants as levels
 use Rattle.client_base.specs.session_base.declared.publication.Publication.{Publication}
 use Rattle.client_base.specs.session_base.Publication.{is_answered}
 use Rattle.client_base.specs.session_base.Identifiers.{least_free}
-use Rattle.broker_base.specs.Place.{Past, Limits}
-use Rattle.broker_base.specs.Past.{current_connection}
+use Rattle.broker_base.specs.broker_spec.Place.{Past, Limits}
+use Rattle.broker_base.specs.broker_spec.Past.{current_connection}
 use Rattle.client_base.specs.lists.Lists.{Each}
 use Rattle.exactly_once.specs.Items.{Item}
 use Rattle.exactly_once.specs.Handshake.{Forward, Backward, Handshake}

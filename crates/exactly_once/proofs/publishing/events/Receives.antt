@@ -6,10 +6,10 @@ use Rattle.std.proofs.lemmas.List.{append-nil}
 use Rattle.client_base.specs.packet.declared.connack.Connack.TheVariants as connacks
 use Rattle.client_base.specs.packet.declared.packet.Packet.{Packet}
 use Rattle.client_base.specs.packet.declared.packet.Packet.TheVariants as packets
-use Rattle.broker_base.specs.Place.{Past, Limits}
+use Rattle.broker_base.specs.broker_spec.Place.{Past, Limits}
 use Rattle.client_base.specs.lists.Lists.{Each}
 use Rattle.exactly_once.specs.Handshake.{Handshake}
-use Rattle.exactly_once.specs.HandshakeSides.{IsGood}
+use Rattle.exactly_once.specs.HandshakeInvariant.{IsGood}
 use Rattle.exactly_once.specs.Sends.{put_to}
 use Rattle.exactly_once.specs.Sides.{Connection}
 use Rattle.client_base.specs.Keeper.{Keeper}

@@ -3,12 +3,12 @@
 use Rattle.std.proofs.Common.{◌≡◌, ℕ, suc, Bool, true, false, ◌&&◌, List, [], ◌∷◌, ◌++◌, drop, Option, Some, refl, ap, ap₂, sym, ◌∙◌, subst, inl, inr}
 use Rattle.std.specs.Prelude.{slice_get}
 use Rattle.client_base.specs.lists.Lists.{has_id}
-use Rattle.broker_base.specs.Connection.{ConnectionName, same_connection}
-use Rattle.broker_base.specs.Place.{Mark, Place, Past, Limits}
-use Rattle.broker_base.specs.Past.{any_connection, current_connection, session_of, is_leaving}
-use Rattle.broker_base.specs.Received.{is_new, received_by, received_of}
-use Rattle.broker_base.specs.Answers.{packet_answers}
-use Rattle.broker_base.specs.Command.TheVariants as commands
+use Rattle.broker_base.specs.broker_spec.Connection.{ConnectionName, same_connection}
+use Rattle.broker_base.specs.broker_spec.Place.{Mark, Place, Past, Limits}
+use Rattle.broker_base.specs.broker_spec.Past.{any_connection, current_connection, session_of, is_leaving}
+use Rattle.broker_base.specs.broker_spec.Received.{is_new, received_by, received_of}
+use Rattle.broker_base.specs.broker_spec.Answers.{packet_answers}
+use Rattle.broker_base.specs.broker_spec.declared.command.Command.TheVariants as commands
 use Rattle.exactly_once.specs.Handshake.{Forward, Backward, Link, Handshake, Run, answer, taking, accepting}
 use Rattle.exactly_once.specs.Handshake.Moves.{takes, takes_alone}
 use Rattle.exactly_once.specs.Handshake.Run.{stays, goes_on}

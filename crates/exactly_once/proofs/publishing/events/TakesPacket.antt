@@ -6,12 +6,12 @@ use Rattle.client_base.specs.packet.declared.delivery.Delivery.{Delivery}
 use Rattle.client_base.specs.packet.declared.delivery.Delivery.TheVariants as deliveries
 use Rattle.client_base.specs.packet.declared.packet.Packet.{Packet}
 use Rattle.client_base.specs.packet.declared.packet.Packet.TheVariants as packets
-use Rattle.broker_base.specs.Connection.{ConnectionName, same_connection}
-use Rattle.broker_base.specs.Place.{Client, Mark, Past, Limits}
-use Rattle.broker_base.specs.Past.{current_connection, session_of}
-use Rattle.broker_base.specs.Received.{is_new, received_by, received_of}
-use Rattle.broker_base.specs.Marks.{packet_mark}
-use Rattle.broker_base.specs.Command.TheVariants as commands
+use Rattle.broker_base.specs.broker_spec.Connection.{ConnectionName, same_connection}
+use Rattle.broker_base.specs.broker_spec.Place.{Client, Mark, Past, Limits}
+use Rattle.broker_base.specs.broker_spec.Past.{current_connection, session_of}
+use Rattle.broker_base.specs.broker_spec.Received.{is_new, received_by, received_of}
+use Rattle.broker_base.specs.broker_spec.Marks.{packet_mark}
+use Rattle.broker_base.specs.broker_spec.declared.command.Command.TheVariants as commands
 use Rattle.exactly_once.specs.Handshake.{Forward}
 use Rattle.client_base.specs.Keeper.{Written, Keeper}
 use Rattle.exactly_once.specs.Sides.{Connection}

@@ -6,15 +6,15 @@ use Rattle.client_base.specs.packet.declared.packet.Packet.{Packet}
 use Rattle.client_base.specs.packet.declared.packet.Packet.TheVariants as packets
 use Rattle.client_base.specs.lists.Lists.{has_id}
 use Rattle.client_base.specs.session_base.Publication.{publication_of}
-use Rattle.broker_base.specs.Connection.{ConnectionName}
-use Rattle.broker_base.specs.Place.{Mark, Past, Limits, same_client}
-use Rattle.broker_base.specs.Received.{receives, received_of, is_exactly_once, is_repeat}
+use Rattle.broker_base.specs.broker_spec.Connection.{ConnectionName}
+use Rattle.broker_base.specs.broker_spec.Place.{Mark, Past, Limits, same_client}
+use Rattle.broker_base.specs.broker_spec.Received.{receives, received_of, is_exactly_once, is_repeat}
 use Rattle.client_base.specs.session_base.Identifiers.{without_id}
-use Rattle.broker_base.specs.Owner.{clients}
-use Rattle.broker_base.specs.Marks.{is_refused, packet_mark}
-use Rattle.broker_base.specs.Sends.{deliveries_to}
-use Rattle.broker_base.specs.Answers.{acknowledged}
-use Rattle.broker_base.specs.Output.TheVariants.{Send}
+use Rattle.broker_base.specs.broker_spec.Owner.{clients}
+use Rattle.broker_base.specs.broker_spec.Marks.{is_refused, packet_mark}
+use Rattle.broker_base.specs.broker_spec.Sends.{deliveries_to}
+use Rattle.broker_base.specs.broker_spec.Answers.{acknowledged}
+use Rattle.broker_base.specs.broker_spec.declared.command.Output.TheVariants.{Send}
 use Rattle.broker_base.proofs.ClientsInOrder.{same_self}
 use Rattle.exactly_once.specs.Handshake.{Forward, Handshake}
 use Rattle.exactly_once.specs.Sends.{sends_to}

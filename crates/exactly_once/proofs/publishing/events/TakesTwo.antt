@@ -7,13 +7,13 @@ use Rattle.client_base.specs.packet.declared.publish.Publish.{Publish}
 use Rattle.client_base.specs.packet.declared.packet.Packet.TheVariants as packets
 use Rattle.client_base.specs.lists.Lists.{has_id}
 use Rattle.client_base.specs.session_base.Publication.{publication_of}
-use Rattle.broker_base.specs.Connection.{same_connection}
-use Rattle.broker_base.specs.Place.{Client, Mark, Past, Limits}
-use Rattle.broker_base.specs.Received.{receives, received_of}
-use Rattle.broker_base.specs.Owner.{clients}
-use Rattle.broker_base.specs.Marks.{is_refused, packet_mark}
-use Rattle.broker_base.specs.Sends.{deliveries_to}
-use Rattle.broker_base.specs.Output.TheVariants.{Send}
+use Rattle.broker_base.specs.broker_spec.Connection.{same_connection}
+use Rattle.broker_base.specs.broker_spec.Place.{Client, Mark, Past, Limits}
+use Rattle.broker_base.specs.broker_spec.Received.{receives, received_of}
+use Rattle.broker_base.specs.broker_spec.Owner.{clients}
+use Rattle.broker_base.specs.broker_spec.Marks.{is_refused, packet_mark}
+use Rattle.broker_base.specs.broker_spec.Sends.{deliveries_to}
+use Rattle.broker_base.specs.broker_spec.declared.command.Output.TheVariants.{Send}
 use Rattle.broker_base.proofs.ClientsInOrder.{same_self}
 use Rattle.exactly_once.specs.Handshake.{Forward, Link, Handshake, accepting}
 use Rattle.exactly_once.specs.Sends.{sends_to}

@@ -7,11 +7,11 @@ use Rattle.client_base.specs.packet.declared.packet.Packet.{Packet}
 use Rattle.client_base.specs.session_base.declared.publication.Publication.{Publication}
 use Rattle.client_base.specs.session_base.Identifiers.{least_free}
 use Rattle.client_base.specs.session_base.Publication.{is_answered}
-use Rattle.broker_base.specs.Place.{Limits}
+use Rattle.broker_base.specs.broker_spec.Place.{Limits}
 use Rattle.client_base.specs.lists.Lists.{has_id, IsDistinct}
 use Rattle.broker_base.proofs.LeastFree.{least-is-free}
 use Rattle.exactly_once.specs.Items.{Item, has_released}
-use Rattle.exactly_once.specs.HandshakeSides.{IsGood}
+use Rattle.exactly_once.specs.HandshakeInvariant.{IsGood}
 use Rattle.client_base.proofs.of_lists.Identifiers.{has_split, distinct_insert, distinct_push}
 use Rattle.exactly_once.specs.Sends.{put_to}
 use Rattle.client_base.specs.Keeper.{Own, Keeper, ids_of_own, ids_in_use, next_number}
@@ -20,9 +20,9 @@ use Rattle.client_base.specs.declared.request.Request.TheVariants as requests
 use Rattle.exactly_once.specs.Sides.{Connection}
 use Rattle.client_base.specs.State.{id_of_request}
 use Rattle.client_base.specs.Handled.{handled}
-use Rattle.exactly_once.specs.Story.{Story, Happens}
+use Rattle.exactly_once.specs.Story.{Story, StoryStep}
 use Rattle.client_base.specs.Called.{adds_own}
-use Rattle.exactly_once.specs.Story.Happens.{takes, others_take, receives, opens_anew, loses, disconnects, publishes_one, subscribes, unsubscribes}
+use Rattle.exactly_once.specs.Story.StoryStep.{takes, others_take, receives, opens_anew, loses, disconnects, publishes_one, subscribes, unsubscribes}
 use Rattle.exactly_once.specs.Carried.{is_two}
 use Rattle.exactly_once.specs.Inside.Projections.{items_of_own, as_publisher}
 use Rattle.exactly_once.specs.Inside.Shape.{OwnInShape, HeldInShape, HasShape, IsSoundStory, AreNumbered, none_unsent}
@@ -118,7 +118,7 @@ receives_there limits s connections others κ packet are shape good opened next 
     receives_keeps limits s.past s.keeper κ others packet shape.own (subst (λ (cs : List Connection). HeldInShape limits s.past s.keeper cs) are shape.held) opened next
     (subst (λ (cs : List Connection). IsGood (as_publisher limits (record s { connections = cs }))) are good)
 
-pub events_keep_own : (limits : Limits) (s t : Story) → IsSoundStory limits s → Happens limits s t → OwnInShape t.keeper
+pub events_keep_own : (limits : Limits) (s t : Story) → IsSoundStory limits s → StoryStep limits s t → OwnInShape t.keeper
 events_keep_own limits s t sound (takes i κ w stands next) = sound.shape.own
 events_keep_own limits s t sound (others_take command other none) = sound.shape.own
 events_keep_own limits s t sound (receives κ others packet are opened next) = receives_there limits s s.connections others κ packet are sound.shape sound.publisher opened next

@@ -5,19 +5,19 @@ use Rattle.std.specs.Prelude.{slice_get}
 use Rattle.std.proofs.lemmas.List.{length-append}
 use Rattle.client_base.specs.packet.declared.packet.Packet.{Packet}
 use Rattle.client_base.specs.packet.declared.packet.Packet.TheVariants as packets
-use Rattle.broker_base.specs.Connection.{ConnectionName, same_connection}
-use Rattle.broker_base.specs.Place.{Place, Past, Limits}
-use Rattle.broker_base.specs.Commands.{place_of}
+use Rattle.broker_base.specs.broker_spec.Connection.{ConnectionName, same_connection}
+use Rattle.broker_base.specs.broker_spec.Place.{Place, Past, Limits}
+use Rattle.broker_base.specs.broker_spec.Commands.{place_of}
 use Rattle.broker_base.proofs.ConnectionsOfSessions.{same_turned}
 use Rattle.client_base.specs.lists.Lists.{Each}
 use Rattle.client_base.specs.Keeper.{Written}
 use Rattle.exactly_once.specs.Sides.{Connection}
 use Rattle.client_base.specs.Written.{plain}
 use Rattle.client_base.specs.Handled.{handled}
-use Rattle.exactly_once.specs.Story.{Story, Happens, is_packet_of, count_of, counted_at, command_of, any_named}
+use Rattle.exactly_once.specs.Story.{Story, StoryStep, is_packet_of, count_of, counted_at, command_of, any_named}
 use Rattle.client_base.specs.Written.{writes_first}
 use Rattle.client_base.specs.Called.{written_for}
-use Rattle.exactly_once.specs.Story.Happens.{takes, others_take, receives, opens_anew, loses, disconnects, publishes_one, subscribes, unsubscribes}
+use Rattle.exactly_once.specs.Story.StoryStep.{takes, others_take, receives, opens_anew, loses, disconnects, publishes_one, subscribes, unsubscribes}
 use Rattle.exactly_once.specs.Inside.Shape.{NamesApart}
 use Rattle.broker_base.proofs.ConnectionNames.{same_itself}
 use Rattle.exactly_once.proofs.publishing.Grown.{Grown, handled_grows}
@@ -88,7 +88,7 @@ counts_grown past κ after n grown c =
     let within = c.within in
     record { counted = ap (λ x. count_of x past) grown.name ∙ c.counted ∙ sym grown.taken; within = omega (arith, longer, taken, within) }
 
-pub events_keep_counts : (limits : Limits) (s t : Story) → NamesApart s.connections → Each (CountsOf s.past) s.connections → Happens limits s t → Each (CountsOf t.past) t.connections
+pub events_keep_counts : (limits : Limits) (s t : Story) → NamesApart s.connections → Each (CountsOf s.past) s.connections → StoryStep limits s t → Each (CountsOf t.past) t.connections
 events_keep_counts limits s t apart rows (takes i κ w stands next) =
     takes_counts (place_of limits s.past (command_of κ.name κ.taken w.packet)) s.past i s.connections κ w (λ y. packet_of κ.name y κ.taken w.packet) apart stands next rows
 events_keep_counts limits s t apart rows (others_take command other none) = each_stays (place_of limits s.past command) s.past s.connections none rows

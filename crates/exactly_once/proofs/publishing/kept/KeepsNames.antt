@@ -3,21 +3,21 @@ use Rattle.std.proofs.Common.{◌≡◌, ℕ, zero, suc, Bool, true, false, ◌|
 use Rattle.std.specs.Prelude.{slice_get}
 use Rattle.client_base.specs.packet.declared.packet.Packet.{Packet}
 use Rattle.client_base.specs.packet.declared.packet.Packet.TheVariants as packets
-use Rattle.broker_base.specs.Connection.{ConnectionName, same_connection}
-use Rattle.broker_base.specs.Place.{Client, Mark, Place, Past, Limits, same_client}
-use Rattle.broker_base.specs.Past.{accepts, session_of}
-use Rattle.broker_base.specs.Marks.{mark_of}
-use Rattle.broker_base.specs.Commands.{place_of}
-use Rattle.broker_base.specs.Command.{Command}
-use Rattle.broker_base.specs.Command.TheVariants as commands
+use Rattle.broker_base.specs.broker_spec.Connection.{ConnectionName, same_connection}
+use Rattle.broker_base.specs.broker_spec.Place.{Client, Mark, Place, Past, Limits, same_client}
+use Rattle.broker_base.specs.broker_spec.Past.{accepts, session_of}
+use Rattle.broker_base.specs.broker_spec.Marks.{mark_of}
+use Rattle.broker_base.specs.broker_spec.Commands.{place_of}
+use Rattle.broker_base.specs.broker_spec.declared.command.Command.{Command}
+use Rattle.broker_base.specs.broker_spec.declared.command.Command.TheVariants as commands
 use Rattle.broker_base.proofs.ClientsInOrder.{same_is}
 use Rattle.client_base.specs.Keeper.{Written}
 use Rattle.exactly_once.specs.Sides.{Connection}
 use Rattle.client_base.specs.Written.{plain}
-use Rattle.exactly_once.specs.Story.{Story, Happens, any_named, counted_at, command_of, names_client}
+use Rattle.exactly_once.specs.Story.{Story, StoryStep, any_named, counted_at, command_of, names_client}
 use Rattle.client_base.specs.Called.{opens, written_for}
 use Rattle.client_base.specs.Written.{writes_first}
-use Rattle.exactly_once.specs.Story.Happens.{takes, others_take, receives, opens_anew, loses, disconnects, publishes_one, subscribes, unsubscribes}
+use Rattle.exactly_once.specs.Story.StoryStep.{takes, others_take, receives, opens_anew, loses, disconnects, publishes_one, subscribes, unsubscribes}
 use Rattle.exactly_once.specs.Inside.Shape.{NamesApart, IsSoundStory}
 use Rattle.exactly_once.specs.Inside.ConnectionShape.{ConnectionInShape}
 use Rattle.exactly_once.proofs.places.Counts.{only_there}
@@ -46,7 +46,7 @@ either_apart : (b : Bool) (more : List Written) (connections : List Connection) 
 either_apart true more connections a = written_apart more connections a
 either_apart false more connections a = a
 
-pub events_keep_names : (limits : Limits) (s t : Story) → NamesApart s.connections → Happens limits s t → NamesApart t.connections
+pub events_keep_names : (limits : Limits) (s t : Story) → NamesApart s.connections → StoryStep limits s t → NamesApart t.connections
 events_keep_names limits s t a (takes i κ w stands next) = counted_apart i s.connections a
 events_keep_names limits s t a (others_take command other none) = a
 events_keep_names limits s t a (receives κ others packet are opened next) =
@@ -99,7 +99,7 @@ kept_other past c (commands.Lost x) mark other opened e = cc
 kept_other past c (commands.Start b) mark other opened e = cc
 kept_other past c (commands.Expel d) mark other opened e = cc
 
-pub events_keep_session : (limits : Limits) (s t : Story) → IsSoundStory limits s → Happens limits s t → IsKeptSession (session_of t.past s.keeper.client)
+pub events_keep_session : (limits : Limits) (s t : Story) → IsSoundStory limits s → StoryStep limits s t → IsKeptSession (session_of t.past s.keeper.client)
 events_keep_session limits s t sound (takes i κ w stands next) =
     let this = each_there (ConnectionInShape limits s.past s.keeper.client) i s.connections κ stands sound.shape.connections in
     let command = command_of κ.name κ.taken w.packet in

@@ -4,21 +4,21 @@ use Rattle.std.specs.Prelude.{slice_get}
 use Rattle.std.proofs.lemmas.Bool.{both_ways, cases_Bool}
 use Rattle.client_base.specs.packet.declared.packet.Packet.{Packet}
 use Rattle.client_base.specs.packet.declared.packet.Packet.TheVariants as packets
-use Rattle.broker_base.specs.Connection.{ConnectionName, same_connection}
-use Rattle.broker_base.specs.Place.{Client, Mark, Place, Past, Limits, same_client}
-use Rattle.broker_base.specs.Past.{accepts, ends_any, newest_connection, current_connection}
-use Rattle.broker_base.specs.Marks.{mark_of}
-use Rattle.broker_base.specs.Commands.{place_of}
-use Rattle.broker_base.specs.Command.{Command}
-use Rattle.broker_base.specs.Command.TheVariants as commands
+use Rattle.broker_base.specs.broker_spec.Connection.{ConnectionName, same_connection}
+use Rattle.broker_base.specs.broker_spec.Place.{Client, Mark, Place, Past, Limits, same_client}
+use Rattle.broker_base.specs.broker_spec.Past.{accepts, ends_any, newest_connection, current_connection}
+use Rattle.broker_base.specs.broker_spec.Marks.{mark_of}
+use Rattle.broker_base.specs.broker_spec.Commands.{place_of}
+use Rattle.broker_base.specs.broker_spec.declared.command.Command.{Command}
+use Rattle.broker_base.specs.broker_spec.declared.command.Command.TheVariants as commands
 use Rattle.broker_base.proofs.ClientsInOrder.{same_is, same_self}
 use Rattle.client_base.specs.Keeper.{Written}
 use Rattle.exactly_once.specs.Sides.{Connection}
 use Rattle.client_base.specs.Written.{plain}
-use Rattle.exactly_once.specs.Story.{Story, Happens, any_named, is_packet_of, count_of, counted_at, command_of}
+use Rattle.exactly_once.specs.Story.{Story, StoryStep, any_named, is_packet_of, count_of, counted_at, command_of}
 use Rattle.client_base.specs.Called.{opens, written_for, new_connection}
 use Rattle.client_base.specs.Written.{writes_first}
-use Rattle.exactly_once.specs.Story.Happens.{takes, others_take, receives, opens_anew, loses, disconnects, publishes_one, subscribes, unsubscribes}
+use Rattle.exactly_once.specs.Story.StoryStep.{takes, others_take, receives, opens_anew, loses, disconnects, publishes_one, subscribes, unsubscribes}
 use Rattle.exactly_once.specs.Inside.Shape.{IsSoundStory}
 use Rattle.exactly_once.specs.Inside.ConnectionShape.{ConnectionInShape}
 use Rattle.broker_base.proofs.ConnectionNames.{same_name}
@@ -101,7 +101,7 @@ nobody_opened past c connections κ none nobody d x current named = by (cases_Bo
         absurd (omega (arith, some, count, none))
     by (inr e) = nobody d x current (sym (ap (λ b. b || any_named (same_connection x) connections) e) ∙ named)
 
-pub events_keep_nobody : (limits : Limits) (s t : Story) → IsSoundStory limits s → Happens limits s t → NobodyElse t.past s.keeper.client t.connections
+pub events_keep_nobody : (limits : Limits) (s t : Story) → IsSoundStory limits s → StoryStep limits s t → NobodyElse t.past s.keeper.client t.connections
 events_keep_nobody limits s t sound (takes i κ w stands next) =
     let this = each_there (ConnectionInShape limits s.past s.keeper.client) i s.connections κ stands sound.shape.connections in
     let command = command_of κ.name κ.taken w.packet in

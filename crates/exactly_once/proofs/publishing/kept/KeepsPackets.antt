@@ -10,11 +10,11 @@ use Rattle.client_base.specs.packet.declared.packet.Packet.TheVariants as packet
 use Rattle.client_base.specs.session_base.declared.publication.Publication.{Publication}
 use Rattle.client_base.specs.lists.Lists.{IsDistinct, has_id}
 use Rattle.client_base.specs.session_base.Publication.{publication_of}
-use Rattle.broker_base.specs.Place.{Past, Limits}
-use Rattle.broker_base.specs.Past.{current_connection}
+use Rattle.broker_base.specs.broker_spec.Place.{Past, Limits}
+use Rattle.broker_base.specs.broker_spec.Past.{current_connection}
 use Rattle.exactly_once.specs.Items.{busy, has_sent}
 use Rattle.exactly_once.specs.Handshake.{Backward}
-use Rattle.exactly_once.specs.HandshakeSides.{IsGood}
+use Rattle.exactly_once.specs.HandshakeInvariant.{IsGood}
 use Rattle.exactly_once.specs.Sends.{put_to}
 use Rattle.exactly_once.specs.Sides.{Connection}
 use Rattle.client_base.specs.Keeper.{Keeper}

@@ -5,9 +5,9 @@ use Rattle.std.proofs.Common.{◌≡◌, ◌≤◌, ◌+◌, ℕ, zero, suc, Boo
 use Rattle.std.specs.Prelude.{slice_get}
 use Rattle.std.proofs.lemmas.List.{length-append}
 use Rattle.client_base.specs.packet.declared.packet.Packet.TheVariants as packets
-use Rattle.broker_base.specs.Connection.{ConnectionName}
-use Rattle.broker_base.specs.Place.{Place, Past, Limits}
-use Rattle.broker_base.specs.Answers.{answers_at}
+use Rattle.broker_base.specs.broker_spec.Connection.{ConnectionName}
+use Rattle.broker_base.specs.broker_spec.Place.{Place, Past, Limits}
+use Rattle.broker_base.specs.broker_spec.Answers.{answers_at}
 use Rattle.client_base.specs.lists.Lists.{Each}
 use Rattle.client_base.proofs.of_lists.OfEach.{each_append, each_then}
 use Rattle.exactly_once.specs.Sends.{sends_to, put_to}
@@ -16,10 +16,10 @@ use Rattle.exactly_once.specs.Sides.{Connection}
 use Rattle.client_base.specs.Written.{plain, publishes, writes}
 use Rattle.client_base.specs.Handled.{handled}
 use Rattle.client_base.specs.session_base.Identifiers.{least_free}
-use Rattle.exactly_once.specs.Story.{Story, Happens, counted_at}
+use Rattle.exactly_once.specs.Story.{Story, StoryStep, counted_at}
 use Rattle.client_base.specs.Written.{writes_first}
 use Rattle.client_base.specs.Called.{written_for}
-use Rattle.exactly_once.specs.Story.Happens.{takes, others_take, receives, opens_anew, loses, disconnects, publishes_one, subscribes, unsubscribes}
+use Rattle.exactly_once.specs.Story.StoryStep.{takes, others_take, receives, opens_anew, loses, disconnects, publishes_one, subscribes, unsubscribes}
 use Rattle.exactly_once.specs.Inside.ConnectionShape.{is_two_unnumbered}
 use Rattle.exactly_once.proofs.publishing.AtPlaces.{put_more}
 use Rattle.exactly_once.proofs.publishing.Grown.{IsLater, Grown, handled_grows}
@@ -73,7 +73,7 @@ stands_within n [] x e = cc
 stands_within zero (y ∷ xs) x e = omega arith
 stands_within (suc n) (y ∷ xs) x e = let within = stands_within n xs x e in omega (arith, within)
 
-pub events_keep_rows : (limits : Limits) (s t : Story) → AreRows limits s → Happens limits s t → AreRows limits t
+pub events_keep_rows : (limits : Limits) (s t : Story) → AreRows limits s → StoryStep limits s t → AreRows limits t
 events_keep_rows limits s t rows (takes i κ w stands next) = rows_counted limits t.past i s.connections (each_then (RowsOf limits s.past) (RowsOf limits t.past) s.connections (λ μ r. rows_placed limits _ s.past μ r) rows)
 events_keep_rows limits s t rows (others_take command other none) = each_then (RowsOf limits s.past) (RowsOf limits t.past) s.connections (λ μ r. rows_placed limits _ s.past μ r) rows
 events_keep_rows limits s t rows (receives κ others packet are opened next) =

@@ -1,15 +1,15 @@
 -- Another command comes next in the list.
 use Rattle.std.proofs.Common.{◌≡◌, ℕ, true, false, ◌||◌, [], ◌∷◌, Option, Some, None, refl, ap, sym, ◌∙◌, ◌⊎◌, inl, inr}
 use Rattle.std.proofs.lemmas.Bool.{cases_Bool}
-use Rattle.broker_base.specs.Connection.{ConnectionName}
-use Rattle.broker_base.specs.Place.{Client, Mark, Place, Past, Limits}
-use Rattle.broker_base.specs.Past.{ends_any, current_connection}
-use Rattle.broker_base.specs.Owner.{owner_of}
-use Rattle.broker_base.specs.Marks.{mark_of}
-use Rattle.broker_base.specs.Commands.{place_of}
-use Rattle.broker_base.specs.QuietLaws.{IsSteady}
-use Rattle.broker_base.specs.Command.{Command}
-use Rattle.broker_base.specs.Command.TheVariants as commands
+use Rattle.broker_base.specs.broker_spec.Connection.{ConnectionName}
+use Rattle.broker_base.specs.broker_spec.Place.{Client, Mark, Place, Past, Limits}
+use Rattle.broker_base.specs.broker_spec.Past.{ends_any, current_connection}
+use Rattle.broker_base.specs.broker_spec.Owner.{owner_of}
+use Rattle.broker_base.specs.broker_spec.Marks.{mark_of}
+use Rattle.broker_base.specs.broker_spec.Commands.{place_of}
+use Rattle.broker_base.specs.broker_spec.QuietLaws.{IsSteady}
+use Rattle.broker_base.specs.broker_spec.declared.command.Command.{Command}
+use Rattle.broker_base.specs.broker_spec.declared.command.Command.TheVariants as commands
 use Rattle.exactly_once.specs.Sends.{sends_to}
 use Rattle.exactly_once.specs.Story.{Story, names_client, is_packet_of, any_named}
 use Rattle.exactly_once.specs.Inside.Projections.{GoesTo}
@@ -26,7 +26,7 @@ use Rattle.exactly_once.proofs.subscribing.places.Quiet.{current_same, current_o
 use Rattle.exactly_once.proofs.places.Spared.{other_spares}
 use Rattle.exactly_once.proofs.places.After.{IsSpared, none_opens}
 use Rattle.broker_base.proofs.QuietPasts.{no_connection}
-use Rattle.broker_base.specs.Answers.{closed}
+use Rattle.broker_base.specs.broker_spec.Answers.{closed}
 
 -- a connection's loss
 abbrev pub at_lost : ConnectionName → Place

@@ -4,17 +4,17 @@ use Rattle.std.specs.Prelude.{slice_get}
 use Rattle.std.proofs.lemmas.Bool.{both_ways, cases_Bool}
 use Rattle.client_base.specs.packet.declared.packet.Packet.{Packet}
 use Rattle.client_base.specs.packet.declared.packet.Packet.TheVariants as packets
-use Rattle.broker_base.specs.Connection.{ConnectionName, same_connection}
-use Rattle.broker_base.specs.Place.{Client, Mark, Past, Limits}
-use Rattle.broker_base.specs.Past.{any_connection, current_connection}
-use Rattle.broker_base.specs.Owner.{clients, first_client, owner_of}
-use Rattle.broker_base.specs.Subscriptions.{subscriptions_of}
-use Rattle.broker_base.specs.Retained.{retained_publications}
-use Rattle.broker_base.specs.Marks.{grants, packet_mark, packet_mark_of}
-use Rattle.broker_base.specs.Times.{entries_of, room_of}
-use Rattle.broker_base.specs.QuietLaws.{IsSteady}
+use Rattle.broker_base.specs.broker_spec.Connection.{ConnectionName, same_connection}
+use Rattle.broker_base.specs.broker_spec.Place.{Client, Mark, Past, Limits}
+use Rattle.broker_base.specs.broker_spec.Past.{any_connection, current_connection}
+use Rattle.broker_base.specs.broker_spec.Owner.{clients, first_client, owner_of}
+use Rattle.broker_base.specs.broker_spec.Subscriptions.{subscriptions_of}
+use Rattle.broker_base.specs.broker_spec.Retained.{retained_publications}
+use Rattle.broker_base.specs.broker_spec.Marks.{grants, packet_mark, packet_mark_of}
+use Rattle.broker_base.specs.broker_spec.Times.{entries_of, room_of}
+use Rattle.broker_base.specs.broker_spec.QuietLaws.{IsSteady}
 use Rattle.broker_base.proofs.ClientsInOrder.{same_is, IsNamed}
-use Rattle.exactly_once.specs.HandshakeSides.{IsGood}
+use Rattle.exactly_once.specs.HandshakeInvariant.{IsGood}
 use Rattle.client_base.specs.Keeper.{Written}
 use Rattle.exactly_once.specs.Sides.{Connection}
 use Rattle.exactly_once.specs.Story.{Story, any_named, counted_at}

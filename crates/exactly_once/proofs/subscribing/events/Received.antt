@@ -7,8 +7,8 @@ use Rattle.client_base.specs.packet.declared.connack.Connack.TheVariants as conn
 use Rattle.client_base.specs.packet.declared.packet.Packet.{Packet}
 use Rattle.client_base.specs.packet.declared.packet.Packet.TheVariants as packets
 use Rattle.client_base.specs.lists.Lists.{has_id, Each}
-use Rattle.broker_base.specs.Place.{Limits}
-use Rattle.broker_base.specs.Past.{current_connection}
+use Rattle.broker_base.specs.broker_spec.Place.{Limits}
+use Rattle.broker_base.specs.broker_spec.Past.{current_connection}
 use Rattle.exactly_once.specs.Sends.{put_to}
 use Rattle.exactly_once.specs.Sides.{Connection, Side}
 use Rattle.client_base.specs.Keeper.{Keeper}

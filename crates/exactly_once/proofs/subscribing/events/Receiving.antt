@@ -6,7 +6,7 @@ use Rattle.client_base.specs.packet.declared.packet.Packet.{Packet}
 use Rattle.client_base.specs.packet.declared.packet.Packet.TheVariants as packets
 use Rattle.client_base.specs.session_base.declared.publication.Publication.{Publication}
 use Rattle.client_base.specs.lists.Lists.{has_id}
-use Rattle.broker_base.specs.Place.{Limits}
+use Rattle.broker_base.specs.broker_spec.Place.{Limits}
 use Rattle.exactly_once.specs.Handshake.{Forward}
 use Rattle.exactly_once.specs.Sends.{put_to}
 use Rattle.client_base.specs.Keeper.{Own, Written, Keeper}

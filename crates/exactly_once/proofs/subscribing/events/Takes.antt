@@ -1,11 +1,11 @@
 -- The next written packet of one of the client's connections comes next in the list.
 use Rattle.std.proofs.Common.{◌≡◌, ℕ, zero, suc, Some, refl, sym, subst}
 use Rattle.std.specs.Prelude.{slice_get}
-use Rattle.broker_base.specs.Place.{Limits}
-use Rattle.broker_base.specs.Commands.{place_of}
-use Rattle.broker_base.specs.QuietLaws.{IsSteady}
-use Rattle.broker_base.specs.Command.{Command}
-use Rattle.exactly_once.specs.HandshakeSides.{IsGood}
+use Rattle.broker_base.specs.broker_spec.Place.{Limits}
+use Rattle.broker_base.specs.broker_spec.Commands.{place_of}
+use Rattle.broker_base.specs.broker_spec.QuietLaws.{IsSteady}
+use Rattle.broker_base.specs.broker_spec.declared.command.Command.{Command}
+use Rattle.exactly_once.specs.HandshakeInvariant.{IsGood}
 use Rattle.client_base.specs.Keeper.{Written}
 use Rattle.exactly_once.specs.Sides.{Connection}
 use Rattle.exactly_once.specs.Story.{Story, command_of, counted_at}

@@ -4,13 +4,13 @@ use Rattle.std.proofs.lemmas.Bool.{both_ways}
 use Rattle.client_base.specs.packet.RefusalCode.TheVariants as refusals
 use Rattle.client_base.specs.packet.declared.connack.Connack.TheVariants as connacks
 use Rattle.client_base.specs.packet.declared.packet.Packet.TheVariants as packets
-use Rattle.broker_base.specs.Connection.{ConnectionName}
-use Rattle.broker_base.specs.Place.{Client, Mark, Place, Past, Limits}
-use Rattle.broker_base.specs.Past.{ends_any, current_connection, session_of}
-use Rattle.broker_base.specs.Owner.{clients, owner_of}
-use Rattle.broker_base.specs.Marks.{connect_mark}
-use Rattle.broker_base.specs.Answers.{answers_at}
-use Rattle.broker_base.specs.Output.TheVariants.{Close}
+use Rattle.broker_base.specs.broker_spec.Connection.{ConnectionName}
+use Rattle.broker_base.specs.broker_spec.Place.{Client, Mark, Place, Past, Limits}
+use Rattle.broker_base.specs.broker_spec.Past.{ends_any, current_connection, session_of}
+use Rattle.broker_base.specs.broker_spec.Owner.{clients, owner_of}
+use Rattle.broker_base.specs.broker_spec.Marks.{connect_mark}
+use Rattle.broker_base.specs.broker_spec.Answers.{answers_at}
+use Rattle.broker_base.specs.broker_spec.declared.command.Output.TheVariants.{Close}
 use Rattle.broker_base.proofs.QuietPasts.{no_connection, entries_none}
 use Rattle.exactly_once.specs.Handshake.{Link, with_items}
 use Rattle.exactly_once.specs.Handshake.Moves.{parts_ahead}

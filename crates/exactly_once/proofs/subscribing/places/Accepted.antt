@@ -5,16 +5,16 @@ use Rattle.std.proofs.lemmas.List.{append-nil}
 use Rattle.std.proofs.lemmas.Bool.{both_ways}
 use Rattle.client_base.specs.packet.declared.connack.Connack.TheVariants as connacks
 use Rattle.client_base.specs.packet.declared.packet.Packet.TheVariants as packets
-use Rattle.broker_base.specs.Connection.{ConnectionName, same_connection}
-use Rattle.broker_base.specs.Place.{Client, same_client, Mark, Place, Past, Limits, only_if}
-use Rattle.broker_base.specs.Past.{accepts, expels, ends_any, newest_connection, newest_session, is_beginning, current_connection, session_of, begins, in_session}
-use Rattle.broker_base.specs.Entries.{Entry}
-use Rattle.broker_base.specs.Readings.{released_below}
-use Rattle.broker_base.specs.Times.{start_all, started, window_at, entries_of}
-use Rattle.broker_base.specs.Sends.{resent}
-use Rattle.broker_base.specs.Answers.{welcome, answers_at}
-use Rattle.broker_base.specs.Command.{Command}
-use Rattle.broker_base.specs.Command.TheVariants as commands
+use Rattle.broker_base.specs.broker_spec.Connection.{ConnectionName, same_connection}
+use Rattle.broker_base.specs.broker_spec.Place.{Client, same_client, Mark, Place, Past, Limits, only_if}
+use Rattle.broker_base.specs.broker_spec.Past.{accepts, expels, ends_any, newest_connection, newest_session, is_beginning, current_connection, session_of, begins, in_session}
+use Rattle.broker_base.specs.broker_spec.Entries.{Entry}
+use Rattle.broker_base.specs.broker_spec.Readings.{released_below}
+use Rattle.broker_base.specs.broker_spec.Times.{start_all, started, window_at, entries_of}
+use Rattle.broker_base.specs.broker_spec.Sends.{resent}
+use Rattle.broker_base.specs.broker_spec.Answers.{welcome, answers_at}
+use Rattle.broker_base.specs.broker_spec.declared.command.Command.{Command}
+use Rattle.broker_base.specs.broker_spec.declared.command.Command.TheVariants as commands
 use Rattle.broker_base.proofs.ClientsInOrder.{same_self}
 use Rattle.broker_base.proofs.EntriesStartedBefore.{before_below}
 use Rattle.broker_base.proofs.QueueAfter.{sound_entries}

@@ -6,9 +6,9 @@ use Rattle.client_base.specs.packet.declared.qos.QoS.TheVariants as levels
 use Rattle.client_base.specs.session_base.declared.publication.Publication.{Publication}
 use Rattle.client_base.specs.session_base.Publication.{is_acknowledged}
 use Rattle.client_base.specs.lists.Lists.{has_id}
-use Rattle.broker_base.specs.Entries.{Entry}
-use Rattle.broker_base.specs.Readings.{released_at}
-use Rattle.broker_base.specs.Times.{at_puback, at_pubrec}
+use Rattle.broker_base.specs.broker_spec.Entries.{Entry}
+use Rattle.broker_base.specs.broker_spec.Readings.{released_at}
+use Rattle.broker_base.specs.broker_spec.Times.{at_puback, at_pubrec}
 use Rattle.broker_base.proofs.NothingWaits.{IsFull}
 use Rattle.exactly_once.specs.Items.{Item, has_sent}
 use Rattle.client_base.proofs.of_lists.Tests.{or_right, or_left, eq_same}

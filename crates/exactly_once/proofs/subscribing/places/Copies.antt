@@ -4,12 +4,12 @@ use Rattle.std.specs.Prelude.{flat_map}
 use Rattle.std.specs.declared.cmp.Ordering.TheVariants.{Less}
 use Rattle.std.proofs.lemmas.List.{append-nil}
 use Rattle.std.proofs.lemmas.Bool.{both_ways, cases_Bool}
-use Rattle.broker_base.specs.Connection.{ConnectionName, same_connection}
-use Rattle.broker_base.specs.Place.{Client, by_bytes, Place, Past, Limits}
-use Rattle.broker_base.specs.Past.{any_connection, current_connection}
-use Rattle.broker_base.specs.Owner.{clients}
-use Rattle.broker_base.specs.Sends.{deliveries_to}
-use Rattle.broker_base.specs.Output.{Output}
+use Rattle.broker_base.specs.broker_spec.Connection.{ConnectionName, same_connection}
+use Rattle.broker_base.specs.broker_spec.Place.{Client, by_bytes, Place, Past, Limits}
+use Rattle.broker_base.specs.broker_spec.Past.{any_connection, current_connection}
+use Rattle.broker_base.specs.broker_spec.Owner.{clients}
+use Rattle.broker_base.specs.broker_spec.Sends.{deliveries_to}
+use Rattle.broker_base.specs.broker_spec.declared.command.Output.{Output}
 use Rattle.broker_base.proofs.ClientsInOrder.{by_bytes_self, IsAbove, Rising, IsNamed}
 use Rattle.exactly_once.specs.Sends.{sends_to}
 use Rattle.exactly_once.proofs.Deliveries.{sends_append, IsElsewhere, deliveries_elsewhere}

@@ -9,17 +9,17 @@ use Rattle.client_base.specs.packet.declared.subscribe.Subscribe.{Subscribe}
 use Rattle.client_base.specs.packet.declared.packet.Packet.{Packet}
 use Rattle.client_base.specs.packet.declared.packet.Packet.TheVariants as packets
 use Rattle.client_base.specs.session_base.declared.publication.Publication.{Publication}
-use Rattle.broker_base.specs.Connection.{ConnectionName, same_connection}
-use Rattle.broker_base.specs.Place.{Client, same_client, Mark, Place, Past, Limits}
-use Rattle.broker_base.specs.Past.{current_connection}
-use Rattle.broker_base.specs.Owner.{clients}
-use Rattle.broker_base.specs.Entries.{copies_at}
-use Rattle.broker_base.specs.Readings.{made_at}
-use Rattle.broker_base.specs.Times.{entries_of}
-use Rattle.broker_base.specs.Sends.{handed_to, deliveries_to}
-use Rattle.broker_base.specs.Answers.{acknowledged, codes_of, answers_at}
-use Rattle.broker_base.specs.Output.{Output}
-use Rattle.broker_base.specs.Output.TheVariants.{Send}
+use Rattle.broker_base.specs.broker_spec.Connection.{ConnectionName, same_connection}
+use Rattle.broker_base.specs.broker_spec.Place.{Client, same_client, Mark, Place, Past, Limits}
+use Rattle.broker_base.specs.broker_spec.Past.{current_connection}
+use Rattle.broker_base.specs.broker_spec.Owner.{clients}
+use Rattle.broker_base.specs.broker_spec.Entries.{copies_at}
+use Rattle.broker_base.specs.broker_spec.Readings.{made_at}
+use Rattle.broker_base.specs.broker_spec.Times.{entries_of}
+use Rattle.broker_base.specs.broker_spec.Sends.{handed_to, deliveries_to}
+use Rattle.broker_base.specs.broker_spec.Answers.{acknowledged, codes_of, answers_at}
+use Rattle.broker_base.specs.broker_spec.declared.command.Output.{Output}
+use Rattle.broker_base.specs.broker_spec.declared.command.Output.TheVariants.{Send}
 use Rattle.broker_base.proofs.ClientsInOrder.{same_self, same_is}
 use Rattle.exactly_once.specs.Handshake.{Forward}
 use Rattle.exactly_once.specs.Sends.{sends_to}

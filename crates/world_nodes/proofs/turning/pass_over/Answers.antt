@@ -1,7 +1,7 @@
 use Rattle.std.proofs.Common.{Bool, ℕ, Option, ◌&&◌, sym, ap, subst, ◌∙◌}
 use Rattle.std.specs.Prelude.{IfSome}
 use Rattle.master.specs.ballot.Message.{Message}
-use Rattle.byte_world.specs.broker_base.Command.{Command}
+use Rattle.byte_world.specs.broker_spec.declared.command.Command.{Command}
 use Rattle.master.proofs.Counting.{get_there}
 use Rattle.byte_world.specs.world_base.declared.item.Item.TheVariants.{Peer}
 use Rattle.world_nodes.specs.Inside.{TookItem}

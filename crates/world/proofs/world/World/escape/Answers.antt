@@ -1,8 +1,8 @@
 use Rattle.std.proofs.Common.{◌≡◌, ◌≤◌, ◌<◌, ◌+◌, ◌*◌, ℕ, List, Some, length, slice_get, refl, sym, ap, ◌∙◌, subst}
 use Rattle.std.specs.List.{list_all}
 use Rattle.headline.specs.agreement.MasterState.{refusal}
-use Rattle.headline.specs.broker_base.Commands.{past_of, usual_limits}
-use Rattle.headline.specs.broker_base.Past.{session_of}
+use Rattle.headline.specs.broker_spec.Commands.{past_of, usual_limits}
+use Rattle.headline.specs.broker_spec.Past.{session_of}
 use Rattle.escaping_client.specs.client.Core.{Core}
 use Rattle.escaping_nodes.proofs.of_master.Counting.{get_there}
 use Rattle.escaping_nodes.specs.world_nodes.Asking.{log_of}

@@ -4,7 +4,7 @@ use Rattle.world_base.specs.Inside.{Running}
 use Rattle.world_base.proofs.Changes.{changed_there, core_changed}
 use Rattle.world_base.proofs.Places.{none_found, found_there}
 use Rattle.world_base.proofs.Fronts.{nothing_open, nothing_next, more_there, more_next, packet_there, gone_there}
-use Rattle.world_base.proofs.FrontsRun.{idle_open, idle_waits, ran_gone, ran_nothing_open, ran_packet, ran_waits, ran_wanting}
+use Rattle.world_base.proofs.FrontsRun.{idle_open, idle_waits, ran_gone, ran_nothing_open, ran_packet, ran_waits, ran_out_of_memory}
 use Rattle.world_base.proofs.node_in_step.NodeInStep.read_next.Goals as goal
 
 pub returns-in_default-clause-turns : goal.returns-in_default-clause-turns
@@ -27,15 +27,15 @@ returns-in-More-clause-turns c =
 
 pub returns-in-More-clause-done : goal.returns-in-More-clause-done
 returns-in-More-clause-done c = λ _ _.
-    let behind : Running = record {
+    let after : Running = record {
       core = record {
         replica = c.self.inside.replica;
         last_name = record { ballot = c.self.inside.last_ballot; count = c.self.inside.last_count };
         connections = slice_set c.self.inside.connections.items c.in-Some.index c.next.new.self;
       };
-      wanting = c.self.inside.wanting;
+      out_of_memory = c.self.inside.out_of_memory;
     } in
-    more_next c.args.now c.args.port c.index_mut-connection.result.now c.next.new.self c.args.self.now behind
+    more_next c.args.now c.args.port c.index_mut-connection.result.now c.next.new.self c.args.self.now after
     (rw (← c.self.view_is) (found_there (is_open_at c.args.port) _ c.place_at.result c.in-Some.index _
     (rw (← c.self.view_is) at c.place_at.ensures) c.in-Some.is c.index_mut-connection.ensures.value))
     c.in-More.ensures
@@ -115,13 +115,13 @@ returns-in-Refused-clause-run c =
     c.index_mut-connection.ensures.value refl))
     c.lose.ensures.run
 
-pub returns-in-Wanting-clause-run : goal.returns-in-Wanting-clause-run
-returns-in-Wanting-clause-run c =
-    ran_wanting c.args.now c.args.port c.index_mut-connection.result.now c.next.new.self _ _ _ _ _
+pub returns-in-OutOfMemory-clause-run : goal.returns-in-OutOfMemory-clause-run
+returns-in-OutOfMemory-clause-run c =
+    ran_out_of_memory c.args.now c.args.port c.index_mut-connection.result.now c.next.new.self _ _ _ _ _
     (rw (← c.self.view_is) (found_there (is_open_at c.args.port) _ c.place_at.result c.in-Some.index _
     (rw (← c.self.view_is) at c.place_at.ensures) c.in-Some.is c.index_mut-connection.ensures.value))
-    c.in-Wanting.ensures
+    c.in-OutOfMemory.ensures
     (rw (← c.self.view_is) (core_changed c.args.port (λ _. c.next.new.self) _ c.place_at.result c.in-Some.index
     c.index_mut-connection.result.now c.next.new.self (rw (← c.self.view_is) at c.place_at.ensures) c.in-Some.is
     c.index_mut-connection.ensures.value refl))
-    c.lose-in-Wanting.ensures.run
+    c.lose-in-OutOfMemory.ensures.run

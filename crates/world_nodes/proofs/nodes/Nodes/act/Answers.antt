@@ -2,8 +2,8 @@ use Rattle.std.proofs.Common.{◌-◌, refl, ◌∙◌}
 use Rattle.byte_world.specs.node_moves.Moves.NodeCall.{takes}
 use Rattle.master.proofs.Groups.{more_than}
 use Rattle.world_nodes.specs.Nodes.{NodesState}
-use Rattle.world_nodes.proofs.Acts.{behind_turn_of, took_by, turn_takes}
-use Rattle.world_nodes.proofs.CountsGoOn.{acts_counting, heard_behind}
+use Rattle.world_nodes.proofs.Acts.{after_turn_of, took_by, turn_takes}
+use Rattle.world_nodes.proofs.CountsGoOn.{acts_counting, heard_after}
 use Rattle.world_nodes.proofs.ActsLosing.{turn_loses}
 use Rattle.world_nodes.proofs.Exactly.{exactly}
 use Rattle.world_nodes.proofs.Resting.{turn_rests}
@@ -35,7 +35,7 @@ returns-clause-goes c =
       archive = c.self.inside.archive.items;
       losses = c.self.inside.losses;
     } in
-    rw (← c.self.view_is) (exactly c.args.node c.args.item old (behind_turn_of c.in-Some.at c.take_in-whole.new.node c.take_in-whole.new.sent.items c.counted-self-inside.result old)
+    rw (← c.self.view_is) (exactly c.args.node c.args.item old (after_turn_of c.in-Some.at c.take_in-whole.new.node c.take_in-whole.new.sent.items c.counted-self-inside.result old)
     (turn_takes old c.args.node c.in-Some.at x c.take_in-whole.new.node c.args.item c.take_in-whole.new.sent.items c.take_in-whole.result c.counted-self-inside.result took
     c.counted-self-inside.ensures))
 
@@ -74,9 +74,9 @@ invariant_of-self c =
       losses = c.self.inside.losses;
     } in old) c.args.node c.in-Some.at x c.take_in-whole.new.node c.args.item c.take_in-whole.new.sent.items c.take_in-whole.result c.counted-self-inside.result took sent)
     refl c.hear_from.ensures.active c.hear_from.ensures.waits
-    (heard_behind c.self.inside.sent.items c.take_in-whole.new.sent.items c.deref.result.now _ c.len-from.result c.self.inside.counters.told c.hear_from.new.self.told
+    (heard_after c.self.inside.sent.items c.take_in-whole.new.sent.items c.deref.result.now _ c.len-from.result c.self.inside.counters.told c.hear_from.new.self.told
     c.deref.ensures.value c.take_in-whole.ensures.is from c.hear_from.ensures.told)
-    (heard_behind c.self.inside.sent.items c.take_in-whole.new.sent.items c.deref.result.now _ c.len-from.result c.self.inside.counters.next c.hear_from.new.self.next
+    (heard_after c.self.inside.sent.items c.take_in-whole.new.sent.items c.deref.result.now _ c.len-from.result c.self.inside.counters.next c.hear_from.new.self.next
     c.deref.ensures.value c.take_in-whole.ensures.is from c.hear_from.ensures.next)
 
 pub returns-clause-quiet : goal.returns-clause-quiet

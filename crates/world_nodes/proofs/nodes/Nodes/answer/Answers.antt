@@ -57,5 +57,5 @@ invariant_of-self c =
     } in old) c.args.from c.args.ballot c.activate-activation.new.self c.answer_of.result c.tell-told.new.sent.items c.tell-told.result c.counted-self-inside.result
     counters.told counters.next turned_to.told turned_to.next c.self.invariant sent c.activate-activation.ensures.state body c.tell-told.ensures.told c.tell-told.ensures.lost
     (turned counters.told counters.next turned_to.told turned_to.next m.active c.activate-activation.new.self.active
-    (λ e. c.turn_over.ensures.stays (c.active-before.ensures.ballot ∙ e ∙ sym c.active-behind.ensures.ballot))
-    (λ ne. c.turn_over.ensures.turns (λ e. ne (sym c.active-before.ensures.ballot ∙ e ∙ c.active-behind.ensures.ballot))))
+    (λ e. c.turn_over.ensures.stays (c.active-before.ensures.ballot ∙ e ∙ sym c.active-after.ensures.ballot))
+    (λ ne. c.turn_over.ensures.turns (λ e. ne (sym c.active-before.ensures.ballot ∙ e ∙ c.active-after.ensures.ballot))))

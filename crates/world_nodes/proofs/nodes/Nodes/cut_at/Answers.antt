@@ -7,7 +7,7 @@ use Rattle.master.proofs.Groups.{more_than}
 use Rattle.world_nodes.specs.Nodes.{NodesState}
 use Rattle.world_nodes.proofs.Acts.{same_core, took_by}
 use Rattle.world_nodes.proofs.ActsLosing.{cut_loses}
-use Rattle.world_nodes.proofs.CountsGoOn.{acts_counting, heard_behind}
+use Rattle.world_nodes.proofs.CountsGoOn.{acts_counting, heard_after}
 use Rattle.world_nodes.proofs.Cutting.{archive_of, below_of, cut_rests, cut_takes, cuts_exactly, is_forgetful, recorded_below, rests_counting}
 use Rattle.world_nodes.proofs.nodes.Nodes.cut_at.Goals as goal
 
@@ -118,9 +118,9 @@ invariant_of-self-2 c =
     (cut_loses old c.args.at there.0 c.take_in-whole.new.node c.take_in-whole.new.sent.items c.cut_back.new.archive.items c.take_in-whole.result
     c.counted-self-inside-2.result there.1 took archive)
     refl c.hear_from.ensures.active c.hear_from.ensures.waits
-    (heard_behind c.self.inside.sent.items c.take_in-whole.new.sent.items c.deref.result.now _ c.len-from.result c.self.inside.counters.told c.hear_from.new.self.told
+    (heard_after c.self.inside.sent.items c.take_in-whole.new.sent.items c.deref.result.now _ c.len-from.result c.self.inside.counters.told c.hear_from.new.self.told
     c.deref.ensures.value c.take_in-whole.ensures.is from c.hear_from.ensures.told)
-    (heard_behind c.self.inside.sent.items c.take_in-whole.new.sent.items c.deref.result.now _ c.len-from.result c.self.inside.counters.next c.hear_from.new.self.next
+    (heard_after c.self.inside.sent.items c.take_in-whole.new.sent.items c.deref.result.now _ c.len-from.result c.self.inside.counters.next c.hear_from.new.self.next
     c.deref.ensures.value c.take_in-whole.ensures.is from c.hear_from.ensures.next)
 
 pub returns-clause-step : goal.returns-clause-step

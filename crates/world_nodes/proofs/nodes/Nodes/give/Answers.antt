@@ -1,7 +1,7 @@
 use Rattle.std.proofs.Common.{◌≡◌, ap, ◌∙◌, None}
 use Rattle.master.specs.agreement.MasterState.{assigning, master_after, refusal}
 use Rattle.master.specs.ballot.Config.{Config}
-use Rattle.byte_world.specs.broker_base.Command.{Command}
+use Rattle.byte_world.specs.broker_spec.declared.command.Command.{Command}
 use Rattle.master.proofs.Groups.{new_ballot_is}
 use Rattle.world_nodes.specs.Nodes.{NodesState}
 use Rattle.world_nodes.proofs.MasterCounts.{gives_counting, no_refusal}

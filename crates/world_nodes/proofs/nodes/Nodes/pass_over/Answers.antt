@@ -3,9 +3,9 @@ use Rattle.master.proofs.Groups.{more_than}
 use Rattle.byte_world.specs.world_base.declared.item.Item.TheVariants.{Peer}
 use Rattle.byte_world.specs.node_moves.Moves.NodeCall.{takes}
 use Rattle.world_nodes.specs.Nodes.{NodesState}
-use Rattle.world_nodes.proofs.Acts.{behind_turn_of, turn_takes}
+use Rattle.world_nodes.proofs.Acts.{after_turn_of, turn_takes}
 use Rattle.world_nodes.proofs.ActsLosing.{turn_loses}
-use Rattle.world_nodes.proofs.CountsGoOn.{acts_counting, heard_behind}
+use Rattle.world_nodes.proofs.CountsGoOn.{acts_counting, heard_after}
 use Rattle.world_nodes.proofs.Exactly.{exactly}
 use Rattle.world_nodes.proofs.Resting.{passed_by, passed_over, passes, passes_acting, passes_at_rest, passes_exactly, turn_rests, was_sent}
 use Rattle.world_nodes.proofs.nodes.Nodes.pass_over.Goals as goal
@@ -37,7 +37,7 @@ returns-clause-step c =
       sent = c.self.inside.sent.items;
       archive = c.self.inside.archive.items;
       losses = c.self.inside.losses;
-    } in old) (behind_turn_of c.args.at c.pass_over-whole.new.node c.pass_over-whole.new.sent.items c.counted-self-inside.result (let old : NodesState = record {
+    } in old) (after_turn_of c.args.at c.pass_over-whole.new.node c.pass_over-whole.new.sent.items c.counted-self-inside.result (let old : NodesState = record {
       master = c.self.inside.master;
       nodes = c.self.inside.nodes.items;
       sent = c.self.inside.sent.items;
@@ -69,7 +69,7 @@ returns-clause-goes c =
       sent = c.self.inside.sent.items;
       archive = c.self.inside.archive.items;
       losses = c.self.inside.losses;
-    } in old) (behind_turn_of c.args.at c.pass_over-whole.new.node c.pass_over-whole.new.sent.items c.counted-self-inside.result (let old : NodesState = record {
+    } in old) (after_turn_of c.args.at c.pass_over-whole.new.node c.pass_over-whole.new.sent.items c.counted-self-inside.result (let old : NodesState = record {
       master = c.self.inside.master;
       nodes = c.self.inside.nodes.items;
       sent = c.self.inside.sent.items;
@@ -82,7 +82,7 @@ returns-clause-goes c =
       sent = c.self.inside.sent.items;
       archive = c.self.inside.archive.items;
       losses = c.self.inside.losses;
-    } in old) (behind_turn_of c.args.at c.pass_over-whole.new.node c.pass_over-whole.new.sent.items c.counted-self-inside.result (let old : NodesState = record {
+    } in old) (after_turn_of c.args.at c.pass_over-whole.new.node c.pass_over-whole.new.sent.items c.counted-self-inside.result (let old : NodesState = record {
       master = c.self.inside.master;
       nodes = c.self.inside.nodes.items;
       sent = c.self.inside.sent.items;
@@ -113,7 +113,7 @@ returns-clause-quiet c =
       sent = c.self.inside.sent.items;
       archive = c.self.inside.archive.items;
       losses = c.self.inside.losses;
-    } in old) (behind_turn_of c.args.at c.pass_over-whole.new.node c.pass_over-whole.new.sent.items c.counted-self-inside.result (let old : NodesState = record {
+    } in old) (after_turn_of c.args.at c.pass_over-whole.new.node c.pass_over-whole.new.sent.items c.counted-self-inside.result (let old : NodesState = record {
       master = c.self.inside.master;
       nodes = c.self.inside.nodes.items;
       sent = c.self.inside.sent.items;
@@ -151,7 +151,7 @@ returns-clause-acts c =
       sent = c.self.inside.sent.items;
       archive = c.self.inside.archive.items;
       losses = c.self.inside.losses;
-    } in old) (behind_turn_of c.args.at c.pass_over-whole.new.node c.pass_over-whole.new.sent.items c.counted-self-inside.result (let old : NodesState = record {
+    } in old) (after_turn_of c.args.at c.pass_over-whole.new.node c.pass_over-whole.new.sent.items c.counted-self-inside.result (let old : NodesState = record {
       master = c.self.inside.master;
       nodes = c.self.inside.nodes.items;
       sent = c.self.inside.sent.items;
@@ -213,7 +213,7 @@ invariant_of-self c =
       losses = c.self.inside.losses;
     } in old) c.args.at c.args.number p))
     refl c.hear_from.ensures.active c.hear_from.ensures.waits
-    (heard_behind c.self.inside.sent.items c.pass_over-whole.new.sent.items c.deref.result.now _ c.len-from.result c.self.inside.counters.told c.hear_from.new.self.told
+    (heard_after c.self.inside.sent.items c.pass_over-whole.new.sent.items c.deref.result.now _ c.len-from.result c.self.inside.counters.told c.hear_from.new.self.told
     c.deref.ensures.value took.is from c.hear_from.ensures.told)
-    (heard_behind c.self.inside.sent.items c.pass_over-whole.new.sent.items c.deref.result.now _ c.len-from.result c.self.inside.counters.next c.hear_from.new.self.next
+    (heard_after c.self.inside.sent.items c.pass_over-whole.new.sent.items c.deref.result.now _ c.len-from.result c.self.inside.counters.next c.hear_from.new.self.next
     c.deref.ensures.value took.is from c.hear_from.ensures.next)

@@ -1,9 +1,9 @@
 -- Every event keeps the shape, so every story is sound, and its client accepts a prefix of its
 -- session's entries.
-use Rattle.broker_base.specs.Place.{Client, Limits}
-use Rattle.broker_base.specs.QuietLaws.{IsSteady}
+use Rattle.broker_base.specs.broker_spec.Place.{Client, Limits}
+use Rattle.broker_base.specs.broker_spec.QuietLaws.{IsSteady}
 use Rattle.exactly_once.specs.Story.{Story}
-use Rattle.exactly_once.specs.Told.{Told}
+use Rattle.exactly_once.specs.StoryTrace.{StoryTrace}
 use Rattle.exactly_once.specs.Acceptance.{AcceptedInOrder}
 use Rattle.exactly_once.specs.Inside.Shape.{EventKeepsShape, IsSoundStory}
 use Rattle.exactly_once.proofs.connections.KeepsConnections.{events_keep_connections}
@@ -18,9 +18,9 @@ events_keep_shape limits s t sound happens =
     events_keep_rest limits s t sound happens (events_keep_connections limits s t sound.shape happens)
 
 -- every story is sound
-pub told_stories_are_sound : (limits : Limits) → IsSteady limits → (c : Client) (s : Story) → Told limits c s → IsSoundStory limits s
+pub told_stories_are_sound : (limits : Limits) → IsSteady limits → (c : Client) (s : Story) → StoryTrace limits c s → IsSoundStory limits s
 told_stories_are_sound = stories_are_sound events_keep_shape events_publish event_subscribes
 
 -- the client accepts a prefix of its entries, and each released one is among it
-pub told_stories_accept : (limits : Limits) → IsSteady limits → (c : Client) (s : Story) → Told limits c s → AcceptedInOrder limits s
+pub told_stories_accept : (limits : Limits) → IsSteady limits → (c : Client) (s : Story) → StoryTrace limits c s → AcceptedInOrder limits s
 told_stories_accept = stories_accept events_keep_shape events_publish event_subscribes

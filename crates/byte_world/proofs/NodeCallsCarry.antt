@@ -4,7 +4,7 @@ use Rattle.std.proofs.Common.{◌≡◌, ℕ, ◌+◌, Bool, true, false, if◌t
 use Rattle.std.proofs.lemmas.List.{append-nil}
 use Rattle.node_group.specs.lists.Lists.{In}
 use Rattle.node_group.specs.ballot.Protocol.Input.{Receives, Proposes, Ticks}
-use Rattle.node_group.specs.broker_base.Connection.{ConnectionName}
+use Rattle.node_group.specs.broker_spec.Connection.{ConnectionName}
 use Rattle.node_group.specs.world_base.declared.item.Item.TheVariants.{Peer, Tick, Opened, Bytes, Ended, Expel, Cut, Crash}
 use Rattle.node_group.specs.ballot.Cutting.{can_cut}
 use Rattle.node_group.specs.world_base.Core.{CoreState, Turn, rules}
@@ -18,15 +18,15 @@ use Rattle.node_group.specs.node_moves.Moves.Moves.{hears, opens_one, holds, rea
 use Rattle.node_group.specs.node_moves.Moves.Runs.{rests, goes_on}
 use Rattle.node_group.proofs.of_node_moves.PartsOfMoves.{BeginsWith, IsBare, Part, begins_hearing, part_in, part_of}
 use Rattle.node_group.proofs.of_node_moves.PartsOfMoves.Part.{heard, bytes_in, bytes_out}
-use Rattle.node_group.proofs.of_node_moves.StepsMove.{deeds_begin}
-use Rattle.node_group.specs.Group.{Group, behind_turn, replica_of, with_record}
+use Rattle.node_group.proofs.of_node_moves.StepsMove.{node_calls_begin}
+use Rattle.node_group.specs.Group.{Group, after_turn, replica_of, with_record}
 use Rattle.node_group.specs.Putting.{recorded_by, recorded_in}
 use Rattle.node_group.specs.snapshots.World.{recorded}
-use Rattle.node_group.specs.broker_base.Command.{Command}
+use Rattle.node_group.specs.broker_spec.declared.command.Command.{Command}
 use Rattle.node_group.specs.Goes.{AllWasSent, WasSent, all_given}
-use Rattle.node_group.specs.Goes.MayGo.{node_acts}
+use Rattle.node_group.specs.Goes.GroupStep.{node_acts}
 use Rattle.node_group.specs.Streams.{bytes_named, handed_in_run, handed_on}
-use Rattle.byte_world.specs.Deeds.{DeedWasSent, DeedsCarryTheirBytes, GroupsDoEachDeed, recorded_after}
+use Rattle.byte_world.specs.NodeCalls.{NodeCallWasSent, NodeCallsCarryTheirBytes, GroupsDoEachNodeCall, recorded_after}
 use Rattle.byte_world.specs.Goes.{coming_with, going_with}
 
 -- ---- what a part is for one connection
@@ -45,36 +45,36 @@ PartWasSent g n core Part.cut = rules.thawed (rules.frozen (replica_of core).mac
 PartWasSent g n core _ = Unit {0}
 
 -- .. of a call
-deed_parts : (x : ConnectionName) (deed : NodeCall) (core : CoreState) → (comes_in x (part_of deed core) core ≡ coming_with x deed core) × (goes_out x (part_of deed core) core ≡ going_with x deed core)
-deed_parts x (takes (Peer message)) core = (refl, refl)
-deed_parts x (takes (Tick now)) core = (refl, refl)
-deed_parts x (takes (Opened port now)) core = (refl, refl)
-deed_parts x (takes (Bytes port piece now)) core = (refl, refl)
-deed_parts x (takes (Ended port)) core = (refl, refl)
-deed_parts x (takes (Expel client)) core = (refl, refl)
-deed_parts x (takes Cut) core = by (can_cut (replica_of core))
+node_call_parts : (x : ConnectionName) (node_call : NodeCall) (core : CoreState) → (comes_in x (part_of node_call core) core ≡ coming_with x node_call core) × (goes_out x (part_of node_call core) core ≡ going_with x node_call core)
+node_call_parts x (takes (Peer message)) core = (refl, refl)
+node_call_parts x (takes (Tick now)) core = (refl, refl)
+node_call_parts x (takes (Opened port now)) core = (refl, refl)
+node_call_parts x (takes (Bytes port piece now)) core = (refl, refl)
+node_call_parts x (takes (Ended port)) core = (refl, refl)
+node_call_parts x (takes (Expel client)) core = (refl, refl)
+node_call_parts x (takes Cut) core = by (can_cut (replica_of core))
   where
     by : (b : Bool) → (comes_in x (if b then Part.cut else Part.nothing) core ≡ []) × (goes_out x (if b then Part.cut else Part.nothing) core ≡ [])
     by true = (refl, refl)
     by false = (refl, refl)
-deed_parts x (takes Crash) core = (refl, refl)
-deed_parts x (gives port) core = (refl, refl)
+node_call_parts x (takes Crash) core = (refl, refl)
+node_call_parts x (gives port) core = (refl, refl)
 
-deed_sent : (g : Group) (n : ℕ) (core : CoreState) (deed : NodeCall) → DeedWasSent g n core deed → PartWasSent g n core (part_of deed core)
-deed_sent g n core (takes (Peer message)) sent = sent
-deed_sent g n core (takes (Tick now)) sent = tt
-deed_sent g n core (takes (Opened port now)) sent = tt
-deed_sent g n core (takes (Bytes port piece now)) sent = tt
-deed_sent g n core (takes (Ended port)) sent = tt
-deed_sent g n core (takes (Expel client)) sent = tt
-deed_sent g n core (takes Cut) sent = by (can_cut (replica_of core)) sent
+node_call_sent : (g : Group) (n : ℕ) (core : CoreState) (node_call : NodeCall) → NodeCallWasSent g n core node_call → PartWasSent g n core (part_of node_call core)
+node_call_sent g n core (takes (Peer message)) sent = sent
+node_call_sent g n core (takes (Tick now)) sent = tt
+node_call_sent g n core (takes (Opened port now)) sent = tt
+node_call_sent g n core (takes (Bytes port piece now)) sent = tt
+node_call_sent g n core (takes (Ended port)) sent = tt
+node_call_sent g n core (takes (Expel client)) sent = tt
+node_call_sent g n core (takes Cut) sent = by (can_cut (replica_of core)) sent
   where
     by : (b : Bool) → (b ≡ true → rules.thawed (rules.frozen (replica_of core).machine) ≡ Some (replica_of core).machine) →
         PartWasSent g n core (if b then Part.cut else Part.nothing)
     by true reads = reads refl
     by false reads = tt
-deed_sent g n core (takes Crash) sent = tt
-deed_sent g n core (gives port) sent = tt
+node_call_sent g n core (takes Crash) sent = tt
+node_call_sent g n core (gives port) sent = tt
 
 -- .. of a move
 move_parts : (x : ConnectionName) {core : CoreState} {turn : Turn} (m : Moves core turn) → (came_on x m ≡ comes_in x (part_in m) core) × (handed_on x m ≡ goes_out x (part_in m) core)
@@ -178,47 +178,47 @@ begun_records archive part {core = core} rests begins = ap (recorded_part archiv
 begun_records archive part {core = core} (goes_on m run) begins =
     bare_records (recorded_by archive m) run begins.1 ∙ move_records archive m ∙ ap (recorded_part archive core) begins.0
 
-deed_records : (archive : List Command) (core : CoreState) (deed : NodeCall) → recorded_part archive core (part_of deed core) ≡ recorded_after archive core deed
-deed_records archive core (takes (Peer message)) = refl
-deed_records archive core (takes (Tick now)) = refl
-deed_records archive core (takes (Opened port now)) = refl
-deed_records archive core (takes (Bytes port piece now)) = refl
-deed_records archive core (takes (Ended port)) = refl
-deed_records archive core (takes (Expel client)) = refl
-deed_records archive core (takes Cut) = by (can_cut (replica_of core))
+node_call_records : (archive : List Command) (core : CoreState) (node_call : NodeCall) → recorded_part archive core (part_of node_call core) ≡ recorded_after archive core node_call
+node_call_records archive core (takes (Peer message)) = refl
+node_call_records archive core (takes (Tick now)) = refl
+node_call_records archive core (takes (Opened port now)) = refl
+node_call_records archive core (takes (Bytes port piece now)) = refl
+node_call_records archive core (takes (Ended port)) = refl
+node_call_records archive core (takes (Expel client)) = refl
+node_call_records archive core (takes Cut) = by (can_cut (replica_of core))
   where
     by : (b : Bool) → recorded_part archive core (if b then Part.cut else Part.nothing) ≡ (if b then recorded archive (replica_of core) else archive)
     by true = refl
     by false = refl
-deed_records archive core (takes Crash) = refl
-deed_records archive core (gives port) = refl
+node_call_records archive core (takes Crash) = refl
+node_call_records archive core (gives port) = refl
 
 -- ---- the laws
 
-pub deeds_carry_their_bytes : DeedsCarryTheirBytes
-deeds_carry_their_bytes g n deed core sent =
-    let r = deeds_begin deed core in
+pub node_calls_carry_their_bytes : NodeCallsCarryTheirBytes
+node_calls_carry_their_bytes g n node_call core sent =
+    let r = node_calls_begin node_call core in
     record {
       run = r.0;
-      first = begins_hearing (part_of deed core) r.0 r.1;
-      sent = begun_sent g n (part_of deed core) r.0 r.1 (deed_sent g n core deed sent);
+      first = begins_hearing (part_of node_call core) r.0 r.1;
+      sent = begun_sent g n (part_of node_call core) r.0 r.1 (node_call_sent g n core node_call sent);
       bytes = λ x.
-          let c = begun_carries x (part_of deed core) r.0 r.1 in
-          let d = deed_parts x deed core in
+          let c = begun_carries x (part_of node_call core) r.0 r.1 in
+          let d = node_call_parts x node_call core in
           (c.0 ∙ d.0, c.1 ∙ d.1);
-      records = λ archive. begun_records archive (part_of deed core) r.0 r.1 ∙ deed_records archive core deed;
+      records = λ archive. begun_records archive (part_of node_call core) r.0 r.1 ∙ node_call_records archive core node_call;
     }
 
-pub groups_do_each_deed : GroupsDoEachDeed
-groups_do_each_deed g n deed core at sent =
-    let r = deeds_carry_their_bytes g n deed core sent in
+pub groups_do_each_node_call : GroupsDoEachNodeCall
+groups_do_each_node_call g n node_call core at sent =
+    let r = node_calls_carry_their_bytes g n node_call core sent in
     record {
       does = record {
-        behind = behind_turn (with_record g (recorded_in g.archive r.run)) n (done deed core) (all_given r.run);
-        step = node_acts n core deed (done deed core) r.run at refl r.first r.sent;
+        after = after_turn (with_record g (recorded_in g.archive r.run)) n (done node_call core) (all_given r.run);
+        step = node_acts n core node_call (done node_call core) r.run at refl r.first r.sent;
         is = refl;
         faithful = r.bytes;
       };
       given = all_given r.run;
-      is = ap (λ archive. behind_turn (with_record g archive) n (done deed core) (all_given r.run)) (r.records g.archive);
+      is = ap (λ archive. after_turn (with_record g archive) n (done node_call core) (all_given r.run)) (r.records g.archive);
     }

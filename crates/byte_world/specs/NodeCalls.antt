@@ -2,15 +2,15 @@
 use Rattle.std.specs.Prelude.{◌≡◌, ℕ, ◌+◌, true, if◌then◌else◌, List, slice_get, Some}
 use Rattle.node_group.specs.lists.Lists.{In}
 use Rattle.node_group.specs.ballot.Effect.{Effect}
-use Rattle.node_group.specs.broker_base.Command.{Command}
-use Rattle.node_group.specs.broker_base.Output.{Output}
+use Rattle.node_group.specs.broker_spec.declared.command.Command.{Command}
+use Rattle.node_group.specs.broker_spec.declared.command.Output.{Output}
 use Rattle.node_group.specs.world_base.declared.item.Item.TheVariants.{Peer, Cut}
 use Rattle.node_group.specs.ballot.Cutting.{can_cut}
 use Rattle.node_group.specs.world_base.Core.{CoreState, Turn, rules}
 use Rattle.node_group.specs.node_moves.Hearing.{HearsAtFirst}
 use Rattle.node_group.specs.node_moves.Moves.{NodeCall, Runs, done}
 use Rattle.node_group.specs.node_moves.Moves.NodeCall.{takes}
-use Rattle.node_group.specs.Group.{Group, behind_turn, replica_of, with_record}
+use Rattle.node_group.specs.Group.{Group, after_turn, replica_of, with_record}
 use Rattle.node_group.specs.Goes.{AllWasSent}
 use Rattle.node_group.specs.Putting.{recorded_in}
 use Rattle.node_group.specs.snapshots.World.{recorded}
@@ -18,11 +18,11 @@ use Rattle.byte_world.specs.Goes.{CarriesItsBytes, Does}
 
 -- what a node takes from others was sent to it, and the bytes to which it cuts its log thaw to its
 -- machine
-abbrev pub DeedWasSent : Group → ℕ → CoreState → NodeCall → Type 0
-DeedWasSent g n core (takes (Peer message)) = In (n + 1, message) g.sent
-DeedWasSent g n core (takes Cut) =
+abbrev pub NodeCallWasSent : Group → ℕ → CoreState → NodeCall → Type 0
+NodeCallWasSent g n core (takes (Peer message)) = In (n + 1, message) g.sent
+NodeCallWasSent g n core (takes Cut) =
     can_cut (replica_of core) ≡ true → rules.thawed (rules.frozen (replica_of core).machine) ≡ Some (replica_of core).machine
-DeedWasSent g n core _ = Unit {0}
+NodeCallWasSent g n core _ = Unit {0}
 
 -- the record of places after a call: a cut adds what the log that is cut has applied
 abbrev pub recorded_after : List Command → CoreState → NodeCall → List Command
@@ -31,24 +31,24 @@ recorded_after archive core _ = archive
 
 -- moves in which a node's replica first receives what was sent, just the bytes of the call are
 -- carried, and just a cut is recorded
-pub record RunsAs (g : Group) (n : ℕ) (deed : NodeCall) (core : CoreState) (turn : Turn) : Type 0 where
+pub record RunsAs (g : Group) (n : ℕ) (node_call : NodeCall) (core : CoreState) (turn : Turn) : Type 0 where
   pub run : Runs core turn
   pub first : HearsAtFirst run
   pub sent : AllWasSent g n run
-  pub bytes : CarriesItsBytes deed run
-  pub records : (archive : List Command) → recorded_in archive run ≡ recorded_after archive core deed
+  pub bytes : CarriesItsBytes node_call run
+  pub records : (archive : List Command) → recorded_in archive run ≡ recorded_after archive core node_call
 
 -- each call of a node, in any state of the node, has such moves
-abbrev pub DeedsCarryTheirBytes : Type 0
-DeedsCarryTheirBytes = (g : Group) (n : ℕ) (deed : NodeCall) (core : CoreState) → DeedWasSent g n core deed → RunsAs g n deed core (done deed core)
+abbrev pub NodeCallsCarryTheirBytes : Type 0
+NodeCallsCarryTheirBytes = (g : Group) (n : ℕ) (node_call : NodeCall) (core : CoreState) → NodeCallWasSent g n core node_call → RunsAs g n node_call core (done node_call core)
 
 -- a step of a group with this call of a node, after which the node is as its own turn leaves it,
 -- and the record as the call leaves it; the only other change are the outputs of the node
-pub record DoesDeed (g : Group) (n : ℕ) (deed : NodeCall) (core : CoreState) : Type 0 where
-  pub does : Does g (Some (n, deed))
+pub record DoesNodeCall (g : Group) (n : ℕ) (node_call : NodeCall) (core : CoreState) : Type 0 where
+  pub does : Does g (Some (n, node_call))
   pub given : List (Effect Command Output)
-  pub is : does.behind ≡ behind_turn (with_record g (recorded_after g.archive core deed)) n (done deed core) given
+  pub is : does.after ≡ after_turn (with_record g (recorded_after g.archive core node_call)) n (done node_call core) given
 
 -- in any group, a node can do each call
-abbrev pub GroupsDoEachDeed : Type 0
-GroupsDoEachDeed = (g : Group) (n : ℕ) (deed : NodeCall) (core : CoreState) → slice_get g.nodes n ≡ Some core → DeedWasSent g n core deed → DoesDeed g n deed core
+abbrev pub GroupsDoEachNodeCall : Type 0
+GroupsDoEachNodeCall = (g : Group) (n : ℕ) (node_call : NodeCall) (core : CoreState) → slice_get g.nodes n ≡ Some core → NodeCallWasSent g n core node_call → DoesNodeCall g n node_call core
