@@ -18,6 +18,7 @@ const PAYLOAD: [u8; 64] = [7; 64];
 /// A broker, and what its clients have put on the way to it.
 #[derive(Drop)]
 pub struct Clients {
+    /// The broker.
     pub broker: BrokerMachine,
     under_way: VecDeque<Command>,
     alloc: Global,
@@ -35,23 +36,23 @@ impl Clients {
         Ok(clients)
     }
 
-    /// A client opens a connection with this number, with CleanSession 0.
+    /// Opens a connection of a client with this number, with CleanSession 0.
     pub fn connect(&mut self, count: u64, client: &str) -> Result<()> {
         let client = ClientId::new(self.alloc, client)?;
         self.put(Command::Connect(name_of(count)?, client, false))
     }
 
-    /// A connection is lost.
+    /// Loses a connection.
     pub fn lose(&mut self, count: u64) -> Result<()> {
         self.put(Command::Lost(name_of(count)?))
     }
 
-    /// An administrator ends the session of a client.
+    /// Ends the session of a client, as an administrator does.
     pub fn expel(&mut self, client: &str) -> Result<()> {
         self.put(Command::Expel(ClientId::new(self.alloc, client)?))
     }
 
-    /// A client makes these subscriptions in one packet.
+    /// Makes these subscriptions of a client in one packet.
     pub fn subscribe(&mut self, count: u64, wanted: Vec<Subscription>) -> Result<()> {
         let subscribe = Subscribe {
             id: PacketId::new(1),
@@ -60,7 +61,7 @@ impl Clients {
         self.send(count, Packet::Subscribe(subscribe))
     }
 
-    /// A client asks for one filter.
+    /// Subscribes a client to one filter.
     pub fn subscribe_one(&mut self, count: u64, text: &str, qos: QoS) -> Result<()> {
         let mut wanted = Vec::new(self.alloc);
         wanted.push(Subscription {
@@ -70,8 +71,8 @@ impl Clients {
         self.subscribe(count, wanted)
     }
 
-    /// A client publishes under identifier 1, and all clients answer the result of it until nothing
-    /// is in transit.
+    /// Publishes under identifier 1, and lets all clients answer the result of it until nothing is in
+    /// transit.
     pub fn publish(&mut self, count: u64, topic: &TopicName, qos: QoS, retain: bool) -> Result<()> {
         let publish = publication(self.alloc, topic, qos, retain)?;
         self.send(count, Packet::Publish(publish))

@@ -13,20 +13,25 @@ const PROTOCOL: [u8; 10] = [0x00, 0x04, 0x4D, 0x51, 0x54, 0x54, 0x04, 0x00, 0x00
 /// Bytes that come on a port, whose client exchanges publications with that of another port.
 #[derive(Drop)]
 pub struct Part {
+    /// The port on which they come.
     pub port: u64,
+    /// The port of the other client.
     pub other: u64,
+    /// The bytes.
     pub bytes: Vec<u8>,
 }
 
 /// What all clients send in one round, handshakes included.
 #[derive(Drop)]
 pub struct Traffic {
+    /// The bytes of each port, in the order in which they come.
     pub parts: Vec<Part>,
     publications: u32,
 }
 
 impl Traffic {
-    /// Every second one of this many clients gets a piece of this many publications.
+    /// Returns the traffic in which every second one of this many clients gets a piece of this many
+    /// publications.
     pub fn new(alloc: Global, connections: u64, qos: QoS, packets: u8) -> Result<Traffic> {
         let mut parts = Vec::new(alloc);
         put_rounds(alloc, connections / 2, qos, packets, &mut parts)?;

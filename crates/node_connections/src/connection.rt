@@ -54,15 +54,20 @@ impl Stage {
 /// A connection of a node. It stays listed until everything that was queued for it was handed over.
 #[derive(Drop)]
 pub struct Connection {
+    /// Its number at the node.
     pub port: Port,
+    /// Its name, which the broker knows it by.
     pub name: ConnectionId,
+    /// How far it is: opened, proposed, failed or over.
     pub stage: Stage,
     /// The most seconds between two packets of its client, by its CONNECT; 0 for no limit (MQTT
     /// 3.1.2.10).
     pub keep_alive: u16,
     /// When its last packet was whole, in milliseconds; 0 before the first.
     pub last_packet: u64,
+    /// The bytes that came and were not read yet.
     pub unread: Unread,
+    /// The bytes that are queued for its client.
     pub pending: Piece,
 }
 

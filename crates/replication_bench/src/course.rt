@@ -14,8 +14,9 @@ const MOST: u32 = 1_000;
 /// How far a world has come.
 #[derive(Clone, Copy)]
 pub struct Course {
-    /// The last connection of each client, and how many were opened of all.
+    /// The last connection of each client.
     pub last: [u64; 4],
+    /// How many connections were opened, of all clients.
     pub opened: u64,
     /// The message that comes next.
     pub next: u64,
@@ -26,7 +27,7 @@ pub struct Course {
 }
 
 impl Course {
-    /// Nothing happened, and node 1 is the primary.
+    /// Returns the course before anything happened: node 1 is the primary.
     pub fn new() -> Course {
         Course {
             last: [0; 4],
@@ -53,7 +54,7 @@ fn put_all(alloc: Global, clients: &mut Vec<ClientId>) -> Result<()> {
     Ok(())
 }
 
-/// All three nodes with this primary.
+/// Returns the configuration of all three nodes with this primary.
 pub fn config(alloc: Global, primary: u8) -> Result<Config> {
     let members = Members::from_slice(alloc, &[1, 2, 3])?;
     Ok(Config { members, primary })
@@ -71,7 +72,7 @@ pub fn happens(world: &mut World, course: &mut Course, event: &Event) -> Result<
     Ok(())
 }
 
-/// All messages come, in the order of sending, and those to which they lead.
+/// Delivers all messages, in the order of sending, and those to which they lead.
 pub fn all_come(world: &mut World, course: &mut Course) -> Result<()> {
     for _message in 0..MOST {
         if course.next >= world.messages() {
@@ -88,7 +89,7 @@ fn comes_next(world: &mut World, course: &mut Course) -> Result<()> {
     happens(world, course, &Event::Deliver(next))
 }
 
-/// What waits on the connection of a client goes up, and the nodes agree on it.
+/// Carries up what waits on the connection of a client, and lets the nodes agree on it.
 pub fn goes_up(world: &mut World, course: &mut Course, client: usize) -> Result<()> {
     let connection = course.last[client % 4];
     let count = world.up(connection).len() as u64;
@@ -96,14 +97,14 @@ pub fn goes_up(world: &mut World, course: &mut Course, client: usize) -> Result<
     all_come(world, course)
 }
 
-/// What waits on the connection of a client comes down.
+/// Carries down what waits on the connection of a client.
 pub fn comes_down(world: &mut World, course: &mut Course, client: usize) -> Result<()> {
     let connection = course.last[client % 4];
     let count = world.down(connection).len() as u64;
     happens(world, course, &Event::CarryDown(connection, count))
 }
 
-/// A client connects to the primary, and is accepted.
+/// Connects a client to the primary, which accepts it.
 pub fn connects(
     alloc: Global,
     world: &mut World,

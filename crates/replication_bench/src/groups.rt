@@ -18,7 +18,7 @@ pub fn config_of(alloc: Global, members: &[u8], primary: u8) -> Result<Config> {
     Ok(Config { members, primary })
 }
 
-/// The command of a number goes to node 1.
+/// Returns the event by which the command of a number goes to node 1.
 pub fn proposal(number: u64) -> Event<TallyCommand> {
     Event::Propose(1, TallyCommand::Add(number))
 }

@@ -22,7 +22,7 @@ pub struct Publications {
 }
 
 impl Publications {
-    /// They are made once, and copied by each publisher.
+    /// Makes them, once for all publishers, which copy them.
     pub fn new(alloc: Global) -> Result<Publications> {
         Ok(Publications {
             first: publication(alloc, 0)?,
@@ -41,7 +41,7 @@ fn publication(alloc: Global, pair: usize) -> Result<Event> {
     Ok(Event::Publish(named(alloc, pair.saturating_mul(2))?, publication))
 }
 
-/// All clients connect, and `b` and `d` subscribe.
+/// Connects all clients, and subscribes `b` and `d`.
 pub fn begin(alloc: Global, world: &mut World, course: &mut Course) -> Result<()> {
     for client in 0..4 {
         connects(alloc, world, course, client)?;
@@ -70,7 +70,7 @@ fn asks(
     happens(world, course, &event)
 }
 
-/// A publication of each publisher, with all handshakes.
+/// Publishes once for each publisher, with all handshakes.
 pub fn both_publish(
     world: &mut World,
     course: &mut Course,

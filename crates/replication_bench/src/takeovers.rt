@@ -14,7 +14,7 @@ pub enum Ends {
     Unseen,
 }
 
-/// The next node in turn takes over.
+/// Lets the next node in turn take over.
 pub fn take_over(alloc: Global, world: &mut World, course: &mut Course, ends: Ends) -> Result<()> {
     let primary = course.primary % 3 + 1;
     assigns(alloc, world, course, primary)?;

@@ -9,8 +9,11 @@ use std::alloc::Global;
 /// A publication that a session has to send at QoS 2.
 #[derive(Drop)]
 pub struct Entry {
+    /// Its RETAIN flag.
     pub retain: bool,
+    /// Its topic.
     pub topic: TopicName,
+    /// Its payload.
     pub payload: Payload,
 }
 
@@ -24,7 +27,9 @@ impl Entry {
 /// A session.
 #[derive(Drop)]
 pub struct Session {
+    /// The identifier of its client.
     pub client: ClientId,
+    /// Whether it was begun with CleanSession 1.
     pub clean: bool,
     /// Whether it is about to end.
     pub is_over: bool,

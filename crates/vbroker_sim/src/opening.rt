@@ -10,8 +10,11 @@ const NAMES: [&str; 8] = ["a", "b", "c", "d", "e", "f", "g", "h"];
 /// (node 1 is its primary), and its clients.
 #[derive(Drop)]
 pub struct Opening {
+    /// How many nodes it has.
     pub nodes: u8,
+    /// How many of them are members of ballot 1.
     pub members: u8,
+    /// Its clients.
     pub clients: Vec<ClientId>,
 }
 

@@ -3,16 +3,19 @@
 /// What is simulated.
 #[derive(Clone, Copy)]
 pub struct Options {
-    /// The first seed, and how many follow one another.
+    /// The first seed.
     pub seed: u64,
+    /// How many seeds follow one another.
     pub seeds: u64,
     /// How many events a run has: at most 2,000, so that no queue is ever full.
     pub events: u64,
-    /// How many nodes and clients a world has: one to seven, and one to eight.
+    /// How many nodes a world has: one to seven.
     pub nodes: u8,
+    /// How many clients a world has: one to eight.
     pub clients: u8,
-    /// Whether a line says the result of each run, and whether its script is printed.
+    /// Whether a line says the result of each run.
     pub counts: bool,
+    /// Whether the script of each run is printed.
     pub scripts: bool,
 }
 

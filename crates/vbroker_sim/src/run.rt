@@ -11,9 +11,13 @@ use world::{Event, World};
 /// The result of a run: its events, what does not hold after the last of them, and how far it came.
 #[derive(Drop)]
 pub struct Run {
+    /// The world in which it began.
     pub opening: Opening,
+    /// Its events, in order.
     pub events: Vec<Event>,
+    /// What does not hold after the last event, if anything.
     pub broken: Option<Broken>,
+    /// How far it came.
     pub counts: Counts,
 }
 
@@ -22,9 +26,11 @@ pub struct Run {
 pub struct Counts {
     /// How many of its events happened.
     pub happened: u64,
-    /// Commands that are agreed, messages that were sent, and the active ballot.
+    /// How many commands are agreed.
     pub agreed: u64,
+    /// How many messages were sent.
     pub messages: u64,
+    /// The active ballot.
     pub ballot: u64,
     /// What all clients accepted.
     pub accepted: u64,

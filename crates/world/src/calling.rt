@@ -26,6 +26,9 @@ use world_events::Event;
 use world_events::world_pipes::{ClientError, PipedClient, Sending};
 
 impl World {
+    /// Opens a connection of a client to a node. `Idle` comes if there is no such client, if it has a
+    /// connection, and if the node is no running active primary. An open past the last connection of
+    /// a ballot changes nothing.
     pub(crate) fn open(&mut self, client: &ClientId, node: u8) -> Result<(), Idle>
         ensures goes { GoesOn self.old self.new }
         ensures meets { Meets (Event.Open client.now node) self.old result self.new }
@@ -102,6 +105,7 @@ impl World {
         true
     }
 
+    /// Lets a client lose its connection. `Idle` comes if there is no such client, or it has none.
     pub(crate) fn abandon(&mut self, client: &ClientId) -> Result<(), Idle>
         ensures goes { GoesOn self.old self.new }
         ensures meets { Meets (Event.Abandon client.now)
@@ -119,6 +123,7 @@ impl World {
         Ok(())
     }
 
+    /// Lets a client disconnect. `Idle` comes if there is no such client, or it has no connection.
     pub(crate) fn disconnect(&mut self, client: &ClientId) -> Result<(), Idle>
         ensures goes { GoesOn self.old self.new }
         ensures meets { Meets (Event.Disconnect client.now)
@@ -135,6 +140,7 @@ impl World {
         self.called(done)
     }
 
+    /// Lets a client publish. `Idle` comes if there is no such client, and if it refuses.
     pub(crate) fn publish(
         &mut self,
         client: &ClientId,
@@ -156,6 +162,7 @@ impl World {
         self.called(done)
     }
 
+    /// Lets a client subscribe to a filter, at most at this QoS. `Idle` comes as for `publish`.
     pub(crate) fn subscribe(
         &mut self,
         client: &ClientId,
@@ -177,6 +184,7 @@ impl World {
         self.called(done)
     }
 
+    /// Lets a client unsubscribe from a filter. `Idle` comes as for `publish`.
     pub(crate) fn unsubscribe(&mut self, client: &ClientId, filter: &Filter) -> Result<(), Idle>
         ensures goes { GoesOn self.old self.new }
         ensures meets { Meets (Event.Unsubscribe client.now filter.now)

@@ -18,6 +18,8 @@ use world_events::Event;
 use world_events::world_pipes::{ClientError, PipedClient};
 
 impl World {
+    /// Carries `count` bytes from the front of a connection to its node. `Idle` comes if the end at
+    /// the node is closed, if the node has stopped, for no bytes, and for more than wait.
     pub(crate) fn carry_up(&mut self, number: u64, count: u64) -> Result<(), Idle>
         ensures goes { GoesOn self.old self.new }
         ensures meets { Meets (Event.CarryUp number count) self.old result self.new }
@@ -70,6 +72,8 @@ impl World {
         )
     }
 
+    /// Carries `count` bytes from the front of a connection to its client. `Idle` comes if the client
+    /// does not hold this connection, for no bytes, and for more than wait.
     pub(crate) fn carry_down(&mut self, number: u64, count: u64) -> Result<(), Idle>
         ensures goes { GoesOn self.old self.new }
         ensures meets { Meets (Event.CarryDown number count) self.old result self.new }

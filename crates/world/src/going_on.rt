@@ -14,6 +14,8 @@ use headline::world_base::{Config, Item, Port};
 use world_events::Event;
 
 impl World {
+    /// Delivers the message of a number. `Idle` comes if no such message was sent, and if its receiver
+    /// is unknown or has stopped.
     pub(crate) fn deliver(&mut self, number: u64) -> Result<(), Idle>
         ensures goes { GoesOn self.old self.new }
         ensures meets { Meets (Event.Deliver number) self.old result self.new }
@@ -37,6 +39,7 @@ impl World {
         }
     }
 
+    /// Lets time pass at a node. `Idle` comes if it is unknown or has stopped.
     pub(crate) fn tick(&mut self, node: u8) -> Result<(), Idle>
         ensures goes { GoesOn self.old self.new }
         ensures meets { Meets (Event.Tick node) self.old result self.new }
@@ -49,6 +52,8 @@ impl World {
         Ok(())
     }
 
+    /// Lets a node cut its log. `Idle` comes if it is unknown or has stopped, and if it has applied
+    /// nothing since its last cut.
     pub(crate) fn cut(&mut self, node: u8) -> Result<(), Idle>
         ensures goes { GoesOn self.old self.new }
         ensures meets { Meets (Event.Cut node) self.old result self.new }
@@ -59,6 +64,8 @@ impl World {
         Ok(())
     }
 
+    /// Lets a node propose to end the session of a client. `Idle` comes if there is no such client, if
+    /// the node is no running active primary, and if its log is full.
     pub(crate) fn expel(&mut self, client: &ClientId, node: u8) -> Result<(), Idle>
         ensures goes { GoesOn self.old self.new }
         ensures meets { Meets (Event.Expel client.now node) self.old result self.new }
@@ -72,6 +79,7 @@ impl World {
         Ok(())
     }
 
+    /// Stops a node for good. `Idle` comes if it is unknown or has stopped.
     pub(crate) fn crash(&mut self, node: u8) -> Result<(), Idle>
         ensures goes { GoesOn self.old self.new }
         ensures meets { Meets (Event.Crash node) self.old result self.new }
@@ -84,6 +92,7 @@ impl World {
         Ok(())
     }
 
+    /// Lets the master give the next ballot to a configuration. `Idle` comes if the master refuses.
     pub(crate) fn assign(&mut self, config: &Config) -> Result<(), Idle>
         ensures goes { GoesOn self.old self.new }
         ensures meets { Meets (Event.Assign config.now) self.old result self.new }
@@ -92,6 +101,8 @@ impl World {
         self.nodes.assign(config)
     }
 
+    /// Lets a node notice the end of a connection. `Idle` comes if its end there is closed, and if the
+    /// node has stopped.
     pub(crate) fn notice(&mut self, number: u64) -> Result<(), Idle>
         ensures goes { GoesOn self.old self.new }
         ensures meets { Meets (Event.Notice number) self.old result self.new }

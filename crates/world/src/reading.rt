@@ -18,7 +18,7 @@ use headline::world_base::Command;
 use world_events::world_pipes::ClientCore;
 
 impl WorldClient {
-    // Says whether it has this identifier.
+    /// Says whether it has this identifier.
     pub(crate) fn is_named(&self, name: &ClientId) -> bool
         ensures { result ≡ is_named name.now self.now }
     {
@@ -111,7 +111,7 @@ impl World {
         found.piped.down(place.at)
     }
 
-    // Returns the index of a client.
+    /// Returns the index of a client; `None` if there is none with this identifier.
     pub(crate) fn place_of(&self, client: &ClientId) -> Option<usize>
         ensures below { IfSome result (λ at. at < length self.now.clients) }
         ensures exact { result ≡ position (is_named client.now) self.now.clients }
@@ -119,7 +119,7 @@ impl World {
         self.clients.iter().position(|found| found.is_named(client))
     }
 
-    // Returns the state of a connection.
+    /// Returns the state of a connection; `None` for one that was never opened.
     pub(crate) fn place(&self, number: u64) -> Option<ConnectionSlot>
         ensures stands { IfSome result (λ place.
             (0 < number) × (slice_get self.now.connections (number - 1) ≡ Some place)) }

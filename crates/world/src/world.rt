@@ -173,7 +173,7 @@ impl World {
         self.losses
     }
 
-    // Counts that memory ran out.
+    /// Counts that memory ran out.
     pub(crate) fn lose(&mut self)
         ensures lost { self.new ≡ record self.old { losses = one_more self.old.losses } }
         ensures rises { self.old.losses ≤ self.new.losses }
@@ -194,8 +194,8 @@ impl World {
         }
     }
 
-    // Says whether the nodes have counted no step in which memory ran out since they had counted
-    // `before`.
+    /// Says whether the nodes have counted no step in which memory ran out since they had counted
+    /// `before`.
     pub(crate) fn is_whole(&self, before: u64) -> bool
         ensures yes { result ≡ true →
             (self.now.nodes.losses ≡ before) × (before < 2 ^ 64 - 1) }

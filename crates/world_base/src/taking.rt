@@ -25,8 +25,8 @@ use node_connections::packet::{ClientId, Connect, Packet};
 use node_connections::{Front, Piece, Port, Stage};
 
 impl NodeInStep {
-    /// Takes an item, and reports each connection that fails in it to the broker. `is_out_of_memory` says
-    /// whether memory ran out.
+    /// Takes an item, and reports each connection that fails in it to the broker. Whether memory ran
+    /// out is then told by `is_out_of_memory`.
     pub fn act_on(&mut self, item: Item, effects: &mut Vec<Effect<Command, Output>>)
         ensures turns { Turns self.old self.new effects.old.items effects.new.items
             (acts_on item self.old.core) }

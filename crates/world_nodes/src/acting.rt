@@ -24,7 +24,7 @@ use byte_world::world_base::{
 use master::{Idle, answer_of, config_of, record, tell};
 
 impl Nodes {
-    // Lets a node that runs take an item.
+    /// Lets a node that runs take an item. `Idle` comes if it is unknown or has stopped.
     pub(crate) fn act(&mut self, node: u8, item: Item) -> Result<(), Idle>
         requires { WasSent node item self.old.sent }
         ensures step { OnOk result (TakesIn node item self.old self.new) }
@@ -48,8 +48,8 @@ impl Nodes {
         Ok(())
     }
 
-    // Lets the node at this place ignore the message of a number, which was sent to it, as in
-    // `act`. No copy of the message is made.
+    /// Lets the node at this place ignore the message of a number, which was sent to it, as in
+    /// `act`. No copy of the message is made.
     pub(crate) fn pass_over(&mut self, at: usize, number: usize)
         requires { IsPassedOver at number self.old }
         ensures step { ComesIn (slice_get self.old.sent number) self.old self.new }
@@ -67,8 +67,8 @@ impl Nodes {
         self.losses = counted(self.losses, whole, true);
     }
 
-    // Lets a node that has something to cut take that item, once the record has what it applied.
-    // The record is cut back if the log was not cut.
+    /// Lets a node that has something to cut take that item, once the record has what it applied.
+    /// The record is cut back if the log was not cut.
     pub(crate) fn cut_at(&mut self, at: usize)
         requires { (core : CountedCore) × (slice_get self.old.nodes at ≡ Some core)
             × (can_cut core.core.replica.state ≡ true) }
@@ -101,7 +101,7 @@ impl Nodes {
         self.losses = counted(self.losses, whole, true);
     }
 
-    // Returns the message of a number, with its receiver.
+    /// Returns the message of a number, with its receiver; `None` if it was not sent.
     pub(crate) fn message(&self, number: u64) -> Option<&(u8, Message<Command>)>
         ensures some { IfSome result (λ found. slice_get self.now.sent number ≡ Some found.now) }
         ensures none { result ≡ None → slice_get self.now.sent number ≡ None }
@@ -109,7 +109,7 @@ impl Nodes {
         self.sent.get(number as usize)
     }
 
-    // Returns the place of a node that exists and has not stopped.
+    /// Returns the index of a node that exists and has not stopped; `None` for any other.
     pub(crate) fn running(&self, node: u8) -> Option<usize>
         ensures some { IfSome result (λ at. RunsAt self.now.nodes node at) }
         ensures none { result ≡ None → running self.now.nodes node ≡ None }
@@ -124,7 +124,8 @@ impl Nodes {
         Some(at)
     }
 
-    // Lets the master give a ballot and tell its primary.
+    /// Lets the master give a ballot and tell its primary. `Memory` comes if memory ran out before it
+    /// gave any.
     pub(crate) fn give(&mut self, config: &Config) -> Result<(), Memory>
         requires { refusal self.old.master config.now ≡ None }
         ensures step { OnOk result (GivesIn config.now self.old self.new) }
@@ -146,7 +147,7 @@ impl Nodes {
         Ok(())
     }
 
-    // Lets the master answer a node that asks it to activate a ballot.
+    /// Lets the master answer a node that asks it to activate a ballot.
     pub(crate) fn answer(&mut self, from: u8, ballot: u64)
         requires { In (0, record { from = from; body = Activate ballot }) self.old.sent }
         ensures step { HearsIn from (Activate ballot) self.old self.new }
@@ -161,7 +162,7 @@ impl Nodes {
         self.losses = counted(self.losses, told, true);
     }
 
-    // Counts that nothing happened, because memory ran out.
+    /// Counts that nothing happened, because memory ran out.
     pub(crate) fn lose(&mut self)
         ensures lost { self.new ≡ forgetful self.old }
         ensures rises { self.old.losses ≤ self.new.losses }

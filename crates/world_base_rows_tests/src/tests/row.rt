@@ -55,7 +55,7 @@ pub const PRESENT: &[u8] = &[0x20, 0x02, 0x01, 0x00];
 /// No bytes.
 pub const NOTHING: &[u8] = &[];
 
-/// Node 1, the primary of ballot 1 with these members.
+/// Returns node 1, the primary of ballot 1 with these members.
 pub fn primary(alloc: Global, members: &[u8]) -> Option<NodeCore> {
     let config = Config {
         members: Members::from_slice(alloc, members).ok()?,

@@ -40,7 +40,7 @@ pub fn node_of(alloc: Global, number: u8, members: &[u8]) -> Option<NodeCore> {
     }
 }
 
-/// Node 1, the primary of ballot 1 with these members.
+/// Returns node 1, the primary of ballot 1 with these members.
 pub fn primary(alloc: Global, members: &[u8]) -> Option<NodeCore> {
     node_of(alloc, 1, members)
 }

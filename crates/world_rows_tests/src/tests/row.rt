@@ -63,9 +63,13 @@ pub enum Row {
 /// A world of this many nodes, these members of ballot 1 with node 1 as primary, and what happens
 /// in it.
 pub struct Table {
+    /// What it shows.
     pub name: &'static str,
+    /// How many nodes there are.
     pub nodes: u8,
+    /// The members of ballot 1.
     pub members: &'static [u8],
+    /// What happens, in order.
     pub rows: &'static [Row],
 }
 

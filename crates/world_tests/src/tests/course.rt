@@ -26,15 +26,17 @@ pub struct Course {
     pub next: u64,
     /// How many publications were tried; each carries its number.
     pub published: u64,
-    /// How many connections were opened, and the last one of each client.
+    /// How many connections were opened.
     pub opened: u64,
+    /// The last connection of each client.
     pub last: [u64; 4],
     /// How many ballots were given.
     pub given: u64,
     /// Whether each node runs.
     pub runs: [bool; 3],
-    /// How many events were tried, and how often a log was cut after one.
+    /// How many events were tried.
     pub events: u64,
+    /// How often a log was cut after an event.
     pub cuts: u64,
     /// Whether the agreed list never became shorter.
     pub only_grows: bool,

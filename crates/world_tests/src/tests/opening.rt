@@ -10,7 +10,7 @@ pub fn opened(alloc: Global, nodes: u8, members: &[u8]) -> Option<World> {
     opened_for(alloc, nodes, members, &["a", "b"])
 }
 
-/// The same with clients of these names.
+/// Returns the same with clients of these names.
 pub fn opened_for(alloc: Global, nodes: u8, members: &[u8], names: &[&str]) -> Option<World> {
     let config = config_of(alloc, members, 1)?;
     let mut clients = Vec::new(alloc);
