@@ -5,7 +5,8 @@ use Rattle.node_group.specs.client_base.declared.accepted.Accepted.{Accepted}
 use Rattle.node_group.specs.exactly_once.Carried.{is_two}
 
 abbrev pub publication_accepted : Accepted → Publication
-publication_accepted a = record { retain = a.retain; qos = a.qos; topic = a.topic; payload = a.payload }
+publication_accepted a =
+    record { retain = a.retain; qos = a.qos; topic = a.topic; payload = a.payload }
 
 abbrev pub is_accepted_once : Accepted → Bool
 is_accepted_once a = is_two a.qos

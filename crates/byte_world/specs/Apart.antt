@@ -18,5 +18,7 @@ pub record HasName (x : ConnectionName) (g : Group) (n : ℕ) : Type 0 where
 
 -- if nodes have connections of one name, at any times, they are one node
 abbrev pub NamesStayApart : Type 0
-NamesStayApart = (nodes : ℕ) (config : Config) (g : Group) (went : GroupTrace nodes config g) (x : ConnectionName) (e h : Group) (m n : ℕ) →
+NamesStayApart =
+    (nodes : ℕ) (config : Config) (g : Group) (went : GroupTrace nodes config g)
+    (x : ConnectionName) (e h : Group) (m n : ℕ) →
     In e (groups_of went) → In h (groups_of went) → HasName x e m → HasName x h n → m ≡ n

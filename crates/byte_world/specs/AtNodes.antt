@@ -26,11 +26,15 @@ pub record Leads (w : World) (n : ℕ) (port : Port) : Type 0 where
 -- whatever happened, a pipe leads to the port of each connection that a node lists, open or with
 -- bytes to hand over
 abbrev pub PortsHavePipes : Type 0
-PortsHavePipes = (nodes : ℕ) (config : Config) (cs : List Client) (w : World) → Reached nodes config cs w → (n : ℕ) (core : CoreState) (d : NodesEnd) →
+PortsHavePipes =
+    (nodes : ℕ) (config : Config) (cs : List Client) (w : World) → Reached nodes config cs w →
+    (n : ℕ) (core : CoreState) (d : NodesEnd) →
     slice_get w.group.nodes n ≡ Some core → In d core.connections → Leads w n d.port
 
 -- and a node's names are distinct and were given, the last one in a ballot that is not above the
 -- one that the node joined
 abbrev pub NodesAreOrderly : Type 0
-NodesAreOrderly = (nodes : ℕ) (config : Config) (cs : List Client) (w : World) → Reached nodes config cs w → (n : ℕ) (core : CoreState) →
+NodesAreOrderly =
+    (nodes : ℕ) (config : Config) (cs : List Client) (w : World) → Reached nodes config cs w →
+    (n : ℕ) (core : CoreState) →
     slice_get w.group.nodes n ≡ Some core → IsOrderly core

@@ -11,10 +11,12 @@ use Rattle.byte_world.specs.Goes.Reached.{begins, goes_on}
 use Rattle.byte_world.specs.Goes.WorldStep.{goes_on as group_goes, calls, connects, is_turned_away, comes_up, goes_down, arrives, handles}
 
 -- if a step of a world has a step of its group, the group does that step
-abbrev pub went_on : {nodes : ℕ} {config : Config} {v w : World} → GroupTrace nodes config v.group → WorldStep v w → GroupTrace nodes config w.group
+abbrev pub went_on : {nodes : ℕ} {config : Config} {v w : World} → GroupTrace nodes config v.group →
+    WorldStep v w → GroupTrace nodes config w.group
 went_on went (group_goes node_call d apart) = then_went went d.step
 went_on went (calls i c t h at call spelled) = went
-went_on went (connects i n c port now d core end at unused after there spelled) = then_went went d.step
+went_on went (connects i n c port now d core end at unused after there spelled) =
+    then_went went d.step
 went_on went (is_turned_away n port now d core unused after none) = then_went went d.step
 went_on went (comes_up i j c κ p piece rest now d pipe is) = then_went went d.step
 went_on went (goes_down i j c κ p d pipe) = then_went went d.step
@@ -22,11 +24,14 @@ went_on went (arrives i j c κ p piece rest pipe is) = went
 went_on went (handles i c κ others p pipes packet left at first piped is_open takes spelled) = went
 
 -- the steps of the group of a world on this way to it
-abbrev pub went_of : {nodes : ℕ} {config : Config} {cs : List Client} {w : World} → Reached nodes config cs w → GroupTrace nodes config w.group
+abbrev pub went_of : {nodes : ℕ} {config : Config} {cs : List Client} {w : World} →
+    Reached nodes config cs w → GroupTrace nodes config w.group
 went_of (begins can) = opened can
 went_of (goes_on before step) = went_on (went_of before) step
 
 -- on each way to a world, each connection carries its packets in order in the steps of the world's
 -- group
 abbrev pub WorldsCarryInOrder : Type 0
-WorldsCarryInOrder = (nodes : ℕ) (config : Config) (cs : List Client) (w : World) (trail : Reached nodes config cs w) → Carries (went_of trail)
+WorldsCarryInOrder =
+    (nodes : ℕ) (config : Config) (cs : List Client) (w : World)
+    (trail : Reached nodes config cs w) → Carries (went_of trail)

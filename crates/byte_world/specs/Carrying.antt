@@ -26,7 +26,10 @@ going_with x _ core = []
 
 -- the moves of a node carry just the bytes of its call
 abbrev pub CarriesItsBytes : {core : CoreState} {turn : Turn} → NodeCall → Runs core turn → Type 0
-CarriesItsBytes {core = core} node_call run = (x : ConnectionName) → (bytes_on x run ≡ coming_with x node_call core) × (handed_in_run x run ≡ going_with x node_call core)
+CarriesItsBytes {core = core} node_call run =
+    (x : ConnectionName) →
+    (bytes_on x run ≡ coming_with x node_call core)
+    × (handed_in_run x run ≡ going_with x node_call core)
 
 -- if an item is taken with losses they do in any case
 abbrev pub IsFaithful : {g h : Group} → GroupStep g h → Type 0

@@ -49,12 +49,14 @@ after_connecting x n port c =
     }
 
 -- the client after a packet that its newest connection's cutter gave
-abbrev pub after_packet : List Connection → List Pipe → Pipe → Stream → Side → ClientPipes → ClientPipes
+abbrev pub after_packet : List Connection → List Pipe → Pipe → Stream → Side → ClientPipes →
+    ClientPipes
 after_packet others pipes p left side c =
     record {
       keeper = side.keeper;
       connections = side.connection ∷ others;
-      pipes = sent_up (newly_written c.connections (side.connection ∷ others)) (record p { came = left } ∷ pipes);
+      pipes = sent_up (newly_written c.connections (side.connection ∷ others))
+          (record p { came = left } ∷ pipes);
     }
 
 -- ---- the step
@@ -68,34 +70,56 @@ CanBeSpelled before after = Each IsPacket (newly_written before after)
 pub data WorldStep (w : World) : World → Type 0 where
   -- the nodes and the master move by themselves: messages come late, again or never, a node ticks
   -- or crashes, a stream ends at its node, an administrator asks for a configuration
-  goes_on : (node_call : Option (ℕ × NodeCall)) (d : Does w.group node_call) → is_apart node_call ≡ true → WorldStep w (record w { group = d.after })
+  goes_on : (node_call : Option (ℕ × NodeCall)) (d : Does w.group node_call) →
+      is_apart node_call ≡ true → WorldStep w (record w { group = d.after })
   -- a client calls, or loses its connection
-  calls : (i : ℕ) (c : ClientPipes) (t : Story) (h : StoryStep usual_limits (story_alone c) t) → slice_get w.clients i ≡ Some c → is_call h ≡ true →
-      CanBeSpelled c.connections t.connections → WorldStep w (with_client i (after_writing t.keeper t.connections c) w)
+  calls : (i : ℕ) (c : ClientPipes) (t : Story) (h : StoryStep usual_limits (story_alone c) t) →
+      slice_get w.clients i ≡ Some c → is_call h ≡ true →
+      CanBeSpelled c.connections t.connections →
+      WorldStep w (with_client i (after_writing t.keeper t.connections c) w)
   -- a client opens a connection to a node, at a port that was never used there, and the node takes
   -- it
-  connects : (i n : ℕ) (c : ClientPipes) (port : Port) (now : ℕ) (d : Does w.group (Some (n, takes (Opened port now)))) (core : CoreState) (end : NodesEnd) →
-      slice_get w.clients i ≡ Some c → is_used n port w.clients ≡ false → slice_get d.after.nodes n ≡ Some core → listed_at port core ≡ Some end →
-      IsPacket (packets.Connect (record { client = c.keeper.client; clean = false; keep_alive = 0 })) →
-      WorldStep w (with_client i (after_connecting end.name n port c) (record w { group = d.after }))
+  connects : (i n : ℕ) (c : ClientPipes) (port : Port) (now : ℕ)
+      (d : Does w.group (Some (n, takes (Opened port now)))) (core : CoreState) (end : NodesEnd) →
+      slice_get w.clients i ≡ Some c → is_used n port w.clients ≡ false →
+      slice_get d.after.nodes n ≡ Some core → listed_at port core ≡ Some end →
+      IsPacket (packets.Connect
+      (record { client = c.keeper.client; clean = false; keep_alive = 0 })) →
+      WorldStep w (with_client i (after_connecting end.name n port c)
+      (record w { group = d.after }))
   -- the node does not take it, because memory ran out, and then the client has none
-  is_turned_away : (n : ℕ) (port : Port) (now : ℕ) (d : Does w.group (Some (n, takes (Opened port now)))) (core : CoreState) → is_used n port w.clients ≡ false →
-      slice_get d.after.nodes n ≡ Some core → listed_at port core ≡ None → WorldStep w (record w { group = d.after })
+  is_turned_away : (n : ℕ) (port : Port) (now : ℕ)
+      (d : Does w.group (Some (n, takes (Opened port now)))) (core : CoreState) →
+      is_used n port w.clients ≡ false →
+      slice_get d.after.nodes n ≡ Some core → listed_at port core ≡ None →
+      WorldStep w (record w { group = d.after })
   -- a prefix of the bytes in transit reaches the node
-  comes_up : (i j : ℕ) (c : ClientPipes) (κ : Connection) (p : Pipe) (piece rest : List ℕ) (now : ℕ) (d : Does w.group (Some (p.node, takes (Bytes p.port piece now)))) →
+  comes_up : (i j : ℕ) (c : ClientPipes) (κ : Connection) (p : Pipe) (piece rest : List ℕ) (now : ℕ)
+      (d : Does w.group (Some (p.node, takes (Bytes p.port piece now)))) →
       HasPipe w i c j κ p → p.up ≡ piece ++ rest →
       WorldStep w (with_client i (with_pipe j (record p { up = rest }) c) (record w { group = d.after }))
   -- a node hands over what it queued
-  goes_down : (i j : ℕ) (c : ClientPipes) (κ : Connection) (p : Pipe) (d : Does w.group (Some (p.node, gives p.port))) → HasPipe w i c j κ p →
-      WorldStep w (with_client i (with_pipe j (record p { down = p.down ++ goes_down_in κ.name d.step }) c) (record w { group = d.after }))
+  goes_down : (i j : ℕ) (c : ClientPipes) (κ : Connection) (p : Pipe)
+      (d : Does w.group (Some (p.node, gives p.port))) → HasPipe w i c j κ p →
+      WorldStep w (with_client i
+      (with_pipe j (record p { down = p.down ++ goes_down_in κ.name d.step }) c)
+      (record w { group = d.after }))
   -- a prefix of the bytes in transit reaches the client
-  arrives : (i j : ℕ) (c : ClientPipes) (κ : Connection) (p : Pipe) (piece rest : List ℕ) → HasPipe w i c j κ p → p.down ≡ piece ++ rest →
-      WorldStep w (with_client i (with_pipe j (record p { down = rest; came = record p.came { held = p.came.held ++ piece } }) c) w)
+  arrives : (i j : ℕ) (c : ClientPipes) (κ : Connection) (p : Pipe) (piece rest : List ℕ) →
+      HasPipe w i c j κ p → p.down ≡ piece ++ rest →
+      WorldStep w (with_client i
+      (with_pipe j
+      (record p { down = rest; came = record p.came { held = p.came.held ++ piece } }) c) w)
   -- a client handles the next packet that came whole on the connection that it holds
-  handles : (i : ℕ) (c : ClientPipes) (κ : Connection) (others : List Connection) (p : Pipe) (pipes : List Pipe) (packet : Packet) (left : Stream) →
-      slice_get w.clients i ≡ Some c → c.connections ≡ κ ∷ others → c.pipes ≡ p ∷ pipes → c.keeper.is_open ≡ true → Takes p.came (Ok (Some packet)) left →
-      CanBeSpelled c.connections ((handled packet (record { keeper = c.keeper; connection = κ })).connection ∷ others) →
-      WorldStep w (with_client i (after_packet others pipes p left (handled packet (record { keeper = c.keeper; connection = κ })) c) w)
+  handles : (i : ℕ) (c : ClientPipes) (κ : Connection) (others : List Connection) (p : Pipe)
+      (pipes : List Pipe) (packet : Packet) (left : Stream) →
+      slice_get w.clients i ≡ Some c → c.connections ≡ κ ∷ others → c.pipes ≡ p ∷ pipes →
+      c.keeper.is_open ≡ true → Takes p.came (Ok (Some packet)) left →
+      CanBeSpelled c.connections
+      ((handled packet (record { keeper = c.keeper; connection = κ })).connection ∷ others) →
+      WorldStep w (with_client i
+      (after_packet others pipes p left
+      (handled packet (record { keeper = c.keeper; connection = κ })) c) w)
 
 -- the worlds that are reached with this many nodes, a configuration at first, and these clients
 pub data Reached (nodes : ℕ) (config : Config) (cs : List Client) : World → Type 0 where

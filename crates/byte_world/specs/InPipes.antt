@@ -33,10 +33,14 @@ pub record IsInOrder (agreed : List Command) (κ : Connection) (p : Pipe) : Type
 
 -- the same holds for each connection of each client, by the list on which the nodes agree at the
 -- end of the group's steps on the way to the world
-pub record PipesAreInOrder {nodes : ℕ} {config : Config} {cs : List Client} {w : World} (trail : Reached nodes config cs w) : Type 0 where
+pub record PipesAreInOrder {nodes : ℕ} {config : Config} {cs : List Client} {w : World}
+    (trail : Reached nodes config cs w) : Type 0 where
   pub of : HasPast config w.group (groups_of (went_of trail)) (all_put (went_of trail))
-  pub each : (agreed : List Command) → IsAgreed config (moment_of w.group ∷ of.earlier) agreed → (i : ℕ) (c : ClientPipes) (j : ℕ) (κ : Connection) (p : Pipe) →
+  pub each : (agreed : List Command) → IsAgreed config (moment_of w.group ∷ of.earlier) agreed →
+      (i : ℕ) (c : ClientPipes) (j : ℕ) (κ : Connection) (p : Pipe) →
       HasPipe w i c j κ p → IsInOrder agreed κ p
 
 abbrev pub PipesCarryInOrder : Type 0
-PipesCarryInOrder = (nodes : ℕ) (config : Config) (cs : List Client) (w : World) (trail : Reached nodes config cs w) → PipesAreInOrder trail
+PipesCarryInOrder =
+    (nodes : ℕ) (config : Config) (cs : List Client) (w : World)
+    (trail : Reached nodes config cs w) → PipesAreInOrder trail

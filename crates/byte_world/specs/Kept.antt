@@ -23,15 +23,21 @@ NoneIsClean list = (x : ConnectionName) (c : Client) (clean : Bool) → In (comm
 
 -- the same holds for each list that is agreed at the end of the group's steps on the way to the
 -- world
-pub record AsksForNoneClean {nodes : ℕ} {config : Config} {cs : List Client} {w : World} (trail : Reached nodes config cs w) : Type 0 where
+pub record AsksForNoneClean {nodes : ℕ} {config : Config} {cs : List Client} {w : World}
+    (trail : Reached nodes config cs w) : Type 0 where
   pub of : HasPast config w.group (groups_of (went_of trail)) (all_put (went_of trail))
-  pub none : (agreed : List Command) → IsAgreed config (moment_of w.group ∷ of.earlier) agreed → NoneIsClean agreed
+  pub none : (agreed : List Command) → IsAgreed config (moment_of w.group ∷ of.earlier) agreed →
+      NoneIsClean agreed
 
 abbrev pub NoConnectIsClean : Type 0
-NoConnectIsClean = (nodes : ℕ) (config : Config) (cs : List Client) (w : World) (trail : Reached nodes config cs w) → AsksForNoneClean trail
+NoConnectIsClean =
+    (nodes : ℕ) (config : Config) (cs : List Client) (w : World)
+    (trail : Reached nodes config cs w) → AsksForNoneClean trail
 
 -- if no Connect of a list asks for a clean session, no session that a client has after any prefix
 -- of the list is clean
 abbrev pub NoSessionIsClean : Type 0
-NoSessionIsClean = (list : List Command) → NoneIsClean list → (front : List Command) → IsPrefixOf front list → (c : Client) (clean : Bool) →
+NoSessionIsClean =
+    (list : List Command) → NoneIsClean list → (front : List Command) → IsPrefixOf front list →
+    (c : Client) (clean : Bool) →
     session_of (past_of usual_limits front) c ≡ Some clean → clean ≡ false

@@ -21,34 +21,45 @@ use Rattle.byte_world.specs.Goes.{CarriesItsBytes, Does}
 abbrev pub NodeCallWasSent : Group → ℕ → CoreState → NodeCall → Type 0
 NodeCallWasSent g n core (takes (Peer message)) = In (n + 1, message) g.sent
 NodeCallWasSent g n core (takes Cut) =
-    can_cut (replica_of core) ≡ true → rules.thawed (rules.frozen (replica_of core).machine) ≡ Some (replica_of core).machine
+    can_cut (replica_of core) ≡ true →
+    rules.thawed (rules.frozen (replica_of core).machine) ≡ Some (replica_of core).machine
 NodeCallWasSent g n core _ = Unit {0}
 
 -- the record of places after a call: a cut adds what the log that is cut has applied
 abbrev pub recorded_after : List Command → CoreState → NodeCall → List Command
-recorded_after archive core (takes Cut) = if can_cut (replica_of core) then recorded archive (replica_of core) else archive
+recorded_after archive core (takes Cut) =
+    if can_cut (replica_of core) then recorded archive (replica_of core) else archive
 recorded_after archive core _ = archive
 
 -- moves in which a node's replica first receives what was sent, just the bytes of the call are
 -- carried, and just a cut is recorded
-pub record RunsAs (g : Group) (n : ℕ) (node_call : NodeCall) (core : CoreState) (turn : Turn) : Type 0 where
+pub record RunsAs (g : Group) (n : ℕ) (node_call : NodeCall) (core : CoreState)
+    (turn : Turn) : Type 0 where
   pub run : Runs core turn
   pub first : HearsAtFirst run
   pub sent : AllWasSent g n run
   pub bytes : CarriesItsBytes node_call run
-  pub records : (archive : List Command) → recorded_in archive run ≡ recorded_after archive core node_call
+  pub records : (archive : List Command) →
+      recorded_in archive run ≡ recorded_after archive core node_call
 
 -- each call of a node, in any state of the node, has such moves
 abbrev pub NodeCallsCarryTheirBytes : Type 0
-NodeCallsCarryTheirBytes = (g : Group) (n : ℕ) (node_call : NodeCall) (core : CoreState) → NodeCallWasSent g n core node_call → RunsAs g n node_call core (done node_call core)
+NodeCallsCarryTheirBytes =
+    (g : Group) (n : ℕ) (node_call : NodeCall) (core : CoreState) →
+    NodeCallWasSent g n core node_call → RunsAs g n node_call core (done node_call core)
 
 -- a step of a group with this call of a node, after which the node is as its own turn leaves it,
 -- and the record as the call leaves it; the only other change are the outputs of the node
 pub record DoesNodeCall (g : Group) (n : ℕ) (node_call : NodeCall) (core : CoreState) : Type 0 where
   pub does : Does g (Some (n, node_call))
   pub given : List (Effect Command Output)
-  pub is : does.after ≡ after_turn (with_record g (recorded_after g.archive core node_call)) n (done node_call core) given
+  pub is : does.after
+      ≡ after_turn (with_record g (recorded_after g.archive core node_call)) n
+      (done node_call core) given
 
 -- in any group, a node can do each call
 abbrev pub GroupsDoEachNodeCall : Type 0
-GroupsDoEachNodeCall = (g : Group) (n : ℕ) (node_call : NodeCall) (core : CoreState) → slice_get g.nodes n ≡ Some core → NodeCallWasSent g n core node_call → DoesNodeCall g n node_call core
+GroupsDoEachNodeCall =
+    (g : Group) (n : ℕ) (node_call : NodeCall) (core : CoreState) →
+    slice_get g.nodes n ≡ Some core → NodeCallWasSent g n core node_call →
+    DoesNodeCall g n node_call core

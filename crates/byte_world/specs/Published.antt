@@ -38,7 +38,8 @@ published_in (arrives i j c κ p piece rest pipe is) = []
 published_in (handles i c κ others p pipes packet left at first piped is_open cut spelled) = []
 
 -- all that clients published on this way to a world, the oldest first
-abbrev pub published_on : {nodes : ℕ} {config : Config} {cs : List Client} {w : World} → Reached nodes config cs w → List (ℕ × Publication)
+abbrev pub published_on : {nodes : ℕ} {config : Config} {cs : List Client} {w : World} →
+    Reached nodes config cs w → List (ℕ × Publication)
 published_on (begins can) = []
 published_on (goes_on before step) = published_on before ++ published_in step
 

@@ -41,7 +41,8 @@ opening nodes config cs = record { group = opening_group nodes config; clients =
 -- ---- places
 
 -- the j-th connection of the i-th client, and its pipe
-pub record HasPipe (w : World) (i : ℕ) (c : ClientPipes) (j : ℕ) (κ : Connection) (p : Pipe) : Type 0 where
+pub record HasPipe (w : World) (i : ℕ) (c : ClientPipes) (j : ℕ) (κ : Connection)
+    (p : Pipe) : Type 0 where
   pub client : slice_get w.clients i ≡ Some c
   pub connection : slice_get c.connections j ≡ Some κ
   pub pipe : slice_get c.pipes j ≡ Some p
@@ -78,4 +79,8 @@ sent_up packets [] = []
 -- transit
 abbrev pub after_writing : Keeper → List Connection → ClientPipes → ClientPipes
 after_writing keeper connections c =
-    record { keeper = keeper; connections = connections; pipes = sent_up (newly_written c.connections connections) c.pipes }
+    record {
+      keeper = keeper;
+      connections = connections;
+      pipes = sent_up (newly_written c.connections connections) c.pipes;
+    }

@@ -37,16 +37,28 @@ pub record PutsOutFirst (port : Port) (front : List ℕ) (core : CoreState) : Ty
 -- if the first output of a message is a packet for an open connection with nothing to hand over, it
 -- is sent first, whatever comes after it
 abbrev pub AnswerIsPutOut : Type 0
-AnswerIsPutOut = (core : CoreState) (message : Message Command) (port : Port) (x : ConnectionName) (c : Connection) (place : ℕ) (packet : Packet) (others : List Output)
-    (more : List (Effect Command Output)) → core.replica.state.stopped ≡ false → listed_at port core ≡ Some c → find (is_open_named x) core.connections ≡ Some c →
-    c.pending ≡ [] → (heard_by core message).effects ≡ map (Out place) (Send x packet ∷ others) ++ more → 0 < length (spelling packet) →
-    length (spelling packet) ≤ most_pending → PutsOutFirst port (spelling packet) (node_step (Peer message) core).core
+AnswerIsPutOut =
+    (core : CoreState) (message : Message Command) (port : Port) (x : ConnectionName)
+    (c : Connection) (place : ℕ) (packet : Packet) (others : List Output)
+    (more : List (Effect Command Output)) → core.replica.state.stopped ≡ false →
+    listed_at port core ≡ Some c → find (is_open_named x) core.connections ≡ Some c →
+    c.pending ≡ [] →
+    (heard_by core message).effects ≡ map (Out place) (Send x packet ∷ others) ++ more →
+    0 < length (spelling packet) →
+    length (spelling packet) ≤ most_pending →
+    PutsOutFirst port (spelling packet) (node_step (Peer message) core).core
 
 -- the same if a sole member reads the CONNECT, and its proposal is answered at once
 abbrev pub AnswerAloneIsPutOut : Type 0
-AnswerAloneIsPutOut = (core : CoreState) (port : Port) (now : ℕ) (piece : List ℕ) (c : Connection) (connect : Connect) (place : ℕ) (packet : Packet)
-    (others : List Output) (more : List (Effect Command Output)) → has_room core ≡ true → open_at port core ≡ Some c → listed_at port core ≡ Some c →
-    find (is_open_named c.name) core.connections ≡ Some c → is_first c.stage ≡ true → c.unread ≡ [] → c.pending ≡ [] →
+AnswerAloneIsPutOut =
+    (core : CoreState) (port : Port) (now : ℕ) (piece : List ℕ) (c : Connection) (connect : Connect)
+    (place : ℕ) (packet : Packet)
+    (others : List Output) (more : List (Effect Command Output)) → has_room core ≡ true →
+    open_at port core ≡ Some c → listed_at port core ≡ Some c →
+    find (is_open_named c.name) core.connections ≡ Some c → is_first c.stage ≡ true →
+    c.unread ≡ [] → c.pending ≡ [] →
     verdict piece ≡ Ok (packets.Connect connect, []) →
-    (proposal_at core (commands.Connect c.name connect.client connect.clean)).effects ≡ map (Out place) (Send c.name packet ∷ others) ++ more →
-    0 < length (spelling packet) → length (spelling packet) ≤ most_pending → PutsOutFirst port (spelling packet) (node_step (Bytes port piece now) core).core
+    (proposal_at core (commands.Connect c.name connect.client connect.clean)).effects
+    ≡ map (Out place) (Send c.name packet ∷ others) ++ more →
+    0 < length (spelling packet) → length (spelling packet) ≤ most_pending →
+    PutsOutFirst port (spelling packet) (node_step (Bytes port piece now) core).core

@@ -23,7 +23,8 @@ use Rattle.escaping.specs.Delivery.{IsCalm}
 
 -- the connection whose CONNECT became whole at this time
 abbrev pub asked_now : ℕ → ℕ → Connection → Connection
-asked_now now keep_alive c = record c { stage = Proposed; keep_alive = keep_alive; last_packet = now; unread = [] }
+asked_now now keep_alive c =
+    record c { stage = Proposed; keep_alive = keep_alive; last_packet = now; unread = [] }
 
 -- what a proposal does to the node's replica
 abbrev pub proposal_at : CoreState → Command → Outcome State Command Output
@@ -34,16 +35,21 @@ abbrev pub with_asked : ℕ → Port → Connect → Command → CoreState → C
 with_asked now port connect command core =
     record core {
       replica = record core.replica { state = (proposal_at core command).state };
-      connections = filter is_listed (changed (is_open_at port) (asked_now now connect.keep_alive) core.connections);
+      connections = filter is_listed
+          (changed (is_open_at port) (asked_now now connect.keep_alive) core.connections);
     }
 
 -- bytes that are a CONNECT, on a connection that awaits one, at a node whose log has room, are
 -- proposed under the connection's name
 abbrev pub ConnectIsProposed : Type 0
-ConnectIsProposed = (core : CoreState) (port : Port) (now : ℕ) (piece : List ℕ) (c : Connection) (connect : Connect) → has_room core ≡ true → IsCalm core →
-    open_at port core ≡ Some c → is_first c.stage ≡ true → c.unread ≡ [] → verdict piece ≡ Ok (packets.Connect connect, []) →
+ConnectIsProposed =
+    (core : CoreState) (port : Port) (now : ℕ) (piece : List ℕ) (c : Connection)
+    (connect : Connect) → has_room core ≡ true → IsCalm core →
+    open_at port core ≡ Some c → is_first c.stage ≡ true → c.unread ≡ [] →
+    verdict piece ≡ Ok (packets.Connect connect, []) →
     outputs (proposal_at core (commands.Connect c.name connect.client connect.clean)).effects ≡ [] →
     node_step (Bytes port piece now) core ≡ record {
-      core = with_asked now port connect (commands.Connect c.name connect.client connect.clean) core;
+      core = with_asked now port connect
+          (commands.Connect c.name connect.client connect.clean) core;
       messages = (proposal_at core (commands.Connect c.name connect.client connect.clean)).effects;
     }

@@ -26,7 +26,8 @@ IsCalm core = Each (λ (c : Connection). has_failed c ≡ false) core.connection
 
 -- this turn does to the node's replica what the outcome says, sends just its messages, and gives no
 -- name
-pub record IsDelivery (core : CoreState) (o : Outcome State Command Output) (turn : Turn) : Type 0 where
+pub record IsDelivery (core : CoreState) (o : Outcome State Command Output)
+    (turn : Turn) : Type 0 where
   pub replica : turn.core.replica ≡ record core.replica { state = o.state }
   pub last_name : turn.core.last_name ≡ core.last_name
   pub messages : turn.messages ≡ o.effects
@@ -35,5 +36,8 @@ pub record IsDelivery (core : CoreState) (o : Outcome State Command Output) (tur
 -- the same holds for the step on a message, if the replica runs and has no output, and the node is
 -- calm or is no active primary afterwards
 abbrev pub AStepIsADelivery : Type 0
-AStepIsADelivery = (core : CoreState) (message : Message Command) → core.replica.state.stopped ≡ false → outputs (heard_by core message).effects ≡ [] →
-    IsCalm core ⊎ (is_active (heard_by core message).state.role ≡ false) → IsDelivery core (heard_by core message) (node_step (Peer message) core)
+AStepIsADelivery =
+    (core : CoreState) (message : Message Command) → core.replica.state.stopped ≡ false →
+    outputs (heard_by core message).effects ≡ [] →
+    IsCalm core ⊎ (is_active (heard_by core message).state.role ≡ false) →
+    IsDelivery core (heard_by core message) (node_step (Peer message) core)

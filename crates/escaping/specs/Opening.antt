@@ -25,5 +25,8 @@ with_first port core =
 -- a node that serves clients, is calm and gave no name in its ballot opens a connection at a port
 -- of which it lists none, under that name
 abbrev pub FirstIsOpened : Type 0
-FirstIsOpened = (core : CoreState) (port : Port) (now : ℕ) → serves core ≡ true → IsCalm core → core.last_name.ballot < core.replica.state.joined →
-    core.replica.state.joined ≤ 2 ^ 32 → list_any (is_at port) core.connections ≡ false → node_step (Opened port now) core ≡ quiet (with_first port core)
+FirstIsOpened =
+    (core : CoreState) (port : Port) (now : ℕ) → serves core ≡ true → IsCalm core →
+    core.last_name.ballot < core.replica.state.joined →
+    core.replica.state.joined ≤ 2 ^ 32 → list_any (is_at port) core.connections ≡ false →
+    node_step (Opened port now) core ≡ quiet (with_first port core)

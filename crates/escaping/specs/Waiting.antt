@@ -30,13 +30,18 @@ pub record AwaitsAnswer (port : Port) (x : ConnectionName) (core : CoreState) : 
 -- it stays so when a calm node that keeps leading takes a message for which its replica has no
 -- output
 abbrev pub MessagesKeepItWaiting : Type 0
-MessagesKeepItWaiting = (port : Port) (x : ConnectionName) (core : CoreState) (message : Message Command) → AwaitsAnswer port x core → IsCalm core →
+MessagesKeepItWaiting =
+    (port : Port) (x : ConnectionName) (core : CoreState) (message : Message Command) →
+    AwaitsAnswer port x core → IsCalm core →
     core.replica.state.stopped ≡ false → outputs (heard_by core message).effects ≡ [] → is_active (heard_by core message).state.role ≡ true →
-    (heard_by core message).state.stopped ≡ false → AwaitsAnswer port x (node_step (Peer message) core).core
+    (heard_by core message).state.stopped ≡ false →
+    AwaitsAnswer port x (node_step (Peer message) core).core
 
 -- and when bytes are handed over, at whichever port
 abbrev pub HandingKeepsItWaiting : Type 0
-HandingKeepsItWaiting = (port other : Port) (x : ConnectionName) (core : CoreState) → AwaitsAnswer port x core → AwaitsAnswer port x (hands_over other core)
+HandingKeepsItWaiting =
+    (port other : Port) (x : ConnectionName) (core : CoreState) → AwaitsAnswer port x core →
+    AwaitsAnswer port x (hands_over other core)
 
 -- a connection of this name at this port is open, its CONNECT has not arrived, and nothing was
 -- queued for it
@@ -50,14 +55,20 @@ pub record AwaitsConnect (port : Port) (x : ConnectionName) (core : CoreState) :
 -- the same holds for the first connection of a ballot, at a port for which the node lists none, if
 -- no open connection has its name
 abbrev pub FirstAwaitsConnect : Type 0
-FirstAwaitsConnect = (port : Port) (core : CoreState) → list_any (is_at port) core.connections ≡ false →
-    find (is_open_named (first_name core)) core.connections ≡ None → AwaitsConnect port (first_name core) (with_first port core)
+FirstAwaitsConnect =
+    (port : Port) (core : CoreState) → list_any (is_at port) core.connections ≡ false →
+    find (is_open_named (first_name core)) core.connections ≡ None →
+    AwaitsConnect port (first_name core) (with_first port core)
 
 -- it stays so when bytes are handed over, at whichever port
 abbrev pub HandingKeepsTheConnect : Type 0
-HandingKeepsTheConnect = (port other : Port) (x : ConnectionName) (core : CoreState) → AwaitsConnect port x core → AwaitsConnect port x (hands_over other core)
+HandingKeepsTheConnect =
+    (port other : Port) (x : ConnectionName) (core : CoreState) → AwaitsConnect port x core →
+    AwaitsConnect port x (hands_over other core)
 
 -- and when its CONNECT is proposed it waits for the answer
 abbrev pub AskedAwaitsAnswer : Type 0
-AskedAwaitsAnswer = (port : Port) (x : ConnectionName) (core : CoreState) (now : ℕ) (connect : Connect) (command : Command) → AwaitsConnect port x core →
+AskedAwaitsAnswer =
+    (port : Port) (x : ConnectionName) (core : CoreState) (now : ℕ) (connect : Connect)
+    (command : Command) → AwaitsConnect port x core →
     AwaitsAnswer port x (with_asked now port connect command core)

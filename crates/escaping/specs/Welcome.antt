@@ -21,12 +21,16 @@ IsSentTo x (Close y) = ⊥
 
 -- after these commands and the start of a ballot a Connect is answered with CONNACK 0 and session
 -- present, and then only with packets
-pub record IsWelcomedBack (list : List Command) (ballot : ℕ) (x : ConnectionName) (c : Client) : Type 0 where
+pub record IsWelcomedBack (list : List Command) (ballot : ℕ) (x : ConnectionName)
+    (c : Client) : Type 0 where
   pub rest : List Output
-  pub gives : rules.gives (replay rules (list ++ commands.Start ballot ∷ [])) (commands.Connect x c false) ≡ welcome x true ∷ rest
+  pub gives : rules.gives (replay rules (list ++ commands.Start ballot ∷ []))
+      (commands.Connect x c false) ≡ welcome x true ∷ rest
   pub sent : Each (IsSentTo x) rest
 
 -- this holds for each client whose session exists and is not clean
 abbrev pub KeptSessionsAreWelcomed : Type 0
-KeptSessionsAreWelcomed = (list : List Command) (ballot : ℕ) (x : ConnectionName) (c : Client) → session_of (past_of usual_limits list) c ≡ Some false →
+KeptSessionsAreWelcomed =
+    (list : List Command) (ballot : ℕ) (x : ConnectionName) (c : Client) →
+    session_of (past_of usual_limits list) c ≡ Some false →
     IsWelcomedBack list ballot x c

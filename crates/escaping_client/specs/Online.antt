@@ -18,6 +18,9 @@ pub record IsServed (core : Core) : Type 0 where
 -- bytes that are such a CONNACK, on a connection that was opened and on which nothing came yet, are
 -- taken unless memory runs out
 abbrev pub ConnackServes : Type 0
-ConnackServes = (piece : List ℕ) (old new : Core) (result : Result (Unit {0}) ClientError) → verdict piece ≡ Ok (packets.Connack (connacks.Accepted true), []) →
-    old.state.stage ≡ stages.Opened → old.unread ≡ nothing_read → (result ≡ Err errors.Memory → ⊥) → OnBytes piece old.state.stage old result new →
+ConnackServes =
+    (piece : List ℕ) (old new : Core) (result : Result (Unit {0}) ClientError) →
+    verdict piece ≡ Ok (packets.Connack (connacks.Accepted true), []) →
+    old.state.stage ≡ stages.Opened → old.unread ≡ nothing_read → (result ≡ Err errors.Memory → ⊥) →
+    OnBytes piece old.state.stage old result new →
     (result ≡ Ok tt) × IsServed new

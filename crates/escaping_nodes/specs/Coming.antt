@@ -21,12 +21,15 @@ use Rattle.escaping.specs.Delivery.{IsCalm}
 -- between nodes hand over bytes
 pub data Come : NodesState → List ℕ → NodesState → Type 0 where
   all_came : {n : NodesState} → Come n [] n
-  to_node : {n new : NodesState} {ks : List ℕ} (k at : ℕ) (node : CountedCore) (message : Message Command) → slice_get n.sent k ≡ Some (at + 1, message) →
+  to_node : {n new : NodesState} {ks : List ℕ} (k at : ℕ) (node : CountedCore)
+      (message : Message Command) → slice_get n.sent k ≡ Some (at + 1, message) →
       slice_get n.nodes at ≡ Some node → node.core.replica.state.stopped ≡ false → Come (after_node_call at node (takes (Peer message)) n) ks new →
       Come n (k ∷ ks) new
-  to_master : {n new : NodesState} {ks : List ℕ} (k from ballot : ℕ) → slice_get n.sent k ≡ Some (0, record { from = from; body = Activate ballot }) →
+  to_master : {n new : NodesState} {ks : List ℕ} (k from ballot : ℕ) →
+      slice_get n.sent k ≡ Some (0, record { from = from; body = Activate ballot }) →
       Come (after_answer from ballot n) ks new → Come n (k ∷ ks) new
-  hands : {n new : NodesState} {ks : List ℕ} (at : ℕ) (node : CountedCore) (port : Port) → slice_get n.nodes at ≡ Some node →
+  hands : {n new : NodesState} {ks : List ℕ} (at : ℕ) (node : CountedCore) (port : Port) →
+      slice_get n.nodes at ≡ Some node →
       Come (after_node_call at node (gives port) n) ks new → Come n ks new
 
 -- the master, the replicas, the messages and the record of the nodes are those of the moment
@@ -44,14 +47,18 @@ AreCalm ballot n =
 -- no node has given a name in between
 abbrev pub KeepNames : NodesState → NodesState → Type 0
 KeepNames n new =
-    (at : ℕ) (node later : CountedCore) → slice_get n.nodes at ≡ Some node → slice_get new.nodes at ≡ Some later → later.core.last_name ≡ node.core.last_name
+    (at : ℕ) (node later : CountedCore) → slice_get n.nodes at ≡ Some node →
+    slice_get new.nodes at ≡ Some later → later.core.last_name ≡ node.core.last_name
 
 -- then nodes to which the messages come that are delivered in the model are seen as it says
-pub record AreFollowed (ballot : ℕ) (b : Moment State Command Output) (n new : NodesState) : Type 0 where
+pub record AreFollowed (ballot : ℕ) (b : Moment State Command Output)
+    (n new : NodesState) : Type 0 where
   pub seen : IsSeen b new
   pub calm : AreCalm ballot new
   pub names : KeepNames n new
 
 abbrev pub DeliveriesAreFollowed : Type 0
-DeliveriesAreFollowed = (ballot : ℕ) (a b : Moment State Command Output) (ks : List ℕ) → Delivered rules ballot a ks b → (n new : NodesState) → Come n ks new →
+DeliveriesAreFollowed =
+    (ballot : ℕ) (a b : Moment State Command Output) (ks : List ℕ) → Delivered rules ballot a ks b →
+    (n new : NodesState) → Come n ks new →
     IsSeen a n → AreCalm ballot n → AreFollowed ballot b n new

@@ -15,7 +15,8 @@ use Rattle.escaping_nodes.specs.Coming.{AreCalm, Come, IsSeen, KeepNames}
 
 -- the moment to which the way out leads is seen then, each node is calm or has not joined the new
 -- ballot, and none has given a name
-pub record AreLedOut (config : Config) (past : List (Moment State Command Output)) (a : Moment State Command Output) (new : Config) (place : ℕ)
+pub record AreLedOut (config : Config) (past : List (Moment State Command Output))
+    (a : Moment State Command Output) (new : Config) (place : ℕ)
     (log : List Command) (n end : NodesState) : Type 0 where
   pub way : LeadsOut rules config past a new place log
   pub seen : IsSeen way.last end
@@ -25,6 +26,9 @@ pub record AreLedOut (config : Config) (past : List (Moment State Command Output
 -- whatever the history of nodes that may be led to a new ballot, whichever logs they cut, and
 -- whatever connections they keep
 abbrev pub NodesAreLedOut : Type 0
-NodesAreLedOut = (config : Config) (a : Moment State Command Output) (past : List (Moment State Command Output)) → Past rules config (a ∷ past) →
-    (new : Config) (place source : ℕ) (log : List Command) → CanBeLed (whole_moment a) new place source log → (n end : NodesState) → IsSeen a n →
+NodesAreLedOut =
+    (config : Config) (a : Moment State Command Output)
+    (past : List (Moment State Command Output)) → Past rules config (a ∷ past) →
+    (new : Config) (place source : ℕ) (log : List Command) →
+    CanBeLed (whole_moment a) new place source log → (n end : NodesState) → IsSeen a n →
     Come (after_giving new n) (way_out (length n.sent) (length n.master.members) place (length new.members - 1)) end → AreLedOut config (a ∷ past) a new place log n end

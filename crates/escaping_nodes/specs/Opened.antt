@@ -29,34 +29,42 @@ first_of ballot = record { ballot = ballot; count = 1 }
 
 -- the node at a place leads a ballot in which it gave no name yet, and lists no connection at this
 -- port
-pub record CanOpen (a : Moment State Command Output) (n : NodesState) (ballot place : ℕ) (node : CountedCore) (others_of : List ℕ) (log : List Command)
+pub record CanOpen (a : Moment State Command Output) (n : NodesState) (ballot place : ℕ)
+    (node : CountedCore) (others_of : List ℕ) (log : List Command)
     (port : Port) : Type 0 where
   pub seen : IsSeen a n
   pub calm : AreCalm ballot n
   pub stands : slice_get n.nodes place ≡ Some node
-  pub serves : Serves ballot log others_of (place + 1) (whole a.world.archive (replica_of node.core))
+  pub serves : Serves ballot log others_of (place + 1)
+      (whole a.world.archive (replica_of node.core))
   pub low : node.core.last_name.ballot < ballot
   pub most : ballot ≤ 2 ^ 32
   pub free : list_any (is_at port) node.core.connections ≡ false
   pub unnamed : find (is_open_named (first_of ballot)) node.core.connections ≡ None
 
 -- it leads the ballot still, and a connection of the first name awaits its CONNECT at this port
-pub record IsOpened (a : Moment State Command Output) (n : NodesState) (ballot place : ℕ) (others_of : List ℕ) (log : List Command) (port : Port) : Type 0 where
+pub record IsOpened (a : Moment State Command Output) (n : NodesState) (ballot place : ℕ)
+    (others_of : List ℕ) (log : List Command) (port : Port) : Type 0 where
   pub seen : IsSeen a n
   pub calm : AreCalm ballot n
   pub node : CountedCore
   pub stands : slice_get n.nodes place ≡ Some node
-  pub serves : Serves ballot log others_of (place + 1) (whole a.world.archive (replica_of node.core))
+  pub serves : Serves ballot log others_of (place + 1)
+      (whole a.world.archive (replica_of node.core))
   pub awaits : AwaitsConnect port (first_of ballot) node.core
 
 -- that holds once the connection was opened, whatever bytes are handed over then
 abbrev pub ConnectionsOpenFirst : Type 0
-ConnectionsOpenFirst = (a : Moment State Command Output) (n new : NodesState) (ballot place : ℕ) (node : CountedCore) (others_of : List ℕ) (log : List Command)
-    (port : Port) (now : ℕ) → CanOpen a n ballot place node others_of log port → Come (after_node_call place node (takes (Opened port now)) n) [] new →
+ConnectionsOpenFirst =
+    (a : Moment State Command Output) (n new : NodesState) (ballot place : ℕ) (node : CountedCore)
+    (others_of : List ℕ) (log : List Command)
+    (port : Port) (now : ℕ) → CanOpen a n ballot place node others_of log port →
+    Come (after_node_call place node (takes (Opened port now)) n) [] new →
     IsOpened a new ballot place others_of log port
 
 -- a client would be answered with session present after these commands exactly if it has a session
 -- that is not clean
 abbrev pub WelcomedAreKept : Type 0
 WelcomedAreKept = (client : Client) (list : List Command) → ((welcomes_back client list ≡ true) → (session_of (past_of usual_limits list) client ≡ Some false))
-    × ((session_of (past_of usual_limits list) client ≡ Some false) → (welcomes_back client list ≡ true))
+    × ((session_of (past_of usual_limits list) client ≡ Some false) →
+    (welcomes_back client list ≡ true))

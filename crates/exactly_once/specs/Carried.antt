@@ -15,7 +15,8 @@ use Rattle.exactly_once.specs.Sides.{Connection}
 use Rattle.exactly_once.specs.Story.{count_of}
 
 abbrev pub connection_named : ConnectionName → List Connection → Option Connection
-connection_named x (κ ∷ connections) = if same_connection x κ.name then Some κ else connection_named x connections
+connection_named x (κ ∷ connections) =
+    if same_connection x κ.name then Some κ else connection_named x connections
 connection_named x [] = None
 
 abbrev pub number_of : Option Written → Option ℕ
@@ -28,7 +29,8 @@ number_at j None = None
 
 -- the publication, if the command is a PUBLISH that the client wrote on one of its connections
 abbrev pub carries : List Connection → Command → Past → Option ℕ
-carries connections (commands.Packet x (packets.Publish p)) past = number_at (count_of x past) (connection_named x connections)
+carries connections (commands.Packet x (packets.Publish p)) past =
+    number_at (count_of x past) (connection_named x connections)
 carries connections _ past = None
 
 abbrev pub more_by : Bool → Option ℕ → List ℕ
@@ -64,5 +66,6 @@ publications_of = map publication_in
 
 -- the numbers of its QoS 2 publications, in the order of its calls
 abbrev pub published : List Own → List ℕ
-published (o ∷ own) = if is_two (publication_in o).qos then number_in o ∷ published own else published own
+published (o ∷ own) =
+    if is_two (publication_in o).qos then number_in o ∷ published own else published own
 published [] = []

@@ -33,5 +33,6 @@ next_of _ = None
 -- one
 abbrev pub RepeatsWereAccepted : Type 0 → Type 0
 RepeatsWereAccepted V =
-    (h : Handshake V) → Run (opening V) h → (id : ℕ) (v : V) → next_of h.link ≡ Some (Forward.Publish id v) →
+    (h : Handshake V) → Run (opening V) h → (id : ℕ) (v : V) →
+    next_of h.link ≡ Some (Forward.Publish id v) →
     h.received id ≡ true → In v h.accepted

@@ -37,14 +37,25 @@ reply (Backward.Pubcomp id) = []
 
 -- the receiver accepts
 abbrev pub accepting : {V : Type 0} → ℕ → V → Bool → Handshake V → Link V → Handshake V
-accepting id v true h l = record { items = h.items; accepted = h.accepted; received = h.received; link = l }
+accepting id v true h l =
+    record { items = h.items; accepted = h.accepted; received = h.received; link = l }
 accepting id v false h l =
-    record { items = h.items; accepted = h.accepted ++ v ∷ []; received = λ j. (j == id) || h.received j; link = l }
+    record {
+      items = h.items;
+      accepted = h.accepted ++ v ∷ [];
+      received = λ j. (j == id) || h.received j;
+      link = l;
+    }
 
 abbrev pub taking : {V : Type 0} → Forward V → Handshake V → Link V → Handshake V
 taking (Forward.Publish id v) h l = accepting id v (h.received id) h l
 taking (Forward.Pubrel id) h l =
-    record { items = h.items; accepted = h.accepted; received = λ j. not (j == id) && h.received j; link = l }
+    record {
+      items = h.items;
+      accepted = h.accepted;
+      received = λ j. not (j == id) && h.received j;
+      link = l;
+    }
 
 -- the sender receives an answer
 abbrev pub heard : {V : Type 0} → Backward → List (Item V) → List (Item V)
@@ -52,7 +63,8 @@ heard (Backward.Pubrec id) items = map (releasing id) items
 heard (Backward.Pubcomp id) items = map (finishing id) items
 
 abbrev pub with_items : {V : Type 0} → List (Item V) → Link V → Handshake V → Handshake V
-with_items items l h = record { items = items; accepted = h.accepted; received = h.received; link = l }
+with_items items l h =
+    record { items = items; accepted = h.accepted; received = h.received; link = l }
 
 -- what the sender sends on its connection, if the receiver may still take it
 abbrev pub sending : {V : Type 0} → Forward V → Link V → Link V
@@ -71,10 +83,13 @@ pub data Moves {V : Type 0} (h : Handshake V) : Handshake V → Type 0 where
   adds : (v : V) → Moves h (with_items (h.items ++ Item.Waits v ∷ []) h.link h)
   starts : (id : ℕ) (v : V) → has_id id (busy h.items) ≡ false → first_waiting h.items ≡ Some v →
       Moves h (with_items (start_first id h.items) (sending (Forward.Publish id v) h.link) h)
-  takes : (m : Forward V) (f : List (Forward V)) (b : List Backward) → h.link ≡ Link.Joined (m ∷ f) b →
+  takes : (m : Forward V) (f : List (Forward V)) (b : List Backward) →
+      h.link ≡ Link.Joined (m ∷ f) b →
       Moves h (taking m h (Link.Joined f (b ++ answer m ∷ [])))
-  takes_alone : (m : Forward V) (f : List (Forward V)) → h.link ≡ Link.Ahead (m ∷ f) → Moves h (taking m h (Link.Ahead f))
-  hears : (m : Backward) (f : List (Forward V)) (b : List Backward) → h.link ≡ Link.Joined f (m ∷ b) →
+  takes_alone : (m : Forward V) (f : List (Forward V)) → h.link ≡ Link.Ahead (m ∷ f) →
+      Moves h (taking m h (Link.Ahead f))
+  hears : (m : Backward) (f : List (Forward V)) (b : List Backward) →
+      h.link ≡ Link.Joined f (m ∷ b) →
       Moves h (with_items (heard m h.items) (Link.Joined (f ++ reply m) b) h)
   hears_alone : (m : Backward) (b : List Backward) → h.link ≡ Link.Behind (m ∷ b) →
       Moves h (with_items (heard m h.items) (Link.Behind b) h)

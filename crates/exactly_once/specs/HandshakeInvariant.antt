@@ -59,19 +59,22 @@ IsSent items row = In row (sent items)
 
 -- what comes to the receiver: some that it has already, each with the value that was first sent,
 -- and then exactly these
-pub record Comes {V : Type 0} (old : List (Item V)) (f : List (Forward V)) (next : List (ℕ × V)) : Type 0 where
+pub record Comes {V : Type 0} (old : List (Item V)) (f : List (Forward V))
+    (next : List (ℕ × V)) : Type 0 where
   pub again : List (ℕ × V)
   pub is : publishes f ≡ again ++ next
   pub known : Each (IsSent old) again
   pub meant : Each (IsMeant old) f
 
-pub record IsJoined {V : Type 0} (received : ℕ → Bool) (old new : List (Item V)) (f : List (Forward V)) (b : List Backward)
+pub record IsJoined {V : Type 0} (received : ℕ → Bool) (old new : List (Item V))
+    (f : List (Forward V)) (b : List Backward)
     : Type 0 where
   pub comes : Comes old f (sent new)
   pub due : Each (IsDue received old) b
   pub apart : IsDistinct (map forward_id f ++ map backward_id b)
 
-pub record IsBehind {V : Type 0} (received : ℕ → Bool) (old : List (Item V)) (b : List Backward) : Type 0 where
+pub record IsBehind {V : Type 0} (received : ℕ → Bool) (old : List (Item V))
+    (b : List Backward) : Type 0 where
   pub due : Each (IsDue received old) b
   pub apart : IsDistinct (map backward_id b)
 
@@ -87,7 +90,8 @@ IsLinked received old new (Link.Behind b) = IsBehind received old b
 IsLinked received old new (Link.Ahead f) = IsAhead old new f
 
 -- the two sides, apart from what is in transit
-pub record AreSides {V : Type 0} (items : List (Item V)) (accepted : List V) (received : ℕ → Bool) (old new : List (Item V))
+pub record AreSides {V : Type 0} (items : List (Item V)) (accepted : List V) (received : ℕ → Bool)
+    (old new : List (Item V))
     : Type 0 where
   pub is : items ≡ old ++ new
   pub accepted_is : accepted ≡ map value_of old

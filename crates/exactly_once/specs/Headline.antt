@@ -40,7 +40,8 @@ is_this k None = false
 -- how many of these entries come from places that carry publication k of the client
 abbrev pub made_by : List Connection → ℕ → Past → List Entry → ℕ
 made_by connections k (place ∷ below) entries =
-    (if is_this k (carries connections place.command below) then length (filter (is_from_publish (length below)) entries) else 0)
+    (if is_this k (carries connections place.command below)
+    then length (filter (is_from_publish (length below)) entries) else 0)
     + made_by connections k below entries
 made_by connections k [] entries = 0
 
@@ -53,8 +54,10 @@ pub record IsTakenAt (s : Story) (k : ℕ) (place : Place) (below : Past) : Type
 -- the publisher's publications
 pub record PublishedOnce (limits : Limits) (s : Story) : Type 0 where
   -- a place that carries one has its PUBLISH
-  pub carried : (place : Place) (below : Past) (x : ConnectionName) (p : Publish) (k : ℕ) → StandsAt s.past place below →
-      carries s.connections place.command below ≡ Some k → place.command ≡ commands.Packet x (packets.Publish p) →
+  pub carried : (place : Place) (below : Past) (x : ConnectionName) (p : Publish) (k : ℕ) →
+      StandsAt s.past place below →
+      carries s.connections place.command below ≡ Some k →
+      place.command ≡ commands.Packet x (packets.Publish p) →
       slice_get (publications_of (all_own s.keeper)) k ≡ Some (publication_of p)
   -- those at QoS 2 are new in the list in the order of the calls, each at most once
   pub in_order : IsPrefixOf (new_numbers s.connections s.past) (published s.keeper.own)
@@ -62,27 +65,37 @@ pub record PublishedOnce (limits : Limits) (s : Story) : Type 0 where
   pub taken : (k : ℕ) → In k (new_numbers s.connections s.past) →
       (place : Place) × (below : Past) × IsTakenAt s k place below
   -- one that was answered is new
-  pub answered : (place : Place) (below : Past) (x : ConnectionName) (id k : ℕ) → StandsAt s.past place below →
-      carries s.connections place.command below ≡ Some k → IsAnsweredBy limits place below x (packets.Pubrec id) →
+  pub answered : (place : Place) (below : Past) (x : ConnectionName) (id k : ℕ) →
+      StandsAt s.past place below →
+      carries s.connections place.command below ≡ Some k →
+      IsAnsweredBy limits place below x (packets.Pubrec id) →
       In k (new_numbers s.connections s.past)
   -- each enters each session at most once: at any time a session is looked at, it has at most one
   -- entry of all the places that carry the publication
-  pub enters_once : (later earlier : Past) (d : Client) (k : ℕ) → s.past ≡ later ++ earlier → In k (published (all_own s.keeper)) →
+  pub enters_once : (later earlier : Past) (d : Client) (k : ℕ) → s.past ≡ later ++ earlier →
+      In k (published (all_own s.keeper)) →
       made_by s.connections k s.past (entries_of limits earlier d) ≤ 1
   -- and if a publication is taken, at any QoS, it enters exactly the sessions with an effective QoS
   -- over 0, once
-  pub enters : (place : Place) (below : Past) (x : ConnectionName) (p : Publish) (d : Client) → StandsAt s.past place below →
-      place.command ≡ commands.Packet x (packets.Publish p) → place.mark ≡ Mark.Taken s.keeper.client →
+  pub enters : (place : Place) (below : Past) (x : ConnectionName) (p : Publish) (d : Client) →
+      StandsAt s.past place below →
+      place.command ≡ commands.Packet x (packets.Publish p) →
+      place.mark ≡ Mark.Taken s.keeper.client →
       length (filter (is_from_publish (length below)) (entries_of limits (place ∷ below) d))
       ≡ (if is_queued_at (effective_qos below d (publication_of p)) then 1 else 0)
   -- as it was published, at the effective QoS
-  pub enters_as : (place : Place) (below : Past) (x : ConnectionName) (p : Publish) (d : Client) → StandsAt s.past place below →
-      place.command ≡ commands.Packet x (packets.Publish p) → place.mark ≡ Mark.Taken s.keeper.client →
-      map publication_in (filter (is_from_publish (length below)) (entries_of limits (place ∷ below) d))
+  pub enters_as : (place : Place) (below : Past) (x : ConnectionName) (p : Publish) (d : Client) →
+      StandsAt s.past place below →
+      place.command ≡ commands.Packet x (packets.Publish p) →
+      place.mark ≡ Mark.Taken s.keeper.client →
+      map publication_in
+      (filter (is_from_publish (length below)) (entries_of limits (place ∷ below) d))
       ≡ queued_at (publication_of p) (effective_qos below d (publication_of p))
   -- one at QoS 1 that was answered is taken at the place that is answered
-  pub acknowledged : (place : Place) (below : Past) (x : ConnectionName) (id k : ℕ) → StandsAt s.past place below →
-      carries s.connections place.command below ≡ Some k → IsAnsweredBy limits place below x (packets.Puback id) →
+  pub acknowledged : (place : Place) (below : Past) (x : ConnectionName) (id k : ℕ) →
+      StandsAt s.past place below →
+      carries s.connections place.command below ≡ Some k →
+      IsAnsweredBy limits place below x (packets.Puback id) →
       IsTakenAt s k place below
 
 -- ---- the whole

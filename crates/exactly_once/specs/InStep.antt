@@ -20,12 +20,15 @@ sessions_begun [] c = 0
 
 -- the places at which they began, the oldest first
 abbrev pub starts_of : Past → Client → List ℕ
-starts_of (place ∷ past) c = starts_of past c ++ (if begins place past c then length past ∷ [] else [])
+starts_of (place ∷ past) c =
+    starts_of past c ++ (if begins place past c then length past ∷ [] else [])
 starts_of [] c = []
 
 -- the client has had at most one session, and once it began it lasts
 abbrev pub IsFirstSession : Past → Client → Type 0
-IsFirstSession past c = (starts_of past c ≡ []) ⊎ ((start : ℕ) × (starts_of past c ≡ start ∷ []) × (session_start past c ≡ Some start))
+IsFirstSession past c =
+    (starts_of past c ≡ [])
+    ⊎ ((start : ℕ) × (starts_of past c ≡ start ∷ []) × (session_start past c ≡ Some start))
 
 -- whether one began
 abbrev pub has_begun : Past → Client → Bool
@@ -40,7 +43,8 @@ opens_on x None = false
 -- whether a Connect on x began a session of the client that is not its first
 abbrev pub began_again : Past → Client → ConnectionName → Bool
 began_again (place ∷ past) c x =
-    (opens_on x (accepts place.command place.mark c) && (begins place past c && has_begun past c)) || began_again past c x
+    (opens_on x (accepts place.command place.mark c) && (begins place past c && has_begun past c))
+    || began_again past c x
 began_again [] c x = false
 
 -- whether this is the session that began at this place
@@ -51,20 +55,23 @@ is_at start None = false
 -- the session in which a connection of the client was accepted, by the place at which it began
 abbrev pub opened_in : Past → Client → ConnectionName → Option ℕ
 opened_in (place ∷ past) c x =
-    if opens_on x (accepts place.command place.mark c) then session_start (place ∷ past) c else opened_in past c x
+    if opens_on x (accepts place.command place.mark c) then session_start (place ∷ past) c
+    else opened_in past c x
 opened_in [] c x = None
 
 -- the entries of the client's session that began at this place: as they are, or as they were at its
 -- last place
 abbrev pub entries_in : Limits → Past → Client → ℕ → List Entry
 entries_in limits (place ∷ past) c start =
-    if is_at start (session_start (place ∷ past) c) then entries_of limits (place ∷ past) c else entries_in limits past c start
+    if is_at start (session_start (place ∷ past) c) then entries_of limits (place ∷ past) c
+    else entries_in limits past c start
 entries_in limits [] c start = []
 
 -- what the client accepted at QoS 2 on connections of that session, the oldest first
 abbrev pub accepted_in : Past → Client → ℕ → List Connection → List Publication
 accepted_in past c start (κ ∷ connections) =
-    accepted_in past c start connections ++ (if is_at start (opened_in past c κ.name) then κ.accepted else [])
+    accepted_in past c start connections
+    ++ (if is_at start (opened_in past c κ.name) then κ.accepted else [])
 accepted_in past c start [] = []
 
 -- ---- in step

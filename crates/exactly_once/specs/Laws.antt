@@ -34,7 +34,8 @@ AcceptsInOrder limits = (c : Client) (s : Story) → StoryTrace limits c s → A
 -- effective QoS of 1 or 2, once each
 abbrev pub StoriesEnter : Type 0
 StoriesEnter =
-    (limits : Limits) (s : Story) (place : Place) (below : Past) (x : ConnectionName) (p : Publish) (d : Client) →
+    (limits : Limits) (s : Story) (place : Place) (below : Past) (x : ConnectionName) (p : Publish)
+    (d : Client) →
     StandsAt s.past place below → place.command ≡ commands.Packet x (packets.Publish p) →
     place.mark ≡ Mark.Taken s.keeper.client →
     length (filter (is_from_publish (length below)) (entries_of limits (place ∷ below) d))

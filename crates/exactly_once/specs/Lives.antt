@@ -29,7 +29,8 @@ use Rattle.exactly_once.specs.InStep.{IsInStep, sessions_begun, starts_of, IsFir
 pub data Lived (limits : Limits) (c : Client) : Story → Type 0 where
   opens : Lived limits c (no_story c)
   goes_on : {s t : Story} → Lived limits c s → StoryStep limits s t → Lived limits c t
-  is_expelled : {s : Story} → Lived limits c s → Lived limits c (record s { past = place_of limits s.past (commands.Expel c) ∷ s.past })
+  is_expelled : {s : Story} → Lived limits c s →
+      Lived limits c (record s { past = place_of limits s.past (commands.Expel c) ∷ s.past })
 
 -- of each of its sessions, by the place at which it began, the client accepted a prefix of the QoS
 -- 2 entries, and each that is released is among them
@@ -48,8 +49,10 @@ IsRising [] = Unit {0}
 -- the publisher's publications, over all its sessions
 pub record PublishedOverSessions (limits : Limits) (s : Story) : Type 0 where
   -- a place that carries one has its PUBLISH
-  pub carried : (place : Place) (below : Past) (x : ConnectionName) (p : Publish) (k : ℕ) → StandsAt s.past place below →
-      carries s.connections place.command below ≡ Some k → place.command ≡ commands.Packet x (packets.Publish p) →
+  pub carried : (place : Place) (below : Past) (x : ConnectionName) (p : Publish) (k : ℕ) →
+      StandsAt s.past place below →
+      carries s.connections place.command below ≡ Some k →
+      place.command ≡ commands.Packet x (packets.Publish p) →
       slice_get (publications_of (all_own s.keeper)) k ≡ Some (publication_of p)
   -- those at QoS 2 are new in the list in the order of the calls, each at most once
   pub rises : IsRising (new_numbers s.connections s.past)
@@ -60,27 +63,37 @@ pub record PublishedOverSessions (limits : Limits) (s : Story) : Type 0 where
   pub taken : (k : ℕ) → In k (new_numbers s.connections s.past) →
       (place : Place) × (below : Past) × IsTakenAt s k place below
   -- one that was answered is new
-  pub answered : (place : Place) (below : Past) (x : ConnectionName) (id k : ℕ) → StandsAt s.past place below →
-      carries s.connections place.command below ≡ Some k → IsAnsweredBy limits place below x (packets.Pubrec id) →
+  pub answered : (place : Place) (below : Past) (x : ConnectionName) (id k : ℕ) →
+      StandsAt s.past place below →
+      carries s.connections place.command below ≡ Some k →
+      IsAnsweredBy limits place below x (packets.Pubrec id) →
       In k (new_numbers s.connections s.past)
   -- each enters each session at most once: at any time a session is looked at, it has at most one
   -- entry of all the places that carry the publication
   pub enters_once : (later earlier : Past) (d : Client) (k : ℕ) → s.past ≡ later ++ earlier →
-      In k (published (all_own s.keeper)) → made_by s.connections k s.past (entries_of limits earlier d) ≤ 1
+      In k (published (all_own s.keeper)) →
+      made_by s.connections k s.past (entries_of limits earlier d) ≤ 1
   -- and if a publication is taken, at any QoS, it enters exactly the sessions with an effective QoS
   -- over 0, once
-  pub enters : (place : Place) (below : Past) (x : ConnectionName) (p : Publish) (d : Client) → StandsAt s.past place below →
-      place.command ≡ commands.Packet x (packets.Publish p) → place.mark ≡ Mark.Taken s.keeper.client →
+  pub enters : (place : Place) (below : Past) (x : ConnectionName) (p : Publish) (d : Client) →
+      StandsAt s.past place below →
+      place.command ≡ commands.Packet x (packets.Publish p) →
+      place.mark ≡ Mark.Taken s.keeper.client →
       length (filter (is_from_publish (length below)) (entries_of limits (place ∷ below) d))
       ≡ (if is_queued_at (effective_qos below d (publication_of p)) then 1 else 0)
   -- as it was published, at the effective QoS
-  pub enters_as : (place : Place) (below : Past) (x : ConnectionName) (p : Publish) (d : Client) → StandsAt s.past place below →
-      place.command ≡ commands.Packet x (packets.Publish p) → place.mark ≡ Mark.Taken s.keeper.client →
-      map publication_in (filter (is_from_publish (length below)) (entries_of limits (place ∷ below) d))
+  pub enters_as : (place : Place) (below : Past) (x : ConnectionName) (p : Publish) (d : Client) →
+      StandsAt s.past place below →
+      place.command ≡ commands.Packet x (packets.Publish p) →
+      place.mark ≡ Mark.Taken s.keeper.client →
+      map publication_in
+      (filter (is_from_publish (length below)) (entries_of limits (place ∷ below) d))
       ≡ queued_at (publication_of p) (effective_qos below d (publication_of p))
   -- one at QoS 1 that was answered is taken at the place that is answered
-  pub acknowledged : (place : Place) (below : Past) (x : ConnectionName) (id k : ℕ) → StandsAt s.past place below →
-      carries s.connections place.command below ≡ Some k → IsAnsweredBy limits place below x (packets.Puback id) →
+  pub acknowledged : (place : Place) (below : Past) (x : ConnectionName) (id k : ℕ) →
+      StandsAt s.past place below →
+      carries s.connections place.command below ≡ Some k →
+      IsAnsweredBy limits place below x (packets.Puback id) →
       IsTakenAt s k place below
 
 -- ---- the whole
@@ -91,15 +104,19 @@ pub record ExactlyOnceOverSessions (limits : Limits) (s : Story) : Type 0 where
   pub subscribers : (start : ℕ) → AcceptedInSession limits s start
   -- all that it accepted, it accepted in its sessions, one after another
   pub in_turn : accepted_on s.connections
-      ≡ flat_map (λ start. accepted_in s.past s.keeper.client start s.connections) (starts_of s.past s.keeper.client)
+      ≡ flat_map (λ start. accepted_in s.past s.keeper.client start s.connections)
+      (starts_of s.past s.keeper.client)
 
 -- as long as it is in step
 abbrev pub LivesAreExact : Limits → Type 0
-LivesAreExact limits = (c : Client) (s : Story) → Lived limits c s → IsInStep s → ExactlyOnceOverSessions limits s
+LivesAreExact limits =
+    (c : Client) (s : Story) → Lived limits c s → IsInStep s → ExactlyOnceOverSessions limits s
 
 -- only the subscribers' part
 abbrev pub AcceptsInEachSession : Limits → Type 0
-AcceptsInEachSession limits = (c : Client) (s : Story) → Lived limits c s → IsInStep s → (start : ℕ) → AcceptedInSession limits s start
+AcceptsInEachSession limits =
+    (c : Client) (s : Story) → Lived limits c s → IsInStep s → (start : ℕ) →
+    AcceptedInSession limits s start
 
 -- ---- a client that was never expelled
 
@@ -113,4 +130,6 @@ pub record HasOneSession (s : Story) : Type 0 where
   pub in_step : IsInStep s
 
 abbrev pub UnexpelledLivesAreInStep : Type 0
-UnexpelledLivesAreInStep = (limits : Limits) (c : Client) (s : Story) → Lived limits c s → IsUnexpelled c s.past → HasOneSession s
+UnexpelledLivesAreInStep =
+    (limits : Limits) (c : Client) (s : Story) → Lived limits c s → IsUnexpelled c s.past →
+    HasOneSession s

@@ -26,7 +26,8 @@ abbrev pub news : Publication
 news = record { retain = false; qos = levels.ExactlyOnce; topic = 110 ∷ []; payload = 1 ∷ [] }
 
 abbrev pub asks_for_news : Subscribe
-asks_for_news = record { id = 1; filters = record { filter = 110 ∷ []; qos = levels.ExactlyOnce } ∷ [] }
+asks_for_news =
+    record { id = 1; filters = record { filter = 110 ∷ []; qos = levels.ExactlyOnce } ∷ [] }
 
 -- the list of commands, the newest first: it has the publication twice, and the publication is new
 -- once

@@ -9,7 +9,8 @@ use Rattle.broker_base.specs.broker_spec.declared.command.Output.TheVariants.{Se
 
 -- the packets to a connection, in order
 abbrev pub sends_to : ConnectionName → List Output → List Packet
-sends_to x (Send y packet ∷ answers) = if same_connection x y then packet ∷ sends_to x answers else sends_to x answers
+sends_to x (Send y packet ∷ answers) =
+    if same_connection x y then packet ∷ sends_to x answers else sends_to x answers
 sends_to x (Close y ∷ answers) = sends_to x answers
 sends_to x [] = []
 

@@ -58,7 +58,8 @@ is_packet_of _ y = false
 
 -- how many of its packets are in the list
 abbrev pub count_of : ConnectionName → Past → ℕ
-count_of x (place ∷ past) = if is_packet_of place.command x then suc (count_of x past) else count_of x past
+count_of x (place ∷ past) =
+    if is_packet_of place.command x then suc (count_of x past) else count_of x past
 count_of x [] = 0
 
 abbrev pub any_named : (ConnectionName → Bool) → List Connection → Bool
@@ -68,25 +69,31 @@ any_named test [] = false
 -- ---- the client
 
 abbrev pub with_side : Story → List Connection → Side → Story
-with_side s others side = record { past = s.past; connections = side.connection ∷ others; keeper = side.keeper }
+with_side s others side =
+    record { past = s.past; connections = side.connection ∷ others; keeper = side.keeper }
 
 -- ---- what may happen
 
 -- It allows more than a world does: any connection's next packet may come next in the list, and any
 -- client may be lost at any time.
 pub data StoryStep (limits : Limits) (s : Story) : Story → Type 0 where
-  takes : (i : ℕ) (κ : Connection) (w : Written) → slice_get s.connections i ≡ Some κ → slice_get κ.written κ.taken ≡ Some w →
+  takes : (i : ℕ) (κ : Connection) (w : Written) → slice_get s.connections i ≡ Some κ →
+      slice_get κ.written κ.taken ≡ Some w →
       StoryStep limits s (record {
         past = place_of limits s.past (command_of κ.name κ.taken w.packet) ∷ s.past;
         connections = counted_at i s.connections;
         keeper = s.keeper;
       })
-  others_take : (command : Command) → (names_client s.past s.keeper.client command → ⊥) → any_named (is_packet_of command) s.connections ≡ false →
+  others_take : (command : Command) → (names_client s.past s.keeper.client command → ⊥) →
+      any_named (is_packet_of command) s.connections ≡ false →
       StoryStep limits s (record s { past = place_of limits s.past command ∷ s.past })
-  receives : (κ : Connection) (others : List Connection) (packet : Packet) → s.connections ≡ κ ∷ others → s.keeper.is_open ≡ true →
+  receives : (κ : Connection) (others : List Connection) (packet : Packet) →
+      s.connections ≡ κ ∷ others → s.keeper.is_open ≡ true →
       slice_get (put_to limits s.past κ.name) κ.handled ≡ Some packet →
-      StoryStep limits s (with_side s others (handled packet (record { keeper = s.keeper; connection = κ })))
-  opens_anew : (x : ConnectionName) → any_named (same_connection x) s.connections ≡ false → put_to limits s.past x ≡ [] → count_of x s.past ≡ 0 →
+      StoryStep limits s
+      (with_side s others (handled packet (record { keeper = s.keeper; connection = κ })))
+  opens_anew : (x : ConnectionName) → any_named (same_connection x) s.connections ≡ false →
+      put_to limits s.past x ≡ [] → count_of x s.past ≡ 0 →
       StoryStep limits s (record {
         past = s.past;
         connections = new_connection s.keeper.client x ∷ s.connections;
@@ -95,7 +102,8 @@ pub data StoryStep (limits : Limits) (s : Story) : Story → Type 0 where
   loses : StoryStep limits s (record s { keeper = lost s.keeper })
   disconnects : StoryStep limits s (record {
     past = s.past;
-    connections = if s.keeper.is_online then writes_first (plain packets.Disconnect ∷ []) s.connections else s.connections;
+    connections = if s.keeper.is_online
+        then writes_first (plain packets.Disconnect ∷ []) s.connections else s.connections;
     keeper = lost s.keeper;
   })
   publishes_one : (p : Publication) → (is_answered p.qos ≡ false → s.keeper.is_online ≡ true) →
@@ -104,15 +112,19 @@ pub data StoryStep (limits : Limits) (s : Story) : Story → Type 0 where
         connections = writes_first (written_for p s.keeper) s.connections;
         keeper = adds_own p s.keeper;
       })
-  subscribes : (p : Subscribe) → s.keeper.is_online ≡ true → p.id ≡ least_free (ids_in_use s.keeper) →
+  subscribes : (p : Subscribe) → s.keeper.is_online ≡ true →
+      p.id ≡ least_free (ids_in_use s.keeper) →
       StoryStep limits s (record {
         past = s.past;
         connections = writes_first (plain (packets.Subscribe p) ∷ []) s.connections;
         keeper = record s.keeper { requests = s.keeper.requests ++ requests.Subscribes p.id ∷ [] };
       })
-  unsubscribes : (p : Unsubscribe) → s.keeper.is_online ≡ true → p.id ≡ least_free (ids_in_use s.keeper) →
+  unsubscribes : (p : Unsubscribe) → s.keeper.is_online ≡ true →
+      p.id ≡ least_free (ids_in_use s.keeper) →
       StoryStep limits s (record {
         past = s.past;
         connections = writes_first (plain (packets.Unsubscribe p) ∷ []) s.connections;
-        keeper = record s.keeper { requests = s.keeper.requests ++ requests.Unsubscribes p.id ∷ [] };
+        keeper = record s.keeper {
+          requests = s.keeper.requests ++ requests.Unsubscribes p.id ∷ [];
+        };
       })

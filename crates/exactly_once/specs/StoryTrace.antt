@@ -24,7 +24,10 @@ unserved c earlier own = record (new_keeper c) { earlier = earlier; own = own }
 -- left of what it had.
 pub data StoryTrace (limits : Limits) (c : Client) : Story → Type 0 where
   begins : StoryTrace limits c (no_story c)
-  begins_at : (list : List Command) (earlier own : List Own) → session_of (past_of limits list) c ≡ None →
-      AreNumbered 0 earlier → AreUnsent (length earlier) own → IsDistinct (ids_in_use (unserved c earlier own)) →
-      StoryTrace limits c (record { past = past_of limits list; connections = []; keeper = unserved c earlier own })
+  begins_at : (list : List Command) (earlier own : List Own) →
+      session_of (past_of limits list) c ≡ None →
+      AreNumbered 0 earlier → AreUnsent (length earlier) own →
+      IsDistinct (ids_in_use (unserved c earlier own)) →
+      StoryTrace limits c
+      (record { past = past_of limits list; connections = []; keeper = unserved c earlier own })
   goes_on : {s t : Story} → StoryTrace limits c s → StoryStep limits s t → StoryTrace limits c t

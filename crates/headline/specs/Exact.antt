@@ -30,15 +30,18 @@ use Rattle.headline.specs.Promise.{Promise}
 
 -- one client's story, by the list on which the nodes agree
 abbrev pub story_of : List Command → ClientPipes → Story
-story_of agreed c = record { past = past_of usual_limits agreed; connections = c.connections; keeper = c.keeper }
+story_of agreed c =
+    record { past = past_of usual_limits agreed; connections = c.connections; keeper = c.keeper }
 
 -- what a client is promised over its sessions, as long as it is in step
 abbrev pub IsExactInStep : List Command → ClientPipes → Type 0
-IsExactInStep agreed c = IsInStep (story_of agreed c) → ExactlyOnceOverSessions usual_limits (story_of agreed c)
+IsExactInStep agreed c =
+    IsInStep (story_of agreed c) → ExactlyOnceOverSessions usual_limits (story_of agreed c)
 
 -- one that no Expel names has one session at most, which lasts once it began, and so it is in step
 abbrev pub IsInOneSession : List Command → ClientPipes → Type 0
-IsInOneSession agreed c = IsUnexpelled c.keeper.client (past_of usual_limits agreed) → HasOneSession (story_of agreed c)
+IsInOneSession agreed c =
+    IsUnexpelled c.keeper.client (past_of usual_limits agreed) → HasOneSession (story_of agreed c)
 
 -- the parts that a client without history shows
 pub record IsShownBy (c : ClientPipes) (state : ClientState) : Type 0 where
@@ -54,18 +57,22 @@ pub record IsExactBy (agreed : List Command) (w : World) : Type 0 where
   pub names : (x : ConnectionName) → connects_of x (past_of usual_limits agreed) ≤ 1
   pub sessions : EndsWithTheSession usual_limits (past_of usual_limits agreed)
   -- connections carry their packets in order, both ways
-  pub pipes : (i : ℕ) (c : ClientPipes) (j : ℕ) (κ : Connection) (p : Pipe) → HasPipe w i c j κ p → IsInOrder agreed κ p
+  pub pipes : (i : ℕ) (c : ClientPipes) (j : ℕ) (κ : Connection) (p : Pipe) → HasPipe w i c j κ p →
+      IsInOrder agreed κ p
 
 -- A world that is reached by these steps: the steps of its group are a past, there is a list on
 -- which the nodes agree at its end, and the world is exact by that list.
-pub record IsExact {nodes : ℕ} {config : Config} {cs : List Client} {w : World} (trail : Reached nodes config cs w) : Type 0 where
+pub record IsExact {nodes : ℕ} {config : Config} {cs : List Client} {w : World}
+    (trail : Reached nodes config cs w) : Type 0 where
   pub of : HasPast config w.group (groups_of (went_of trail)) (all_put (went_of trail))
   pub agreed : List Command
   pub is_agreed : IsAgreed config (moment_of w.group ∷ of.earlier) agreed
   pub exact : (list : List Command) → IsAgreed config (moment_of w.group ∷ of.earlier) list → IsExactBy list w
   -- and what a client shows, with what it was asked to publish in these steps, is as promised
-  pub promises : (list : List Command) → IsAgreed config (moment_of w.group ∷ of.earlier) list → (i : ℕ) (c : ClientPipes) (state : ClientState) →
-      slice_get w.clients i ≡ Some c → IsShownBy c state → Promise c.connections (published_of i (published_on trail)) list state
+  pub promises : (list : List Command) → IsAgreed config (moment_of w.group ∷ of.earlier) list →
+      (i : ℕ) (c : ClientPipes) (state : ClientState) →
+      slice_get w.clients i ≡ Some c → IsShownBy c state →
+      Promise c.connections (published_of i (published_on trail)) list state
 
 -- for clients with identifiers of their own, and for all steps
 abbrev pub WorldsAreExact : Type 0

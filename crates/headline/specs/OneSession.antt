@@ -15,7 +15,8 @@ use Rattle.headline.specs.Shown.{at_two, kept_of, new_of}
 use Rattle.byte_world.specs.Accepted.{accepted_once}
 
 -- for client c, by the places of the list
-pub record PromiseOfOne (c : Client) (published : List Publication) (past : Past) (state : ClientState) : Type 0 where
+pub record PromiseOfOne (c : Client) (published : List Publication) (past : Past)
+    (state : ClientState) : Type 0 where
   -- its QoS 2 publications are new in the order in which it was asked for them, each once; those
   -- that are not new yet it still keeps
   pub waiting : List Publication
@@ -33,4 +34,6 @@ pub record PromiseOfOne (c : Client) (published : List Publication) (past : Past
 -- while its first session lasts the promise of each client says all of it
 abbrev pub OneSessionIsPromised : Type 0
 OneSessionIsPromised =
-    (c : Client) (published : List Publication) (past : Past) (state : ClientState) → IsFirstSession past c → PromiseInStep c published past state → PromiseOfOne c published past state
+    (c : Client) (published : List Publication) (past : Past) (state : ClientState) →
+    IsFirstSession past c → PromiseInStep c published past state →
+    PromiseOfOne c published past state

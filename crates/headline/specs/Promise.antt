@@ -23,38 +23,46 @@ use Rattle.byte_world.specs.exactly_once.Sides.{Connection}
 use Rattle.headline.specs.Shown.{AcceptsInOrder, AreNewInOrder, AreStillKept, IsAnswered, at_two, kept_of, new_of}
 
 -- for client c, as long as it is in step, by the places of the list
-pub record PromiseInStep (c : Client) (published : List Publication) (past : Past) (state : ClientState) : Type 0 where
+pub record PromiseInStep (c : Client) (published : List Publication) (past : Past)
+    (state : ClientState) : Type 0 where
   -- its QoS 2 publications are new in the order in which it was asked for them, each once
   pub rises : AreNewInOrder published (new_of c past)
   -- none is left out while it has had one session; and while that lasts, it still keeps those that
   -- are not new yet
   pub in_order : sessions_begun past c ≤ 1 → IsPrefixOf (new_of c past) (at_two published)
-  pub kept : IsFirstSession past c → AreStillKept (at_two published) (new_of c past) (at_two (kept_of state))
+  pub kept : IsFirstSession past c →
+      AreStillKept (at_two published) (new_of c past) (at_two (kept_of state))
   -- one that is answered with PUBREC is new at that place or at an earlier one
-  pub answered : (place : Place) (below : Past) (p : Publish) (id : ℕ) → IsAnswered past c (packets.Pubrec id) place below p →
+  pub answered : (place : Place) (below : Past) (p : Publish) (id : ℕ) →
+      IsAnswered past c (packets.Pubrec id) place below p →
       In (publication_of p) (new_of c (place ∷ below))
   -- one that is answered with PUBACK is one of those that it was asked for, and is taken at that
   -- place
-  pub acknowledged : (place : Place) (below : Past) (p : Publish) (id : ℕ) → IsAnswered past c (packets.Puback id) place below p →
+  pub acknowledged : (place : Place) (below : Past) (p : Publish) (id : ℕ) →
+      IsAnswered past c (packets.Puback id) place below p →
       In (publication_of p) published × (place.mark ≡ Mark.Taken c)
   -- in each of its sessions it accepted at QoS 2 a prefix of the QoS 2 entries, each once, with
   -- every one that is released
   pub accepts : AcceptsInOrder c past state
 
 -- for each client, with its connections, the newest first
-pub record PromiseBy (c : Client) (connections : List Connection) (published : List Publication) (past : Past) (state : ClientState) : Type 0 where
+pub record PromiseBy (c : Client) (connections : List Connection) (published : List Publication)
+    (past : Past) (state : ClientState) : Type 0 where
   -- in step: a connection that began a session after the first was confirmed before it opened
   -- another one
   pub in_step : AreWelcome past c connections → PromiseInStep c published past state
   -- when one of its publications is taken, it enters just the sessions with an effective QoS over
   -- 0, once, as it was published
-  pub enters : (place : Place) (below : Past) (x : ConnectionName) (p : Publish) (d : Client) → StandsAt past place below →
+  pub enters : (place : Place) (below : Past) (x : ConnectionName) (p : Publish) (d : Client) →
+      StandsAt past place below →
       place.command ≡ commands.Packet x (packets.Publish p) → place.mark ≡ Mark.Taken c →
-      map publication_in (filter (is_from_publish (length below)) (entries_of usual_limits (place ∷ below) d))
+      map publication_in
+      (filter (is_from_publish (length below)) (entries_of usual_limits (place ∷ below) d))
       ≡ queued_at (publication_of p) (effective_qos below d (publication_of p))
   -- at no time has a session more than one entry from a place, and it has none from a place that
   -- takes no publication
-  pub once : (later earlier : Past) (place : Place) (below : Past) (d : Client) → past ≡ later ++ earlier → StandsAt earlier place below →
+  pub once : (later earlier : Past) (place : Place) (below : Past) (d : Client) →
+      past ≡ later ++ earlier → StandsAt earlier place below →
       length (filter (is_from_publish (length below)) (entries_of usual_limits earlier d))
       ≤ (if takes_publication place.command place.mark then 1 else 0)
   -- an ended session gets nothing more, since each connection has a name of its own
@@ -62,4 +70,5 @@ pub record PromiseBy (c : Client) (connections : List Connection) (published : L
   pub ended : EndsWithTheSession usual_limits past
 
 abbrev pub Promise : List Connection → List Publication → List Command → ClientState → Type 0
-Promise connections published agreed state = PromiseBy state.client connections published (past_of usual_limits agreed) state
+Promise connections published agreed state =
+    PromiseBy state.client connections published (past_of usual_limits agreed) state

@@ -42,7 +42,8 @@ kept_of state = map (λ (k : KeptPublication). k.publication) (state.sent ++ sta
 
 -- those that are new in the list, by place (MQTT 4.3.3)
 abbrev pub new_at : Client → Command → Mark → List Publication
-new_at c (commands.Packet x (packets.Publish p)) (Mark.Taken d) = if same_client d c && is_exactly_once p.delivery then publication_of p ∷ [] else []
+new_at c (commands.Packet x (packets.Publish p)) (Mark.Taken d) =
+    if same_client d c && is_exactly_once p.delivery then publication_of p ∷ [] else []
 new_at c command mark = []
 
 abbrev pub new_of : Client → Past → List Publication
@@ -50,7 +51,8 @@ new_of c (place ∷ below) = new_of c below ++ new_at c place.command place.mark
 new_of c [] = []
 
 -- a place has a PUBLISH on its current connection, which is answered with this packet
-pub record IsAnswered (past : Past) (c : Client) (packet : Packet) (place : Place) (below : Past) (p : Publish) : Type 0 where
+pub record IsAnswered (past : Past) (c : Client) (packet : Packet) (place : Place) (below : Past)
+    (p : Publish) : Type 0 where
   pub stands : StandsAt past place below
   pub on : ConnectionName
   pub own : owner_of below on ≡ Some c
@@ -85,4 +87,5 @@ pub record HasBeginning (c : Client) (past : Past) (start : ℕ) : Type 0 where
 -- accepted, session after session.
 pub record AcceptsInOrder (c : Client) (past : Past) (state : ClientState) : Type 0 where
   pub session : (start : ℕ) → HasBeginning c past start
-  pub accepted : accepted_once state.accepted ≡ flat_map (λ start. map publication_in (session start).old) (starts_of past c)
+  pub accepted : accepted_once state.accepted
+      ≡ flat_map (λ start. map publication_in (session start).old) (starts_of past c)

@@ -54,12 +54,22 @@ is_listed c = not (is_over c.stage) || not (length c.pending == 0)
 -- it is open, has a keep alive, and no whole packet came for more than one and a half times of it
 -- (MQTT 3.1.2.10); a keep alive counts seconds, times count milliseconds
 abbrev pub is_silent : ℕ → Connection → Bool
-is_silent now c = (not (is_over c.stage) && nat_lt 0 c.keep_alive) && nat_lt (c.last_packet + 1500 * c.keep_alive) now
+is_silent now c =
+    (not (is_over c.stage) && nat_lt 0 c.keep_alive)
+    && nat_lt (c.last_packet + 1500 * c.keep_alive) now
 
 -- a new connection
 abbrev pub fresh : Port → ConnectionName → Connection
 fresh port name =
-    record { port = port; name = name; stage = Awaits; keep_alive = 0; last_packet = 0; unread = []; pending = [] }
+    record {
+      port = port;
+      name = name;
+      stage = Awaits;
+      keep_alive = 0;
+      last_packet = 0;
+      unread = [];
+      pending = [];
+    }
 
 -- bytes that came are held until they are read
 abbrev pub holding : List ℕ → Connection → Connection
@@ -91,7 +101,8 @@ failing c = record (closed c) { stage = if is_proposed c.stage then Failed else 
 
 -- bytes are queued if there is room for them; otherwise the connection is closed as lost
 abbrev pub put_out : List ℕ → Connection → Connection
-put_out bytes c = if nat_le (length c.pending + length bytes) most_pending then putting bytes c else failing c
+put_out bytes c =
+    if nat_le (length c.pending + length bytes) most_pending then putting bytes c else failing c
 
 -- what was queued is handed over
 abbrev pub handed : Connection → Connection
@@ -100,7 +111,8 @@ handed c = record c { pending = [] }
 -- ---- the list
 
 -- the list after a change of that connection
-abbrev pub changed : (Connection → Bool) → (Connection → Connection) → List Connection → List Connection
+abbrev pub changed : (Connection → Bool) → (Connection → Connection) → List Connection →
+    List Connection
 changed test change [] = []
 changed test change (c ∷ others) =
     if test c then change c ∷ others else c ∷ changed test change others

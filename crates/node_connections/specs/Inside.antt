@@ -28,7 +28,8 @@ Reads bytes fronts.OutOfMemory left = Unit {0}
 abbrev pub TakesFront : ℕ → Connection → Front → Connection → Type 0
 TakesFront now old fronts.More new = (verdict old.unread ≡ Err stops.More) × (new ≡ old)
 TakesFront now old (fronts.Packet packet) new =
-    (rest : List ℕ) × (verdict old.unread ≡ Ok (packet, rest)) × IsSized packet × (new ≡ left_with now rest old)
+    (rest : List ℕ) × (verdict old.unread ≡ Ok (packet, rest)) × IsSized packet
+    × (new ≡ left_with now rest old)
 TakesFront now old (fronts.Refused code) new =
     (verdict old.unread ≡ Err (stops.Refused code))
     × (new ≡ (if is_first old.stage then refused code old else closed old))

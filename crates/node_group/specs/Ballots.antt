@@ -14,4 +14,6 @@ IsInItsBallot put = (x : ConnectionName) → is_packet_of put.1 x ≡ true → x
 
 -- the same holds for all that nodes of a group propose to their replicas
 abbrev pub PutsInTheBallotOfTheName : Type 0
-PutsInTheBallotOfTheName = (nodes : ℕ) (config : Config) (g : Group) (went : GroupTrace nodes config g) → Each IsInItsBallot (all_put went)
+PutsInTheBallotOfTheName =
+    (nodes : ℕ) (config : Config) (g : Group) (went : GroupTrace nodes config g) →
+    Each IsInItsBallot (all_put went)

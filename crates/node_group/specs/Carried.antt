@@ -24,16 +24,21 @@ answers_to x agreed = spelled (put_to usual_limits (past_of usual_limits agreed)
 
 -- A connection's commands in the list are a prefix of the packets that were written on it, in
 -- order; and what went down on it is a prefix of the spellings of the answers that name it.
-pub record IsCarried (x : ConnectionName) (written : List Packet) (handed : List ℕ) (agreed : List Command) : Type 0 where
+pub record IsCarried (x : ConnectionName) (written : List Packet) (handed : List ℕ)
+    (agreed : List Command) : Type 0 where
   pub up : IsPrefixOf (packets_of x agreed) (commands_of x 0 written)
   pub down : IsPrefixOf handed (answers_to x agreed)
 
 -- The same holds for each connection on which packets are written, when a prefix of their bytes
 -- arrived on it, and for each list on which the nodes agree.
-pub record Carries {nodes : ℕ} {config : Config} {g : Group} (went : GroupTrace nodes config g) : Type 0 where
+pub record Carries {nodes : ℕ} {config : Config} {g : Group}
+    (went : GroupTrace nodes config g) : Type 0 where
   pub of : HasPast config g (groups_of went) (all_put went)
-  pub each : (agreed : List Command) → IsAgreed config (moment_of g ∷ of.earlier) agreed → (x : ConnectionName)
-      → (written : List Packet) (later : List ℕ) → Joins written (came_up x went ++ later) → IsCarried x written (went_down x went) agreed
+  pub each : (agreed : List Command) → IsAgreed config (moment_of g ∷ of.earlier) agreed →
+      (x : ConnectionName)
+      → (written : List Packet) (later : List ℕ) → Joins written (came_up x went ++ later) →
+      IsCarried x written (went_down x went) agreed
 
 abbrev pub GroupsCarryInOrder : Type 0
-GroupsCarryInOrder = (nodes : ℕ) (config : Config) (g : Group) (went : GroupTrace nodes config g) → Carries went
+GroupsCarryInOrder =
+    (nodes : ℕ) (config : Config) (g : Group) (went : GroupTrace nodes config g) → Carries went

@@ -34,23 +34,32 @@ keeping kept turn = record turn { messages = kept }
 pub data GroupStep (g : Group) : Group → Type 0 where
   -- a node takes an item, or hands over bytes, by these moves; what its replica receives, or a cut,
   -- comes first
-  node_acts : (n : ℕ) (core : CoreState) (node_call : NodeCall) (turn : Turn) (run : Runs core turn) → slice_get g.nodes n ≡ Some core →
-      turn ≡ done node_call core → HearsAtFirst run → AllWasSent g n run → GroupStep g (after_turn (with_record g (recorded_in g.archive run)) n turn (all_given run))
+  node_acts : (n : ℕ) (core : CoreState) (node_call : NodeCall) (turn : Turn)
+      (run : Runs core turn) → slice_get g.nodes n ≡ Some core →
+      turn ≡ done node_call core → HearsAtFirst run → AllWasSent g n run →
+      GroupStep g (after_turn (with_record g (recorded_in g.archive run)) n turn (all_given run))
   -- a node takes an item with losses, by these moves; what comes with it was sent, and some of its
   -- messages may be missing
-  node_loses : (n : ℕ) (core : CoreState) (item : Item) (turn : Turn) (kept : List (Effect Command Output)) (by : IsRunOn item core turn) →
-      slice_get g.nodes n ≡ Some core → RunsOn item core turn.core turn.messages → WereSent g n (heard_with item) → Thinned kept turn.messages →
-      GroupStep g (after_turn (with_record g (recorded_losing g.archive by.run)) n (keeping kept turn) (given_losing by.run))
+  node_loses : (n : ℕ) (core : CoreState) (item : Item) (turn : Turn)
+      (kept : List (Effect Command Output)) (by : IsRunOn item core turn) →
+      slice_get g.nodes n ≡ Some core → RunsOn item core turn.core turn.messages →
+      WereSent g n (heard_with item) → Thinned kept turn.messages →
+      GroupStep g (after_turn (with_record g (recorded_losing g.archive by.run)) n
+      (keeping kept turn) (given_losing by.run))
   -- an administrator asks for another configuration
   master_assigns : (config : Config) →
-      GroupStep g (with_master (after_assign g config (refusal g.master config)) (master_behind g.master config (refusal g.master config)))
+      GroupStep g (with_master (after_assign g config (refusal g.master config))
+      (master_behind g.master config (refusal g.master config)))
   -- a primary asks for its ballot to become the active one
   master_hears : (from ballot : ℕ) → In (0, record { from = from; body = Activate ballot }) g.sent →
-      GroupStep g (with_master (told_by_master g (activated Command g.master ballot from g.master.waiting))
+      GroupStep g (with_master
+      (told_by_master g (activated Command g.master ballot from g.master.waiting))
       (activated Command g.master ballot from g.master.waiting).state)
   -- the same if the master's message is lost
-  assigns_unheard : (config : Config) → GroupStep g (with_master g (master_behind g.master config (refusal g.master config)))
-  answers_unheard : (from ballot : ℕ) → In (0, record { from = from; body = Activate ballot }) g.sent →
+  assigns_unheard : (config : Config) →
+      GroupStep g (with_master g (master_behind g.master config (refusal g.master config)))
+  answers_unheard : (from ballot : ℕ) →
+      In (0, record { from = from; body = Activate ballot }) g.sent →
       GroupStep g (with_master g (activated Command g.master ballot from g.master.waiting).state)
 
 -- all steps of a group of this many nodes, from its opening in a configuration on
@@ -68,11 +77,13 @@ put_in_step (master_hears from ballot sent) = []
 put_in_step (assigns_unheard config) = []
 put_in_step (answers_unheard from ballot sent) = []
 
-abbrev pub all_put : {nodes : ℕ} {config : Config} {g : Group} → GroupTrace nodes config g → List (ℕ × Command)
+abbrev pub all_put : {nodes : ℕ} {config : Config} {g : Group} → GroupTrace nodes config g →
+    List (ℕ × Command)
 all_put (opened can) = []
 all_put (then_went went step) = all_put went ++ put_in_step step
 
 -- the group after each of them, the newest first
-abbrev pub groups_of : {nodes : ℕ} {config : Config} {g : Group} → GroupTrace nodes config g → List Group
+abbrev pub groups_of : {nodes : ℕ} {config : Config} {g : Group} → GroupTrace nodes config g →
+    List Group
 groups_of {g = g} (opened can) = g ∷ []
 groups_of {g = g} (then_went went step) = g ∷ groups_of went

@@ -32,7 +32,13 @@ opening_cores (suc n) config = opening_cores n config ++ opening_core (n + 1) co
 
 abbrev pub opening_group : ℕ → Config → Group
 opening_group nodes config =
-    record { master = opening_master config; nodes = opening_cores nodes config; sent = []; left = []; archive = [] }
+    record {
+      master = opening_master config;
+      nodes = opening_cores nodes config;
+      sent = [];
+      left = [];
+      archive = [];
+    }
 
 -- ---- after what happens
 
@@ -47,7 +53,8 @@ after_turn g n turn given =
 
 -- after a message of the master
 abbrev pub told_by_master : Group → MasterOutcome Command → Group
-told_by_master g o = record g { sent = g.sent ++ (o.receiver, record { from = master; body = o.body }) ∷ [] }
+told_by_master g o =
+    record g { sent = g.sent ++ (o.receiver, record { from = master; body = o.body }) ∷ [] }
 
 -- with another state of the master
 abbrev pub with_master : Group → MasterState → Group
@@ -66,5 +73,10 @@ abbrev pub moment_of : Group → Moment State Command Output
 moment_of g =
     record {
       master = g.master;
-      world = record { nodes = map replica_of g.nodes; sent = g.sent; left = g.left; archive = g.archive };
+      world = record {
+        nodes = map replica_of g.nodes;
+        sent = g.sent;
+        left = g.left;
+        archive = g.archive;
+      };
     }

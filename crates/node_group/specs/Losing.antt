@@ -21,16 +21,19 @@ WereSent g n [] = Unit {0}
 WereSent g n (input ∷ inputs) = InputWasSent g n input × WereSent g n inputs
 
 -- the record of places after a move, and after a run
-abbrev pub recorded_by : List Command → {core : CoreState} {turn : Turn} → LossyMoves core turn → List Command
+abbrev pub recorded_by : List Command → {core : CoreState} {turn : Turn} → LossyMoves core turn →
+    List Command
 recorded_by archive (exactly m) = exactly_recorded archive m
 recorded_by archive _ = archive
 
-abbrev pub recorded_in : List Command → {core : CoreState} {turn : Turn} → LossyRuns core turn → List Command
+abbrev pub recorded_in : List Command → {core : CoreState} {turn : Turn} → LossyRuns core turn →
+    List Command
 recorded_in archive rests = archive
 recorded_in archive (goes_on m run) = recorded_in (recorded_by archive m) run
 
 -- the effects of its replica
-abbrev pub all_given : {core : CoreState} {turn : Turn} → LossyRuns core turn → List (Effect Command Output)
+abbrev pub all_given : {core : CoreState} {turn : Turn} → LossyRuns core turn →
+    List (Effect Command Output)
 all_given rests = []
 all_given (goes_on m run) = given_in m ++ all_given run
 
@@ -40,7 +43,8 @@ commands_put (exactly m) = exactly_put m
 commands_put m = proposal_of m
 
 -- .. each with the ballot that it has joined then
-abbrev pub put_in_move : {core : CoreState} {turn : Turn} → LossyMoves core turn → List (ℕ × Command)
+abbrev pub put_in_move : {core : CoreState} {turn : Turn} → LossyMoves core turn →
+    List (ℕ × Command)
 put_in_move {core = core} m = map (λ command. ((replica_of core).joined, command)) (commands_put m)
 
 abbrev pub put_in_run : {core : CoreState} {turn : Turn} → LossyRuns core turn → List (ℕ × Command)

@@ -19,12 +19,17 @@ packets_of x commands = filter (λ (command : Command). is_packet_of command x) 
 
 -- the whole log of each node, and the agreed list, has of each connection a prefix of the packets
 -- that were proposed for it, in order
-pub record KeepsOrder (config : Config) (g : Group) (groups : List Group) (put : List (ℕ × Command)) : Type 0 where
+pub record KeepsOrder (config : Config) (g : Group) (groups : List Group)
+    (put : List (ℕ × Command)) : Type 0 where
   pub of : HasPast config g groups put
   pub logs : (x : ConnectionName) (n : ℕ) (core : CoreState) → slice_get g.nodes n ≡ Some core →
-      IsPrefixOf (packets_of x (whole_log g.archive (replica_of core).log)) (packets_of x (commands_of put))
-  pub agreed : (x : ConnectionName) (xs : List Command) → IsAgreed config (moment_of g ∷ of.earlier) xs →
+      IsPrefixOf (packets_of x (whole_log g.archive (replica_of core).log))
+      (packets_of x (commands_of put))
+  pub agreed : (x : ConnectionName) (xs : List Command) →
+      IsAgreed config (moment_of g ∷ of.earlier) xs →
       IsPrefixOf (packets_of x xs) (packets_of x (commands_of put))
 
 abbrev pub GroupsKeepTheOrder : Type 0
-GroupsKeepTheOrder = (nodes : ℕ) (config : Config) (g : Group) (went : GroupTrace nodes config g) → KeepsOrder config g (groups_of went) (all_put went)
+GroupsKeepTheOrder =
+    (nodes : ℕ) (config : Config) (g : Group) (went : GroupTrace nodes config g) →
+    KeepsOrder config g (groups_of went) (all_put went)

@@ -20,7 +20,8 @@ packets_in x rows = filter (λ (row : ℕ × Command). is_packet_of row.1 x) row
 -- A past whose last moment is that of the group's replicas. In it these commands were proposed, the
 -- packets of all connections among them were taken, and each of these earlier groups has its
 -- moment.
-pub record HasPast (config : Config) (g : Group) (groups : List Group) (put : List (ℕ × Command)) : Type 0 where
+pub record HasPast (config : Config) (g : Group) (groups : List Group)
+    (put : List (ℕ × Command)) : Type 0 where
   pub earlier : List (Moment State Command Output)
   pub past : Past rules config (moment_of g ∷ earlier)
   pub proposed : proposals_of past ≡ put
@@ -28,4 +29,6 @@ pub record HasPast (config : Config) (g : Group) (groups : List Group) (put : Li
   pub seen : Each (λ (h : Group). In (moment_of h) (moment_of g ∷ earlier)) groups
 
 abbrev pub GroupsArePasts : Type 0
-GroupsArePasts = (nodes : ℕ) (config : Config) (g : Group) (went : GroupTrace nodes config g) → HasPast config g (groups_of went) (all_put went)
+GroupsArePasts =
+    (nodes : ℕ) (config : Config) (g : Group) (went : GroupTrace nodes config g) →
+    HasPast config g (groups_of went) (all_put went)

@@ -35,26 +35,32 @@ AllWasSent g n (goes_on m run) = WasSent g n m × AllWasSent g n run
 
 -- the record of places after a move, and after a run: a cut adds what the log that is cut has
 -- applied
-abbrev pub recorded_by : List Command → {core : CoreState} {turn : Turn} → Moves core turn → List Command
+abbrev pub recorded_by : List Command → {core : CoreState} {turn : Turn} → Moves core turn →
+    List Command
 recorded_by archive {core = core} (cuts_log can) = recorded archive (replica_of core)
 recorded_by archive _ = archive
 
-abbrev pub recorded_in : List Command → {core : CoreState} {turn : Turn} → Runs core turn → List Command
+abbrev pub recorded_in : List Command → {core : CoreState} {turn : Turn} → Runs core turn →
+    List Command
 recorded_in archive rests = archive
 recorded_in archive (goes_on m run) = recorded_in (recorded_by archive m) run
 
 -- the effects of its replica
-abbrev pub all_given : {core : CoreState} {turn : Turn} → Runs core turn → List (Effect Command Output)
+abbrev pub all_given : {core : CoreState} {turn : Turn} → Runs core turn →
+    List (Effect Command Output)
 all_given rests = []
 all_given (goes_on m run) = given_in m ++ all_given run
 
 -- the commands that a node proposes to its replica in a move
 abbrev pub commands_put : {core : CoreState} {turn : Turn} → Moves core turn → List Command
-commands_put (reads_first now port c connect rest at first is room) = commands.Connect c.name connect.client connect.clean ∷ []
-commands_put (reads_later now port c packet rest at later is room) = commands.Packet c.name packet ∷ []
+commands_put (reads_first now port c connect rest at first is room) =
+    commands.Connect c.name connect.client connect.clean ∷ []
+commands_put (reads_later now port c packet rest at later is room) =
+    commands.Packet c.name packet ∷ []
 commands_put {core = core} (loses_one port c at asked) = if serves core then commands.Lost c.name ∷ [] else []
 commands_put {core = core} (loses_next c at) = if serves core then commands.Lost c.name ∷ [] else []
-commands_put {core = core} (expels_one client) = if serves core then commands.Expel client ∷ [] else []
+commands_put {core = core} (expels_one client) =
+    if serves core then commands.Expel client ∷ [] else []
 commands_put _ = []
 
 -- .. each with the ballot that it has joined then

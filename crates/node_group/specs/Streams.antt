@@ -27,7 +27,8 @@ comes_up x (master_hears from ballot sent) = []
 comes_up x (assigns_unheard config) = []
 comes_up x (answers_unheard from ballot sent) = []
 
-abbrev pub came_up : ConnectionName → {nodes : ℕ} {config : Config} {g : Group} → GroupTrace nodes config g → List ℕ
+abbrev pub came_up : ConnectionName → {nodes : ℕ} {config : Config} {g : Group} →
+    GroupTrace nodes config g → List ℕ
 came_up x (opened can) = []
 came_up x (then_went went step) = came_up x went ++ comes_up x step
 
@@ -42,7 +43,8 @@ abbrev pub handed_on : ConnectionName → {core : CoreState} {turn : Turn} → M
 handed_on x {core = core} (hands port) = bytes_named x (listed_at port core)
 handed_on x _ = []
 
-abbrev pub handed_in_run : ConnectionName → {core : CoreState} {turn : Turn} → Runs core turn → List ℕ
+abbrev pub handed_in_run : ConnectionName → {core : CoreState} {turn : Turn} → Runs core turn →
+    List ℕ
 handed_in_run x rests = []
 handed_in_run x (goes_on m run) = handed_on x m ++ handed_in_run x run
 
@@ -55,6 +57,7 @@ goes_down x (master_hears from ballot sent) = []
 goes_down x (assigns_unheard config) = []
 goes_down x (answers_unheard from ballot sent) = []
 
-abbrev pub went_down : ConnectionName → {nodes : ℕ} {config : Config} {g : Group} → GroupTrace nodes config g → List ℕ
+abbrev pub went_down : ConnectionName → {nodes : ℕ} {config : Config} {g : Group} →
+    GroupTrace nodes config g → List ℕ
 went_down x (opened can) = []
 went_down x (then_went went step) = went_down x went ++ goes_down x step

@@ -19,7 +19,8 @@ use Rattle.node_moves.specs.Ends.{IsGiven, IsOrderly}
 pub record KeepsNames (core later : CoreState) : Type 0 where
   pub orderly : IsOrderly later
   pub given : (x : ConnectionName) → IsGiven core.last_name x → IsGiven later.last_name x
-  pub gone : (x : ConnectionName) → IsGiven core.last_name x → listed_named x core ≡ None → listed_named x later ≡ None
+  pub gone : (x : ConnectionName) → IsGiven core.last_name x → listed_named x core ≡ None →
+      listed_named x later ≡ None
 
 -- that holds from the opening on, in each step, even if memory runs out, and when bytes are handed
 -- over
@@ -27,4 +28,5 @@ pub record NamesStayApart : Type 0 where
   pub opens : (id : ℕ) (config : Config) → IsOrderly (opening_core id config)
   pub steps : (item : Item) (core later : CoreState) (messages : List (Effect Command Output)) →
       RunsOn item core later messages → IsOrderly core → KeepsNames core later
-  pub hands : (port : Port) (core : CoreState) → IsOrderly core → KeepsNames core (hands_over port core)
+  pub hands : (port : Port) (core : CoreState) → IsOrderly core →
+      KeepsNames core (hands_over port core)

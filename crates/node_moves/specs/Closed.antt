@@ -20,19 +20,26 @@ abbrev pub listed_named : ConnectionName → CoreState → Option Connection
 listed_named x core = find (λ c. same_connection c.name x) core.connections
 
 -- the answer to a CONNECT that the node refuses itself (MQTT 3.2.2.3)
-abbrev pub refusal_in : ConnectionName → {core : CoreState} {turn : Turn} → Moves core turn → List Packet
-refusal_in x (refuses port c code at first is) = if same_connection c.name x then packets.Connack (connacks.Refused code) ∷ [] else []
+abbrev pub refusal_in : ConnectionName → {core : CoreState} {turn : Turn} → Moves core turn →
+    List Packet
+refusal_in x (refuses port c code at first is) =
+    if same_connection c.name x then packets.Connack (connacks.Refused code) ∷ [] else []
 refusal_in x _ = []
 
 -- how a connection that is closed after a move was closed: it was closed before, with the same
 -- bytes to hand over; or it was open, and got no more in this move than a prefix of what is sent to
 -- it
-pub data IsClosedBy (x : ConnectionName) {core : CoreState} {turn : Turn} (m : Moves core turn) (d : Connection) : Type 0 where
-  was_closed : (c : Connection) → listed_named x core ≡ Some c → is_over c.stage ≡ true → d.pending ≡ c.pending → IsClosedBy x m d
-  closes_now : (c : Connection) (front : List ℕ) → open_named x core ≡ Some c → d.pending ≡ c.pending ++ front →
+pub data IsClosedBy (x : ConnectionName) {core : CoreState} {turn : Turn} (m : Moves core turn)
+    (d : Connection) : Type 0 where
+  was_closed : (c : Connection) → listed_named x core ≡ Some c → is_over c.stage ≡ true →
+      d.pending ≡ c.pending → IsClosedBy x m d
+  closes_now : (c : Connection) (front : List ℕ) → open_named x core ≡ Some c →
+      d.pending ≡ c.pending ++ front →
       IsPrefixOf front (spelled (refusal_in x m ++ sends_to x (outputs_of (given_in m)))) → IsClosedBy x m d
 
 -- the same holds for each connection that is closed after a move
 abbrev pub NothingOnClosed : Type 0
-NothingOnClosed = (core : CoreState) (turn : Turn) (m : Moves core turn) → IsOrderly core → (x : ConnectionName) (d : Connection) →
+NothingOnClosed =
+    (core : CoreState) (turn : Turn) (m : Moves core turn) → IsOrderly core →
+    (x : ConnectionName) (d : Connection) →
     listed_named x turn.core ≡ Some d → is_over d.stage ≡ true → IsClosedBy x m d

@@ -40,7 +40,8 @@ IsGiven last x = (x.ballot < last.ballot) ⊎ ((x.ballot ≡ last.ballot) × (x.
 -- at most one connection has a name, and the name was given; none was given for a later ballot than
 -- the one that was joined
 pub record IsOrderly (core : CoreState) : Type 0 where
-  pub names : (x : ConnectionName) → AtMostOne (λ (c : Connection). same_connection c.name x) core.connections
+  pub names : (x : ConnectionName) →
+      AtMostOne (λ (c : Connection). same_connection c.name x) core.connections
   pub given : Each (λ (c : Connection). IsGiven core.last_name c.name) core.connections
   pub within : core.last_name.ballot ≤ core.replica.state.joined
 
@@ -51,8 +52,10 @@ abbrev pub proposal_of : {core : CoreState} {turn : Turn} → Moves core turn �
 proposal_of (hears input is) = []
 proposal_of (opens_one port) = []
 proposal_of (holds port piece) = []
-proposal_of (reads_first now port c connect rest at first is room) = commands.Connect c.name connect.client connect.clean ∷ []
-proposal_of (reads_later now port c packet rest at later is room) = commands.Packet c.name packet ∷ []
+proposal_of (reads_first now port c connect rest at first is room) =
+    commands.Connect c.name connect.client connect.clean ∷ []
+proposal_of (reads_later now port c packet rest at later is room) =
+    commands.Packet c.name packet ∷ []
 proposal_of (closes port) = []
 proposal_of (refuses port c code at first is) = []
 proposal_of (loses_one port c at proposed) = commands.Lost c.name ∷ []
@@ -84,11 +87,15 @@ is_nothing (p ∷ ps) = false
 
 -- Of the packets that its client writes these were read, and these bytes are still to come: the
 -- node has not given the name yet, or has the connection open, or it is closed.
-pub data IsEnd (x : ConnectionName) (core : CoreState) (written read : List Packet) (under_way : List ℕ) : Type 0 where
-  not_yet : Precedes core.last_name x → read ≡ [] → IsPiped written [] (stream_of []) under_way → IsEnd x core written read under_way
-  is_open : (c : Connection) → IsGiven core.last_name x → open_named x core ≡ Some c → is_first c.stage ≡ is_nothing read →
+pub data IsEnd (x : ConnectionName) (core : CoreState) (written read : List Packet)
+    (under_way : List ℕ) : Type 0 where
+  not_yet : Precedes core.last_name x → read ≡ [] → IsPiped written [] (stream_of []) under_way →
+      IsEnd x core written read under_way
+  is_open : (c : Connection) → IsGiven core.last_name x → open_named x core ≡ Some c →
+      is_first c.stage ≡ is_nothing read →
       IsPiped written read (stream_of c.unread) under_way → IsEnd x core written read under_way
-  is_over : IsGiven core.last_name x → open_named x core ≡ None → IsPrefixOf read written → IsEnd x core written read under_way
+  is_over : IsGiven core.last_name x → open_named x core ≡ None → IsPrefixOf read written →
+      IsEnd x core written read under_way
 
 -- the commands of a connection's packets from this place on
 abbrev pub commands_of : ConnectionName → ℕ → List Packet → List Command
@@ -97,13 +104,17 @@ commands_of x n (p ∷ more) = command_of x n p ∷ commands_of x (suc n) more
 
 -- What is newly read in a move: the next of the packets that were written, each of which is
 -- proposed under the name, and nothing else is.
-pub record ReadsOn (x : ConnectionName) {core : CoreState} {turn : Turn} (m : Moves core turn) (written read : List Packet) (later : List ℕ) : Type 0 where
+pub record ReadsOn (x : ConnectionName) {core : CoreState} {turn : Turn} (m : Moves core turn)
+    (written read : List Packet) (later : List ℕ) : Type 0 where
   pub more : List Packet
   pub end : IsEnd x turn.core written (read ++ more) later
-  pub proposed : filter (λ command. is_packet_of command x) (proposal_of m) ≡ commands_of x (length read) more
+  pub proposed : filter (λ command. is_packet_of command x) (proposal_of m)
+      ≡ commands_of x (length read) more
 
 -- the same holds for each connection in each move, and the node's connections stay in order
 abbrev pub NodesReadInOrder : Type 0
-NodesReadInOrder = (core : CoreState) (turn : Turn) (m : Moves core turn) → IsOrderly core → IsOrderly turn.core
-    × ((x : ConnectionName) (written read : List Packet) (under_way later : List ℕ) → IsEnd x core written read under_way →
+NodesReadInOrder =
+    (core : CoreState) (turn : Turn) (m : Moves core turn) → IsOrderly core → IsOrderly turn.core
+    × ((x : ConnectionName) (written read : List Packet) (under_way later : List ℕ) →
+    IsEnd x core written read under_way →
     under_way ≡ came_on x m ++ later → ReadsOn x m written read later)

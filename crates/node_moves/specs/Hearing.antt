@@ -17,4 +17,6 @@ HearsAtFirst (goes_on m run) = IsCalm run
 
 -- each call is such a run
 abbrev pub NodeCallsHearAtFirst : Type 0
-NodeCallsHearAtFirst = (node_call : NodeCall) (core : CoreState) → (run : Runs core (done node_call core)) × HearsAtFirst run
+NodeCallsHearAtFirst =
+    (node_call : NodeCall) (core : CoreState) →
+    (run : Runs core (done node_call core)) × HearsAtFirst run

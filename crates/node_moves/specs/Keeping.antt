@@ -18,7 +18,8 @@ use Rattle.node_moves.specs.Moves.Moves.{hears, cuts_log, crashes}
 
 -- each open connection has a name of the ballot that the node leads as its active primary
 pub record AreOfTheBallot (core : CoreState) : Type 0 where
-  pub each : (x : ConnectionName) (c : Connection) → listed_named x core ≡ Some c → is_over c.stage ≡ false →
+  pub each : (x : ConnectionName) (c : Connection) → listed_named x core ≡ Some c →
+      is_over c.stage ≡ false →
       (serves core ≡ true) × (x.ballot ≡ core.replica.state.joined)
 
 -- a move in which the replica receives something, cuts its log, or stops
@@ -34,9 +35,13 @@ moves_replica _ = false
 -- ballot of that name.
 pub record NamesKeepTheirBallot : Type 0 where
   pub opens : (id : ℕ) (config : Config) → AreOfTheBallot (opening_core id config)
-  pub moves : (core : CoreState) (turn : Turn) (m : Moves core turn) → IsOrderly core → moves_replica m ≡ false → AreOfTheBallot core → AreOfTheBallot turn.core
+  pub moves : (core : CoreState) (turn : Turn) (m : Moves core turn) → IsOrderly core →
+      moves_replica m ≡ false → AreOfTheBallot core → AreOfTheBallot turn.core
   pub hears : (core : CoreState) (input : Input Command) → IsOrderly core → AreOfTheBallot core → AreOfTheBallot (settled (drives input core).core)
-  pub cuts : (core : CoreState) → IsOrderly core → AreOfTheBallot core → AreOfTheBallot (settled (with_cut core))
+  pub cuts : (core : CoreState) → IsOrderly core → AreOfTheBallot core →
+      AreOfTheBallot (settled (with_cut core))
   pub stops : (core : CoreState) → IsOrderly core → AreOfTheBallot (settled (crashed core))
-  pub proposes : (core : CoreState) (turn : Turn) (m : Moves core turn) → IsOrderly core → AreOfTheBallot core → (x : ConnectionName) (command : Command) →
-      In command (proposal_of m) → is_packet_of command x ≡ true → x.ballot ≡ core.replica.state.joined
+  pub proposes : (core : CoreState) (turn : Turn) (m : Moves core turn) → IsOrderly core →
+      AreOfTheBallot core → (x : ConnectionName) (command : Command) →
+      In command (proposal_of m) → is_packet_of command x ≡ true →
+      x.ballot ≡ core.replica.state.joined

@@ -26,22 +26,30 @@ use Rattle.node_moves.specs.Puts.{outputs_of, spelled}
 
 -- what is newly read in a move: the next of the packets that were written, each of which is
 -- proposed under the name
-pub record ReadsOn (x : ConnectionName) {core : CoreState} {turn : Turn} (m : LossyMoves core turn) (written read : List Packet) (later : List ℕ) : Type 0 where
+pub record ReadsOn (x : ConnectionName) {core : CoreState} {turn : Turn} (m : LossyMoves core turn)
+    (written read : List Packet) (later : List ℕ) : Type 0 where
   pub more : List Packet
   pub end : IsEnd x turn.core written (read ++ more) later
-  pub proposed : filter (λ command. is_packet_of command x) (proposal_of m) ≡ commands_of x (length read) more
+  pub proposed : filter (λ command. is_packet_of command x) (proposal_of m)
+      ≡ commands_of x (length read) more
 
 -- the same holds for each connection in each move; none is skipped while the connection is open
 abbrev pub LossesReadInOrder : Type 0
-LossesReadInOrder = (core : CoreState) (turn : Turn) (m : LossyMoves core turn) → IsOrderly core → IsOrderly turn.core
-    × ((x : ConnectionName) (written read : List Packet) (under_way later : List ℕ) → IsEnd x core written read under_way →
+LossesReadInOrder =
+    (core : CoreState) (turn : Turn) (m : LossyMoves core turn) → IsOrderly core →
+    IsOrderly turn.core
+    × ((x : ConnectionName) (written read : List Packet) (under_way later : List ℕ) →
+    IsEnd x core written read under_way →
     under_way ≡ came_on x m ++ later → ReadsOn x m written read later)
 
 -- from the opening on the commands that are proposed under a name are those of a prefix of what is
 -- written
 abbrev pub LossesProposeInOrder : Type 0
-LossesProposeInOrder = (id : ℕ) (config : Config) (turn : Turn) (run : LossyRuns (opening_core id config) turn) (x : ConnectionName)
-    (written : List Packet) (later : List ℕ) → 0 < x.count → Joins written (bytes_on x run ++ later) → Proposes x turn.core (proposals_of run) written later
+LossesProposeInOrder =
+    (id : ℕ) (config : Config) (turn : Turn) (run : LossyRuns (opening_core id config) turn)
+    (x : ConnectionName)
+    (written : List Packet) (later : List ℕ) → 0 < x.count →
+    Joins written (bytes_on x run ++ later) → Proposes x turn.core (proposals_of run) written later
 
 -- each packet that is read is in the log at once, after everything that was there
 abbrev pub LossesAreTaken : Type 0
@@ -54,26 +62,37 @@ LossesAreTaken = (core : CoreState) (turn : Turn) (m : LossyMoves core turn) →
 -- on a connection that stays open a move queues all that its outputs send to it, in order, after
 -- what was queued before
 abbrev pub LossesPutInOrder : Type 0
-LossesPutInOrder = (core : CoreState) (turn : Turn) (m : LossyMoves core turn) → IsOrderly core → is_handing m ≡ false →
-    (x : ConnectionName) (c d : Connection) → open_named x core ≡ Some c → open_named x turn.core ≡ Some d →
+LossesPutInOrder =
+    (core : CoreState) (turn : Turn) (m : LossyMoves core turn) → IsOrderly core →
+    is_handing m ≡ false →
+    (x : ConnectionName) (c d : Connection) → open_named x core ≡ Some c →
+    open_named x turn.core ≡ Some d →
     d.pending ≡ c.pending ++ spelled (sends_to x (outputs_of (given_in m)))
 
 -- one that is closed after a move was closed before, with the same bytes to hand over, or was open,
 -- and got a prefix of what is sent to it
-pub data IsClosedBy (x : ConnectionName) {core : CoreState} {turn : Turn} (m : LossyMoves core turn) (d : Connection) : Type 0 where
-  was_closed : (c : Connection) → listed_named x core ≡ Some c → is_over c.stage ≡ true → d.pending ≡ c.pending → IsClosedBy x m d
-  closes_now : (c : Connection) (front : List ℕ) → open_named x core ≡ Some c → d.pending ≡ c.pending ++ front →
-      IsPrefixOf front (spelled (refusal_in x m ++ sends_to x (outputs_of (given_in m)))) → IsClosedBy x m d
+pub data IsClosedBy (x : ConnectionName) {core : CoreState} {turn : Turn} (m : LossyMoves core turn)
+    (d : Connection) : Type 0 where
+  was_closed : (c : Connection) → listed_named x core ≡ Some c → is_over c.stage ≡ true →
+      d.pending ≡ c.pending → IsClosedBy x m d
+  closes_now : (c : Connection) (front : List ℕ) → open_named x core ≡ Some c →
+      d.pending ≡ c.pending ++ front →
+      IsPrefixOf front (spelled (refusal_in x m ++ sends_to x (outputs_of (given_in m)))) →
+      IsClosedBy x m d
 
 abbrev pub LossesPutNothingOnClosed : Type 0
-LossesPutNothingOnClosed = (core : CoreState) (turn : Turn) (m : LossyMoves core turn) → IsOrderly core → (x : ConnectionName) (d : Connection) →
+LossesPutNothingOnClosed =
+    (core : CoreState) (turn : Turn) (m : LossyMoves core turn) → IsOrderly core →
+    (x : ConnectionName) (d : Connection) →
     listed_named x turn.core ≡ Some d → is_over d.stage ≡ true → IsClosedBy x m d
 
 -- ---- names
 
 -- a connection that is new after a move has the next name of the ballot that the node leads
 abbrev pub LossyNamesAreOfTheBallot : Type 0
-LossyNamesAreOfTheBallot = (core : CoreState) (turn : Turn) (m : LossyMoves core turn) → IsOrderly core → (x : ConnectionName) (d : Connection) →
+LossyNamesAreOfTheBallot =
+    (core : CoreState) (turn : Turn) (m : LossyMoves core turn) → IsOrderly core →
+    (x : ConnectionName) (d : Connection) →
     listed_named x core ≡ None → listed_named x turn.core ≡ Some d → IsNextName core x
 
 -- if a node serves, each open connection has a name of the ballot that it leads
@@ -84,7 +103,11 @@ AreWhereItServes core = serves core ≡ true → AreOfTheBallot core
 -- if that move began as a step does. And a node proposes under a name only in the ballot of that
 -- name.
 pub record LossyNamesKeepTheirBallot : Type 0 where
-  pub moves : (core : CoreState) (turn : Turn) (m : LossyMoves core turn) → IsOrderly core → hears_in m ≡ false → AreWhereItServes core → AreWhereItServes turn.core
-  pub hears : (core : CoreState) (turn : Turn) (m : LossyMoves core turn) → IsOrderly core → AreOfTheBallot core → AreWhereItServes turn.core
-  pub proposes : (core : CoreState) (turn : Turn) (m : LossyMoves core turn) → IsOrderly core → AreWhereItServes core → serves core ≡ true → (x : ConnectionName) (command : Command) →
-      In command (proposal_of m) → is_packet_of command x ≡ true → x.ballot ≡ core.replica.state.joined
+  pub moves : (core : CoreState) (turn : Turn) (m : LossyMoves core turn) → IsOrderly core →
+      hears_in m ≡ false → AreWhereItServes core → AreWhereItServes turn.core
+  pub hears : (core : CoreState) (turn : Turn) (m : LossyMoves core turn) → IsOrderly core →
+      AreOfTheBallot core → AreWhereItServes turn.core
+  pub proposes : (core : CoreState) (turn : Turn) (m : LossyMoves core turn) → IsOrderly core →
+      AreWhereItServes core → serves core ≡ true → (x : ConnectionName) (command : Command) →
+      In command (proposal_of m) → is_packet_of command x ≡ true →
+      x.ballot ≡ core.replica.state.joined

@@ -28,31 +28,44 @@ turn_of did = record { core = did.core; messages = did.messages }
 
 -- the replica counts a loss
 abbrev pub forgetful : CoreState → CoreState
-forgetful core = record core { replica = record core.replica { losses = one_more core.replica.losses } }
+forgetful core =
+    record core { replica = record core.replica { losses = one_more core.replica.losses } }
 
 -- it stops, which it counts
 abbrev pub halting : CoreState → CoreState
 halting core =
-    record core { replica = record { state = halted rules core.replica.state; losses = one_more core.replica.losses } }
+    record core {
+      replica = record {
+        state = halted rules core.replica.state;
+        losses = one_more core.replica.losses;
+      };
+    }
 
 pub data LossyMoves (core : CoreState) : Turn → Type 0 where
   exactly : {turn : Turn} → Moves core turn → LossyMoves core turn
   -- the replica receives a message or a tick, perhaps with losses; some of the messages that it
   -- gives may be lost, and connections closed
-  hears_losing : (input : Input Command) (did : Account) → is_proposal input ≡ false → Drives input core did → LossyMoves core (turn_of did)
+  hears_losing : (input : Input Command) (did : Account) → is_proposal input ≡ false →
+      Drives input core did → LossyMoves core (turn_of did)
   -- the same if a CONNECT, the first packet of an open connection, is read and taken
-  first_losing : (now : ℕ) (port : Port) (c : Connection) (connect : Connect) (rest : List ℕ) (did : Account) → open_at port core ≡ Some c →
+  first_losing : (now : ℕ) (port : Port) (c : Connection) (connect : Connect) (rest : List ℕ)
+      (did : Account) → open_at port core ≡ Some c →
       is_first c.stage ≡ true → verdict c.unread ≡ Ok (packets.Connect connect, rest) →
-      Takes (commands.Connect c.name connect.client connect.clean) (changes port (asked connect.keep_alive) (changes port (left_with now rest) core)) did →
+      Takes (commands.Connect c.name connect.client connect.clean)
+      (changes port (asked connect.keep_alive) (changes port (left_with now rest) core)) did →
       LossyMoves core (turn_of did)
   -- .. or a later packet
-  later_losing : (now : ℕ) (port : Port) (c : Connection) (packet : Packet) (rest : List ℕ) (did : Account) → open_at port core ≡ Some c →
+  later_losing : (now : ℕ) (port : Port) (c : Connection) (packet : Packet) (rest : List ℕ)
+      (did : Account) → open_at port core ≡ Some c →
       is_first c.stage ≡ false → verdict c.unread ≡ Ok (packet, rest) →
-      Takes (commands.Packet c.name packet) (changes port (left_with now rest) core) did → LossyMoves core (turn_of did)
+      Takes (commands.Packet c.name packet) (changes port (left_with now rest) core) did →
+      LossyMoves core (turn_of did)
   -- .. or that a connection is lost
-  tells_losing : (name : ConnectionName) (did : Account) → Takes (commands.Lost name) core did → LossyMoves core (turn_of did)
+  tells_losing : (name : ConnectionName) (did : Account) → Takes (commands.Lost name) core did →
+      LossyMoves core (turn_of did)
   -- .. or an Expel
-  expels_losing : (client : List ℕ) (did : Account) → Takes (commands.Expel client) core did → LossyMoves core (turn_of did)
+  expels_losing : (client : List ℕ) (did : Account) → Takes (commands.Expel client) core did →
+      LossyMoves core (turn_of did)
   -- the replica does not take what it receives, and counts that; or it stops
   forgets : LossyMoves core (quiet (forgetful core))
   halts : LossyMoves core (quiet (halting core))

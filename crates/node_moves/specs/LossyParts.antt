@@ -21,7 +21,8 @@ use Rattle.node_moves.specs.LossyMoves.{LossyMoves}
 use Rattle.node_moves.specs.LossyMoves.LossyMoves.{exactly, hears_losing, first_losing, later_losing, tells_losing, expels_losing, forgets, halts, fails, unheard, drops}
 
 -- the effects of its replica in a move
-abbrev pub given_in : {core : CoreState} {turn : Turn} → LossyMoves core turn → List (Effect Command Output)
+abbrev pub given_in : {core : CoreState} {turn : Turn} → LossyMoves core turn →
+    List (Effect Command Output)
 given_in (exactly m) = exact_given m
 given_in (hears_losing input did other drives) = did.given
 given_in (first_losing now port c connect rest did at first is taken) = did.given
@@ -38,8 +39,10 @@ given_in (drops port piece) = []
 abbrev pub proposal_of : {core : CoreState} {turn : Turn} → LossyMoves core turn → List Command
 proposal_of (exactly m) = exact_proposal m
 proposal_of (hears_losing input did other drives) = []
-proposal_of (first_losing now port c connect rest did at first is taken) = commands.Connect c.name connect.client connect.clean ∷ []
-proposal_of (later_losing now port c packet rest did at later is taken) = commands.Packet c.name packet ∷ []
+proposal_of (first_losing now port c connect rest did at first is taken) =
+    commands.Connect c.name connect.client connect.clean ∷ []
+proposal_of (later_losing now port c packet rest did at later is taken) =
+    commands.Packet c.name packet ∷ []
 proposal_of (tells_losing name did taken) = commands.Lost name ∷ []
 proposal_of (expels_losing client did taken) = commands.Expel client ∷ []
 proposal_of forgets = []
@@ -49,13 +52,15 @@ proposal_of unheard = []
 proposal_of (drops port piece) = []
 
 -- the bytes that come on the connection of a name
-abbrev pub came_on : ConnectionName → {core : CoreState} {turn : Turn} → LossyMoves core turn → List ℕ
+abbrev pub came_on : ConnectionName → {core : CoreState} {turn : Turn} → LossyMoves core turn →
+    List ℕ
 came_on x (exactly m) = exact_came x m
 came_on x {core = core} (drops port piece) = piece_on x piece (open_at port core)
 came_on x _ = []
 
 -- the answer to a CONNECT that the node refuses itself
-abbrev pub refusal_in : ConnectionName → {core : CoreState} {turn : Turn} → LossyMoves core turn → List Packet
+abbrev pub refusal_in : ConnectionName → {core : CoreState} {turn : Turn} → LossyMoves core turn →
+    List Packet
 refusal_in x (exactly m) = exact_refusal x m
 refusal_in x _ = []
 
@@ -75,7 +80,8 @@ abbrev pub inputs_of : {core : CoreState} {turn : Turn} → Moves core turn → 
 inputs_of (hears input other) = input ∷ []
 inputs_of _ = []
 
-abbrev pub inputs_in : {core : CoreState} {turn : Turn} → LossyMoves core turn → List (Input Command)
+abbrev pub inputs_in : {core : CoreState} {turn : Turn} → LossyMoves core turn →
+    List (Input Command)
 inputs_in (exactly m) = inputs_of m
 inputs_in (hears_losing input did other drives) = input ∷ []
 inputs_in _ = []

@@ -22,7 +22,8 @@ use Rattle.node_moves.specs.Moves.Moves.{cuts_log}
 -- moves one after another
 pub data LossyRuns : CoreState → Turn → Type 0 where
   rests : {core : CoreState} → LossyRuns core (quiet core)
-  goes_on : {core : CoreState} {first next : Turn} → LossyMoves core first → LossyRuns first.core next → LossyRuns core (and_then first next)
+  goes_on : {core : CoreState} {first next : Turn} → LossyMoves core first →
+      LossyRuns first.core next → LossyRuns core (and_then first next)
 
 -- in no move of a run the replica receives something
 abbrev pub IsCalm : {core : CoreState} {turn : Turn} → LossyRuns core turn → Type 0
@@ -40,11 +41,13 @@ abbrev pub proposals_of : {core : CoreState} {turn : Turn} → LossyRuns core tu
 proposals_of rests = []
 proposals_of (goes_on m run) = proposal_of m ++ proposals_of run
 
-abbrev pub bytes_on : ConnectionName → {core : CoreState} {turn : Turn} → LossyRuns core turn → List ℕ
+abbrev pub bytes_on : ConnectionName → {core : CoreState} {turn : Turn} → LossyRuns core turn →
+    List ℕ
 bytes_on x rests = []
 bytes_on x (goes_on m run) = came_on x m ++ bytes_on x run
 
-abbrev pub all_inputs : {core : CoreState} {turn : Turn} → LossyRuns core turn → List (Input Command)
+abbrev pub all_inputs : {core : CoreState} {turn : Turn} → LossyRuns core turn →
+    List (Input Command)
 all_inputs rests = []
 all_inputs (goes_on m run) = inputs_in m ++ all_inputs run
 
@@ -107,5 +110,7 @@ pub record IsRunOn (item : Item) (core : CoreState) (turn : Turn) : Type 0 where
   pub freezes : AllFreeze run
 
 abbrev pub LossesAreMoves : Type 0
-LossesAreMoves = (item : Item) (core later : CoreState) (messages : List (Effect Command Output)) → RunsOn item core later messages →
+LossesAreMoves =
+    (item : Item) (core later : CoreState) (messages : List (Effect Command Output)) →
+    RunsOn item core later messages →
     IsRunOn item core (record { core = later; messages = messages })

@@ -38,20 +38,26 @@ pub data Moves (core : CoreState) : Turn → Type 0 where
   holds : (port : Port) (piece : List ℕ) → Moves core (quiet (changes port (holding piece) core))
   -- the first packet of an open connection, a CONNECT, is read and proposed, whole at this time;
   -- the log has room for it
-  reads_first : (now : ℕ) (port : Port) (c : Connection) (connect : Connect) (rest : List ℕ) → open_at port core ≡ Some c → is_first c.stage ≡ true →
+  reads_first : (now : ℕ) (port : Port) (c : Connection) (connect : Connect) (rest : List ℕ) →
+      open_at port core ≡ Some c → is_first c.stage ≡ true →
       verdict c.unread ≡ Ok (packets.Connect connect, rest) → has_room core ≡ true →
-      Moves core (proposes (commands.Connect c.name connect.client connect.clean) (changes port (asked connect.keep_alive) (changes port (left_with now rest) core)))
+      Moves core (proposes (commands.Connect c.name connect.client connect.clean)
+      (changes port (asked connect.keep_alive) (changes port (left_with now rest) core)))
   -- the same for each later packet
-  reads_later : (now : ℕ) (port : Port) (c : Connection) (packet : Packet) (rest : List ℕ) → open_at port core ≡ Some c → is_first c.stage ≡ false →
+  reads_later : (now : ℕ) (port : Port) (c : Connection) (packet : Packet) (rest : List ℕ) →
+      open_at port core ≡ Some c → is_first c.stage ≡ false →
       verdict c.unread ≡ Ok (packet, rest) → has_room core ≡ true →
       Moves core (proposes (commands.Packet c.name packet) (changes port (left_with now rest) core))
   -- a connection is closed, and nothing more is read from it
   closes : (port : Port) → Moves core (quiet (changes port closed core))
   -- .. with an answer, if its first packet is a CONNECT that is refused with a code
-  refuses : (port : Port) (c : Connection) (code : RefusalCode) → open_at port core ≡ Some c → is_first c.stage ≡ true →
-      verdict c.unread ≡ Err (stops.Refused code) → Moves core (quiet (changes port (refused code) core))
+  refuses : (port : Port) (c : Connection) (code : RefusalCode) → open_at port core ≡ Some c →
+      is_first c.stage ≡ true →
+      verdict c.unread ≡ Err (stops.Refused code) →
+      Moves core (quiet (changes port (refused code) core))
   -- .. and its loss is to be reported to the broker, if its Connect was proposed
-  loses_one : (port : Port) (c : Connection) → open_at port core ≡ Some c → is_proposed c.stage ≡ true →
+  loses_one : (port : Port) (c : Connection) → open_at port core ≡ Some c →
+      is_proposed c.stage ≡ true →
       Moves core (proposes (commands.Lost c.name) (changes port closed core))
   -- the same for a connection that was closed because there was no room for what was to be sent on
   -- it
@@ -76,7 +82,8 @@ and_then first next = record { core = next.core; messages = first.messages ++ ne
 -- moves one after another
 pub data Runs : CoreState → Turn → Type 0 where
   rests : {core : CoreState} → Runs core (quiet core)
-  goes_on : {core : CoreState} {first next : Turn} → Moves core first → Runs first.core next → Runs core (and_then first next)
+  goes_on : {core : CoreState} {first next : Turn} → Moves core first → Runs first.core next →
+      Runs core (and_then first next)
 
 -- a call of a node: it takes an item, or hands over what was queued for a port
 pub data NodeCall : Type 0 where
@@ -90,8 +97,10 @@ done (gives port) core = quiet (hands_over port core)
 -- one call after another
 abbrev pub all_done : List NodeCall → CoreState → Turn
 all_done [] core = quiet core
-all_done (node_call ∷ node_calls) core = and_then (done node_call core) (all_done node_calls (done node_call core).core)
+all_done (node_call ∷ node_calls) core =
+    and_then (done node_call core) (all_done node_calls (done node_call core).core)
 
 -- all that a node ever does is such a run
 abbrev pub NodeCallsAreMoves : Type 0
-NodeCallsAreMoves = (node_calls : List NodeCall) (core : CoreState) → Runs core (all_done node_calls core)
+NodeCallsAreMoves =
+    (node_calls : List NodeCall) (core : CoreState) → Runs core (all_done node_calls core)

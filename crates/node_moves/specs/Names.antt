@@ -16,5 +16,7 @@ pub record IsNextName (core : CoreState) (x : ConnectionName) : Type 0 where
 
 -- the same holds for each connection that is new after a move
 abbrev pub NewNamesAreOfTheBallot : Type 0
-NewNamesAreOfTheBallot = (core : CoreState) (turn : Turn) (m : Moves core turn) → IsOrderly core → (x : ConnectionName) (d : Connection) →
+NewNamesAreOfTheBallot =
+    (core : CoreState) (turn : Turn) (m : Moves core turn) → IsOrderly core →
+    (x : ConnectionName) (d : Connection) →
     listed_named x core ≡ None → listed_named x turn.core ≡ Some d → IsNextName core x

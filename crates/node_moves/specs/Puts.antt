@@ -18,14 +18,20 @@ use Rattle.node_moves.specs.Moves.Moves.{hears, reads_first, reads_later, loses_
 use Rattle.node_moves.specs.Ends.{IsOrderly, open_named}
 
 -- the effects of its replica in a move
-abbrev pub given_in : {core : CoreState} {turn : Turn} → Moves core turn → List (Effect Command Output)
+abbrev pub given_in : {core : CoreState} {turn : Turn} → Moves core turn →
+    List (Effect Command Output)
 given_in {core = core} (hears input is) = (heard input core.replica.state).effects
 given_in {core = core} (reads_first now port c connect rest at first is room) =
-    (proposed rules core.replica.state (commands.Connect c.name connect.client connect.clean)).effects
-given_in {core = core} (reads_later now port c packet rest at later is room) = (proposed rules core.replica.state (commands.Packet c.name packet)).effects
-given_in {core = core} (loses_one port c at asked) = if serves core then (proposed rules core.replica.state (commands.Lost c.name)).effects else []
-given_in {core = core} (loses_next c at) = if serves core then (proposed rules core.replica.state (commands.Lost c.name)).effects else []
-given_in {core = core} (expels_one client) = if serves core then (proposed rules core.replica.state (commands.Expel client)).effects else []
+    (proposed rules core.replica.state
+    (commands.Connect c.name connect.client connect.clean)).effects
+given_in {core = core} (reads_later now port c packet rest at later is room) =
+    (proposed rules core.replica.state (commands.Packet c.name packet)).effects
+given_in {core = core} (loses_one port c at asked) =
+    if serves core then (proposed rules core.replica.state (commands.Lost c.name)).effects else []
+given_in {core = core} (loses_next c at) =
+    if serves core then (proposed rules core.replica.state (commands.Lost c.name)).effects else []
+given_in {core = core} (expels_one client) =
+    if serves core then (proposed rules core.replica.state (commands.Expel client)).effects else []
 given_in _ = []
 
 -- the broker's outputs among it
@@ -47,6 +53,8 @@ is_handing _ = false
 -- it, in order, after what was queued before; except for handing over, nothing else changes what is
 -- queued.
 abbrev pub PutsInOrder : Type 0
-PutsInOrder = (core : CoreState) (turn : Turn) (m : Moves core turn) → IsOrderly core → is_handing m ≡ false →
-    (x : ConnectionName) (c d : Connection) → open_named x core ≡ Some c → open_named x turn.core ≡ Some d →
+PutsInOrder =
+    (core : CoreState) (turn : Turn) (m : Moves core turn) → IsOrderly core → is_handing m ≡ false →
+    (x : ConnectionName) (c d : Connection) → open_named x core ≡ Some c →
+    open_named x turn.core ≡ Some d →
     d.pending ≡ c.pending ++ spelled (sends_to x (outputs_of (given_in m)))

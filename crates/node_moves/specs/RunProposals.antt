@@ -1,5 +1,5 @@
--- What a node proposes in all that it ever does: for each connection a prefix of the packets that its
--- client writes, once and in order.
+-- What a node proposes in all that it ever does: for each connection a prefix of the packets that
+-- its client writes, once and in order.
 use Rattle.std.specs.Prelude.{◌≡◌, ◌<◌, ℕ, Bool, true, false, List, [], ◌++◌, filter}
 use Rattle.exactly_once.specs.packet.declared.packet.Packet.{Packet}
 use Rattle.exactly_once.specs.broker_spec.Connection.{ConnectionName}
@@ -26,7 +26,8 @@ bytes_on x (goes_on m run) = came_on x m ++ bytes_on x run
 -- The client of a connection writes packets, and of their bytes, joined, some came and some are
 -- still to come. Then what the node proposed under the name are the commands of a prefix of those
 -- packets, each once and in order.
-pub record Proposes (x : ConnectionName) (core : CoreState) (proposals : List Command) (written : List Packet) (later : List ℕ) : Type 0 where
+pub record Proposes (x : ConnectionName) (core : CoreState) (proposals : List Command)
+    (written : List Packet) (later : List ℕ) : Type 0 where
   pub read : List Packet
   pub end : IsEnd x core written read later
   pub front : IsPrefixOf read written
@@ -35,8 +36,11 @@ pub record Proposes (x : ConnectionName) (core : CoreState) (proposals : List Co
 -- that holds in each run of a node from its opening on, and for each name that a connection can
 -- have
 abbrev pub NodesProposeInOrder : Type 0
-NodesProposeInOrder = (id : ℕ) (config : Config) (turn : Turn) (run : Runs (opening_core id config) turn) (x : ConnectionName)
-    (written : List Packet) (later : List ℕ) → 0 < x.count → Joins written (bytes_on x run ++ later) → Proposes x turn.core (proposals_of run) written later
+NodesProposeInOrder =
+    (id : ℕ) (config : Config) (turn : Turn) (run : Runs (opening_core id config) turn)
+    (x : ConnectionName)
+    (written : List Packet) (later : List ℕ) → 0 < x.count →
+    Joins written (bytes_on x run ++ later) → Proposes x turn.core (proposals_of run) written later
 
 -- whether a move reads a packet
 abbrev pub is_read : {core : CoreState} {turn : Turn} → Moves core turn → Bool

@@ -10,8 +10,12 @@ use Rattle.world_base.specs.Step.{node_step}
 
 -- after a tick no connection is silent
 abbrev pub NoneIsSilent : Type 0
-NoneIsSilent = (now : ℕ) (core : CoreState) → Each (λ (c : Connection). is_silent now c ≡ false) (node_step (Tick now) core).core.connections
+NoneIsSilent =
+    (now : ℕ) (core : CoreState) →
+    Each (λ (c : Connection). is_silent now c ≡ false) (node_step (Tick now) core).core.connections
 
 -- after a step there is no connection whose loss is still to be reported to the broker
 abbrev pub EachLossIsTold : Type 0
-EachLossIsTold = (item : Item) (core : CoreState) → Each (λ (c : Connection). has_failed c ≡ false) (node_step item core).core.connections
+EachLossIsTold =
+    (item : Item) (core : CoreState) →
+    Each (λ (c : Connection). has_failed c ≡ false) (node_step item core).core.connections

@@ -23,19 +23,22 @@ commands_from x n [] = []
 -- A connection's commands in the agreed list are a prefix of what its client wrote, in order; what
 -- its node sent is a prefix of the answers to it; and its client handled a prefix of that.
 pub record PipeInOrder (agreed : List Command) (κ : Connection) (e : End) : Type 0 where
-  pub up : IsPrefixOf (filter (λ command. is_packet_of command κ.name) agreed) (commands_from κ.name 0 κ.written)
+  pub up : IsPrefixOf (filter (λ command. is_packet_of command κ.name) agreed)
+      (commands_from κ.name 0 κ.written)
   pub down : IsPrefixOf e.put (put_to usual_limits (past_of usual_limits agreed) κ.name)
   pub handled : κ.handled ≤ length e.put
 
 -- each connection
 abbrev pub PipesInOrder : List Command → List Connection → List End → Type 0
-PipesInOrder agreed (κ ∷ connections) (e ∷ ends) = PipeInOrder agreed κ e × PipesInOrder agreed connections ends
+PipesInOrder agreed (κ ∷ connections) (e ∷ ends) =
+    PipeInOrder agreed κ e × PipesInOrder agreed connections ends
 PipesInOrder agreed [] [] = Unit {0}
 PipesInOrder agreed _ _ = ⊥
 
 -- what a client is promised over its sessions, as long as it is in step
 abbrev pub IsExactInStep : List Command → ClientEnds → Type 0
-IsExactInStep agreed c = IsInStep (story_of agreed c) → ExactlyOnceOverSessions usual_limits (story_of agreed c)
+IsExactInStep agreed c =
+    IsInStep (story_of agreed c) → ExactlyOnceOverSessions usual_limits (story_of agreed c)
 
 pub record WorldIsExact (w : World) : Type 0 where
   -- connections carry packets in order, both ways

@@ -37,7 +37,8 @@ is_of_connection _ = false
 
 -- the client after a packet that it handled on its newest connection
 abbrev pub after_packet : List Connection → List End → Side → ClientEnds
-after_packet others ends side = record { keeper = side.keeper; connections = side.connection ∷ others; ends = ends }
+after_packet others ends side =
+    record { keeper = side.keeper; connections = side.connection ∷ others; ends = ends }
 
 -- the client opens a connection of this name, at a node that applied this many places
 abbrev pub after_opening : ConnectionName → ℕ → ClientEnds → ClientEnds
@@ -53,47 +54,60 @@ abbrev pub shown : List Command → ConnectionName → Command → End → End
 shown agreed x command e =
     record e {
       seen = suc e.seen;
-      put = e.put ++ sends_to x (answers_of usual_limits (past_of usual_limits (take e.seen agreed)) command);
+      put = e.put ++ sends_to x
+          (answers_of usual_limits (past_of usual_limits (take e.seen agreed)) command);
     }
 
 -- the j-th connection of a client, and the node's end of it
-pub record HasPipe (w : World) (i : ℕ) (c : ClientEnds) (j : ℕ) (κ : Connection) (e : End) : Type 0 where
+pub record HasPipe (w : World) (i : ℕ) (c : ClientEnds) (j : ℕ) (κ : Connection)
+    (e : End) : Type 0 where
   pub client : slice_get w.clients i ≡ Some c
   pub connection : slice_get c.connections j ≡ Some κ
   pub end : slice_get c.ends j ≡ Some e
 
 pub data Goes (w : World) : World → Type 0 where
   -- a client calls, or loses its connection
-  calls : (i : ℕ) (c : ClientEnds) (t : Story) (h : StoryStep usual_limits (story_of w.agreed c) t) → slice_get w.clients i ≡ Some c → is_call h ≡ true →
+  calls : (i : ℕ) (c : ClientEnds) (t : Story)
+      (h : StoryStep usual_limits (story_of w.agreed c) t) → slice_get w.clients i ≡ Some c →
+      is_call h ≡ true →
       Goes w (with_client i (record c { keeper = t.keeper; connections = t.connections }) w)
   -- a client opens a connection, which gets a name that no connection ever had
-  opens : (i : ℕ) (c : ClientEnds) (x : ConnectionName) (seen : ℕ) → slice_get w.clients i ≡ Some c → IsFresh x w.clients → seen ≤ length w.agreed →
+  opens : (i : ℕ) (c : ClientEnds) (x : ConnectionName) (seen : ℕ) →
+      slice_get w.clients i ≡ Some c → IsFresh x w.clients → seen ≤ length w.agreed →
       Goes w (with_client i (after_opening x seen c) w)
   -- a client handles the next packet that was sent on the connection that it holds
-  handles : (i : ℕ) (c : ClientEnds) (κ : Connection) (e : End) (others : List Connection) (ends : List End) (packet : Packet) →
-      slice_get w.clients i ≡ Some c → c.connections ≡ κ ∷ others → c.ends ≡ e ∷ ends → c.keeper.is_open ≡ true →
+  handles : (i : ℕ) (c : ClientEnds) (κ : Connection) (e : End) (others : List Connection)
+      (ends : List End) (packet : Packet) →
+      slice_get w.clients i ≡ Some c → c.connections ≡ κ ∷ others → c.ends ≡ e ∷ ends →
+      c.keeper.is_open ≡ true →
       slice_get e.put κ.handled ≡ Some packet →
-      Goes w (with_client i (after_packet others (e ∷ ends) (handled packet (record { keeper = c.keeper; connection = κ }))) w)
+      Goes w (with_client i
+      (after_packet others (e ∷ ends)
+      (handled packet (record { keeper = c.keeper; connection = κ }))) w)
   -- a node reads the next packet of an open connection, and proposes it
-  reads : (i j : ℕ) (c : ClientEnds) (κ : Connection) (e : End) → HasPipe w i c j κ e → e.is_open ≡ true → e.read < length κ.written →
+  reads : (i j : ℕ) (c : ClientEnds) (κ : Connection) (e : End) → HasPipe w i c j κ e →
+      e.is_open ≡ true → e.read < length κ.written →
       Goes w (with_client i (record c { ends = set c.ends j (record e { read = suc e.read }) }) w)
   -- a node applies its next place of the agreed list, and sends what the broker answers on an open
   -- connection
-  answers : (i j : ℕ) (c : ClientEnds) (κ : Connection) (e : End) (command : Command) → HasPipe w i c j κ e → e.is_open ≡ true →
+  answers : (i j : ℕ) (c : ClientEnds) (κ : Connection) (e : End) (command : Command) →
+      HasPipe w i c j κ e → e.is_open ≡ true →
       slice_get w.agreed e.seen ≡ Some command →
       Goes w (with_client i (record c { ends = set c.ends j (shown w.agreed κ.name command e) }) w)
   -- a node's end is closed, alone or with its node
   closes : (i j : ℕ) (c : ClientEnds) (κ : Connection) (e : End) → HasPipe w i c j κ e →
       Goes w (with_client i (record c { ends = set c.ends j (record e { is_open = false }) }) w)
   -- of what was proposed for a connection, the next comes next in the agreed list
-  agrees : (i j : ℕ) (c : ClientEnds) (κ : Connection) (e : End) (v : Written) → HasPipe w i c j κ e → κ.taken < e.read →
+  agrees : (i j : ℕ) (c : ClientEnds) (κ : Connection) (e : End) (v : Written) →
+      HasPipe w i c j κ e → κ.taken < e.read →
       slice_get κ.written κ.taken ≡ Some v →
       Goes w (record {
         agreed = w.agreed ++ command_of κ.name κ.taken v.packet ∷ [];
         clients = set w.clients i (record c { connections = counted_at j c.connections });
       })
   -- the loss of a connection, the start of a ballot, or an Expel comes next in the agreed list
-  agrees_else : (command : Command) → is_of_connection command ≡ false → Goes w (record w { agreed = w.agreed ++ command ∷ [] })
+  agrees_else : (command : Command) → is_of_connection command ≡ false →
+      Goes w (record w { agreed = w.agreed ++ command ∷ [] })
 
 -- the worlds that are reached with these clients
 pub data Reached (cs : List Client) : World → Type 0 where

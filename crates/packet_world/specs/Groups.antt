@@ -21,25 +21,35 @@ use Rattle.packet_world.specs.Served.{IsOfPipe, IsServed}
 
 -- A node that was the active primary of a connection's ballot, and took of its packets those that
 -- its end has read.
-pub record ReadsAt {rules : Rules State Command Output} {config : Config} {past : List (Moment State Command Output)} (came : Past rules config past)
+pub record ReadsAt {rules : Rules State Command Output} {config : Config}
+    {past : List (Moment State Command Output)} (came : Past rules config past)
     (κ : Connection) (e : End) : Type 0 where
   pub node : ℕ
   pub moment : Moment State Command Output
   pub among : In moment past
   pub primary : IsPrimary moment.world node κ.name.ballot
-  pub taken : filter (λ command. is_packet_of command κ.name) (commands_of (taken_at node came)) ≡ commands_from κ.name 0 (take e.read κ.written)
+  pub taken : filter (λ command. is_packet_of command κ.name) (commands_of (taken_at node came))
+      ≡ commands_from κ.name 0 (take e.read κ.written)
 
 -- The premise about the nodes: they take commands of a connection only in the ballot of its name,
 -- for each connection the packets that its end has read, in order, and nothing of others.
-pub record TakesAsRead {rules : Rules State Command Output} {config : Config} {past : List (Moment State Command Output)} (came : Past rules config past)
+pub record TakesAsRead {rules : Rules State Command Output} {config : Config}
+    {past : List (Moment State Command Output)} (came : Past rules config past)
     (w : World) : Type 0 where
-  pub ballots : (row : ℕ × Command) → In row (taken_of came) → (x : ConnectionName) → is_packet_of row.1 x ≡ true → row.0 ≡ x.ballot
-  pub ends : (i j : ℕ) (c : ClientEnds) (κ : Connection) (e : End) → HasPipe w i c j κ e → ReadsAt came κ e
-  pub known : (row : ℕ × Command) → In row (taken_of came) → is_of_connection row.1 ≡ true → IsOfPipe w row.1
+  pub ballots : (row : ℕ × Command) → In row (taken_of came) → (x : ConnectionName) →
+      is_packet_of row.1 x ≡ true → row.0 ≡ x.ballot
+  pub ends : (i j : ℕ) (c : ClientEnds) (κ : Connection) (e : End) → HasPipe w i c j κ e →
+      ReadsAt came κ e
+  pub known : (row : ℕ × Command) → In row (taken_of came) → is_of_connection row.1 ≡ true →
+      IsOfPipe w row.1
 
 -- Then what is agreed at one moment is served by what is agreed at the next: it has grown, and has
 -- of each connection a prefix of the packets that were read, in order.
 abbrev pub GroupsServe : Type 0
-GroupsServe = (rules : Rules State Command Output) → ((ballot : ℕ) → is_of_connection (rules.start_of ballot) ≡ false) →
-    (config : Config) (a : Moment State Command Output) (past : List (Moment State Command Output)) (w : World) (later : List Command) →
-    (came : Past rules config (a ∷ past)) → IsAgreed config past w.agreed → IsAgreed config (a ∷ past) later → TakesAsRead came w → IsServed w later
+GroupsServe =
+    (rules : Rules State Command Output) →
+    ((ballot : ℕ) → is_of_connection (rules.start_of ballot) ≡ false) →
+    (config : Config) (a : Moment State Command Output) (past : List (Moment State Command Output))
+    (w : World) (later : List Command) →
+    (came : Past rules config (a ∷ past)) → IsAgreed config past w.agreed →
+    IsAgreed config (a ∷ past) later → TakesAsRead came w → IsServed w later

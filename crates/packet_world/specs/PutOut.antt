@@ -46,17 +46,28 @@ end_given x past given e = record e { seen = past; put = e.put ++ sends_to x (an
 -- The outputs of the machine at the next places of the agreed list, none left out, may be sent on
 -- an open end: the world reaches a state that has them.
 abbrev pub GivenIsPutOut : Type 0
-GivenIsPutOut = (cs : List Client) (w : World) (i j : ℕ) (c : ClientEnds) (κ : Connection) (e : End) (past : ℕ) → Reached cs w → HasPipe w i c j κ e →
+GivenIsPutOut =
+    (cs : List Client) (w : World) (i j : ℕ) (c : ClientEnds) (κ : Connection) (e : End)
+    (past : ℕ) → Reached cs w → HasPipe w i c j κ e →
     e.is_open ≡ true → e.seen ≤ past → past ≤ length w.agreed →
-    Reached cs (with_client i (record c { ends = set c.ends j (end_given κ.name past (outputs (outputs_between broker_rules w.agreed e.seen past)) e) }) w)
+    Reached cs (with_client i
+    (record c {
+      ends = set c.ends j
+          (end_given κ.name past (outputs (outputs_between broker_rules w.agreed e.seen past)) e);
+    }) w)
 
 -- The same holds for all outputs of a node of a group between two moments of a ballot that it
 -- leads, on an open end that has what the node output before.
 abbrev pub GroupsPutOut : Type 0
-GroupsPutOut = (config : Config) (a b : Moment State Command Output) (past later : List (Moment State Command Output))
-    (came : Past broker_rules config (a ∷ past)) (more : Past broker_rules config (b ∷ later)) (n ballot : ℕ) → LeadsOn n ballot came b later more →
-    (old new : ReplicaState State Command) → slice_get a.world.nodes n ≡ Some old → slice_get b.world.nodes n ≡ Some new →
+GroupsPutOut =
+    (config : Config) (a b : Moment State Command Output)
+    (past later : List (Moment State Command Output))
+    (came : Past broker_rules config (a ∷ past)) (more : Past broker_rules config (b ∷ later))
+    (n ballot : ℕ) → LeadsOn n ballot came b later more →
+    (old new : ReplicaState State Command) → slice_get a.world.nodes n ≡ Some old →
+    slice_get b.world.nodes n ≡ Some new →
     (given : List (ℕ × Output)) → given_of n more ≡ given_of n came ++ given →
     (cs : List Client) (w : World) → Reached cs w → IsAgreed config (b ∷ later) w.agreed →
     (i j : ℕ) (c : ClientEnds) (κ : Connection) (e : End) → HasPipe w i c j κ e → e.is_open ≡ true → e.seen ≡ old.committed →
-    Reached cs (with_client i (record c { ends = set c.ends j (end_given κ.name new.committed given e) }) w)
+    Reached cs (with_client i
+    (record c { ends = set c.ends j (end_given κ.name new.committed given e) }) w)

@@ -25,12 +25,15 @@ pub record IsOfPipe (w : World) (command : Command) : Type 0 where
 pub record IsServed (w : World) (later : List Command) : Type 0 where
   pub grows : IsPrefixOf w.agreed later
   pub order : (i j : ℕ) (c : ClientEnds) (κ : Connection) (e : End) → HasPipe w i c j κ e →
-      IsPrefixOf (filter (λ command. is_packet_of command κ.name) later) (commands_from κ.name 0 (take e.read κ.written))
-  pub known : (command : Command) → In command later → is_of_connection command ≡ true → IsOfPipe w command
+      IsPrefixOf (filter (λ command. is_packet_of command κ.name) later)
+      (commands_from κ.name 0 (take e.read κ.written))
+  pub known : (command : Command) → In command later → is_of_connection command ≡ true →
+      IsOfPipe w command
 
 -- a client, except how much of what it wrote is in the list
 abbrev pub untaken : ClientEnds → ClientEnds
-untaken c = record c { connections = map (λ (κ : Connection). record κ { taken = 0 }) c.connections }
+untaken c =
+    record c { connections = map (λ (κ : Connection). record κ { taken = 0 }) c.connections }
 
 -- Then the world comes to this list, command by command, and all else stays as it is.
 pub record ComesTo (cs : List Client) (w : World) (later : List Command) : Type 0 where
@@ -40,4 +43,6 @@ pub record ComesTo (cs : List Client) (w : World) (later : List Command) : Type 
   pub clients : map untaken after.clients ≡ map untaken w.clients
 
 abbrev pub WorldsAreServed : Type 0
-WorldsAreServed = (cs : List Client) (w : World) (later : List Command) → AreApart cs → Reached cs w → IsServed w later → ComesTo cs w later
+WorldsAreServed =
+    (cs : List Client) (w : World) (later : List Command) → AreApart cs → Reached cs w →
+    IsServed w later → ComesTo cs w later

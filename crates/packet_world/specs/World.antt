@@ -45,7 +45,8 @@ AreApart [] = Unit {0}
 
 -- the story of one client of the world
 abbrev pub story_of : List Command → ClientEnds → Story
-story_of agreed c = record { past = past_of usual_limits agreed; connections = c.connections; keeper = c.keeper }
+story_of agreed c =
+    record { past = past_of usual_limits agreed; connections = c.connections; keeper = c.keeper }
 
 -- no connection ever had this name
 abbrev pub IsFresh : ConnectionName → List ClientEnds → Type 0

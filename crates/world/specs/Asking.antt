@@ -14,7 +14,8 @@ use Rattle.world.specs.World.{WorldState}
 
 -- the client of this identifier was asked to publish: its call was done, once, and the client may
 -- have lost its connection in it
-pub record AsksOne (name : List ℕ) (p : Publication) (old : WorldState) (asked : List (ℕ × Publication)) (new : WorldState) : Type 0 where
+pub record AsksOne (name : List ℕ) (p : Publication) (old : WorldState)
+    (asked : List (ℕ × Publication)) (new : WorldState) : Type 0 where
   pub client : Named name old
   pub piped : Piped
   pub does : Asks (Call.Publishes p) false client.client.piped piped
@@ -22,17 +23,20 @@ pub record AsksOne (name : List ℕ) (p : Publication) (old : WorldState) (asked
   pub asked_is : asked ≡ (client.at, p) ∷ []
 
 -- it ran out of memory before that: nothing was done, and that is counted
-pub record AsksNone (old : WorldState) (asked : List (ℕ × Publication)) (new : WorldState) : Type 0 where
+pub record AsksNone (old : WorldState) (asked : List (ℕ × Publication))
+    (new : WorldState) : Type 0 where
   pub is : new ≡ record old { losses = one_more old.losses }
   pub none : asked ≡ []
 
 -- only a Publish asks a client
 abbrev pub AskedBy : Event → WorldState → List (ℕ × Publication) → WorldState → Type 0
-AskedBy (events.Publish name p) old asked new = AsksOne name p old asked new ⊎ AsksNone old asked new
+AskedBy (events.Publish name p) old asked new =
+    AsksOne name p old asked new ⊎ AsksNone old asked new
 AskedBy _ old asked new = asked ≡ []
 
 -- and only an event that was not idle
-abbrev pub IsAsked : Event → WorldState → Result (Unit {0}) Idle → List (ℕ × Publication) → WorldState → Type 0
+abbrev pub IsAsked : Event → WorldState → Result (Unit {0}) Idle → List (ℕ × Publication) →
+    WorldState → Type 0
 IsAsked event old (Err idle) asked new = asked ≡ []
 IsAsked event old (Ok done) asked new = AskedBy event old asked new
 
@@ -40,5 +44,7 @@ IsAsked event old (Ok done) asked new = AskedBy event old asked new
 abbrev pub RunAsks : List Event → WorldState → List (ℕ × Publication) → WorldState → Type 0
 RunAsks [] old asked new = (asked ≡ []) × (new ≡ old)
 RunAsks (event ∷ events) old asked new =
-    (between : WorldState) × (result : Result (Unit {0}) Idle) × (first : List (ℕ × Publication)) × (later : List (ℕ × Publication))
-    × Happens event old result between × IsAsked event old result first between × RunAsks events between later new × (asked ≡ first ++ later)
+    (between : WorldState) × (result : Result (Unit {0}) Idle) × (first : List (ℕ × Publication))
+    × (later : List (ℕ × Publication))
+    × Happens event old result between × IsAsked event old result first between
+    × RunAsks events between later new × (asked ≡ first ++ later)

@@ -67,16 +67,23 @@ CannotHappen (events.Assign config) w = refusal w.nodes.master config ≡ None �
 CannotHappen (events.Deliver number) w = ComesToNobody (slice_get w.nodes.sent number) w.nodes
 CannotHappen (events.Tick node) w = running w.nodes.nodes node ≡ None
 CannotHappen (events.Cut node) w = cutting w.nodes.nodes node ≡ None
-CannotHappen (events.Expel name node) w = (position (is_named name) w.clients ≡ None) ⊎ (proposing w.nodes.nodes node ≡ None)
+CannotHappen (events.Expel name node) w =
+    (position (is_named name) w.clients ≡ None) ⊎ (proposing w.nodes.nodes node ≡ None)
 CannotHappen (events.Crash node) w = running w.nodes.nodes node ≡ None
-CannotHappen (events.Open name node) w = IsTaken (core_named name w.clients) ⊎ (is_serving (node_of w.nodes.nodes node) ≡ false)
+CannotHappen (events.Open name node) w =
+    IsTaken (core_named name w.clients) ⊎ (is_serving (node_of w.nodes.nodes node) ≡ false)
 CannotHappen (events.CarryUp number count) w =
-    IsClosed (place_numbered number w.connections) w.nodes.nodes ⊎ IsNoPart count (up_of (way_of number w))
+    IsClosed (place_numbered number w.connections) w.nodes.nodes
+    ⊎ IsNoPart count (up_of (way_of number w))
 CannotHappen (events.CarryDown number count) w =
-    (is_held (place_numbered number w.connections) w.clients ≡ false) ⊎ IsNoPart count (down_of (way_of number w))
+    (is_held (place_numbered number w.connections) w.clients ≡ false)
+    ⊎ IsNoPart count (down_of (way_of number w))
 CannotHappen (events.Abandon name) w = HoldsNone (core_named name w.clients)
 CannotHappen (events.Disconnect name) w = HoldsNone (core_named name w.clients)
 CannotHappen (events.Notice number) w = IsClosed (place_numbered number w.connections) w.nodes.nodes
-CannotHappen (events.Publish name publication) w = Refuses (Call.Publishes publication) (core_named name w.clients)
-CannotHappen (events.Subscribe name filter qos) w = Refuses (Call.Subscribes filter qos) (core_named name w.clients)
-CannotHappen (events.Unsubscribe name filter) w = Refuses (Call.Unsubscribes filter) (core_named name w.clients)
+CannotHappen (events.Publish name publication) w =
+    Refuses (Call.Publishes publication) (core_named name w.clients)
+CannotHappen (events.Subscribe name filter qos) w =
+    Refuses (Call.Subscribes filter qos) (core_named name w.clients)
+CannotHappen (events.Unsubscribe name filter) w =
+    Refuses (Call.Unsubscribes filter) (core_named name w.clients)

@@ -1,5 +1,5 @@
--- What a client does in an event: exactly, or, if losses are allowed (`whole` is false), perhaps with
--- losses.
+-- What a client does in an event: exactly, or, if losses are allowed (`whole` is false), perhaps
+-- with losses.
 use Rattle.std.specs.Prelude.{◌≡◌, ℕ, Bool, true, false, List, Result, Ok, Err}
 use Rattle.escaping_client.specs.client.Core.{gone}
 use Rattle.escaping_client.specs.client_base.Steps.{Call, keeper_step}
@@ -14,23 +14,29 @@ use Rattle.world.specs.World.{WorldState}
 -- the client of this identifier does this, and nothing else changes
 abbrev pub ClientDoes : List ℕ → (Piped → Piped → Type 0) → WorldState → WorldState → Type 0
 ClientDoes name does old new =
-    (c : Named name old) × (piped : Piped) × does c.client.piped piped × (new ≡ with_piped c.at c.client piped old)
+    (c : Named name old) × (piped : Piped) × does c.client.piped piped
+    × (new ≡ with_piped c.at c.client piped old)
 
 -- what it writes is in transit; if losses are allowed, its connection may be lost instead
 abbrev pub Asks : Call → Bool → Piped → Piped → Type 0
 Asks call true old new = Calls (keeper_step call old.core.state) old (Ok sendings.Sent) new
-Asks call false old new = (sending : Sending) × Calls (keeper_step call old.core.state) old (Ok sending) new
+Asks call false old new =
+    (sending : Sending) × Calls (keeper_step call old.core.state) old (Ok sending) new
 
 -- it is lost: there was no memory for what the client wrote
 abbrev pub LosesAsking : Call → Piped → Piped → Type 0
 LosesAsking call old new = Calls (keeper_step call old.core.state) old (Ok sendings.Lost) new
 
 abbrev pub Leaves : Bool → Piped → Piped → Type 0
-Leaves true old new = TakesLeave (keeper_step Call.Disconnects old.core.state) old (Ok sendings.Sent) new
-Leaves false old new = (sending : Sending) × TakesLeave (keeper_step Call.Disconnects old.core.state) old (Ok sending) new
+Leaves true old new =
+    TakesLeave (keeper_step Call.Disconnects old.core.state) old (Ok sendings.Sent) new
+Leaves false old new =
+    (sending : Sending)
+    × TakesLeave (keeper_step Call.Disconnects old.core.state) old (Ok sending) new
 
 abbrev pub LosesLeaving : Piped → Piped → Type 0
-LosesLeaving old new = TakesLeave (keeper_step Call.Disconnects old.core.state) old (Ok sendings.Lost) new
+LosesLeaving old new =
+    TakesLeave (keeper_step Call.Disconnects old.core.state) old (Ok sendings.Lost) new
 
 -- what is in transit stays
 abbrev pub Loses : Piped → Piped → Type 0
@@ -39,4 +45,5 @@ Loses old new = new ≡ record old { core = gone old.core }
 -- whatever it does with the bytes; it runs out of memory only if losses are allowed
 abbrev pub HearsThem : Bool → ℕ → Piped → Piped → Type 0
 HearsThem whole count old new =
-    (result : Result (Unit {0}) ClientError) × (whole ≡ true → result ≡ Err errors.Memory → ⊥) × Hears count old result new
+    (result : Result (Unit {0}) ClientError) × (whole ≡ true → result ≡ Err errors.Memory → ⊥)
+    × Hears count old result new

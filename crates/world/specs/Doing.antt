@@ -44,19 +44,24 @@ receiver_of (Some (receiver, message)) = receiver
 
 abbrev pub Does : Bool → Event → WorldState → WorldState → Type 0
 Does whole (events.Assign config) old new =
-    (between : NodesState) × Assigns whole config old.nodes between × (new ≡ record old { nodes = between })
+    (between : NodesState) × Assigns whole config old.nodes between
+    × (new ≡ record old { nodes = between })
 Does whole (events.Deliver number) old new =
     (between : NodesState) × Delivers whole (slice_get old.nodes.sent number) old.nodes between
-    × Gathers whole (receiver_of (slice_get old.nodes.sent number)) (record old { nodes = between }) new
+    × Gathers whole (receiver_of (slice_get old.nodes.sent number))
+    (record old { nodes = between }) new
 Does whole (events.Tick node) old new = TakesItem whole node (items.Tick 0) old new
 Does whole (events.Cut node) old new =
-    (between : NodesState) × CutsLog whole node old.nodes between × Gathers whole node (record old { nodes = between }) new
+    (between : NodesState) × CutsLog whole node old.nodes between
+    × Gathers whole node (record old { nodes = between }) new
 Does whole (events.Expel name node) old new =
-    (between : NodesState) × Proposes whole name node old.nodes between × Gathers whole node (record old { nodes = between }) new
+    (between : NodesState) × Proposes whole name node old.nodes between
+    × Gathers whole node (record old { nodes = between }) new
 Does whole (events.Crash node) old new = TakesItem whole node items.Crash old new
 Does whole (events.Open name node) old new = OpensWhere whole name node old new
 Does whole (events.CarryUp number count) old new =
-    (c : Connected number old) × TakesItem whole c.place.node (items.Bytes (port_of number) (take count c.way.up) 0)
+    (c : Connected number old)
+    × TakesItem whole c.place.node (items.Bytes (port_of number) (take count c.way.up) 0)
     (with_piped c.place.client c.client (with_less c.place.at count c.way c.client.piped) old) new
 Does whole (events.CarryDown number count) old new =
     (c : Connected number old) × (piped : Piped) × HearsThem whole count c.client.piped piped
@@ -65,19 +70,26 @@ Does whole (events.Abandon name) old new = ClientDoes name Loses old new
 Does whole (events.Disconnect name) old new = ClientDoes name (Leaves whole) old new
 Does whole (events.Notice number) old new =
     (c : Connected number old) × TakesItem whole c.place.node (items.Ended (port_of number)) old new
-Does whole (events.Publish name publication) old new = ClientDoes name (Asks (Call.Publishes publication) whole) old new
-Does whole (events.Subscribe name filter qos) old new = ClientDoes name (Asks (Call.Subscribes filter qos) whole) old new
-Does whole (events.Unsubscribe name filter) old new = ClientDoes name (Asks (Call.Unsubscribes filter) whole) old new
+Does whole (events.Publish name publication) old new =
+    ClientDoes name (Asks (Call.Publishes publication) whole) old new
+Does whole (events.Subscribe name filter qos) old new =
+    ClientDoes name (Asks (Call.Subscribes filter qos) whole) old new
+Does whole (events.Unsubscribe name filter) old new =
+    ClientDoes name (Asks (Call.Unsubscribes filter) whole) old new
 
 -- How memory runs out at a client and not at a node: a client makes its call, and its connection is
 -- lost; it has no memory for what it receives; or there is no new connection.
 abbrev pub LosesAtClient : Event → WorldState → WorldState → Type 0
 LosesAtClient (events.Open name node) old new = OpensNone name node old new
 LosesAtClient (events.CarryDown number count) old new =
-    (c : Connected number old) × (piped : Piped) × Hears count c.client.piped (Err errors.Memory) piped
+    (c : Connected number old) × (piped : Piped)
+    × Hears count c.client.piped (Err errors.Memory) piped
     × (new ≡ with_piped c.place.client c.client piped old)
 LosesAtClient (events.Disconnect name) old new = ClientDoes name LosesLeaving old new
-LosesAtClient (events.Publish name publication) old new = ClientDoes name (LosesAsking (Call.Publishes publication)) old new
-LosesAtClient (events.Subscribe name filter qos) old new = ClientDoes name (LosesAsking (Call.Subscribes filter qos)) old new
-LosesAtClient (events.Unsubscribe name filter) old new = ClientDoes name (LosesAsking (Call.Unsubscribes filter)) old new
+LosesAtClient (events.Publish name publication) old new =
+    ClientDoes name (LosesAsking (Call.Publishes publication)) old new
+LosesAtClient (events.Subscribe name filter qos) old new =
+    ClientDoes name (LosesAsking (Call.Subscribes filter qos)) old new
+LosesAtClient (events.Unsubscribe name filter) old new =
+    ClientDoes name (LosesAsking (Call.Unsubscribes filter)) old new
 LosesAtClient event old new = ⊥

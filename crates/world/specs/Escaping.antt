@@ -63,7 +63,8 @@ pub record CanEscape (members : List ℕ) (name : Client) (w : WorldState) : Typ
 -- agreed now. The client is online, and its last CONNACK said that its session is present.
 pub record HasEscaped (name : Client) (old new : WorldState) : Type 0 where
   pub active : new.nodes.master.active ≡ old.nodes.master.given + 1
-  pub agreed : (before after : List Command) → AgreeOn old.nodes before → AgreeOn new.nodes after → IsPrefixOf before after
+  pub agreed : (before after : List Command) → AgreeOn old.nodes before → AgreeOn new.nodes after →
+      IsPrefixOf before after
   pub core : Core
   pub client : core_named name new.clients ≡ Some core
   pub online : is_online core.state.stage ≡ true
@@ -72,5 +73,6 @@ pub record HasEscaped (name : Client) (old new : WorldState) : Type 0 where
 -- whatever happened before, if none of these events loses anything
 abbrev pub LeadsOut : Client → WorldState → List Event → Type 0
 LeadsOut name w events =
-    (nodes : ℕ) (config : Config) (clients : List Client) (new : WorldState) → IsReached nodes config clients w → Run events w new → LosesNothing w new →
+    (nodes : ℕ) (config : Config) (clients : List Client) (new : WorldState) →
+    IsReached nodes config clients w → Run events w new → LosesNothing w new →
     HasEscaped name w new

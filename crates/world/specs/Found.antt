@@ -35,7 +35,8 @@ pub record Named (name : List ℕ) (w : WorldState) : Type 0 where
 
 -- the client at this index has become this one, and nothing else changes
 abbrev pub with_piped : ℕ → WorldClient → Piped → WorldState → WorldState
-with_piped at client piped w = record w { clients = set w.clients at (record client { piped = piped }) }
+with_piped at client piped w =
+    record w { clients = set w.clients at (record client { piped = piped }) }
 
 -- ---- a connection
 
@@ -70,8 +71,10 @@ pub record Connected (number : ℕ) (w : WorldState) : Type 0 where
 
 -- these bytes are in transit down on the client's connection at this index
 abbrev pub with_down : ℕ → Way → List ℕ → Piped → Piped
-with_down at way bytes client = record client { ways = set client.ways at (record way { down = bytes }) }
+with_down at way bytes client =
+    record client { ways = set client.ways at (record way { down = bytes }) }
 
 -- this many bytes are removed from the front of those in transit up
 abbrev pub with_less : ℕ → ℕ → Way → Piped → Piped
-with_less at count way client = record client { ways = set client.ways at (record way { up = drop count way.up }) }
+with_less at count way client =
+    record client { ways = set client.ways at (record way { up = drop count way.up }) }

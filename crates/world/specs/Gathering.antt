@@ -50,7 +50,8 @@ pub record IsAsked (number : ℕ) (old new : WorldState) : Type 0 where
   pub is : new ≡ record (with_piped c.place.client c.client
       (with_down c.place.at c.way (c.way.down ++ put_out (port_of number) node) c.client.piped) old) {
         nodes = between;
-        connections = set old.connections (number - 1) (record c.place { is_open = is_told_open (port_of number) node });
+        connections = set old.connections (number - 1)
+            (record c.place { is_open = is_told_open (port_of number) node });
       }
 
 -- whether it leads to this node, and its end there is open
@@ -62,7 +63,8 @@ is_open_at node (Some place) = (place.node == node) && place.is_open
 -- was, and that is counted
 abbrev pub MayBeAsked : Bool → ℕ → WorldState → WorldState → Type 0
 MayBeAsked true number old new = IsAsked number old new
-MayBeAsked false number old new = IsAsked number old new ⊎ (new ≡ record old { nodes = forgetful old.nodes })
+MayBeAsked false number old new =
+    IsAsked number old new ⊎ (new ≡ record old { nodes = forgetful old.nodes })
 
 abbrev pub AskedWhere : Bool → Bool → ℕ → WorldState → WorldState → Type 0
 AskedWhere whole true number old new = MayBeAsked whole number old new
@@ -74,7 +76,9 @@ AskedWhere whole false number old new = new ≡ old
 abbrev pub GathersAmong : Bool → ℕ → ℕ → WorldState → WorldState → Type 0
 GathersAmong whole zero node old new = new ≡ old
 GathersAmong whole (suc before) node old new =
-    (between : WorldState) × AskedWhere whole (is_open_at node (place_numbered (suc before) old.connections)) (suc before) old between
+    (between : WorldState)
+    × AskedWhere whole (is_open_at node (place_numbered (suc before) old.connections))
+    (suc before) old between
     × GathersAmong whole before node between new
 
 -- all connections; the master, node 0, has none
@@ -90,4 +94,5 @@ TakesWhere false node item old new = TakesIn node item old new
 -- and what it queued then goes down
 abbrev pub TakesItem : Bool → ℕ → Item → WorldState → WorldState → Type 0
 TakesItem whole node item old new =
-    (between : NodesState) × TakesWhere whole node item old.nodes between × Gathers whole node (record old { nodes = between }) new
+    (between : NodesState) × TakesWhere whole node item old.nodes between
+    × Gathers whole node (record old { nodes = between }) new

@@ -68,7 +68,8 @@ pub record AreReached (nodes : ℕ) (config : Config) (new : NodesState) : Type 
 
 -- nodes that can be reached can still be reached after it
 abbrev pub StaysReached : NodesState → NodesState → Type 0
-StaysReached old new = (nodes : ℕ) (config : Config) → AreReached nodes config old → AreReached nodes config new
+StaysReached old new =
+    (nodes : ℕ) (config : Config) → AreReached nodes config old → AreReached nodes config new
 
 -- .. and the list on which they agreed before is a prefix of the list on which they agree then
 abbrev pub AgreedGrows : NodesState → NodesState → Type 0

@@ -31,7 +31,8 @@ pub record HappensLosing (event : Event) (old new : WorldState) : Type 0 where
   pub needs : TakesNoMemory event old → old.nodes.losses < 2 ^ 64 - 1 → ⊥
   pub done : WorldState
   pub does : (done ≡ old) ⊎ Does false event old done
-  pub lost : (done ≡ old) ⊎ LosesAtClient event old done ⊎ (NodesLoseNothing old.nodes done.nodes → ⊥)
+  pub lost : (done ≡ old) ⊎ LosesAtClient event old done
+      ⊎ (NodesLoseNothing old.nodes done.nodes → ⊥)
   pub counted : new ≡ record done { losses = one_more old.losses }
 
 -- Idle comes exactly if the event cannot happen, and then nothing changes. Otherwise the event was
@@ -44,7 +45,8 @@ Happens event old (Ok done) new = HappensExactly event old new ⊎ HappensLosing
 abbrev pub Run : List Event → WorldState → WorldState → Type 0
 Run [] old new = new ≡ old
 Run (event ∷ events) old new =
-    (between : WorldState) × (result : Result (Unit {0}) Idle) × Happens event old result between × Run events between new
+    (between : WorldState) × (result : Result (Unit {0}) Idle) × Happens event old result between
+    × Run events between new
 
 -- ---- how it begins
 
@@ -52,7 +54,13 @@ abbrev pub new_world_client : List ℕ → WorldClient
 new_world_client name = record { name = name; piped = new_piped name }
 
 -- a world as it opens: no client was ever connected
-pub record Opens (nodes : ℕ) (config : Config) (clients : List Client) (w : WorldState) : Type 0 where
+pub record Opens (nodes : ℕ) (config : Config) (clients : List Client)
+    (w : WorldState) : Type 0 where
   pub group : StandsFor (opening_group nodes config) w.nodes
   pub whole : w.nodes.losses ≡ 0
-  pub is : w ≡ record { nodes = w.nodes; clients = map new_world_client clients; connections = []; losses = 0 }
+  pub is : w ≡ record {
+    nodes = w.nodes;
+    clients = map new_world_client clients;
+    connections = [];
+    losses = 0;
+  }

@@ -12,17 +12,22 @@ use Rattle.world.specs.World.{WorldState}
 -- if the count of losses is as before, and not at its greatest number, an event that was not idle
 -- was done exactly
 abbrev pub UncountedIsExact : Type 0
-UncountedIsExact = (event : Event) (old new : WorldState) → Happens event old (Ok tt) new → LosesNothing old new → HappensExactly event old new
+UncountedIsExact =
+    (event : Event) (old new : WorldState) → Happens event old (Ok tt) new → LosesNothing old new →
+    HappensExactly event old new
 
 -- an Open at a node that gave a connection the name 2^40 of its ballot changes nothing
 abbrev pub OpensPastTheLast : Type 0
 OpensPastTheLast =
-    (name : List ℕ) (node : ℕ) (core : CountedCore) (old new : WorldState) → node_of old.nodes.nodes node ≡ Some core →
-    core.core.last_name ≡ record { ballot = core.core.replica.state.joined; count = 2 ^ 40 } → old.nodes.losses < 2 ^ 64 - 1 →
+    (name : List ℕ) (node : ℕ) (core : CountedCore) (old new : WorldState) →
+    node_of old.nodes.nodes node ≡ Some core →
+    core.core.last_name ≡ record { ballot = core.core.replica.state.joined; count = 2 ^ 40 } →
+    old.nodes.losses < 2 ^ 64 - 1 →
     Happens (events.Open name node) old (Ok tt) new → new ≡ old
 
 -- a node that gave no number above 2^40 - 1 has a name left
 abbrev pub HasRoomBefore : Type 0
 HasRoomBefore =
-    (core : CountedCore) → 0 < core.core.replica.state.joined → core.core.replica.state.joined ≤ 2 ^ 32 → core.core.last_name.count < 2 ^ 40 →
+    (core : CountedCore) → 0 < core.core.replica.state.joined →
+    core.core.replica.state.joined ≤ 2 ^ 32 → core.core.last_name.count < 2 ^ 40 →
     is_full (Some core) ≡ false

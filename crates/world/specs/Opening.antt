@@ -20,9 +20,11 @@ abbrev pub next_number : WorldState → ℕ
 next_number w = suc (length w.connections)
 
 abbrev pub ConnectsTo : ℕ → ℕ → Piped → Piped → Type 0
-ConnectsTo node number old new = Connects (node - 1) (port_of number) (keeper_step Call.Opens old.core.state) old (Ok tt) new
+ConnectsTo node number old new =
+    Connects (node - 1) (port_of number) (keeper_step Call.Opens old.core.state) old (Ok tt) new
 
-abbrev pub with_connection : {name : List ℕ} {w : WorldState} → Named name w → Piped → ℕ → WorldState
+abbrev pub with_connection : {name : List ℕ} {w : WorldState} → Named name w → Piped → ℕ →
+    WorldState
 with_connection {w = w} c piped node =
     record (with_piped c.at c.client piped w) {
       connections = w.connections
@@ -33,14 +35,18 @@ with_connection {w = w} c piped node =
 abbrev pub OpensOne : Bool → List ℕ → ℕ → WorldState → WorldState → Type 0
 OpensOne whole name node old new =
     (c : Named name old) × (piped : Piped) × ConnectsTo node (next_number old) c.client.piped piped
-    × TakesItem whole node (items.Opened (port_of (next_number old)) 0) (with_connection c piped node) new
+    × TakesItem whole node (items.Opened (port_of (next_number old)) 0)
+    (with_connection c piped node) new
 
 -- There is no new connection: the client runs out of memory, or its node does not take the
 -- connection, and it is removed.
 abbrev pub NoneOpens : ℕ → Port → NodesState → Piped → NodesState → Piped → Type 0
 NoneOpens node port old client new later =
-    ((cause : ClientError) × Connects (node - 1) port (keeper_step Call.Opens client.core.state) client (Err cause) later × (new ≡ old))
-    ⊎ ((opened : Piped) × Connects (node - 1) port (keeper_step Call.Opens client.core.state) client (Ok tt) opened
+    ((cause : ClientError)
+    × Connects (node - 1) port (keeper_step Call.Opens client.core.state) client (Err cause) later
+    × (new ≡ old))
+    ⊎ ((opened : Piped)
+    × Connects (node - 1) port (keeper_step Call.Opens client.core.state) client (Ok tt) opened
     × (later ≡ taken_back opened) × ((new ≡ old) ⊎ TakesIn node (items.Opened port 0) old new))
 
 abbrev pub OpensNone : List ℕ → ℕ → WorldState → WorldState → Type 0
@@ -60,5 +66,8 @@ OpensUnless true whole name node old new = new ≡ old
 OpensUnless false whole name node old new = OpensOne whole name node old new
 
 abbrev pub OpensWhere : Bool → List ℕ → ℕ → WorldState → WorldState → Type 0
-OpensWhere true name node old new = OpensUnless (is_full (node_of old.nodes.nodes node)) true name node old new
-OpensWhere false name node old new = OpensUnless (is_full (node_of old.nodes.nodes node)) false name node old new ⊎ OpensNone name node old new
+OpensWhere true name node old new =
+    OpensUnless (is_full (node_of old.nodes.nodes node)) true name node old new
+OpensWhere false name node old new =
+    OpensUnless (is_full (node_of old.nodes.nodes node)) false name node old new
+    ⊎ OpensNone name node old new

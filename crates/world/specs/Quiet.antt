@@ -18,7 +18,8 @@ use Rattle.world.specs.World.{WorldState}
 
 -- a node has nothing to hand over
 abbrev pub HoldsNothing : ℕ → NodesState → Type 0
-HoldsNothing node n = (core : CountedCore) → node_of n.nodes node ≡ Some core → WaitsNothing core.core
+HoldsNothing node n =
+    (core : CountedCore) → node_of n.nodes node ≡ Some core → WaitsNothing core.core
 
 -- an item takes no memory at a node, which has nothing to hand over
 abbrev pub IsQuietAt : ℕ → Item → NodesState → Type 0
@@ -43,7 +44,8 @@ abbrev pub TakesNoMemory : Event → WorldState → Type 0
 TakesNoMemory (events.Deliver number) w = ComesQuietly (slice_get w.nodes.sent number) w.nodes
 TakesNoMemory (events.Tick node) w = IsQuietAt node (items.Tick 0) w.nodes
 TakesNoMemory (events.Crash node) w = IsQuietAt node items.Crash w.nodes
-TakesNoMemory (events.Notice number) w = EndsQuietly number (place_numbered number w.connections) w.nodes
+TakesNoMemory (events.Notice number) w =
+    EndsQuietly number (place_numbered number w.connections) w.nodes
 TakesNoMemory (events.Open name node) w = is_full (node_of w.nodes.nodes node) ≡ true
 TakesNoMemory (events.Abandon name) w = Unit {0}
 TakesNoMemory event w = ⊥

@@ -15,18 +15,22 @@ leads_of clients = map (λ (client : WorldClient). leads client.piped.ways) clie
 
 -- The connection of this number is at a client's index, and leads to its node, by the port of its
 -- number.
-pub record LeadsThere (all : List (List (ℕ × Port))) (number : ℕ) (place : ConnectionSlot) : Type 0 where
+pub record LeadsThere (all : List (List (ℕ × Port))) (number : ℕ)
+    (place : ConnectionSlot) : Type 0 where
   pub ways : List (ℕ × Port)
   pub node : ℕ
   pub client : slice_get all place.client ≡ Some ways
   pub way : slice_get ways place.at ≡ Some (node, record { 0 = number })
   pub numbered : suc node ≡ place.node
 
-pub record AreHoused (all : List (List (ℕ × Port))) (connections : List ConnectionSlot) : Type 0 where
+pub record AreHoused (all : List (List (ℕ × Port)))
+    (connections : List ConnectionSlot) : Type 0 where
   -- connection n + 1 is at index n
-  pub known : (n : ℕ) (place : ConnectionSlot) → slice_get connections n ≡ Some place → LeadsThere all (suc n) place
+  pub known : (n : ℕ) (place : ConnectionSlot) → slice_get connections n ≡ Some place →
+      LeadsThere all (suc n) place
   -- no port above the number of connections was used
-  pub used : (i at node : ℕ) (port : Port) (ways : List (ℕ × Port)) → slice_get all i ≡ Some ways → slice_get ways at ≡ Some (node, port)
+  pub used : (i at node : ℕ) (port : Port) (ways : List (ℕ × Port)) → slice_get all i ≡ Some ways →
+      slice_get ways at ≡ Some (node, port)
       → port.0 ≤ length connections
 
 -- ---- whose end is open

@@ -49,7 +49,8 @@ pub record GoesTo (asked : List (ℕ × Publication)) (m : World) (new : WorldSt
 -- each reachable world of the model that corresponded to it before moves in this way
 abbrev pub WorldGoesBy : List (ℕ × Publication) → WorldState → WorldState → Type 0
 WorldGoesBy asked old new =
-    (nodes : ℕ) (config : Config) (cs : List Client) (m : World) → Reached nodes config cs m → StandsFor m old → GoesTo asked m new
+    (nodes : ℕ) (config : Config) (cs : List Client) (m : World) → Reached nodes config cs m →
+    StandsFor m old → GoesTo asked m new
 
 -- nothing is published
 abbrev pub WorldGoes : WorldState → WorldState → Type 0
@@ -60,7 +61,8 @@ WorldGoes old new = WorldGoesBy [] old new
 -- A world in code corresponds to one that can be reached with this many nodes, in this
 -- configuration, with these clients, each of which has an identifier of its own. So the headline
 -- holds for each client, by the list on which its nodes agree.
-pub record IsReached (nodes : ℕ) (config : Config) (cs : List Client) (w : WorldState) : Type 0 where
+pub record IsReached (nodes : ℕ) (config : Config) (cs : List Client)
+    (w : WorldState) : Type 0 where
   pub apart : AreApart cs
   pub world : World
   pub trail : Reached nodes config cs world
@@ -68,7 +70,8 @@ pub record IsReached (nodes : ℕ) (config : Config) (cs : List Client) (w : Wor
   pub exact : IsExact trail
 
 -- what its clients published until then: each publication with the index of its client
-abbrev pub asked_on : {nodes : ℕ} {config : Config} {cs : List Client} {w : WorldState} → IsReached nodes config cs w → List (ℕ × Publication)
+abbrev pub asked_on : {nodes : ℕ} {config : Config} {cs : List Client} {w : WorldState} →
+    IsReached nodes config cs w → List (ℕ × Publication)
 asked_on reached = published_on reached.trail
 
 -- the connections of a client of the model's world, the newest first: history

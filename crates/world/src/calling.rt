@@ -26,9 +26,9 @@ use world_events::Event;
 use world_events::world_pipes::{ClientError, PipedClient, Sending};
 
 impl World {
-    /// Opens a connection of a client to a node. `Idle` comes if there is no such client, if it has a
-    /// connection, and if the node is no running active primary. An open past the last connection of
-    /// a ballot changes nothing.
+    /// Opens a connection of a client to a node. `Idle` comes if there is no such client, if it has
+    /// a connection, and if the node is no running active primary. An open past the last connection
+    /// of a ballot changes nothing.
     pub(crate) fn open(&mut self, client: &ClientId, node: u8) -> Result<(), Idle>
         ensures goes { GoesOn self.old self.new }
         ensures meets { Meets (Event.Open client.now node) self.old result self.new }

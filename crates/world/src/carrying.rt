@@ -56,7 +56,8 @@ impl World {
         requires stands { slice_get self.old.connections (number - 1) ≡ Some place }
         requires positive { 0 < number }
         ensures goes { GoesOn self.old self.new }
-        ensures takes { IfOk result (λ had. TakesUpOnWhere had number place count self.old self.new) }
+        ensures takes { IfOk result
+            (λ had. TakesUpOnWhere had number place count self.old self.new) }
         ensures still { self.new.losses ≡ self.old.losses }
         ensures idle { OnErr result (CannotTakeOn place count self.old) }
         ensures same { OnErr result (self.new ≡ self.old) }
@@ -72,8 +73,8 @@ impl World {
         )
     }
 
-    /// Carries `count` bytes from the front of a connection to its client. `Idle` comes if the client
-    /// does not hold this connection, for no bytes, and for more than wait.
+    /// Carries `count` bytes from the front of a connection to its client. `Idle` comes if the
+    /// client does not hold this connection, for no bytes, and for more than wait.
     pub(crate) fn carry_down(&mut self, number: u64, count: u64) -> Result<(), Idle>
         ensures goes { GoesOn self.old self.new }
         ensures meets { Meets (Event.CarryDown number count) self.old result self.new }

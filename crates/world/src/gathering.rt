@@ -16,8 +16,8 @@ use std::alloc::Global;
 use world_events::world_pipes::PipedClient;
 
 impl World {
-    /// Carries down what a node queued, on each connection whose end there is open. The master, node
-    /// 0, has none.
+    /// Carries down what a node queued, on each connection whose end there is open. The master,
+    /// node 0, has none.
     pub(crate) fn gather(&mut self, node: u8)
         ensures goes { GoesOn self.old self.new }
         ensures gathers { Gathers false node self.old self.new }

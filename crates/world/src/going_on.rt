@@ -14,8 +14,8 @@ use headline::world_base::{Config, Item, Port};
 use world_events::Event;
 
 impl World {
-    /// Delivers the message of a number. `Idle` comes if no such message was sent, and if its receiver
-    /// is unknown or has stopped.
+    /// Delivers the message of a number. `Idle` comes if no such message was sent, and if its
+    /// receiver is unknown or has stopped.
     pub(crate) fn deliver(&mut self, number: u64) -> Result<(), Idle>
         ensures goes { GoesOn self.old self.new }
         ensures meets { Meets (Event.Deliver number) self.old result self.new }
@@ -64,8 +64,8 @@ impl World {
         Ok(())
     }
 
-    /// Lets a node propose to end the session of a client. `Idle` comes if there is no such client, if
-    /// the node is no running active primary, and if its log is full.
+    /// Lets a node propose to end the session of a client. `Idle` comes if there is no such client,
+    /// if the node is no running active primary, and if its log is full.
     pub(crate) fn expel(&mut self, client: &ClientId, node: u8) -> Result<(), Idle>
         ensures goes { GoesOn self.old self.new }
         ensures meets { Meets (Event.Expel client.now node) self.old result self.new }
@@ -101,8 +101,8 @@ impl World {
         self.nodes.assign(config)
     }
 
-    /// Lets a node notice the end of a connection. `Idle` comes if its end there is closed, and if the
-    /// node has stopped.
+    /// Lets a node notice the end of a connection. `Idle` comes if its end there is closed, and if
+    /// the node has stopped.
     pub(crate) fn notice(&mut self, number: u64) -> Result<(), Idle>
         ensures goes { GoesOn self.old self.new }
         ensures meets { Meets (Event.Notice number) self.old result self.new }

@@ -39,7 +39,8 @@ impl World {
         ensures leads_out { IfOk result (λ events. LeadsOut client.now self.now events.items) }
 
         // Unless memory runs out, `Idle` comes exactly if there is no way out.
-        ensures idle { IsErrOf result EscapeError.Idle → CanEscape members.now client.now self.now → ⊥ }
+        ensures idle { IsErrOf result EscapeError.Idle → CanEscape members.now client.now self.now →
+            ⊥ }
         ensures can { OnOk result (CanEscape members.now client.now self.now) }
     {
         let config = configuration(self.alloc, members)?;
@@ -79,7 +80,8 @@ impl World {
     // more: its index, and its number.
     fn fetched(&self) -> Option<(usize, u8)>
         ensures some { IfSome result (λ found. IsFetchedFrom self.now found.0 found.1) }
-        ensures none { result ≡ None → (place source : ℕ) → IsFetchedFrom self.now place source → ⊥ }
+        ensures none { result ≡ None → (place source : ℕ) → IsFetchedFrom self.now place source →
+            ⊥ }
     {
         let place = self.first_running()?;
         let (_, members) = self.nodes.active();
@@ -94,7 +96,8 @@ impl World {
     // Returns the index of the first member of the active configuration that runs.
     fn first_running(&self) -> Option<usize>
         ensures below { IfSome result (λ place. place < length self.now.nodes.master.members) }
-        ensures exact { result ≡ position (is_running self.now.nodes.nodes) self.now.nodes.master.members }
+        ensures exact { result
+            ≡ position (is_running self.now.nodes.nodes) self.now.nodes.master.members }
     {
         let (_, members) = self.nodes.active();
         members.iter().position(|member| self.is_running(*member))
@@ -123,9 +126,11 @@ impl World {
     // Says whether a client has a session that is not clean after the whole log of a node.
     fn has_session(&self, node: u8, client: &ClientId) -> Result<bool, Memory>
         ensures yes { IfOk result (λ has. has ≡ true
-            → session_of (past_of usual_limits (log_of self.now.nodes node)) client.now ≡ Some false) }
+            → session_of (past_of usual_limits (log_of self.now.nodes node)) client.now
+            ≡ Some false) }
         ensures no { IfOk result (λ has. has ≡ false
-            → session_of (past_of usual_limits (log_of self.now.nodes node)) client.now ≡ Some false → ⊥) }
+            → session_of (past_of usual_limits (log_of self.now.nodes node)) client.now
+            ≡ Some false → ⊥) }
     {
         self.nodes.welcomes_back(node, client)
     }
@@ -144,7 +149,8 @@ impl World {
         requires few { length config.members ≤ 7 }
         requires placed { place < length self.now.nodes.master.members }
         requires there { at < length self.now.clients }
-        ensures { IfOk result (λ events. (found : WorldClient) → slice_get self.now.clients at ≡ Some found →
+        ensures { IfOk result
+            (λ events. (found : WorldClient) → slice_get self.now.clients at ≡ Some found →
             events.items ≡ escaping_events self.now config.members place (is_holding found.piped)
             client.now (14 + length found.piped.core.state.client)) }
     {

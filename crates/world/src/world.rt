@@ -79,7 +79,8 @@ impl World {
     ) -> Result<World, OpeningError>
         // If each client has an identifier of its own, each is exact; none was asked to publish.
         ensures exact { AreApart clients.now → IfOk result
-            (λ world. (reached : IsReached nodes config clients.now world) × (asked_on reached ≡ [])) }
+            (λ world. (reached : IsReached nodes config clients.now world)
+            × (asked_on reached ≡ [])) }
         ensures clients { IfOk result (λ world. identifiers world.clients ≡ clients.now) }
         ensures opens { IfOk result (λ world. Opens nodes config clients.now world) }
         // The nodes agree.
@@ -106,7 +107,8 @@ impl World {
         // Whatever happened before, and even if memory ran out, each client is exact after the
         // event: the world moves by steps of the model, some of them perhaps with losses. Its
         // clients are asked to publish just what the event asks.
-        ensures exact { (asked : List (ℕ × Publication)) × IsAsked event.now self.old result asked self.new
+        ensures exact { (asked : List (ℕ × Publication))
+            × IsAsked event.now self.old result asked self.new
             × WorldGoesBy asked self.old self.new × KeepsReached asked self.old self.new }
         // Its nodes move as a group, and agree after the event.
         ensures goes { WorldGoesOn self.old self.new }
@@ -136,7 +138,8 @@ impl World {
     pub fn run(&mut self, events: &[Event])
         // Whatever happened before, and even if memory ran out, each client is exact after the
         // events. Its clients are asked to publish just what the events ask, in order.
-        ensures exact { (asked : List (ℕ × Publication)) × RunAsks events.now self.old asked self.new
+        ensures exact { (asked : List (ℕ × Publication))
+            × RunAsks events.now self.old asked self.new
             × WorldGoesBy asked self.old self.new × KeepsReached asked self.old self.new }
         // Its nodes move as a group, and agree after the events.
         ensures goes { WorldGoesOn self.old self.new }

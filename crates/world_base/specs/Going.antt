@@ -33,7 +33,8 @@ bytes_for (To receiver message ∷ given) name = bytes_for given name
 
 -- the answer of the node itself to a CONNECT that is refused with a code (MQTT 3.2.2.3)
 abbrev pub IsRefusal : List ℕ → Type 0
-IsRefusal bytes = (code : RefusalCode) × (bytes ≡ spelling (packets.Connack (connacks.Refused code)))
+IsRefusal bytes =
+    (code : RefusalCode) × (bytes ≡ spelling (packets.Connack (connacks.Refused code)))
 
 -- A connection after a step has the port and the name from before. If it was closed, it still is,
 -- with the same bytes to hand over. If it is open, it was open, and all these bytes were appended
@@ -60,7 +61,8 @@ EachGoesOn given (c ∷ cs) (d ∷ ds) = GoesOn (bytes_for given c.name) c d × 
 -- no two have the same name
 abbrev pub AreNamedApart : List Connection → Type 0
 AreNamedApart [] = Unit {0}
-AreNamedApart (c ∷ cs) = Each (λ (d : Connection). same_connection d.name c.name ≡ false) cs × AreNamedApart cs
+AreNamedApart (c ∷ cs) =
+    Each (λ (d : Connection). same_connection d.name c.name ≡ false) cs × AreNamedApart cs
 
 -- an item opens at most one connection, at its port, with the next name
 abbrev pub IsNew : Item → CoreState → List Connection → Type 0
@@ -71,7 +73,9 @@ IsNew _ core new = new ≡ []
 pub record GoOn (item : Item) (core : CoreState) (did : Account) : Type 0 where
   pub new : List Connection
   pub is_new : IsNew item core new
-  pub each : AreNamedApart (core.connections ++ new) → EachGoesOn did.given (core.connections ++ new) did.core.connections
+  pub each : AreNamedApart (core.connections ++ new) →
+      EachGoesOn did.given (core.connections ++ new) did.core.connections
 
 abbrev pub AGapIsClosed : Type 0
-AGapIsClosed = (item : Item) (core : CoreState) (did : Account) → ActsOn item core did → GoOn item core did
+AGapIsClosed =
+    (item : Item) (core : CoreState) (did : Account) → ActsOn item core did → GoOn item core did

@@ -27,7 +27,8 @@ pub record Running : Type 0 where
 -- memory did not run out, and no connection failed
 pub record IsCalm (old new : Running) : Type 0 where
   pub out_of_memory : new.out_of_memory ≡ old.out_of_memory
-  pub failed : find has_failed old.core.connections ≡ None → find has_failed new.core.connections ≡ None
+  pub failed : find has_failed old.core.connections ≡ None →
+      find has_failed new.core.connections ≡ None
 
 -- this is what was done, unless memory ran out
 abbrev pub Does : Running → Running → CoreState → Type 0
@@ -38,7 +39,8 @@ pub record Turns (old new : Running) (before after : List (Effect Command Output
     : Type 0 where
   pub given : List (Effect Command Output)
   pub appended : after ≡ before ++ given
-  pub exact : new.out_of_memory ≡ false → (new ≡ record old { core = turn.core }) × (given ≡ turn.messages)
+  pub exact : new.out_of_memory ≡ false →
+      (new ≡ record old { core = turn.core }) × (given ≡ turn.messages)
 
 -- a step of the replica only
 abbrev pub Hears : Running → Running →
@@ -75,7 +77,8 @@ pub record Acts (outcome : Outcome State Command Output) (old new : CoreState)
   pub steps : Steps rules old.replica outcome replica given
 
 -- a command that was proposed to the replica only, with its answer
-pub record Took (command : Command) (old new : CoreState) (given : List (Effect Command Output)) : Type 0 where
+pub record Took (command : Command) (old new : CoreState)
+    (given : List (Effect Command Output)) : Type 0 where
   pub room : has_room old ≡ true
   pub replica : CountedReplica State Command
   pub core : new ≡ record old { replica = replica }

@@ -77,7 +77,8 @@ WaitsNothing core = Each (λ (c : Connection). c.pending ≡ []) core.connection
 -- ---- what is counted
 
 abbrev pub IsExactly : CountedCore → Turn → CountedCore → List (Effect Command Output) → Type 0
-IsExactly old turn new given = (new.core ≡ turn.core) × (given ≡ turn.messages) × (new.losses ≡ old.losses)
+IsExactly old turn new given =
+    (new.core ≡ turn.core) × (given ≡ turn.messages) × (new.losses ≡ old.losses)
 
 -- exactly the step, or one in which memory ran out and which was counted
 abbrev pub Steps : CountedCore → Turn → CountedCore → List (Effect Command Output) → Type 0

@@ -31,10 +31,16 @@ quietly core = record { core = core; given = []; messages = [] }
 
 -- one account, followed by another
 abbrev pub joined : Account → Account → Account
-joined one two = record { core = two.core; given = one.given ++ two.given; messages = one.messages ++ two.messages }
+joined one two =
+    record {
+      core = two.core;
+      given = one.given ++ two.given;
+      messages = one.messages ++ two.messages;
+    }
 
 -- one thing was done, and then another
-pub record Then (First Next : CoreState → Account → Type 0) (core : CoreState) (did : Account) : Type 0 where
+pub record Then (First Next : CoreState → Account → Type 0) (core : CoreState)
+    (did : Account) : Type 0 where
   pub one : Account
   pub two : Account
   pub first : First core one
@@ -57,19 +63,26 @@ Serves (outputs.Close name) core new = new ≡ served_by (outputs.Close name) co
 
 -- the effects of the replica are handled at once, in order: outputs are done, messages are sent or,
 -- if there is no memory for one, lost
-pub data Delivers : List (Effect Command Output) → CoreState → CoreState → List (Effect Command Output) → Type 0 where
+pub data Delivers : List (Effect Command Output) → CoreState → CoreState →
+    List (Effect Command Output) → Type 0 where
   nothing : {core : CoreState} → Delivers [] core core []
-  does : {place : ℕ} {output : Output} {core next new : CoreState} {given messages : List (Effect Command Output)} →
-      Serves output core next → Delivers given next new messages → Delivers (Out place output ∷ given) core new messages
-  tells : {receiver : ℕ} {message : Message Command} {core new : CoreState} {given messages : List (Effect Command Output)} →
-      Delivers given core new messages → Delivers (To receiver message ∷ given) core new (To receiver message ∷ messages)
-  loses : {receiver : ℕ} {message : Message Command} {core new : CoreState} {given messages : List (Effect Command Output)} →
+  does : {place : ℕ} {output : Output} {core next new : CoreState}
+      {given messages : List (Effect Command Output)} →
+      Serves output core next → Delivers given next new messages →
+      Delivers (Out place output ∷ given) core new messages
+  tells : {receiver : ℕ} {message : Message Command} {core new : CoreState}
+      {given messages : List (Effect Command Output)} →
+      Delivers given core new messages →
+      Delivers (To receiver message ∷ given) core new (To receiver message ∷ messages)
+  loses : {receiver : ℕ} {message : Message Command} {core new : CoreState}
+      {given messages : List (Effect Command Output)} →
       Delivers given core new messages → Delivers (To receiver message ∷ given) core new messages
 
 -- ---- what is given to the replica
 
 -- the replica does its step, or one with losses, which it counts
-pub record Moves (outcome : Outcome State Command Output) (core : CoreState) (did : Account) : Type 0 where
+pub record Moves (outcome : Outcome State Command Output) (core : CoreState)
+    (did : Account) : Type 0 where
   pub replica : CountedReplica State Command
   pub steps : Steps rules core.replica outcome replica did.given
   pub delivers : Delivers did.given (record core { replica = replica }) did.core did.messages
@@ -91,7 +104,8 @@ pub record Takes (command : Command) (core : CoreState) (did : Account) : Type 0
 pub data Declines (core : CoreState) (did : Account) : Type 0 where
   no_room : has_room core ≡ false → did ≡ quietly core → Declines core did
   forgets : has_room core ≡ true →
-      did ≡ quietly (record core { replica = record core.replica { losses = one_more core.replica.losses } }) →
+      did ≡ quietly
+      (record core { replica = record core.replica { losses = one_more core.replica.losses } }) →
       Declines core did
   stops : has_room core ≡ true →
       did ≡ quietly (record core {
@@ -109,6 +123,7 @@ Proposes command core did = Takes command core did ⊎ Declines core did
 -- in any case that is a step of the replica, exact or with losses; if the node does not serve
 -- clients, no step
 abbrev pub ProposalsAreSteps : Type 0
-ProposalsAreSteps = (command : Command) (core : CoreState) (did : Account) → Proposes command core did →
+ProposalsAreSteps =
+    (command : Command) (core : CoreState) (did : Account) → Proposes command core did →
     (serves core ≡ true → Moves (proposed rules core.replica.state command) core did)
     × (serves core ≡ false → did ≡ quietly core)

@@ -30,7 +30,8 @@ pub data Ends (port : Port) (core : CoreState) (did : Account) : Type 0 where
 
 -- the silent connection with the lowest port ends
 pub data EndsSilent (now : ℕ) (core : CoreState) (did : Account) : Type 0 where
-  none_silent : lowest_silent now core.connections ≡ None → did ≡ quietly core → EndsSilent now core did
+  none_silent : lowest_silent now core.connections ≡ None → did ≡ quietly core →
+      EndsSilent now core did
   ends_one : (port : Port) → lowest_silent now core.connections ≡ Some port →
       Ends port core did → EndsSilent now core did
 
@@ -54,7 +55,8 @@ Shuts port core did = Closes port core did ⊎ (did ≡ quietly (changes port fa
 
 -- a connection is closed if one of its packets is not taken
 abbrev pub Connects : Port → ConnectionName → Connect → CoreState → Account → Type 0
-Connects port name connect core did = Asks (commands.Connect name connect.client connect.clean) (Closes port) core did
+Connects port name connect core did =
+    Asks (commands.Connect name connect.client connect.clean) (Closes port) core did
 
 -- the first must be a CONNECT
 abbrev pub Begins : Port → ConnectionName → Packet → CoreState → Account → Type 0
@@ -73,10 +75,12 @@ pub data ReadsNext (now : ℕ) (port : Port) (core : CoreState) (did : Account) 
       verdict c.unread ≡ Err stops.More → did ≡ quietly core → ReadsNext now port core did
   first : (c : Connection) (packet : Packet) (rest : List ℕ) → open_at port core ≡ Some c →
       is_first c.stage ≡ true → verdict c.unread ≡ Ok (packet, rest) →
-      Begins port c.name packet (changes port (left_with now rest) core) did → ReadsNext now port core did
+      Begins port c.name packet (changes port (left_with now rest) core) did →
+      ReadsNext now port core did
   later : (c : Connection) (packet : Packet) (rest : List ℕ) → open_at port core ≡ Some c →
       is_first c.stage ≡ false → verdict c.unread ≡ Ok (packet, rest) →
-      Says port c.name packet (changes port (left_with now rest) core) did → ReadsNext now port core did
+      Says port c.name packet (changes port (left_with now rest) core) did →
+      ReadsNext now port core did
   refuses : (c : Connection) (code : RefusalCode) → open_at port core ≡ Some c →
       is_first c.stage ≡ true → verdict c.unread ≡ Err (stops.Refused code) →
       did ≡ quietly (changes port (refused code) core) → ReadsNext now port core did

@@ -36,7 +36,8 @@ pub data Cuts (core : CoreState) (did : Account) : Type 0 where
       rules.thawed (rules.frozen core.replica.state.machine) ≡ Some core.replica.state.machine →
       did ≡ quietly (with_cut core) → Cuts core did
   forgets_cut : can_cut core.replica.state ≡ true →
-      did ≡ quietly (record core { replica = record core.replica { losses = one_more core.replica.losses } }) →
+      did ≡ quietly
+      (record core { replica = record core.replica { losses = one_more core.replica.losses } }) →
       Cuts core did
 
 -- all of them, one after another
@@ -65,7 +66,8 @@ abbrev pub ActsOn : Item → CoreState → Account → Type 0
 ActsOn item core did = Then (TakesIn item) LosesAllFailed core did
 
 -- a step on an item: what was done, and how connections were settled after it
-pub record RunsOn (item : Item) (old new : CoreState) (messages : List (Effect Command Output)) : Type 0 where
+pub record RunsOn (item : Item) (old new : CoreState)
+    (messages : List (Effect Command Output)) : Type 0 where
   pub did : Account
   pub acts : ActsOn item old did
   pub settles : new ≡ settled did.core

@@ -55,7 +55,8 @@ says port name packet core =
 
 -- the first packet of a connection must be a CONNECT (MQTT 3.1.0-1)
 abbrev pub begins : Port → ConnectionName → Packet → CoreState → Turn
-begins port name (packets.Connect connect) core = asks port name connect (changes port (asked connect.keep_alive) core)
+begins port name (packets.Connect connect) core =
+    asks port name connect (changes port (asked connect.keep_alive) core)
 begins port name _ core = quiet (changes port closed core)
 
 -- what the front of a connection's bytes does to the node at this time: a later CONNECT that is

@@ -18,7 +18,8 @@ use Rattle.world_base.specs.Turns.{quiet, then_also, drives, proposes}
 
 -- how many connections it accepted in the ballot that it joined
 abbrev pub accepted : CoreState → ℕ
-accepted core = if core.last_name.ballot == core.replica.state.joined then core.last_name.count else 0
+accepted core =
+    if core.last_name.ballot == core.replica.state.joined then core.last_name.count else 0
 
 -- the name of the next connection: those of a ballot are numbered from 1
 abbrev pub next_name : CoreState → ConnectionName

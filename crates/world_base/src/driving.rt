@@ -82,7 +82,8 @@ impl NodeInStep {
     pub fn tick(&mut self, effects: &mut Vec<Effect<Command, Output>>)
         ensures turns { Turns self.old self.new effects.old.items effects.new.items
             (drives Ticks self.old.core) }
-        ensures run { Ran (Drives Ticks) self.old.core self.new.core effects.old.items effects.new.items }
+        ensures run { Ran
+            (Drives Ticks) self.old.core self.new.core effects.old.items effects.new.items }
     {
         let mut given = Vec::new(self.alloc);
         self.say_again(&mut given);

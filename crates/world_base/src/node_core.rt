@@ -68,7 +68,8 @@ impl NodeCore {
     /// lies within the log.
     pub fn rest(&self) -> &[Command]
         ensures rest { result.now ≡ self.now.core.replica.state.log.rest }
-        ensures within { self.now.core.replica.state.committed ≤ places self.now.core.replica.state.log }
+        ensures within { self.now.core.replica.state.committed
+            ≤ places self.now.core.replica.state.log }
     {
         self.serving.rest()
     }

@@ -102,7 +102,8 @@ impl NodeInStep {
     /// Returns the commands of the replica's log from its base on.
     pub fn rest(&self) -> &[Command]
         ensures rest { result.now ≡ self.now.core.replica.state.log.rest }
-        ensures within { self.now.core.replica.state.committed ≤ places self.now.core.replica.state.log }
+        ensures within { self.now.core.replica.state.committed
+            ≤ places self.now.core.replica.state.log }
     {
         self.replica.rest()
     }
@@ -193,7 +194,8 @@ impl NodeInStep {
 
     /// Turns the CONNECT of the open connection of a port, with this keep alive, into a command.
     pub fn ask_at(&mut self, port: Port, keep_alive: u16)
-        ensures { self.new ≡ record self.old { core = changes port (asked keep_alive) self.old.core } }
+        ensures { self.new
+            ≡ record self.old { core = changes port (asked keep_alive) self.old.core } }
     {
         if let Some(index) = self.place_at(port) {
             self.connections[index].ask(keep_alive);
@@ -254,7 +256,8 @@ impl NodeInStep {
     pub fn put(&mut self, name: ConnectionId, packet: &Packet)
         ensures does { Does self.old self.new
             (changes_named name (put_out (spelling packet.now)) self.old.core) }
-        ensures run { (self.new.core ≡ changes_named name (put_out (spelling packet.now)) self.old.core)
+        ensures run { (self.new.core
+            ≡ changes_named name (put_out (spelling packet.now)) self.old.core)
             ⊎ (self.new.core ≡ changes_named name failing self.old.core) }
     {
         if let Some(index) = self.place_of(name) {

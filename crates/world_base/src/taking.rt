@@ -25,14 +25,16 @@ use node_connections::packet::{ClientId, Connect, Packet};
 use node_connections::{Front, Piece, Port, Stage};
 
 impl NodeInStep {
-    /// Takes an item, and reports each connection that fails in it to the broker. Whether memory ran
-    /// out is then told by `is_out_of_memory`.
+    /// Takes an item, and reports each connection that fails in it to the broker. Whether memory
+    /// ran out is then told by `is_out_of_memory`.
     pub fn act_on(&mut self, item: Item, effects: &mut Vec<Effect<Command, Output>>)
         ensures turns { Turns self.old self.new effects.old.items effects.new.items
             (acts_on item self.old.core) }
-        ensures run { Ran (ActsOn item) self.old.core self.new.core effects.old.items effects.new.items }
+        ensures run { Ran
+            (ActsOn item) self.old.core self.new.core effects.old.items effects.new.items }
         ensures quiet { TakesNoMemory item self.old.core →
-            find has_failed self.old.core.connections ≡ None → self.new.out_of_memory ≡ self.old.out_of_memory }
+            find has_failed self.old.core.connections ≡ None →
+            self.new.out_of_memory ≡ self.old.out_of_memory }
     {
         if self.ignores(&item) {
             return self.lose_failed(effects);
@@ -62,7 +64,8 @@ impl NodeInStep {
     fn take_in(&mut self, item: Item, effects: &mut Vec<Effect<Command, Output>>)
         ensures turns { Turns self.old self.new effects.old.items effects.new.items
             (takes_in item self.old.core) }
-        ensures run { Ran (TakesIn item) self.old.core self.new.core effects.old.items effects.new.items }
+        ensures run { Ran
+            (TakesIn item) self.old.core self.new.core effects.old.items effects.new.items }
         ensures heard { (message : Message Command) → item ≡ items.Peer message →
             IsHeardQuietly message self.old.core → ReadsNone message self.old.core →
             IsCalm self.old self.new }
@@ -102,7 +105,8 @@ impl NodeInStep {
     fn end_silent(&mut self, now: u64, effects: &mut Vec<Effect<Command, Output>>)
         ensures turns { Turns self.old self.new effects.old.items effects.new.items
             (ends_all_silent now self.old.core) }
-        ensures run { Ran (EndsAllSilent now) self.old.core self.new.core effects.old.items effects.new.items }
+        ensures run { Ran
+            (EndsAllSilent now) self.old.core self.new.core effects.old.items effects.new.items }
     {
         for _connection in 0..self.listed() {
             let Some(port) = self.lowest_silent(now) else {
@@ -116,7 +120,8 @@ impl NodeInStep {
     fn hold(&mut self, port: Port, piece: Piece, effects: &mut Vec<Effect<Command, Output>>)
         ensures turns { Turns self.old self.new effects.old.items effects.new.items
             (quiet (changes port (holding piece) self.old.core)) }
-        ensures run { Ran (Holds port piece) self.old.core self.new.core effects.old.items effects.new.items }
+        ensures run { Ran
+            (Holds port piece) self.old.core self.new.core effects.old.items effects.new.items }
     {
         if !self.add(port, &piece) {
             self.out_of_memory = true;
@@ -128,7 +133,8 @@ impl NodeInStep {
     fn read(&mut self, port: Port, now: u64, effects: &mut Vec<Effect<Command, Output>>)
         ensures turns { Turns self.old self.new effects.old.items effects.new.items
             (reads_all now port self.old.core) }
-        ensures run { Ran (ReadsAll now port) self.old.core self.new.core effects.old.items effects.new.items }
+        ensures run { Ran
+            (ReadsAll now port) self.old.core self.new.core effects.old.items effects.new.items }
     {
         for _packet in 0..self.held(port) {
             if !self.read_next(port, now, effects) {
@@ -146,7 +152,8 @@ impl NodeInStep {
     ) -> bool
         ensures turns { Turns self.old self.new effects.old.items effects.new.items
             (reads_next now port self.old.core) }
-        ensures run { Ran (ReadsNext now port) self.old.core self.new.core effects.old.items effects.new.items }
+        ensures run { Ran
+            (ReadsNext now port) self.old.core self.new.core effects.old.items effects.new.items }
         ensures done { result ≡ false → self.new.out_of_memory ≡ false →
             reads_next now port self.new.core ≡ quiet self.new.core }
         ensures idle { result ≡ false → ReadsNext now port self.new.core (quietly self.new.core) }
@@ -255,7 +262,8 @@ impl NodeInStep {
     fn end(&mut self, port: Port, effects: &mut Vec<Effect<Command, Output>>)
         ensures turns { Turns self.old self.new effects.old.items effects.new.items
             (ends port self.old.core) }
-        ensures run { Ran (Ends port) self.old.core self.new.core effects.old.items effects.new.items }
+        ensures run { Ran
+            (Ends port) self.old.core self.new.core effects.old.items effects.new.items }
         ensures untold { is_told (open_at port self.old.core) ≡ false →
             self.new ≡ record self.old { core = changes port closed self.old.core } }
     {

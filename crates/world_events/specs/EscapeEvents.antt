@@ -16,4 +16,5 @@ client_events holds name primary number bytes =
 
 -- the others hold it and answer, and the CONNACK comes down
 abbrev pub answer_events : ℕ → ℕ → ℕ → List Event
-answer_events sent others number = map events.Deliver (asked_and_answered sent others) ++ events.CarryDown number 4 ∷ []
+answer_events sent others number =
+    map events.Deliver (asked_and_answered sent others) ++ events.CarryDown number 4 ∷ []

@@ -41,4 +41,5 @@ is_welcome (output ∷ more) = is_present output
 -- a ballot (MQTT 3.1.2.4, 3.2.2.2)
 abbrev pub welcomes_back : Client → List Command → Bool
 welcomes_back client list =
-    is_welcome (rules.gives (replay rules (list ++ commands.Start 1 ∷ [])) (commands.Connect first_connection client false))
+    is_welcome (rules.gives (replay rules (list ++ commands.Start 1 ∷ []))
+    (commands.Connect first_connection client false))

@@ -68,25 +68,32 @@ Acts at node_call old new = (g : Group) → StandsFor g old → GoesBy (Some (at
 -- what the node of this number queued for a port is appended
 abbrev pub HandsOver : ℕ → Port → NodesState → List ℕ → List ℕ → Type 0
 HandsOver node port n before after =
-    (core : CountedCore) → node_of n.nodes node ≡ Some core → after ≡ before ++ bytes_of (listed_at port core.core)
+    (core : CountedCore) → node_of n.nodes node ≡ Some core →
+    after ≡ before ++ bytes_of (listed_at port core.core)
 
 -- .. and the answer says whether more may come
 abbrev pub AnswersFor : ℕ → Port → NodesState → Handed → Type 0
 AnswersFor node port n handed =
-    (core : CountedCore) → node_of n.nodes node ≡ Some core → handed ≡ answer_of (listed_at port core.core)
+    (core : CountedCore) → node_of n.nodes node ≡ Some core →
+    handed ≡ answer_of (listed_at port core.core)
 
 -- ---- the master
 
 -- the nodes after a step of the master, whose message was sent
 abbrev pub after_master : MasterOutcome Command → NodesState → NodesState
-after_master o n = record n { master = o.state; sent = n.sent ++ (o.receiver, record { from = master; body = o.body }) ∷ [] }
+after_master o n =
+    record n {
+      master = o.state;
+      sent = n.sent ++ (o.receiver, record { from = master; body = o.body }) ∷ [];
+    }
 
 -- after an Assign that is not refused, and after an Activate of a node
 abbrev pub after_giving : Config → NodesState → NodesState
 after_giving config n = after_master (assigned Command n.master config) n
 
 abbrev pub after_answer : ℕ → ℕ → NodesState → NodesState
-after_answer from ballot n = after_master (activated Command n.master ballot from n.master.waiting) n
+after_answer from ballot n =
+    after_master (activated Command n.master ballot from n.master.waiting) n
 
 -- ---- a message reaches its receiver
 

@@ -1,5 +1,5 @@
--- How each group that corresponds to the nodes goes on, even if memory runs out: it then corresponds to
--- the nodes after.
+-- How each group that corresponds to the nodes goes on, even if memory runs out: it then
+-- corresponds to the nodes after.
 use Rattle.std.specs.Prelude.{◌≡◌, ◌⊎◌, ℕ, zero, suc, Option, Some, None}
 use Rattle.master.specs.ballot.Body.{Body}
 use Rattle.master.specs.ballot.Body.TheVariants.{Activate}

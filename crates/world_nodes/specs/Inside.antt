@@ -23,7 +23,8 @@ use Rattle.world_nodes.specs.Running.{running}
 use Rattle.world_nodes.specs.Nodes.{NodesState, StandsFor, cores_of}
 
 -- messages were kept after those that were sent, except some that were lost
-pub record Keeps (given : List (Effect Command Output)) (sent more : List (ℕ × Message Command)) (whole : Bool) : Type 0 where
+pub record Keeps (given : List (Effect Command Output)) (sent more : List (ℕ × Message Command))
+    (whole : Bool) : Type 0 where
   pub kept : List (Effect Command Output)
   pub thinned : Thinned kept given
   pub exact : whole ≡ true → kept ≡ given
@@ -56,14 +57,18 @@ pub record IsPassedOver (at number : ℕ) (n : NodesState) : Type 0 where
 
 -- a node took an item, perhaps with losses, and without any if the step was whole, for example if
 -- the item takes no memory
-pub record TookItem (old : CountedCore) (item : Item) (new : CountedCore) (sent more : List (ℕ × Message Command)) (whole : Bool) : Type 0 where
+pub record TookItem (old : CountedCore) (item : Item) (new : CountedCore)
+    (sent more : List (ℕ × Message Command)) (whole : Bool) : Type 0 where
   pub wanted : List (Effect Command Output)
   pub kept : List (Effect Command Output)
   pub runs : RunsOn item old.core new.core wanted
   pub thinned : Thinned kept wanted
   pub is : more ≡ sent ++ messages kept
-  pub exact : whole ≡ true → (new ≡ record old { core = (node_step item old.core).core }) × (kept ≡ (node_step item old.core).messages)
-  pub rests : TakesNoMemory item old.core → find has_failed old.core.connections ≡ None → old.losses < 2 ^ 64 - 1 → whole ≡ true
+  pub exact : whole ≡ true →
+      (new ≡ record old { core = (node_step item old.core).core })
+      × (kept ≡ (node_step item old.core).messages)
+  pub rests : TakesNoMemory item old.core → find has_failed old.core.connections ≡ None →
+      old.losses < 2 ^ 64 - 1 → whole ≡ true
 
 -- Nodes came about as a group of the model does, and count what their messages acknowledge: in the
 -- active ballot, and in the one that waits.

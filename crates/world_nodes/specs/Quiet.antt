@@ -37,4 +37,6 @@ ComesUnheeded (Some (suc at, message)) n = RestsAt (suc at) (Peer message) n
 
 -- nothing waits at a node to be handed over for a port
 abbrev pub WaitsAtNone : ℕ → Port → NodesState → Type 0
-WaitsAtNone node port n = (core : CountedCore) → node_of n.nodes node ≡ Some core → bytes_of (listed_at port core.core) ≡ []
+WaitsAtNone node port n =
+    (core : CountedCore) → node_of n.nodes node ≡ Some core →
+    bytes_of (listed_at port core.core) ≡ []

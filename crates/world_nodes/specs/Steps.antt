@@ -31,7 +31,8 @@ forgetful n = record n { losses = one_more n.losses }
 
 -- The node at this place did a step on the item with losses, as a node may, and some of its
 -- messages are missing. No other node, nor the master, has changed.
-pub record ActsWithLosses (at : ℕ) (item : Item) (core : CountedCore) (old new : NodesState) : Type 0 where
+pub record ActsWithLosses (at : ℕ) (item : Item) (core : CountedCore)
+    (old new : NodesState) : Type 0 where
   pub node : CountedCore
   pub wanted : List (Effect Command Output)
   pub kept : List (Effect Command Output)
@@ -69,7 +70,8 @@ pub record CutsWithLosses (at : ℕ) (core : CountedCore) (old new : NodesState)
 pub record TakesIn (node : ℕ) (item : Item) (old new : NodesState) : Type 0 where
   pub core : CountedCore
   pub runs : running old.nodes node ≡ Some core
-  pub way : (new ≡ after_node_call (node - 1) core (takes item) old) ⊎ ActsWithLosses (node - 1) item core old new
+  pub way : (new ≡ after_node_call (node - 1) core (takes item) old)
+      ⊎ ActsWithLosses (node - 1) item core old new
 
 -- An Expel of a client is proposed by a node, exactly or with losses; or there is no memory for it,
 -- and that is counted.
@@ -95,7 +97,8 @@ unheard after n = record n { master = after.master; losses = one_more n.losses }
 -- both are counted.
 abbrev pub GivesIn : Config → NodesState → NodesState → Type 0
 GivesIn config old new =
-    (new ≡ after_giving config old) ⊎ (new ≡ unheard (after_giving config old) old) ⊎ (new ≡ forgetful old)
+    (new ≡ after_giving config old) ⊎ (new ≡ unheard (after_giving config old) old)
+    ⊎ (new ≡ forgetful old)
 
 -- The master answered a node that asked it to activate a ballot. Or the answer was lost, and that
 -- is counted. It ignores every other message.
@@ -109,11 +112,13 @@ HearsIn from _ old new = new ≡ old
 abbrev pub ComesIn : Option (ℕ × Message Command) → NodesState → NodesState → Type 0
 ComesIn None old new = ⊥
 ComesIn (Some (zero, message)) old new = HearsIn message.from message.body old new
-ComesIn (Some (suc at, message)) old new = TakesIn (suc at) (Peer message) old new ⊎ (new ≡ forgetful old)
+ComesIn (Some (suc at, message)) old new =
+    TakesIn (suc at) (Peer message) old new ⊎ (new ≡ forgetful old)
 
 -- What was queued was handed over and appended, and the answer says whether more may come. Or
 -- nothing was, more may come, and that is counted.
 abbrev pub HandsIn : ℕ → Port → NodesState → NodesState → List ℕ → List ℕ → Handed → Type 0
 HandsIn node port old new before after handed =
-    (GivesExactly node port old new × HandsOver node port old before after × AnswersFor node port old handed)
+    (GivesExactly node port old new × HandsOver node port old before after
+    × AnswersFor node port old handed)
     ⊎ ((new ≡ forgetful old) × (after ≡ before) × (handed ≡ answers.Open))

@@ -124,8 +124,8 @@ impl Nodes {
         Some(at)
     }
 
-    /// Lets the master give a ballot and tell its primary. `Memory` comes if memory ran out before it
-    /// gave any.
+    /// Lets the master give a ballot and tell its primary. `Memory` comes if memory ran out before
+    /// it gave any.
     pub(crate) fn give(&mut self, config: &Config) -> Result<(), Memory>
         requires { refusal self.old.master config.now ≡ None }
         ensures step { OnOk result (GivesIn config.now self.old self.new) }

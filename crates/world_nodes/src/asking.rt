@@ -29,7 +29,8 @@ impl Nodes {
     pub fn welcomes_back(&self, node: u8, client: &ClientId) -> Result<bool, Memory>
         ensures told { (core : CountedCore) → node_of self.now.nodes node ≡ Some core →
             IfOk result (λ welcomes. welcomes ≡ welcomes_back client.now (log_of self.now node)) }
-        ensures unknown { node_of self.now.nodes node ≡ None → IfOk result (λ welcomes. welcomes ≡ false) }
+        ensures unknown { node_of self.now.nodes node ≡ None →
+            IfOk result (λ welcomes. welcomes ≡ false) }
     {
         let Some(core) = self.node(node) else {
             return Ok(false);

@@ -120,7 +120,8 @@ impl Nodes {
         ensures step { OnOk result (ComesIn (slice_get self.old.sent number) self.old self.new) }
         ensures goes { LosesNothing self.old self.new →
             OnOk result (Comes (slice_get self.old.sent number) self.old self.new) }
-        ensures acts { OnOk result (ComesOrRests (slice_get self.old.sent number) self.old self.new) }
+        ensures acts { OnOk result
+            (ComesOrRests (slice_get self.old.sent number) self.old self.new) }
         ensures quiet { ComesUnheeded (slice_get self.old.sent number) self.old →
             OnOk result (Comes (slice_get self.old.sent number) self.old self.new) }
         ensures rises { self.old.losses ≤ self.new.losses }
@@ -195,7 +196,8 @@ impl Nodes {
         ensures step { OnOk result (ExpelsIn client.now node self.old self.new) }
         ensures goes { LosesNothing self.old self.new →
             OnOk result (TakesExactly node (Item.Expel client.now) self.old self.new) }
-        ensures acts { OnOk result (ActsOrRests (node - 1) (takes (Item.Expel client.now)) self.old self.new) }
+        ensures acts { OnOk result
+            (ActsOrRests (node - 1) (takes (Item.Expel client.now)) self.old self.new) }
         ensures rises { self.old.losses ≤ self.new.losses }
         ensures idle { IsErr result ↔ (proposing self.old.nodes node ≡ None) }
         ensures same { OnErr result (self.new ≡ self.old) }
@@ -235,7 +237,8 @@ impl Nodes {
         ensures step { OnOk result (TakesIn node (Item.Opened port now) self.old self.new) }
         ensures goes { LosesNothing self.old self.new →
             OnOk result (TakesExactly node (Item.Opened port now) self.old self.new) }
-        ensures acts { OnOk result (Acts (node - 1) (takes (Item.Opened port now)) self.old self.new) }
+        ensures acts { OnOk result
+            (Acts (node - 1) (takes (Item.Opened port now)) self.old self.new) }
         ensures quiet { RestsAt node (Item.Opened port now) self.old →
             OnOk result (TakesExactly node (Item.Opened port now) self.old self.new) }
         ensures rises { self.old.losses ≤ self.new.losses }

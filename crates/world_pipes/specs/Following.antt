@@ -45,7 +45,8 @@ after_losing m = after_writing (lost m.keeper) m.connections m
 abbrev pub FollowsLosing : Piped → Piped → Type 0
 FollowsLosing old new =
     (m : ClientPipes) → StandsFor old m →
-    StandsFor new (after_losing m) × (goes : ClientGoes m (after_losing m)) × (published_along goes ≡ [])
+    StandsFor new (after_losing m) × (goes : ClientGoes m (after_losing m))
+    × (published_along goes ≡ [])
 
 -- ---- a new connection: the model's, under any name that its node gives it
 
@@ -53,13 +54,15 @@ abbrev pub ConnectingFollows : ℕ → Port → Piped → Result (Unit {0}) Clie
 ConnectingFollows node port old (Ok done) new =
     (m : ClientPipes) (x : ConnectionName) → StandsFor old m →
     StandsFor new (after_connecting x node port m)
-    × IsPacket (packets.Connect (record { client = m.keeper.client; clean = false; keep_alive = 0 }))
+    × IsPacket (packets.Connect
+    (record { client = m.keeper.client; clean = false; keep_alive = 0 }))
 ConnectingFollows node port old (Err cause) new = FollowsAll old new
 
 -- ---- a call
 
 -- one call of the model's client, which publishes this, leads to one that this corresponds to
-pub record FollowsCalling (published : List Publication) (m : ClientPipes) (new : Piped) : Type 0 where
+pub record FollowsCalling (published : List Publication) (m : ClientPipes)
+    (new : Piped) : Type 0 where
   pub story : Story
   pub call : StoryStep usual_limits (story_alone m) story
   pub is_one : is_call call ≡ true
@@ -70,14 +73,17 @@ pub record FollowsCalling (published : List Publication) (m : ClientPipes) (new 
 -- A refusal changes nothing, and nothing is published. If there was no memory for what was written,
 -- the model's client lost its connection after its call.
 abbrev pub CallingFollows : List Publication → Piped → Result Sending ClientError → Piped → Type 0
-CallingFollows published old (Ok sendings.Sent) new = (m : ClientPipes) → StandsFor old m → FollowsCalling published m new
+CallingFollows published old (Ok sendings.Sent) new =
+    (m : ClientPipes) → StandsFor old m → FollowsCalling published m new
 CallingFollows published old (Ok sendings.Lost) new = FollowsBy published old new
 CallingFollows published old (Err cause) new = new ≡ old
 
 -- ---- receiving: a piece arrives, whole packets are handled, and the connection may be lost
 
 abbrev pub HearingFollows : Type 0
-HearingFollows = (count : ℕ) (old new : Piped) (result : Result (Unit {0}) ClientError) (m : ClientPipes) → StandsFor old m → is_holding old ≡ true →
+HearingFollows =
+    (count : ℕ) (old new : Piped) (result : Result (Unit {0}) ClientError) (m : ClientPipes) →
+    StandsFor old m → is_holding old ≡ true →
     Hears count old result new → Follows [] m new
 
 -- ---- bytes that reach a node, and that go down from it
@@ -95,19 +101,26 @@ pub record HasWay (at : ℕ) (old : Piped) (way : Way) (m : ClientPipes) : Type 
   pub is_way : IsWay way pipe
 
 -- this many bytes have come up on it
-pub record FollowsUp (count at : ℕ) (old : Piped) (way : Way) (new : Piped) (m : ClientPipes) : Type 0 where
+pub record FollowsUp (count at : ℕ) (old : Piped) (way : Way) (new : Piped)
+    (m : ClientPipes) : Type 0 where
   pub there : HasWay at old way m
   pub rest : List ℕ
   pub up : there.pipe.up ≡ take count way.up ++ rest
   pub stands : StandsFor new (with_pipe (place_in_model at old) (record there.pipe { up = rest }) m)
 
 abbrev pub TakingUpFollows : ℕ → ℕ → Piped → Piped → Type 0
-TakingUpFollows at count old new = (m : ClientPipes) → StandsFor old m → IfSome (slice_get old.ways at) (λ way. FollowsUp count at old way new m)
+TakingUpFollows at count old new =
+    (m : ClientPipes) → StandsFor old m →
+    IfSome (slice_get old.ways at) (λ way. FollowsUp count at old way new m)
 
 -- these bytes are in transit down on it
-pub record FollowsDown (bytes : List ℕ) (at : ℕ) (old : Piped) (way : Way) (new : Piped) (m : ClientPipes) : Type 0 where
+pub record FollowsDown (bytes : List ℕ) (at : ℕ) (old : Piped) (way : Way) (new : Piped)
+    (m : ClientPipes) : Type 0 where
   pub there : HasWay at old way m
-  pub stands : StandsFor new (with_pipe (place_in_model at old) (record there.pipe { down = bytes }) m)
+  pub stands : StandsFor new
+      (with_pipe (place_in_model at old) (record there.pipe { down = bytes }) m)
 
 abbrev pub SwappingFollows : ℕ → List ℕ → Piped → Piped → Type 0
-SwappingFollows at bytes old new = (m : ClientPipes) → StandsFor old m → IfSome (slice_get old.ways at) (λ way. FollowsDown bytes at old way new m)
+SwappingFollows at bytes old new =
+    (m : ClientPipes) → StandsFor old m →
+    IfSome (slice_get old.ways at) (λ way. FollowsDown bytes at old way new m)

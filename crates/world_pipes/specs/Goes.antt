@@ -14,15 +14,23 @@ use Rattle.byte_world.specs.Published.{from_client, published_by, published_in}
 
 -- a step of a world, as the client that takes it sees it
 pub data ClientStep (c : ClientPipes) : ClientPipes → Type 0 where
-  calls : (t : Story) (h : StoryStep usual_limits (story_alone c) t) → is_call h ≡ true → CanBeSpelled c.connections t.connections →
+  calls : (t : Story) (h : StoryStep usual_limits (story_alone c) t) → is_call h ≡ true →
+      CanBeSpelled c.connections t.connections →
       ClientStep c (after_writing t.keeper t.connections c)
-  arrives : (j : ℕ) (κ : Connection) (p : Pipe) (piece rest : List ℕ) → slice_get c.connections j ≡ Some κ → slice_get c.pipes j ≡ Some p →
+  arrives : (j : ℕ) (κ : Connection) (p : Pipe) (piece rest : List ℕ) →
+      slice_get c.connections j ≡ Some κ → slice_get c.pipes j ≡ Some p →
       p.down ≡ piece ++ rest →
-      ClientStep c (with_pipe j (record p { down = rest; came = record p.came { held = p.came.held ++ piece } }) c)
-  handles : (κ : Connection) (others : List Connection) (p : Pipe) (pipes : List Pipe) (packet : Packet) (left : Stream) → c.connections ≡ κ ∷ others →
+      ClientStep c
+      (with_pipe j
+      (record p { down = rest; came = record p.came { held = p.came.held ++ piece } }) c)
+  handles : (κ : Connection) (others : List Connection) (p : Pipe) (pipes : List Pipe)
+      (packet : Packet) (left : Stream) → c.connections ≡ κ ∷ others →
       c.pipes ≡ p ∷ pipes → c.keeper.is_open ≡ true → Takes p.came (Ok (Some packet)) left →
-      CanBeSpelled c.connections ((handled packet (record { keeper = c.keeper; connection = κ })).connection ∷ others) →
-      ClientStep c (after_packet others pipes p left (handled packet (record { keeper = c.keeper; connection = κ })) c)
+      CanBeSpelled c.connections
+      ((handled packet (record { keeper = c.keeper; connection = κ })).connection ∷ others) →
+      ClientStep c
+      (after_packet others pipes p left
+      (handled packet (record { keeper = c.keeper; connection = κ })) c)
 
 -- one after another
 pub data ClientGoes (c : ClientPipes) : ClientPipes → Type 0 where
@@ -48,4 +56,6 @@ pub record StepsIn (w : World) (i : ℕ) {c d : ClientPipes} (step : ClientStep 
   pub published : published_in is ≡ from_client i (published_with step)
 
 abbrev pub ClientsStepInWorlds : Type 0
-ClientsStepInWorlds = (w : World) (i : ℕ) (c d : ClientPipes) → slice_get w.clients i ≡ Some c → (step : ClientStep c d) → StepsIn w i step
+ClientsStepInWorlds =
+    (w : World) (i : ℕ) (c d : ClientPipes) → slice_get w.clients i ≡ Some c →
+    (step : ClientStep c d) → StepsIn w i step

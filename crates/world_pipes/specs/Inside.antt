@@ -12,13 +12,17 @@ use Rattle.world_pipes.specs.Piped.{come_down}
 -- what was written is in transit on the last of the connections
 pub record MovesUp (core : Core) (ways : List Way) (left : Core) (after : List Way) : Type 0 where
   pub handed : left ≡ record core { out = [] }
-  pub moved : (older : List Way) (way : Way) → ways ≡ older ++ way ∷ [] → after ≡ older ++ record way { up = way.up ++ core.out } ∷ []
+  pub moved : (older : List Way) (way : Way) → ways ≡ older ++ way ∷ [] →
+      after ≡ older ++ record way { up = way.up ++ core.out } ∷ []
 
 -- the same if a connection is held, and it is lost if there is no memory
 abbrev pub SendsUp : Bool → Core → List Way → Sending → Bool → Core → List Way → Type 0
-SendsUp false core ways sending holds left after = (sending ≡ sendings.Sent) × (holds ≡ false) × (left ≡ core) × (after ≡ ways)
-SendsUp true core ways sendings.Sent holds left after = (holds ≡ true) × MovesUp core ways left after
-SendsUp true core ways sendings.Lost holds left after = (holds ≡ false) × (left ≡ gone core) × (after ≡ ways)
+SendsUp false core ways sending holds left after =
+    (sending ≡ sendings.Sent) × (holds ≡ false) × (left ≡ core) × (after ≡ ways)
+SendsUp true core ways sendings.Sent holds left after =
+    (holds ≡ true) × MovesUp core ways left after
+SendsUp true core ways sendings.Lost holds left after =
+    (holds ≡ false) × (left ≡ gone core) × (after ≡ ways)
 
 -- bytes reach a client
 abbrev pub TakesIn : ℕ → Core → Way → Result (Unit {0}) ClientError → Core → Way → Type 0

@@ -35,7 +35,8 @@ new_piped client = piped (new_core client 0) []
 
 -- what the client wrote is after what is in transit on its newest connection
 abbrev pub sent_up : Core → List Way → Way → Piped
-sent_up core older way = piped (record core { out = [] }) (older ++ record way { up = way.up ++ core.out } ∷ [])
+sent_up core older way =
+    piped (record core { out = [] }) (older ++ record way { up = way.up ++ core.out } ∷ [])
 
 -- there was no memory for it: the connection is lost
 abbrev pub broken : Core → List Way → Piped
@@ -43,7 +44,8 @@ broken core ways = piped (gone core) ways
 
 -- what a client wrote goes up on the last of its connections
 abbrev pub GoesUp : Core → List Way → Sending → Piped → Type 0
-GoesUp core ways sendings.Sent new = (older : List Way) × (way : Way) × (ways ≡ older ++ way ∷ []) × (new ≡ sent_up core older way)
+GoesUp core ways sendings.Sent new =
+    (older : List Way) × (way : Way) × (ways ≡ older ++ way ∷ []) × (new ≡ sent_up core older way)
 GoesUp core ways sendings.Lost new = new ≡ broken core ways
 
 -- and only while it holds one there is anything to send up
@@ -55,21 +57,27 @@ GoesUpWhere false core ways sending new = (sending ≡ sendings.Sent) × (new �
 
 -- A call is the client's, and what it writes goes up; one that the client refuses changes nothing.
 abbrev pub Calls : Turn → Piped → Result Sending ClientError → Piped → Type 0
-Calls turn old (Ok sending) new = (core : Core) × Does turn old.core (Ok tt) core × GoesUpWhere (is_holding old) core old.ways sending new
+Calls turn old (Ok sending) new =
+    (core : Core) × Does turn old.core (Ok tt) core
+    × GoesUpWhere (is_holding old) core old.ways sending new
 Calls turn old (Err cause) new = Does turn old.core (Err cause) new.core × (new.ways ≡ old.ways)
 
 -- disconnecting is a call like the others
 abbrev pub TakesLeave : Turn → Piped → Result Sending ClientError → Piped → Type 0
-TakesLeave turn old (Ok sending) new = (core : Core) × Leaves turn old.core (Ok tt) core × GoesUp core old.ways sending new
-TakesLeave turn old (Err cause) new = Leaves turn old.core (Err cause) new.core × (new.ways ≡ old.ways)
+TakesLeave turn old (Ok sending) new =
+    (core : Core) × Leaves turn old.core (Ok tt) core × GoesUp core old.ways sending new
+TakesLeave turn old (Err cause) new =
+    Leaves turn old.core (Err cause) new.core × (new.ways ≡ old.ways)
 
 -- its CONNECT is all that is in transit on a new connection; only memory may run out, and then
 -- there is no connection
 abbrev pub Connects : ℕ → Port → Turn → Piped → Result (Unit {0}) ClientError → Piped → Type 0
 Connects node port turn old (Ok done) new =
-    (core : Core) × Opens turn old.core (Ok tt) core × (new ≡ sent_up core old.ways (new_way node port))
+    (core : Core) × Opens turn old.core (Ok tt) core
+    × (new ≡ sent_up core old.ways (new_way node port))
 Connects node port turn old (Err cause) new = (cause ≡ errors.Memory) × (new.ways ≡ old.ways)
-    × ((new.core ≡ old.core) ⊎ ((core : Core) × Opens turn old.core (Ok tt) core × (new.core ≡ gone core)))
+    × ((new.core ≡ old.core)
+    ⊎ ((core : Core) × Opens turn old.core (Ok tt) core × (new.core ≡ gone core)))
 
 -- a connection that its node does not take is removed: nothing is left of it
 abbrev pub taken_back : Piped → Piped
@@ -83,7 +91,8 @@ come_down count way = record way { down = drop count way.down }
 
 -- The first bytes on the newest connection reach the client, and what it writes goes up. If there
 -- is no memory for that the answer is Memory, and the connection is lost.
-pub record Hears (count : ℕ) (old : Piped) (result : Result (Unit {0}) ClientError) (new : Piped) : Type 0 where
+pub record Hears (count : ℕ) (old : Piped) (result : Result (Unit {0}) ClientError)
+    (new : Piped) : Type 0 where
   pub older : List Way
   pub way : Way
   pub newest : old.ways ≡ older ++ way ∷ []

@@ -17,7 +17,8 @@ impl PipedClient {
     /// then there is no new connection.
     pub fn open(&mut self, node: usize, port: Port) -> Result<(), ClientError>
         requires { is_holding self.old ≡ false }
-        ensures opens { Connects node port (keeper_step Call.Opens self.old.core.state) self.old result self.new }
+        ensures opens { Connects node port
+            (keeper_step Call.Opens self.old.core.state) self.old result self.new }
         ensures goes { ConnectingFollows node port self.old result self.new }
     {
         self.connect(node, port)
@@ -26,7 +27,8 @@ impl PipedClient {
     // Opens a connection; the client holds none before.
     fn connect(&mut self, node: usize, port: Port) -> Result<(), ClientError>
         requires { is_holding self.old ≡ false }
-        ensures { Connects node port (keeper_step Call.Opens self.old.core.state) self.old result self.new }
+        ensures { Connects node port
+            (keeper_step Call.Opens self.old.core.state) self.old result self.new }
     {
         let mut way = Way::new(self.alloc, node, port);
         self.ways.reserve(1)?;
@@ -53,7 +55,8 @@ impl PipedClient {
     /// Ends the connection, with a DISCONNECT if the server has accepted it. `NotActive` comes
     /// exactly if there is none; a refusal, and `Memory`, leave everything as it was.
     pub fn disconnect(&mut self) -> Result<Sending, ClientError>
-        ensures leaves { TakesLeave (keeper_step Call.Disconnects self.old.core.state) self.old result self.new }
+        ensures leaves { TakesLeave
+            (keeper_step Call.Disconnects self.old.core.state) self.old result self.new }
         ensures goes { CallingFollows [] self.old result self.new }
     {
         self.core.disconnect()?;

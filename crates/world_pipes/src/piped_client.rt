@@ -104,7 +104,10 @@ impl PipedClient {
         requires at { at < length self.old.ways }
         requires count { IfSome (slice_get self.old.ways at) (λ way. count ≤ length way.up) }
         ensures taken { IfSome (slice_get self.old.ways at) (λ way. self.new
-            ≡ record self.old { ways = set self.old.ways at (record way { up = drop count way.up }) }) }
+            ≡ record self.old {
+              ways = set self.old.ways at
+                  (record way { up = drop count way.up });
+            }) }
         ensures goes { TakingUpFollows at count self.old self.new }
     {
         self.come_up(at, count);
@@ -115,7 +118,10 @@ impl PipedClient {
         requires at { at < length self.old.ways }
         requires count { IfSome (slice_get self.old.ways at) (λ way. count ≤ length way.up) }
         ensures { IfSome (slice_get self.old.ways at) (λ way. self.new
-            ≡ record self.old { ways = set self.old.ways at (record way { up = drop count way.up }) }) }
+            ≡ record self.old {
+              ways = set self.old.ways at
+                  (record way { up = drop count way.up });
+            }) }
     {
         let way = &mut self.ways[at];
         way.up.take(count);
@@ -126,7 +132,10 @@ impl PipedClient {
     pub fn swap_down(&mut self, at: usize, bytes: &mut Vec<u8>)
         requires { at < length self.old.ways }
         ensures left { IfSome (slice_get self.old.ways at) (λ way. self.new
-            ≡ record self.old { ways = set self.old.ways at (record way { down = bytes.old.items }) }) }
+            ≡ record self.old {
+              ways = set self.old.ways at
+                  (record way { down = bytes.old.items });
+            }) }
         ensures given { IfSome (slice_get self.old.ways at) (λ way. bytes.new.items ≡ way.down) }
         ensures goes { SwappingFollows at bytes.old.items self.old self.new }
     {
@@ -137,7 +146,10 @@ impl PipedClient {
     fn exchange(&mut self, at: usize, bytes: &mut Vec<u8>)
         requires { at < length self.old.ways }
         ensures left { IfSome (slice_get self.old.ways at) (λ way. self.new
-            ≡ record self.old { ways = set self.old.ways at (record way { down = bytes.old.items }) }) }
+            ≡ record self.old {
+              ways = set self.old.ways at
+                  (record way { down = bytes.old.items });
+            }) }
         ensures given { IfSome (slice_get self.old.ways at) (λ way. bytes.new.items ≡ way.down) }
     {
         let way = &mut self.ways[at];

@@ -1,5 +1,4 @@
--- A story as the handshake in which the broker sends entries and the client, the subscriber, accepts
--- publications.
+-- A story as the handshake in which the broker sends entries and the client accepts them.
 use Rattle.std.specs.Prelude.{ℕ, zero, suc, if◌then◌else◌, List, [], ◌∷◌, Option, Some, None}
 use Rattle.client_base.specs.packet.declared.delivery.Delivery.{Delivery}
 use Rattle.client_base.specs.packet.declared.delivery.Delivery.TheVariants as deliveries
@@ -22,17 +21,21 @@ use Rattle.exactly_once.specs.Carried.{is_two}
 use Rattle.exactly_once.specs.Acceptance.{accepted_on}
 use Rattle.exactly_once.specs.Inside.Projections.{to_come, to_be_taken, is_current}
 
-abbrev pub two_item : Publication → Item Publication → List (Item Publication) → List (Item Publication)
+abbrev pub two_item : Publication → Item Publication → List (Item Publication) →
+    List (Item Publication)
 two_item p item items = if is_two p.qos then item ∷ items else items
 
 abbrev pub items_of : List Entry → List (Item Publication)
 items_of (Entry.Waits made p ∷ entries) = two_item p (Item.Waits p) (items_of entries)
 items_of (Entry.Started made p id start ∷ entries) = two_item p (Item.Sent p id) (items_of entries)
-items_of (Entry.Released made p id start release ∷ entries) = two_item p (Item.Released p id) (items_of entries)
-items_of (Entry.Finished made p id start release finish ∷ entries) = two_item p (Item.Finished p) (items_of entries)
+items_of (Entry.Released made p id start release ∷ entries) =
+    two_item p (Item.Released p id) (items_of entries)
+items_of (Entry.Finished made p id start release finish ∷ entries) =
+    two_item p (Item.Finished p) (items_of entries)
 items_of [] = []
 
-abbrev pub published_in : Delivery → Publication → List (Forward Publication) → List (Forward Publication)
+abbrev pub published_in : Delivery → Publication → List (Forward Publication) →
+    List (Forward Publication)
 published_in (deliveries.ExactlyOnce dup id) p f = Forward.Publish id p ∷ f
 published_in _ p f = f
 
@@ -65,10 +68,12 @@ held keeper [] = None
 -- what may still come to the broker on its connection
 abbrev pub left_behind : Option ConnectionName → List Connection → List Backward
 left_behind (Some x) (κ ∷ connections) =
-    if same_connection x κ.name then backward_of (to_be_taken κ) else left_behind (Some x) connections
+    if same_connection x κ.name then backward_of (to_be_taken κ)
+    else left_behind (Some x) connections
 left_behind _ _ = []
 
-abbrev pub link_to : Limits → Past → Option ConnectionName → List Connection → Option Connection → Link Publication
+abbrev pub link_to : Limits → Past → Option ConnectionName → List Connection → Option Connection →
+    Link Publication
 link_to limits past current connections (Some κ) =
     if is_current current κ.name
     then Link.Joined (forward_of (to_come limits past κ)) (backward_of (to_be_taken κ))
@@ -82,5 +87,6 @@ as_subscriber limits s =
       items = items_of (entries_of limits s.past s.keeper.client);
       accepted = accepted_on s.connections;
       received = λ id. has_id id s.keeper.received;
-      link = link_to limits s.past (current_connection s.past s.keeper.client) s.connections (held s.keeper s.connections);
+      link = link_to limits s.past (current_connection s.past s.keeper.client) s.connections
+          (held s.keeper s.connections);
     }

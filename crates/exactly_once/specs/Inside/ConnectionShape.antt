@@ -37,7 +37,8 @@ abbrev pub is_two_unnumbered : Packet → Option ℕ → Bool
 is_two_unnumbered (packets.Publish p) None = is_exactly_once p.delivery
 is_two_unnumbered _ _ = false
 
-pub record ConnectionInShape (limits : Limits) (past : Past) (c : Client) (κ : Connection) : Type 0 where
+pub record ConnectionInShape (limits : Limits) (past : Past) (c : Client)
+    (κ : Connection) : Type 0 where
   pub more : List Written
   pub written : κ.written ≡ opens c ∷ more
   pub one_connect : Each (λ w. is_connect w ≡ false) more

@@ -72,7 +72,8 @@ last_confirmed [] = None
 abbrev pub link_of_own : Limits → Past → Option ConnectionName → Bool → Option Connection → Link ℕ
 link_of_own limits past current online (Some κ) =
     if is_current current κ.name
-    then (if online then Link.Joined (forward_of_own (to_be_taken κ)) (backward_of_own (to_come limits past κ))
+    then (if online
+    then Link.Joined (forward_of_own (to_be_taken κ)) (backward_of_own (to_come limits past κ))
     else Link.Ahead (forward_of_own (to_be_taken κ)))
     else (if online then Link.Behind (backward_of_own (to_come limits past κ)) else Link.Behind [])
 link_of_own limits past current online None = Link.Behind []
@@ -83,7 +84,9 @@ as_publisher limits s =
       items = items_of_own s.keeper.own;
       accepted = new_numbers s.connections s.past;
       received = λ id. has_id id (received_of s.past s.keeper.client);
-      link = link_of_own limits s.past (current_connection s.past s.keeper.client) s.keeper.is_online (last_confirmed s.connections);
+      link = link_of_own limits s.past
+          (current_connection s.past s.keeper.client) s.keeper.is_online
+          (last_confirmed s.connections);
     }
 
 -- ---- the refinement, event by event

@@ -25,7 +25,8 @@ use Rattle.exactly_once.specs.Inside.ConnectionShape.{ConnectionInShape}
 abbrev pub AreNumbered : ℕ → List Own → Type 0
 AreNumbered n (Own.Unsent k p id ∷ own) = (k ≡ n) × AreNumbered (suc n) own
 AreNumbered n (Own.Sent k p id ∷ own) = (k ≡ n) × AreNumbered (suc n) own
-AreNumbered n (Own.Released k p id ∷ own) = (k ≡ n) × (is_two p.qos ≡ true) × AreNumbered (suc n) own
+AreNumbered n (Own.Released k p id ∷ own) =
+    (k ≡ n) × (is_two p.qos ≡ true) × AreNumbered (suc n) own
 AreNumbered n (Own.Done k p ∷ own) = (k ≡ n) × AreNumbered (suc n) own
 AreNumbered n [] = Unit {0}
 
@@ -38,13 +39,15 @@ pub record OwnInShape (keeper : Keeper) : Type 0 where
   pub ids_apart : IsDistinct (ids_in_use keeper)
   pub numbered : AreNumbered (length keeper.earlier) keeper.own
   pub releases_apart : IsDistinct keeper.releases
-  pub releases_are : (id : ℕ) → has_id id keeper.releases ≡ has_released id (items_of_own keeper.own)
+  pub releases_are : (id : ℕ) →
+      has_id id keeper.releases ≡ has_released id (items_of_own keeper.own)
   pub online_sent : keeper.is_online ≡ true → none_unsent keeper.own ≡ true
 
 -- ---- all of them
 
 abbrev pub NamesApart : List Connection → Type 0
-NamesApart (κ ∷ connections) = (any_named (same_connection κ.name) connections ≡ false) × NamesApart connections
+NamesApart (κ ∷ connections) =
+    (any_named (same_connection κ.name) connections ≡ false) × NamesApart connections
 NamesApart [] = Unit {0}
 
 -- a connection that was confirmed, and is not the last one, is not current
@@ -52,32 +55,39 @@ abbrev pub LastIsCurrent : Option ConnectionName → List Connection → Type 0
 LastIsCurrent None connections = Unit {0}
 LastIsCurrent (Some x) connections =
     (any_named (same_connection x) connections ≡ true)
-    × Each (λ (κ : Connection). same_connection x κ.name ≡ true → κ.confirmed ≡ true → last_confirmed connections ≡ Some κ) connections
+    × Each (λ (κ : Connection). same_connection x κ.name ≡ true → κ.confirmed ≡ true →
+    last_confirmed connections ≡ Some κ) connections
 
 -- if the newest one's Connect is taken, no other confirmed one is current
 abbrev pub NewestIsServed : Option ConnectionName → List Connection → Type 0
 NewestIsServed (Some x) (κ ∷ connections) =
-    1 ≤ κ.taken → same_connection x κ.name ≡ false → Each (λ (other : Connection). same_connection x other.name ≡ true → other.confirmed ≡ false) connections
+    1 ≤ κ.taken → same_connection x κ.name ≡ false →
+    Each (λ (other : Connection). same_connection x other.name ≡ true →
+    other.confirmed ≡ false) connections
 NewestIsServed _ _ = Unit {0}
 
 -- the first one is open if the client holds one
 abbrev pub HeldInShape : Limits → Past → Keeper → List Connection → Type 0
 HeldInShape limits past keeper [] = keeper.is_open ≡ false
 HeldInShape limits past keeper (κ ∷ connections) =
-    (keeper.is_open ≡ true → κ.confirmed ≡ keeper.is_online) × (keeper.is_online ≡ true → keeper.is_open ≡ true)
+    (keeper.is_open ≡ true → κ.confirmed ≡ keeper.is_online)
+    × (keeper.is_online ≡ true → keeper.is_open ≡ true)
     × (keeper.is_open ≡ true → keeper.is_online ≡ false → keeper.was_served ≡ true →
-    Each (λ packet. (packet ≡ packets.Connack (connacks.Accepted false)) → ⊥) (put_to limits past κ.name))
+    Each (λ packet. (packet ≡ packets.Connack (connacks.Accepted false)) → ⊥)
+    (put_to limits past κ.name))
 
 -- a CONNACK 0 among the answers means that the client's session exists, and is not clean
 abbrev pub IsMeant : Client → Past → Packet → Type 0
-IsMeant c past packet = (b : Bool) → packet ≡ packets.Connack (connacks.Accepted b) → session_of past c ≡ Some false
+IsMeant c past packet =
+    (b : Bool) → packet ≡ packets.Connack (connacks.Accepted b) → session_of past c ≡ Some false
 
 -- each that is sent to a connection of this name
 abbrev pub IsWelcomed : Limits → Past → Client → ConnectionName → Type 0
 IsWelcomed limits past c x = Each (IsMeant c past) (put_to limits past x)
 
 abbrev pub AreWelcomed : Limits → Past → Client → List Connection → Type 0
-AreWelcomed limits past c connections = Each (λ (κ : Connection). IsWelcomed limits past c κ.name) connections
+AreWelcomed limits past c connections =
+    Each (λ (κ : Connection). IsWelcomed limits past c κ.name) connections
 
 pub record HasShape (limits : Limits) (s : Story) : Type 0 where
   pub own : OwnInShape s.keeper
@@ -85,11 +95,13 @@ pub record HasShape (limits : Limits) (s : Story) : Type 0 where
   pub names_apart : NamesApart s.connections
   pub last_is_current : LastIsCurrent (current_connection s.past s.keeper.client) s.connections
   pub newest_is_served : NewestIsServed (current_connection s.past s.keeper.client) s.connections
-  pub nobody_else : (d : Client) (x : ConnectionName) → current_connection s.past d ≡ Some x → any_named (same_connection x) s.connections ≡ true →
+  pub nobody_else : (d : Client) (x : ConnectionName) → current_connection s.past d ≡ Some x →
+      any_named (same_connection x) s.connections ≡ true →
       same_client d s.keeper.client ≡ true
   pub held : HeldInShape limits s.past s.keeper s.connections
   -- a keeper's session is not clean, and exists once it was served; so none of its sessions ends
-  pub session : (session_of s.past s.keeper.client ≡ None) ⊎ (session_of s.past s.keeper.client ≡ Some false)
+  pub session : (session_of s.past s.keeper.client ≡ None)
+      ⊎ (session_of s.past s.keeper.client ≡ Some false)
   pub welcomed : AreWelcomed limits s.past s.keeper.client s.connections
   pub served : s.keeper.was_served ≡ true → session_of s.past s.keeper.client ≡ Some false
 
@@ -101,13 +113,19 @@ pub record IsSoundStory (limits : Limits) (s : Story) : Type 0 where
 -- ---- what is left to show of each event
 
 abbrev pub EventKeepsShape : Type 0
-EventKeepsShape = (limits : Limits) (s t : Story) → IsSoundStory limits s → StoryStep limits s t → HasShape limits t
+EventKeepsShape =
+    (limits : Limits) (s t : Story) → IsSoundStory limits s → StoryStep limits s t →
+    HasShape limits t
 
 -- Each event is a run of the handshake in which the client publishes, and of that in which it
 -- subscribes; the latter only while the window changes only at a new ballot, since what starts at
 -- another place is not always sent.
 abbrev pub EventPublishes : Type 0
-EventPublishes = (limits : Limits) (s t : Story) → IsSoundStory limits s → StoryStep limits s t → GoesTo (as_publisher limits s) (as_publisher limits t)
+EventPublishes =
+    (limits : Limits) (s t : Story) → IsSoundStory limits s → StoryStep limits s t →
+    GoesTo (as_publisher limits s) (as_publisher limits t)
 
 abbrev pub EventSubscribes : Type 0
-EventSubscribes = (limits : Limits) (s t : Story) → IsSteady limits → IsSoundStory limits s → StoryStep limits s t → GoesTo (as_subscriber limits s) (as_subscriber limits t)
+EventSubscribes =
+    (limits : Limits) (s t : Story) → IsSteady limits → IsSoundStory limits s →
+    StoryStep limits s t → GoesTo (as_subscriber limits s) (as_subscriber limits t)

@@ -20,7 +20,8 @@ IsCall call old (Err errors.Memory) new = Unit {0}
 IsCall call old done new = Calls (keeper_step call old.core.state) old done new
 
 -- the result of a call: running out of memory is counted, and any other refusal is idle
-abbrev pub Counts : Result Sending ClientError → WorldState → Result (Unit {0}) Idle → WorldState → Type 0
+abbrev pub Counts : Result Sending ClientError → WorldState → Result (Unit {0}) Idle → WorldState →
+    Type 0
 Counts (Ok sendings.Sent) old result new = IsOk result × (new ≡ old)
 Counts (Ok sendings.Lost) old result new = IsOk result × (new ≡ forgetful old)
 Counts (Err errors.Memory) old result new = IsOk result × (new ≡ forgetful old)

@@ -21,7 +21,8 @@ use Rattle.world.specs.World.{WorldState}
 
 -- this many bytes in transit up on this connection reach its node, which runs, and are removed from
 -- it
-pub record TakesUp (place : ConnectionSlot) (port : Port) (count : ℕ) (old : NodesState) (client : Piped) (new : NodesState) (later : Piped) : Type 0 where
+pub record TakesUp (place : ConnectionSlot) (port : Port) (count : ℕ) (old : NodesState)
+    (client : Piped) (new : NodesState) (later : Piped) : Type 0 where
   pub way : Way
   pub found : slice_get client.ways place.at ≡ Some way
   pub some : 0 < count
@@ -32,7 +33,8 @@ pub record TakesUp (place : ConnectionSlot) (port : Port) (count : ℕ) (old : N
   pub is : later ≡ with_less place.at count way client
 
 -- that many bytes wait, and the node runs
-pub record CanTake (place : ConnectionSlot) (count : ℕ) (nodes : NodesState) (client : Piped) : Type 0 where
+pub record CanTake (place : ConnectionSlot) (count : ℕ) (nodes : NodesState)
+    (client : Piped) : Type 0 where
   pub way : Way
   pub found : slice_get client.ways place.at ≡ Some way
   pub some : 0 < count
@@ -40,17 +42,22 @@ pub record CanTake (place : ConnectionSlot) (count : ℕ) (nodes : NodesState) (
   pub runs : running nodes.nodes place.node ≡ None → ⊥
 
 -- if there is no memory for them, nothing happens
-abbrev pub TakesUpWhere : Bool → ConnectionSlot → Port → ℕ → NodesState → Piped → NodesState → Piped → Type 0
-TakesUpWhere true place port count old client new later = TakesUp place port count old client new later
-TakesUpWhere false place port count old client new later = (new ≡ old) × (later ≡ client) × CanTake place count old client
+abbrev pub TakesUpWhere : Bool → ConnectionSlot → Port → ℕ → NodesState → Piped → NodesState →
+    Piped → Type 0
+TakesUpWhere true place port count old client new later =
+    TakesUp place port count old client new later
+TakesUpWhere false place port count old client new later =
+    (new ≡ old) × (later ≡ client) × CanTake place count old client
 
 -- they cannot: too few wait, or the node has stopped
 abbrev pub CannotTake : ConnectionSlot → ℕ → NodesState → Piped → Type 0
 CannotTake place count nodes client =
-    (way : Way) → slice_get client.ways place.at ≡ Some way → (running nodes.nodes place.node ≡ None) ⊎ IsNoPart count way.up
+    (way : Way) → slice_get client.ways place.at ≡ Some way →
+    (running nodes.nodes place.node ≡ None) ⊎ IsNoPart count way.up
 
 -- the same in a world
-pub record TakesUpOn (number : ℕ) (place : ConnectionSlot) (count : ℕ) (old new : WorldState) : Type 0 where
+pub record TakesUpOn (number : ℕ) (place : ConnectionSlot) (count : ℕ)
+    (old new : WorldState) : Type 0 where
   pub client : WorldClient
   pub owned : slice_get old.clients place.client ≡ Some client
   pub between : NodesState
@@ -62,11 +69,13 @@ pub record TakesUpOn (number : ℕ) (place : ConnectionSlot) (count : ℕ) (old 
 abbrev pub TakesUpOnWhere : Bool → ℕ → ConnectionSlot → ℕ → WorldState → WorldState → Type 0
 TakesUpOnWhere true number place count old new = TakesUpOn number place count old new
 TakesUpOnWhere false number place count old new =
-    (new ≡ old) × (client : WorldClient) × (slice_get old.clients place.client ≡ Some client) × CanTake place count old.nodes client.piped
+    (new ≡ old) × (client : WorldClient) × (slice_get old.clients place.client ≡ Some client)
+    × CanTake place count old.nodes client.piped
 
 abbrev pub CannotTakeOn : ConnectionSlot → ℕ → WorldState → Type 0
 CannotTakeOn place count w =
-    (client : WorldClient) → slice_get w.clients place.client ≡ Some client → CannotTake place count w.nodes client.piped
+    (client : WorldClient) → slice_get w.clients place.client ≡ Some client →
+    CannotTake place count w.nodes client.piped
 
 -- ---- bytes reach a client
 
@@ -80,4 +89,5 @@ pub record HearsOn (had : Bool) (at count : ℕ) (old new : Piped) : Type 0 wher
 
 abbrev pub CannotHear : ℕ → ℕ → Piped → Type 0
 CannotHear at count client =
-    (way : Way) → slice_get client.ways at ≡ Some way → ((is_holding client && (suc at == length client.ways)) ≡ false) ⊎ IsNoPart count way.down
+    (way : Way) → slice_get client.ways at ≡ Some way →
+    ((is_holding client && (suc at == length client.ways)) ≡ false) ⊎ IsNoPart count way.down

@@ -38,7 +38,8 @@ HearsOfOne true node port old new = HearsAndHas true node port old new
 HearsOfOne false node port old new = (new ≡ old) ⊎ HearsAndHas false node port old new
 
 -- a client has a new connection to a node, which takes it
-pub record HasNew (node : ℕ) (port : Port) (old : NodesState) (client : Piped) (new : NodesState) (later : Piped) : Type 0 where
+pub record HasNew (node : ℕ) (port : Port) (old : NodesState) (client : Piped) (new : NodesState)
+    (later : Piped) : Type 0 where
   pub opens : Opens (node - 1) port (keeper_step Call.Opens client.core.state) client (Ok tt) later
   pub follows : ConnectingFollows (node - 1) port client (Ok tt) later
   pub hears : HearsAndHas true node port old new
@@ -47,7 +48,8 @@ pub record HasNew (node : ℕ) (port : Port) (old : NodesState) (client : Piped)
 abbrev pub Reaches : Bool → ℕ → Port → NodesState → Piped → NodesState → Piped → Type 0
 Reaches true node port old client new later = HasNew node port old client new later
 Reaches false node port old client new later =
-    FollowsAll client later × HearsOfOne false node port old new × NoneOpens node port old client new later
+    FollowsAll client later × HearsOfOne false node port old new
+    × NoneOpens node port old client new later
 
 -- the client at this index has a new connection to the node, under the next number, and the node
 -- has taken it
@@ -59,7 +61,8 @@ pub record ConnectsAt (i node : ℕ) (old new : WorldState) : Type 0 where
   pub reaches : HasNew node (port_of (next_number old)) old.nodes client.piped between piped
   pub is : new ≡ record (with_piped i client piped old) {
     nodes = between;
-    connections = old.connections ++ record { client = i; at = length client.piped.ways; node = node; is_open = true } ∷ [];
+    connections = old.connections
+        ++ record { client = i; at = length client.piped.ways; node = node; is_open = true } ∷ [];
   }
 
 -- and what the node queued then goes down
@@ -87,4 +90,5 @@ abbrev pub Begins : ℕ → ℕ → WorldState → WorldState → Type 0
 Begins i node old new =
     OpensAt i node old new
     ⊎ (MayOpenNone i node old new × (NodesLoseNothing old.nodes new.nodes → ⊥))
-    ⊎ ((none : WorldState) × MayOpenNone i node old none × (new ≡ record none { losses = one_more old.losses }))
+    ⊎ ((none : WorldState) × MayOpenNone i node old none
+    × (new ≡ record none { losses = one_more old.losses }))

@@ -24,7 +24,8 @@ pub record IsFetchedFrom (w : WorldState) (place source : ℕ) : Type 0 where
 abbrev pub group_events : WorldState → List ℕ → ℕ → List Event
 group_events w members place =
     events.Assign (configuration_of members)
-    ∷ map events.Deliver (way_out (length w.nodes.sent) (length w.nodes.master.members) place (length members - 1))
+    ∷ map events.Deliver
+    (way_out (length w.nodes.sent) (length w.nodes.master.members) place (length members - 1))
 
 -- how many messages were sent when the ballot has begun
 abbrev pub sent_then : WorldState → ℕ → ℕ
@@ -34,5 +35,7 @@ sent_then w others = length w.nodes.sent + length w.nodes.master.members + 5 * o
 abbrev pub escaping_events : WorldState → List ℕ → ℕ → Bool → List ℕ → ℕ → List Event
 escaping_events w members place holds name bytes =
     group_events w members place
-    ++ (client_events holds name (configuration_of members).primary (suc (length w.connections)) bytes
-    ++ answer_events (sent_then w (length members - 1)) (length members - 1) (suc (length w.connections)))
+    ++ (client_events holds name (configuration_of members).primary
+    (suc (length w.connections)) bytes
+    ++ answer_events (sent_then w (length members - 1)) (length members - 1)
+    (suc (length w.connections)))

@@ -28,7 +28,8 @@ tells_open (Err idle) = false
 -- Or it runs out of memory: it hands nothing over, and its end is open.
 abbrev pub HandsDown : ℕ → Port → NodesState → List ℕ → NodesState → List ℕ → Bool → Type 0
 HandsDown node port old before new after is_open =
-    (Gives (node_of old.nodes node) node port old new × (after ≡ before ++ put_out port (node_of old.nodes node))
+    (Gives (node_of old.nodes node) node port old new
+    × (after ≡ before ++ put_out port (node_of old.nodes node))
     × (is_open ≡ is_told_open port (node_of old.nodes node)))
     ⊎ ((new ≡ nodes_forgetful old) × (after ≡ before) × (is_open ≡ true))
 
@@ -36,34 +37,42 @@ HandsDown node port old before new after is_open =
 abbrev pub PutsDown : ℕ → ℕ → Port → NodesState → Piped → NodesState → Piped → Bool → Type 0
 PutsDown at node port old client new later is_open =
     (way : Way) → slice_get client.ways at ≡ Some way →
-    (bytes : List ℕ) × HandsDown node port old way.down new bytes is_open × (later ≡ with_down at way bytes client)
+    (bytes : List ℕ) × HandsDown node port old way.down new bytes is_open
+    × (later ≡ with_down at way bytes client)
 
 -- it may have no memory: then it hands over nothing
 abbrev pub MayHandDown : ℕ → Port → NodesState → List ℕ → NodesState → List ℕ → Type 0
 MayHandDown node port old before new after =
-    (NodesStay old new × (after ≡ before)) ⊎ (Acts (node - 1) (gives port) old new × HandsOver node port old before after)
+    (NodesStay old new × (after ≡ before))
+    ⊎ (Acts (node - 1) (gives port) old new × HandsOver node port old before after)
 
 abbrev pub MayPutDown : ℕ → ℕ → Port → NodesState → Piped → NodesState → Piped → Type 0
 MayPutDown at node port old client new later =
     (way : Way) → slice_get client.ways at ≡ Some way →
-    (bytes : List ℕ) × MayHandDown node port old way.down new bytes × (later ≡ with_down at way bytes client)
+    (bytes : List ℕ) × MayHandDown node port old way.down new bytes
+    × (later ≡ with_down at way bytes client)
 
 -- on the connection of this number, and this is said about its end
-pub record HandsOn (number : ℕ) (place : ConnectionSlot) (old : WorldState) (is_open : Bool) (new : WorldState) : Type 0 where
+pub record HandsOn (number : ℕ) (place : ConnectionSlot) (old : WorldState) (is_open : Bool)
+    (new : WorldState) : Type 0 where
   pub client : WorldClient
   pub owned : slice_get old.clients place.client ≡ Some client
   pub way : Way
   pub stands : slice_get client.piped.ways place.at ≡ Some way
   pub between : NodesState
-  pub gives : Gives (node_of old.nodes.nodes place.node) place.node (port_of number) old.nodes between
+  pub gives : Gives (node_of old.nodes.nodes place.node) place.node
+      (port_of number) old.nodes between
   pub told : is_open ≡ is_told_open (port_of number) (node_of old.nodes.nodes place.node)
   pub is : new ≡ record (with_piped place.client client
-      (with_down place.at way (way.down ++ put_out (port_of number) (node_of old.nodes.nodes place.node)) client.piped) old) { nodes = between }
+      (with_down place.at way
+      (way.down ++ put_out (port_of number) (node_of old.nodes.nodes place.node)) client.piped) old)
+      { nodes = between }
 
 -- or its node ran out of memory: nothing changes, its end is open, and that is counted
 abbrev pub MayHandOn : ℕ → ConnectionSlot → WorldState → Bool → WorldState → Type 0
 MayHandOn number place old is_open new =
-    HandsOn number place old is_open new ⊎ ((is_open ≡ true) × (new ≡ record old { nodes = nodes_forgetful old.nodes }))
+    HandsOn number place old is_open new
+    ⊎ ((is_open ≡ true) × (new ≡ record old { nodes = nodes_forgetful old.nodes }))
 
 -- a node that has nothing to hand over then has nothing, and counts no loss
 abbrev pub StaysQuiet : ℕ → NodesState → NodesState → Type 0
@@ -71,7 +80,8 @@ StaysQuiet node old new = HoldsNothing node old → HoldsNothing node new × (ne
 
 -- its end counts as open, or as closed
 abbrev pub marked : ℕ → ConnectionSlot → Bool → WorldState → WorldState
-marked number place is_open w = record w { connections = set w.connections (number - 1) (record place { is_open = is_open }) }
+marked number place is_open w =
+    record w { connections = set w.connections (number - 1) (record place { is_open = is_open }) }
 
 -- ---- a walk over the connections whose end is open
 
@@ -80,6 +90,7 @@ marked number place is_open w = record w { connections = set w.connections (numb
 pub record AsksAt (node at : ℕ) (old new : WorldState) : Type 0 where
   pub number : ℕ
   pub stands : slice_get (open_from 1 old.connections) at ≡ Some number
-  pub asks : AskedWhere false (is_open_at node (place_numbered number old.connections)) number old new
+  pub asks : AskedWhere false
+      (is_open_at node (place_numbered number old.connections)) number old new
   pub others : take (number - 1) new.connections ≡ take (number - 1) old.connections
   pub many : length new.connections ≡ length old.connections

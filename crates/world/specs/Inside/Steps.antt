@@ -27,7 +27,8 @@ abbrev pub GoesOn : WorldState → WorldState → Type 0
 GoesOn old new = GoesOnBy [] old new
 
 -- what an event asked was published, and nothing else
-pub record GoesAsked (event : Event) (old : WorldState) (result : Result (Unit {0}) Idle) (new : WorldState) : Type 0 where
+pub record GoesAsked (event : Event) (old : WorldState) (result : Result (Unit {0}) Idle)
+    (new : WorldState) : Type 0 where
   pub asked : List (ℕ × Publication)
   pub is : IsAsked event old result asked new
   pub goes : GoesOnBy asked old new
@@ -53,4 +54,5 @@ Meets event old (Ok done) new = IsDone event old new ⊎ HappensLosing event old
 abbrev pub IsCounted : ℕ → ℕ → WorldState → WorldState → Type 0
 IsCounted before counted old new =
     ((new ≡ old) × (old.losses ≡ counted → (old.nodes.losses ≡ before) × (before < 2 ^ 64 - 1)))
-    ⊎ ((new ≡ record old { losses = one_more old.losses }) × (old.losses ≡ counted) × ((old.nodes.losses ≡ before) × (before < 2 ^ 64 - 1) → ⊥))
+    ⊎ ((new ≡ record old { losses = one_more old.losses }) × (old.losses ≡ counted)
+    × ((old.nodes.losses ≡ before) × (before < 2 ^ 64 - 1) → ⊥))
