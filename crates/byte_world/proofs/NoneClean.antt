@@ -11,7 +11,7 @@ use Rattle.node_group.specs.lists.Lists.{Each, In, IsPrefixOf}
 use Rattle.node_group.specs.lists.Lists.In.{here, there}
 use Rattle.node_group.proofs.of_lists.Members.{in_left}
 use Rattle.node_group.proofs.of_packet_world.Lists.{each_get}
-use Rattle.node_group.specs.exactly_once.Story.{is_packet_of}
+use Rattle.node_group.specs.exactly_once.StoryCommands.{is_packet_of}
 use Rattle.node_group.proofs.of_exactly_once.Takes.{same_name_self}
 use Rattle.node_group.specs.packet.declared.packet.Packet.{Packet}
 use Rattle.node_group.specs.node_moves.Ends.{commands_of}

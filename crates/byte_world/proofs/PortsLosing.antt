@@ -22,8 +22,9 @@ use Rattle.node_group.specs.world_base.declared.Port.{Port}
 use Rattle.node_group.specs.world_base.Connections.{asked, closed, failing, has_failed, holding, is_at, left_with, put_out}
 use Rattle.node_group.specs.world_base.Core.{CoreState}
 use Rattle.node_group.specs.world_base.Failing.{closes_failed}
-use Rattle.node_group.specs.world_base.Lossy.{Account, Declines, Delivers, Drives, Proposes, Repeated, Serves, Takes, Then, quietly}
-use Rattle.node_group.specs.world_base.Lossy.Declines.{no_room, forgets, stops}
+use Rattle.node_group.specs.world_base.Lossy.{Account, Delivers, Drives, Repeated, Serves, Takes, Then, quietly}
+use Rattle.node_group.specs.world_base.LossyProposals.{Declines, Proposes}
+use Rattle.node_group.specs.world_base.LossyProposals.Declines.{no_room, forgets, stops}
 use Rattle.node_group.specs.world_base.Lossy.Delivers.{nothing, does, tells, loses}
 use Rattle.node_group.specs.world_base.LossyStep.{ActsOn, Holds, LosesAllFailed, Opens, ReadsAll, RunsOn, TakesIn}
 use Rattle.node_group.specs.world_base.LossyReading.{Asks, Begins, Closes, Ends, EndsSilent, LosesFailed, ReadsNext, Shuts}

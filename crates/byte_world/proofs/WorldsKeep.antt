@@ -34,7 +34,8 @@ use Rattle.node_group.specs.Group.{Group}
 use Rattle.node_group.specs.Goes.{GroupStep, GroupTrace}
 use Rattle.node_group.specs.Goes.GroupTrace.{then_went}
 use Rattle.node_group.specs.Streams.{comes_up, goes_down, went_down}
-use Rattle.byte_world.specs.Goes.{CanBeSpelled, Does, after_packet, node_call_of, is_apart}
+use Rattle.byte_world.specs.Goes.{Does, node_call_of, is_apart}
+use Rattle.byte_world.specs.ClientSteps.{CanBeSpelled, after_packet}
 use Rattle.byte_world.specs.World.{ClientPipes, HasPipe, Pipe, World, after_writing, newly_written, packets_of, sent_up, with_client, with_pipe}
 use Rattle.byte_world.proofs.NodesGoOn.{IsOpened, carries_with, is_quiet, stood_as}
 use Rattle.byte_world.proofs.OnTheWay.{IsHandled, more_down, newly_is, one_handled}

@@ -30,7 +30,8 @@ use Rattle.node_group.specs.Goes.{GroupTrace}
 use Rattle.node_group.specs.Goes.GroupTrace.{then_went}
 use Rattle.node_group.proofs.NamesInGroups.{all_well, each_got}
 use Rattle.byte_world.specs.Apart.{HasName}
-use Rattle.byte_world.specs.Goes.{Does, after_connecting, node_call_of}
+use Rattle.byte_world.specs.Goes.{Does, node_call_of}
+use Rattle.byte_world.specs.ClientSteps.{after_connecting}
 use Rattle.byte_world.specs.World.{ClientPipes, HasPipe, Pipe, World, is_used, packets_of, with_client}
 use Rattle.byte_world.proofs.NamesApart.{names_stay_apart}
 use Rattle.byte_world.proofs.NodesGoOn.{IsOpened, StoodAs, of_each, stood_as}

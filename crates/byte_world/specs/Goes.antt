@@ -1,5 +1,5 @@
 -- What may happen in a world of clients and a group of nodes.
-use Rattle.std.specs.Prelude.{◌≡◌, ℕ, true, false, List, [], ◌∷◌, ◌++◌, Option, Some, None, Ok, slice_get}
+use Rattle.std.specs.Prelude.{◌≡◌, ℕ, true, false, List, ◌∷◌, ◌++◌, Option, Some, None, Ok, slice_get}
 use Rattle.node_group.specs.packet.Spelling.{IsPacket}
 use Rattle.node_group.specs.packet.declared.packet.Packet.{Packet}
 use Rattle.node_group.specs.packet.declared.packet.Packet.TheVariants as packets
@@ -7,12 +7,9 @@ use Rattle.node_group.specs.cutter.Stream.{Stream, Takes}
 use Rattle.node_group.specs.ballot.Config.{Config}
 use Rattle.node_group.specs.agreement.World.{can_open}
 use Rattle.node_group.specs.broker_spec.Commands.{usual_limits}
-use Rattle.node_group.specs.broker_spec.Connection.{ConnectionName}
 use Rattle.node_group.specs.broker_spec.Place.{Client}
-use Rattle.node_group.specs.client_base.Called.{new_connection}
-use Rattle.node_group.specs.client_base.Handled.{handled, lost}
-use Rattle.node_group.specs.lists.Lists.{Each}
-use Rattle.node_group.specs.exactly_once.Sides.{Connection, Side}
+use Rattle.node_group.specs.client_base.Handled.{handled}
+use Rattle.node_group.specs.exactly_once.Sides.{Connection}
 use Rattle.node_group.specs.exactly_once.Story.{Story, StoryStep}
 use Rattle.node_group.specs.packet_world.Goes.{is_call}
 use Rattle.node_group.specs.world_base.declared.Connection.{Connection as NodesEnd}
@@ -22,48 +19,12 @@ use Rattle.node_group.specs.world_base.Core.{CoreState}
 use Rattle.node_group.specs.world_base.Handing.{listed_at}
 use Rattle.node_group.specs.node_moves.Moves.{NodeCall}
 use Rattle.node_group.specs.node_moves.Moves.NodeCall.{takes, gives}
-use Rattle.node_group.specs.node_moves.Puts.{spelled}
 use Rattle.node_group.specs.Streams.{goes_down as goes_down_in}
+use Rattle.byte_world.specs.ClientSteps.{story_alone, after_connecting, after_packet, CanBeSpelled}
 pub use Rattle.byte_world.specs.Carrying.{CarriesItsBytes, Does, IsFaithful, coming_with, node_call_of, going_with, is_apart}
-use Rattle.byte_world.specs.World.{ClientPipes, HasPipe, Pipe, World, after_writing, is_used, newly_written, opening, packets_of, sent_up, with_client, with_pipe}
-
--- ---- what a client does
-
--- what may happen to a client when it calls does not depend on the list of commands
-abbrev pub story_alone : ClientPipes → Story
-story_alone c = record { past = []; connections = c.connections; keeper = c.keeper }
-
--- a client opens a connection of this name, to a port of a node: its CONNECT is in transit
-abbrev pub after_connecting : ConnectionName → ℕ → Port → ClientPipes → ClientPipes
-after_connecting x n port c =
-    record {
-      keeper = record (lost c.keeper) { is_open = true };
-      connections = new_connection c.keeper.client x ∷ c.connections;
-      pipes = record {
-        node = n;
-        port = port;
-        up = spelled (packets_of (new_connection c.keeper.client x).written);
-        down = [];
-        came = record { held = []; failed = false };
-      } ∷ c.pipes;
-    }
-
--- the client after a packet that its newest connection's cutter gave
-abbrev pub after_packet : List Connection → List Pipe → Pipe → Stream → Side → ClientPipes →
-    ClientPipes
-after_packet others pipes p left side c =
-    record {
-      keeper = side.keeper;
-      connections = side.connection ∷ others;
-      pipes = sent_up (newly_written c.connections (side.connection ∷ others))
-          (record p { came = left } ∷ pipes);
-    }
+use Rattle.byte_world.specs.World.{ClientPipes, HasPipe, Pipe, World, after_writing, is_used, opening, with_client, with_pipe}
 
 -- ---- the step
-
--- all that clients write can be spelled
-abbrev pub CanBeSpelled : List Connection → List Connection → Type 0
-CanBeSpelled before after = Each IsPacket (newly_written before after)
 
 -- Any of these may happen, or not, at any time: so bytes, messages and connections may come late,
 -- or never. Bytes on one connection do not overtake each other.

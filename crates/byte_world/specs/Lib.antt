@@ -1,5 +1,6 @@
 pub mod World
 pub mod Carrying
+pub mod ClientSteps
 pub mod Goes
 pub mod Carried
 pub mod Published

@@ -29,7 +29,8 @@ use Rattle.exactly_once.specs.Sides.{Connection, Side}
 use Rattle.client_base.specs.Handled.{handled}
 use Rattle.client_base.specs.Handshakes.{at_pubrec, is_sent_with}
 use Rattle.client_base.specs.Written.{plain, writes}
-use Rattle.exactly_once.specs.Story.{Story, is_packet_of, with_side, count_of}
+use Rattle.exactly_once.specs.Story.{Story, with_side}
+use Rattle.exactly_once.specs.StoryCommands.{is_packet_of, count_of}
 use Rattle.exactly_once.specs.Carried.{is_two, carries, connection_named, number_at, number_of, more_by, new_numbers}
 use Rattle.exactly_once.specs.Inside.Projections.{items_of_own, own_item, forward_of_own, forward_of_one, carried_by, backward_of_own, to_come, to_be_taken, is_current, link_of_own, last_confirmed, as_publisher, GoesTo}
 

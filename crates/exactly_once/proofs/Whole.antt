@@ -12,7 +12,8 @@ use Rattle.exactly_once.specs.StoryTrace.StoryTrace.{begins, goes_on, begins_at}
 use Rattle.exactly_once.specs.Acceptance.{AcceptedInOrder}
 use Rattle.exactly_once.specs.Inside.Projections.{as_publisher}
 use Rattle.exactly_once.specs.Inside.AsSubscriber.{as_subscriber}
-use Rattle.exactly_once.specs.Inside.Shape.{HasShape, IsSoundStory, EventKeepsShape, EventPublishes, EventSubscribes}
+use Rattle.exactly_once.specs.Inside.Shape.{HasShape, IsSoundStory}
+use Rattle.exactly_once.specs.Inside.EachEvent.{EventKeepsShape, EventPublishes, EventSubscribes}
 use Rattle.exactly_once.proofs.Ends.{good_goes, accepted_in_order}
 use Rattle.broker_base.specs.broker_spec.Commands.{past_of}
 use Rattle.exactly_once.proofs.Beginnings.{begun_is_sound}

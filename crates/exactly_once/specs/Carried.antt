@@ -12,7 +12,7 @@ use Rattle.broker_base.specs.broker_spec.declared.command.Command.TheVariants as
 use Rattle.client_base.specs.session_base.declared.publication.Publication.{Publication}
 use Rattle.client_base.specs.Keeper.{Own, Written}
 use Rattle.exactly_once.specs.Sides.{Connection}
-use Rattle.exactly_once.specs.Story.{count_of}
+use Rattle.exactly_once.specs.StoryCommands.{count_of}
 
 abbrev pub connection_named : ConnectionName → List Connection → Option Connection
 connection_named x (κ ∷ connections) =

@@ -2,3 +2,4 @@ pub mod Projections
 pub mod AsSubscriber
 pub mod ConnectionShape
 pub mod Shape
+pub mod EachEvent

@@ -1,5 +1,6 @@
 pub mod Sends
 pub mod Sides
+pub mod StoryCommands
 pub mod Story
 pub mod StoryTrace
 pub mod Carried
@@ -10,6 +11,7 @@ pub mod Inside
 pub mod Rows
 pub mod InStep
 pub mod Lives
+pub mod Unexpelled
 pub mod Items
 pub mod Handshake
 pub mod Exact

@@ -7,7 +7,6 @@ use Rattle.client_base.specs.session_base.Publication.{publication_of}
 use Rattle.client_base.specs.lists.Lists.{In, IsPrefixOf, Each}
 use Rattle.broker_base.specs.broker_spec.Connection.{ConnectionName}
 use Rattle.broker_base.specs.broker_spec.Place.{Client, Place, Past, Limits, Mark}
-use Rattle.broker_base.specs.broker_spec.Past.{expels}
 use Rattle.broker_base.specs.broker_spec.Subscriptions.{effective_qos}
 use Rattle.broker_base.specs.broker_spec.Marks.{is_queued_at}
 use Rattle.broker_base.specs.broker_spec.Commands.{place_of}
@@ -23,7 +22,7 @@ use Rattle.exactly_once.specs.Story.{Story, StoryStep, no_story}
 use Rattle.exactly_once.specs.Carried.{carries, new_numbers, publications_of, published}
 use Rattle.exactly_once.specs.Headline.{IsAnsweredBy, made_by, IsTakenAt}
 use Rattle.exactly_once.specs.Acceptance.{accepted_on, two_entries, is_released}
-use Rattle.exactly_once.specs.InStep.{IsInStep, sessions_begun, starts_of, IsFirstSession, entries_in, accepted_in}
+use Rattle.exactly_once.specs.InStep.{IsInStep, sessions_begun, starts_of, entries_in, accepted_in}
 
 -- what may happen in a story of one session, and an Expel of the client at any time
 pub data Lived (limits : Limits) (c : Client) : Story → Type 0 where
@@ -117,19 +116,3 @@ abbrev pub AcceptsInEachSession : Limits → Type 0
 AcceptsInEachSession limits =
     (c : Client) (s : Story) → Lived limits c s → IsInStep s → (start : ℕ) →
     AcceptedInSession limits s start
-
--- ---- a client that was never expelled
-
--- no command of the list expels the client
-abbrev pub IsUnexpelled : Client → Past → Type 0
-IsUnexpelled c = Each (λ (place : Place). expels place.command c ≡ false)
-
--- then it has one session at most, and so it is in step
-pub record HasOneSession (s : Story) : Type 0 where
-  pub first : IsFirstSession s.past s.keeper.client
-  pub in_step : IsInStep s
-
-abbrev pub UnexpelledLivesAreInStep : Type 0
-UnexpelledLivesAreInStep =
-    (limits : Limits) (c : Client) (s : Story) → Lived limits c s → IsUnexpelled c s.past →
-    HasOneSession s

@@ -1,6 +1,6 @@
 -- One client's story: the list of commands, its connections as packets, what it keeps; and what may
 -- happen.
-use Rattle.std.specs.Prelude.{◌≡◌, ℕ, zero, suc, Bool, true, false, ◌||◌, if◌then◌else◌, List, [], ◌∷◌, ◌++◌, Some, slice_get, is_some}
+use Rattle.std.specs.Prelude.{◌≡◌, ℕ, true, false, if◌then◌else◌, List, [], ◌∷◌, ◌++◌, Some, slice_get}
 use Rattle.client_base.specs.packet.declared.subscribe.Subscribe.{Subscribe}
 use Rattle.client_base.specs.packet.declared.unsubscribe.Unsubscribe.{Unsubscribe}
 use Rattle.client_base.specs.packet.declared.packet.Packet.{Packet}
@@ -12,7 +12,6 @@ use Rattle.broker_base.specs.broker_spec.Connection.{ConnectionName, same_connec
 use Rattle.broker_base.specs.broker_spec.Place.{Client, Past, Limits}
 use Rattle.broker_base.specs.broker_spec.Commands.{place_of}
 use Rattle.broker_base.specs.broker_spec.declared.command.Command.{Command}
-use Rattle.broker_base.specs.broker_spec.declared.command.Command.TheVariants as commands
 use Rattle.exactly_once.specs.Sends.{put_to}
 use Rattle.client_base.specs.Keeper.{Written, Keeper, new_keeper, ids_in_use}
 use Rattle.client_base.specs.declared.request.Request.TheVariants as requests
@@ -21,7 +20,7 @@ use Rattle.client_base.specs.Written.{plain}
 use Rattle.client_base.specs.Handled.{handled, lost}
 use Rattle.client_base.specs.Called.{new_connection, adds_own, written_for}
 use Rattle.client_base.specs.Written.{writes_first}
-use Rattle.broker_base.specs.broker_spec.Past.{session_of}
+use Rattle.exactly_once.specs.StoryCommands.{command_of, counted_at, names_client, is_packet_of, count_of, any_named}
 
 -- the connections, the newest first: the client holds the first one while it is open
 pub record Story : Type 0 where
@@ -31,40 +30,6 @@ pub record Story : Type 0 where
 
 abbrev pub no_story : Client → Story
 no_story c = record { past = []; connections = []; keeper = new_keeper c }
-
--- ---- commands
-
--- the first packet of a connection is a CONNECT and becomes a Connect; each later one a Packet
-abbrev pub command_of : ConnectionName → ℕ → Packet → Command
-command_of x zero (packets.Connect c) = commands.Connect x c.client c.clean
-command_of x taken packet = commands.Packet x packet
-
--- the connection of this place in the list, one more packet of it taken
-abbrev pub counted_at : ℕ → List Connection → List Connection
-counted_at i [] = []
-counted_at zero (κ ∷ connections) = record κ { taken = suc κ.taken } ∷ connections
-counted_at (suc i) (κ ∷ connections) = κ ∷ counted_at i connections
-
--- a Connect of the client, and an Expel of it if it has a session
-abbrev pub names_client : Past → Client → Command → Type 0
-names_client past c (commands.Connect x d clean) = d ≡ c
-names_client past c (commands.Expel d) = (d ≡ c) × (is_some (session_of past c) ≡ true)
-names_client past c _ = ⊥
-
-abbrev pub is_packet_of : Command → ConnectionName → Bool
-is_packet_of (commands.Packet x packet) y = same_connection x y
-is_packet_of (commands.Connect x d clean) y = same_connection x y
-is_packet_of _ y = false
-
--- how many of its packets are in the list
-abbrev pub count_of : ConnectionName → Past → ℕ
-count_of x (place ∷ past) =
-    if is_packet_of place.command x then suc (count_of x past) else count_of x past
-count_of x [] = 0
-
-abbrev pub any_named : (ConnectionName → Bool) → List Connection → Bool
-any_named test (κ ∷ connections) = test κ.name || any_named test connections
-any_named test [] = false
 
 -- ---- the client
 

@@ -1,6 +1,6 @@
 // Laws of every story of a client. The calls do nothing; their contracts are the laws.
 
-ghost use Rattle.exactly_once.specs.Lives.{UnexpelledLivesAreInStep};
+ghost use Rattle.exactly_once.specs.Unexpelled.{UnexpelledLivesAreInStep};
 ghost use Rattle.exactly_once.specs.Laws.{SteadyLivesAccept, SteadyLivesAreExact, SteadyStoriesAcceptInOrder, SteadyStoriesAreExact, SteadyStoriesPublishOnce, StoriesAcceptInOrder, StoriesEnter, StoriesPublishOnce, UsualLivesAccept, UsualLivesAreExact, UsualStoriesAreExact};
 
 /// Whatever happens to its connections and to the nodes, a client's QoS 2 publications become new

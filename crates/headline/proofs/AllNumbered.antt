@@ -17,7 +17,8 @@ use Rattle.byte_world.specs.client_base.Written.{plain, publishes, resent, sent_
 use Rattle.byte_world.specs.lists.Lists.{Each, has_id}
 use Rattle.byte_world.proofs.of_lists.OfEach.{each_append}
 use Rattle.byte_world.specs.exactly_once.Sides.{Connection, Side}
-use Rattle.byte_world.specs.exactly_once.Story.{StoryStep, Story, counted_at}
+use Rattle.byte_world.specs.exactly_once.Story.{StoryStep, Story}
+use Rattle.byte_world.specs.exactly_once.StoryCommands.{counted_at}
 use Rattle.byte_world.specs.exactly_once.Story.StoryStep.{takes, others_take, receives, opens_anew, loses, disconnects, publishes_one, subscribes, unsubscribes}
 use Rattle.byte_world.proofs.of_exactly_once.publishing.Answered.{counted_side}
 

@@ -8,7 +8,7 @@ use Rattle.byte_world.specs.client_base.Keeper.{Keeper, Written}
 use Rattle.byte_world.specs.lists.Lists.{Each, In, IsPrefixOf}
 use Rattle.byte_world.proofs.of_lists.Beginnings.{prefix_length}
 use Rattle.byte_world.specs.exactly_once.Sides.{Connection}
-use Rattle.byte_world.specs.exactly_once.Story.{is_packet_of}
+use Rattle.byte_world.specs.exactly_once.StoryCommands.{is_packet_of}
 use Rattle.byte_world.specs.packet_world.World.{AreApart, ClientEnds, End, World}
 use Rattle.byte_world.specs.packet_world.Exact.{commands_from}
 use Rattle.byte_world.specs.packet_world.Goes.{HasPipe, Reached, is_of_connection}

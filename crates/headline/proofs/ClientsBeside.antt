@@ -16,7 +16,8 @@ use Rattle.byte_world.specs.lists.Lists.{Each}
 use Rattle.byte_world.proofs.of_lists.OfEach.{each_then}
 use Rattle.byte_world.specs.exactly_once.Sends.{put_to}
 use Rattle.byte_world.specs.exactly_once.Sides.{Connection, Side}
-use Rattle.byte_world.specs.exactly_once.Story.{StoryStep, Story, any_named}
+use Rattle.byte_world.specs.exactly_once.Story.{StoryStep, Story}
+use Rattle.byte_world.specs.exactly_once.StoryCommands.{any_named}
 use Rattle.byte_world.proofs.of_exactly_once.publishing.Grown.{handled_grows}
 use Rattle.byte_world.specs.packet_world.World.{AreApart, ClientEnds, End, IsFresh, World, new_end, story_of, with_client}
 use Rattle.byte_world.specs.packet_world.Goes.{Reached, after_opening, is_call}

@@ -15,9 +15,11 @@ use Rattle.byte_world.specs.exactly_once.Carried.{carries, connection_named, mor
 use Rattle.byte_world.specs.exactly_once.Headline.{IsTakenAt, is_this, made_by}
 use Rattle.byte_world.specs.exactly_once.Acceptance.{accepted_on}
 use Rattle.byte_world.specs.exactly_once.InStep.{AreWelcome, IsFirstSession, IsInStep, WasWelcome, accepted_in, is_at, opened_in, starts_of}
-use Rattle.byte_world.specs.exactly_once.Lives.{AcceptedInSession, ExactlyOnceOverSessions, HasOneSession, IsRising, PublishedOverSessions}
+use Rattle.byte_world.specs.exactly_once.Lives.{AcceptedInSession, ExactlyOnceOverSessions, IsRising, PublishedOverSessions}
+use Rattle.byte_world.specs.exactly_once.Unexpelled.{HasOneSession}
 use Rattle.byte_world.specs.exactly_once.Sides.{Connection}
-use Rattle.byte_world.specs.exactly_once.Story.{Story, count_of}
+use Rattle.byte_world.specs.exactly_once.Story.{Story}
+use Rattle.byte_world.specs.exactly_once.StoryCommands.{count_of}
 use Rattle.byte_world.proofs.of_exactly_once.sessions.InTurn.{flat_map_same}
 use Rattle.headline.proofs.Untaken.{AreSameUntaken, untaken_connection}
 

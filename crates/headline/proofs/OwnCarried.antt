@@ -20,7 +20,8 @@ use Rattle.byte_world.specs.client_base.Written.{plain, writes_first}
 use Rattle.byte_world.specs.lists.Lists.{Each}
 use Rattle.byte_world.specs.exactly_once.Carried.{carries, connection_named, number_at}
 use Rattle.byte_world.specs.exactly_once.Sides.{Connection}
-use Rattle.byte_world.specs.exactly_once.Story.{StoryStep, Story, any_named, command_of, counted_at, count_of, is_packet_of, names_client}
+use Rattle.byte_world.specs.exactly_once.Story.{StoryStep, Story}
+use Rattle.byte_world.specs.exactly_once.StoryCommands.{any_named, command_of, counted_at, count_of, is_packet_of, names_client}
 use Rattle.byte_world.specs.exactly_once.Lives.{Lived}
 use Rattle.byte_world.specs.exactly_once.Lives.Lived.{opens, goes_on, is_expelled}
 use Rattle.byte_world.specs.exactly_once.Story.StoryStep.{takes, others_take, receives, opens_anew, loses, disconnects, publishes_one, subscribes, unsubscribes}

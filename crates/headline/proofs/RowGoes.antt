@@ -27,7 +27,8 @@ use Rattle.byte_world.specs.node_group.Goes.GroupStep.{node_acts}
 use Rattle.byte_world.proofs.of_node_group.Placed.{get_of_set}
 use Rattle.byte_world.specs.node_group.Streams.{goes_down}
 use Rattle.byte_world.specs.NodeCalls.{NodeCallWasSent}
-use Rattle.byte_world.specs.Goes.{CanBeSpelled, Does, Reached, going_with, story_alone}
+use Rattle.byte_world.specs.Goes.{Does, Reached, going_with}
+use Rattle.byte_world.specs.ClientSteps.{CanBeSpelled, story_alone}
 use Rattle.byte_world.specs.Goes.Reached.{goes_on}
 use Rattle.byte_world.specs.Goes.WorldStep.{calls, comes_up, goes_down as step_down, arrives, handles}
 use Rattle.byte_world.specs.World.{ClientPipes, Pipe, World, after_writing, newly_written}

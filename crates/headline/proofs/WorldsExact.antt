@@ -11,7 +11,7 @@ use Rattle.byte_world.specs.client_base.History as history
 use Rattle.byte_world.specs.client_base.Keeper.{Keeper, all_own}
 use Rattle.byte_world.specs.client_base.State.{ClientState}
 use Rattle.byte_world.specs.exactly_once.Carried.{publications_of}
-use Rattle.byte_world.specs.exactly_once.Lives.{IsUnexpelled}
+use Rattle.byte_world.specs.exactly_once.Unexpelled.{IsUnexpelled}
 use Rattle.byte_world.proofs.of_exactly_once.sessions.FirstSession.{unexpelled_in_step}
 use Rattle.byte_world.proofs.of_snapshots.PastsAgree.{has_agreed}
 use Rattle.byte_world.specs.packet_world.Exact.{IsExactInStep as IsExactBeside}

@@ -10,7 +10,7 @@ use Rattle.byte_world.specs.client_base.Keeper.{Written}
 use Rattle.byte_world.specs.lists.Lists.{Each, In, IsPrefixOf}
 use Rattle.byte_world.specs.lists.Lists.In.{here, there}
 use Rattle.byte_world.specs.exactly_once.Sides.{Connection}
-use Rattle.byte_world.specs.exactly_once.Story.{command_of, is_packet_of}
+use Rattle.byte_world.specs.exactly_once.StoryCommands.{command_of, is_packet_of}
 use Rattle.byte_world.proofs.of_exactly_once.Takes.{same_name_self}
 use Rattle.byte_world.specs.packet_world.Exact.{commands_from}
 use Rattle.byte_world.specs.packet_world.Goes.{is_of_connection}

@@ -10,7 +10,7 @@ use Rattle.packet_world.specs.broker_spec.declared.command.Command.{Command}
 use Rattle.packet_world.specs.broker_spec.declared.command.Command.TheVariants as commands
 use Rattle.packet_world.specs.broker_spec.Connection.{ConnectionName, same_connection}
 use Rattle.node_moves.specs.cutter.Pipe.{Joins}
-use Rattle.packet_world.specs.exactly_once.Story.{is_packet_of}
+use Rattle.packet_world.specs.exactly_once.StoryCommands.{is_packet_of}
 use Rattle.node_moves.specs.world_base.declared.Port.{Port}
 use Rattle.node_moves.specs.world_base.declared.Connection.{Connection}
 use Rattle.node_moves.specs.world_base.Core.{CoreState, Turn, serves}

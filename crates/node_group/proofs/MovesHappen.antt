@@ -20,7 +20,7 @@ use Rattle.packet_world.specs.broker_spec.declared.command.Command.{Command}
 use Rattle.packet_world.specs.broker_spec.declared.command.Command.TheVariants as commands
 use Rattle.packet_world.specs.broker_spec.declared.command.Output.{Output}
 use Rattle.packet_world.specs.broker_spec.Connection.{ConnectionName}
-use Rattle.packet_world.specs.exactly_once.Story.{is_packet_of}
+use Rattle.packet_world.specs.exactly_once.StoryCommands.{is_packet_of}
 use Rattle.packet_world.specs.agreement.MasterState.{MasterState}
 use Rattle.packet_world.specs.agreement.Giving.{GivesNext}
 use Rattle.packet_world.specs.snapshots.Giving.{given_in as gives_in}

@@ -9,7 +9,7 @@ use Rattle.node_moves.specs.ballot.Replica.{ReplicaState}
 use Rattle.packet_world.specs.broker_base.State.{State}
 use Rattle.packet_world.specs.broker_spec.declared.command.Command.{Command}
 use Rattle.packet_world.specs.broker_spec.Connection.{ConnectionName}
-use Rattle.packet_world.specs.exactly_once.Story.{is_packet_of}
+use Rattle.packet_world.specs.exactly_once.StoryCommands.{is_packet_of}
 use Rattle.packet_world.specs.snapshots.Past.{IsAgreed}
 use Rattle.packet_world.specs.agreement.Proposals.{IsOfBallot, IsPartOf, commands_of}
 use Rattle.packet_world.specs.snapshots.Proposals.{proposals_of, taken_of}

@@ -4,7 +4,7 @@ use Rattle.packet_world.specs.lists.Lists.{Each}
 use Rattle.node_moves.specs.ballot.Config.{Config}
 use Rattle.packet_world.specs.broker_spec.declared.command.Command.{Command}
 use Rattle.packet_world.specs.broker_spec.Connection.{ConnectionName}
-use Rattle.packet_world.specs.exactly_once.Story.{is_packet_of}
+use Rattle.packet_world.specs.exactly_once.StoryCommands.{is_packet_of}
 use Rattle.node_group.specs.Group.{Group}
 use Rattle.node_group.specs.Goes.{GroupTrace, all_put}
 

@@ -12,7 +12,7 @@ use Rattle.exactly_once.specs.broker_spec.declared.command.Command.TheVariants a
 use Rattle.exactly_once.specs.broker_spec.Connection.{ConnectionName}
 use Rattle.exactly_once.specs.broker_spec.declared.command.Output.{Output}
 use Rattle.exactly_once.specs.lists.Lists.{In}
-use Rattle.exactly_once.specs.Story.{is_packet_of}
+use Rattle.exactly_once.specs.StoryCommands.{is_packet_of}
 use Rattle.world_base.specs.declared.Connection.{Connection}
 use Rattle.world_base.specs.Connections.{asked, failing, closed, is_over, left_with}
 use Rattle.world_base.specs.Core.{CoreState, Turn, rules, serves}

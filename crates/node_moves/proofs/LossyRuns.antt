@@ -16,8 +16,9 @@ use Rattle.world_base.specs.declared.Connection.{Connection}
 use Rattle.world_base.specs.Connections.{asked, closed, failing, is_at, is_first, is_open_at, is_over, left_with}
 use Rattle.world_base.specs.Core.{CoreState, Turn}
 use Rattle.world_base.specs.Failing.{closes_failed}
-use Rattle.world_base.specs.Lossy.{Account, Declines, Proposes, Repeated, Then, quietly}
-use Rattle.world_base.specs.Lossy.Declines.{no_room, forgets as forgets_it, stops}
+use Rattle.world_base.specs.Lossy.{Account, Repeated, Then, quietly}
+use Rattle.world_base.specs.LossyProposals.{Declines, Proposes}
+use Rattle.world_base.specs.LossyProposals.Declines.{no_room, forgets as forgets_it, stops}
 use Rattle.world_base.specs.LossyStep.{LosesAllFailed}
 use Rattle.world_base.specs.LossyReading.{Asks, Begins, Closes, Ends, EndsSilent, LosesFailed, ReadsNext, Shuts}
 use Rattle.world_base.specs.LossyReading.Ends.{none_open, untold, told}

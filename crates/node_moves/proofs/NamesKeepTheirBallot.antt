@@ -12,7 +12,7 @@ use Rattle.exactly_once.specs.broker_spec.Connection.{ConnectionName, same_conne
 use Rattle.exactly_once.specs.broker_spec.declared.command.Output.{Output}
 use Rattle.exactly_once.specs.lists.Lists.{In}
 use Rattle.exactly_once.specs.lists.Lists.In.{here, there}
-use Rattle.exactly_once.specs.Story.{is_packet_of}
+use Rattle.exactly_once.specs.StoryCommands.{is_packet_of}
 use Rattle.world_base.specs.declared.Port.{Port}
 use Rattle.world_base.specs.declared.Connection.{Connection}
 use Rattle.world_base.specs.Connections.{is_at, is_open_at, is_over}

@@ -24,8 +24,9 @@ use Rattle.world_base.specs.Connections.{asked, closed, failing, fresh, has_fail
 use Rattle.world_base.specs.Core.{CoreState, rules, serves}
 use Rattle.world_base.specs.Failing.{closes_failed}
 use Rattle.world_base.specs.Handing.{hands_over}
-use Rattle.world_base.specs.Lossy.{Account, Declines, Delivers, Drives, Moves, Proposes, Repeated, Serves, Takes, Then, quietly}
-use Rattle.world_base.specs.Lossy.Declines.{no_room, forgets, stops}
+use Rattle.world_base.specs.Lossy.{Account, Delivers, Drives, Moves, Repeated, Serves, Takes, Then, quietly}
+use Rattle.world_base.specs.LossyProposals.{Declines, Proposes}
+use Rattle.world_base.specs.LossyProposals.Declines.{no_room, forgets, stops}
 use Rattle.world_base.specs.Lossy.Delivers.{nothing, does, tells, loses}
 use Rattle.world_base.specs.LossyStep.{ActsOn, Holds, RunsOn, TakesIn}
 use Rattle.world_base.specs.LossyReading.{Asks, Begins, Closes, Ends, EndsSilent, LosesFailed, ReadsNext, Shuts}

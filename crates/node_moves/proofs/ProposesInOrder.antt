@@ -9,7 +9,7 @@ use Rattle.exactly_once.specs.broker_spec.declared.command.Command.{Command}
 use Rattle.exactly_once.specs.broker_spec.Connection.{ConnectionName}
 use Rattle.world_base.specs.ballot.Config.{Config}
 use Rattle.exactly_once.specs.lists.Lists.{IsPrefixOf}
-use Rattle.exactly_once.specs.Story.{is_packet_of, command_of}
+use Rattle.exactly_once.specs.StoryCommands.{is_packet_of, command_of}
 use Rattle.world_base.specs.Core.{CoreState, Turn, opening_core}
 use Rattle.node_moves.specs.Moves.{Moves, Runs}
 use Rattle.node_moves.specs.Moves.Runs.{rests, goes_on}

@@ -9,7 +9,7 @@ use Rattle.exactly_once.specs.broker_spec.declared.command.Command.TheVariants a
 use Rattle.exactly_once.specs.lists.Lists.{Each, IsPrefixOf}
 use Rattle.world_base.specs.cutter.Stream.{Stream}
 use Rattle.world_base.specs.cutter.Pipe.{IsPiped}
-use Rattle.exactly_once.specs.Story.{command_of, is_packet_of}
+use Rattle.exactly_once.specs.StoryCommands.{command_of, is_packet_of}
 use Rattle.world_base.specs.declared.Connection.{Connection}
 use Rattle.world_base.specs.Connections.{is_first, is_open_named}
 use Rattle.world_base.specs.Core.{CoreState, Turn}

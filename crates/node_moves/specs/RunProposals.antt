@@ -7,7 +7,7 @@ use Rattle.exactly_once.specs.broker_spec.declared.command.Command.{Command}
 use Rattle.world_base.specs.ballot.Config.{Config}
 use Rattle.exactly_once.specs.lists.Lists.{IsPrefixOf}
 use Rattle.world_base.specs.cutter.Pipe.{Joins}
-use Rattle.exactly_once.specs.Story.{is_packet_of}
+use Rattle.exactly_once.specs.StoryCommands.{is_packet_of}
 use Rattle.world_base.specs.Core.{CoreState, Turn, opening_core}
 use Rattle.node_moves.specs.Moves.Moves.{reads_first, reads_later}
 use Rattle.node_moves.specs.Moves.{Moves, Runs}

@@ -15,7 +15,7 @@ use Rattle.snapshots.specs.lists.Lists.{In, IsPrefixOf}
 use Rattle.snapshots.specs.lists.Lists.In.{here, there}
 use Rattle.snapshots.proofs.of_lists.Beginnings.{prefix_same, prefix_then}
 use Rattle.exactly_once.specs.Sends.{sends_to, put_to}
-use Rattle.exactly_once.specs.Story.{count_of, is_packet_of}
+use Rattle.exactly_once.specs.StoryCommands.{count_of, is_packet_of}
 use Rattle.exactly_once.proofs.places.Counts.{counted_here, current_counted}
 
 -- ---- one more command

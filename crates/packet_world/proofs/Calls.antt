@@ -11,7 +11,8 @@ use Rattle.exactly_once.specs.client_base.Keeper.{Written}
 use Rattle.exactly_once.specs.client_base.Written.{plain, writes_first}
 use Rattle.exactly_once.specs.client_base.Called.{written_for}
 use Rattle.exactly_once.specs.Sides.{Connection}
-use Rattle.exactly_once.specs.Story.{Story, StoryStep, any_named}
+use Rattle.exactly_once.specs.Story.{Story, StoryStep}
+use Rattle.exactly_once.specs.StoryCommands.{any_named}
 use Rattle.exactly_once.specs.Lives.{Lived}
 use Rattle.exactly_once.specs.Lives.Lived.{goes_on}
 use Rattle.exactly_once.specs.Story.StoryStep.{takes, others_take, receives, opens_anew, loses, disconnects, publishes_one, subscribes, unsubscribes}

@@ -14,7 +14,7 @@ use Rattle.exactly_once.specs.client_base.Keeper.{Written}
 use Rattle.exactly_once.specs.client_base.Written.{writes_first}
 use Rattle.exactly_once.specs.Sends.{sends_to, put_to}
 use Rattle.exactly_once.specs.Sides.{Connection}
-use Rattle.exactly_once.specs.Story.{command_of}
+use Rattle.exactly_once.specs.StoryCommands.{command_of}
 use Rattle.packet_world.specs.World.{End}
 use Rattle.packet_world.specs.Goes.{shown}
 use Rattle.packet_world.specs.Exact.{commands_from, PipeInOrder, PipesInOrder}

@@ -11,7 +11,7 @@ use Rattle.snapshots.specs.lists.Lists.{Each}
 use Rattle.exactly_once.specs.client_base.Keeper.{Written}
 use Rattle.exactly_once.specs.Sends.{put_to}
 use Rattle.exactly_once.specs.Sides.{Connection}
-use Rattle.exactly_once.specs.Story.{any_named, is_packet_of, counted_at, command_of}
+use Rattle.exactly_once.specs.StoryCommands.{any_named, is_packet_of, counted_at, command_of}
 use Rattle.exactly_once.specs.Inside.Shape.{NamesApart}
 use Rattle.exactly_once.proofs.publishing.Last.{none_named, each_there}
 use Rattle.exactly_once.proofs.publishing.kept.KeepsCounts.{packet_of}

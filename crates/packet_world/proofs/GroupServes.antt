@@ -16,7 +16,7 @@ use Rattle.snapshots.proofs.PastsAgree.{agreed_grows}
 use Rattle.snapshots.proofs.Orders.{keeps_the_order}
 use Rattle.snapshots.proofs.Orders.{taken_at_in}
 use Rattle.exactly_once.specs.Sides.{Connection}
-use Rattle.exactly_once.specs.Story.{is_packet_of}
+use Rattle.exactly_once.specs.StoryCommands.{is_packet_of}
 use Rattle.packet_world.specs.World.{End}
 use Rattle.packet_world.specs.Goes.{is_of_connection}
 use Rattle.packet_world.specs.Exact.{commands_from}

@@ -12,7 +12,8 @@ use Rattle.exactly_once.specs.client_base.Called.{new_connection}
 use Rattle.exactly_once.specs.client_base.Handled.{handled}
 use Rattle.exactly_once.specs.Sends.{put_to}
 use Rattle.exactly_once.specs.Sides.{Connection}
-use Rattle.exactly_once.specs.Story.{StoryStep, any_named, count_of}
+use Rattle.exactly_once.specs.Story.{StoryStep}
+use Rattle.exactly_once.specs.StoryCommands.{any_named, count_of}
 use Rattle.exactly_once.specs.Lives.{Lived}
 use Rattle.exactly_once.specs.Lives.Lived.{goes_on}
 use Rattle.exactly_once.specs.Story.StoryStep.{receives, opens_anew}

@@ -7,7 +7,8 @@ use Rattle.exactly_once.specs.broker_spec.Commands.{past_from, past_of, usual_li
 use Rattle.exactly_once.specs.broker_spec.EndingLaws.{connects_of}
 use Rattle.exactly_once.specs.broker_spec.declared.command.Command.{Command}
 use Rattle.snapshots.specs.lists.Lists.{Each}
-use Rattle.exactly_once.specs.Story.{Story, count_of, no_story}
+use Rattle.exactly_once.specs.Story.{Story, no_story}
+use Rattle.exactly_once.specs.StoryCommands.{count_of}
 use Rattle.exactly_once.specs.Lives.{Lived}
 use Rattle.exactly_once.specs.Lives.Lived.{opens}
 use Rattle.packet_world.specs.World.{ClientEnds, World, new_client, opening, story_of, AreApart, IsFresh, with_client}

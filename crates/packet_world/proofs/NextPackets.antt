@@ -5,7 +5,7 @@ use Rattle.exactly_once.specs.broker_spec.Connection.{ConnectionName}
 use Rattle.exactly_once.specs.broker_spec.declared.command.Command.{Command}
 use Rattle.exactly_once.specs.client_base.Keeper.{Written}
 use Rattle.exactly_once.specs.Sides.{Connection}
-use Rattle.exactly_once.specs.Story.{is_packet_of, command_of}
+use Rattle.exactly_once.specs.StoryCommands.{is_packet_of, command_of}
 use Rattle.packet_world.specs.World.{End, ClientEnds, World}
 use Rattle.packet_world.specs.Goes.{HasPipe}
 use Rattle.packet_world.specs.Exact.{commands_from}

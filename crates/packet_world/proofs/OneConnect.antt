@@ -10,7 +10,7 @@ use Rattle.exactly_once.specs.broker_spec.EndingLaws.{is_connect_of, connects_of
 use Rattle.exactly_once.specs.broker_spec.declared.command.Command.{Command}
 use Rattle.exactly_once.specs.broker_spec.declared.command.Command.TheVariants as commands
 use Rattle.exactly_once.proofs.of_broker_base.ConnectionNames.{same_name, same_itself}
-use Rattle.exactly_once.specs.Story.{is_packet_of, count_of, command_of}
+use Rattle.exactly_once.specs.StoryCommands.{is_packet_of, count_of, command_of}
 use Rattle.packet_world.proofs.Lists.{filter_push}
 use Rattle.packet_world.proofs.Answers.{of_name, past_push}
 use Rattle.packet_world.proofs.EndsAgreed.{command_is_of}

@@ -7,7 +7,7 @@ use Rattle.exactly_once.specs.broker_spec.Place.{Client}
 use Rattle.exactly_once.proofs.of_broker_base.ConnectionNames.{same_name}
 use Rattle.snapshots.specs.lists.Lists.{Each}
 use Rattle.snapshots.proofs.of_lists.Tests.{none_or}
-use Rattle.exactly_once.specs.Story.{any_named}
+use Rattle.exactly_once.specs.StoryCommands.{any_named}
 use Rattle.packet_world.specs.World.{ClientEnds, new_client, AreApart, IsFresh}
 use Rattle.packet_world.specs.Goes.{after_opening}
 use Rattle.packet_world.proofs.Lists.{set_get, each_get}

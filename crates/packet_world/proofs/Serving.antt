@@ -12,7 +12,7 @@ use Rattle.snapshots.proofs.of_lists.Members.{in_right}
 use Rattle.snapshots.proofs.of_lists.Places.{get_set, get_set_other}
 use Rattle.exactly_once.specs.client_base.Keeper.{Written}
 use Rattle.exactly_once.specs.Sides.{Connection}
-use Rattle.exactly_once.specs.Story.{is_packet_of, counted_at, command_of}
+use Rattle.exactly_once.specs.StoryCommands.{is_packet_of, counted_at, command_of}
 use Rattle.packet_world.specs.World.{End, ClientEnds, World, AreApart}
 use Rattle.packet_world.specs.Goes.{HasPipe, Reached, is_of_connection}
 use Rattle.packet_world.specs.Goes.Goes.{agrees, agrees_else}

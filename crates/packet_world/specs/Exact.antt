@@ -9,7 +9,7 @@ use Rattle.snapshots.specs.lists.Lists.{Each, IsPrefixOf}
 use Rattle.exactly_once.specs.client_base.Keeper.{Written}
 use Rattle.exactly_once.specs.Sends.{put_to}
 use Rattle.exactly_once.specs.Sides.{Connection}
-use Rattle.exactly_once.specs.Story.{command_of, is_packet_of}
+use Rattle.exactly_once.specs.StoryCommands.{command_of, is_packet_of}
 use Rattle.exactly_once.specs.InStep.{IsInStep}
 use Rattle.exactly_once.specs.Lives.{ExactlyOnceOverSessions}
 use Rattle.packet_world.specs.World.{End, ClientEnds, World, story_of, AreApart}

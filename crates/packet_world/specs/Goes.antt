@@ -12,7 +12,8 @@ use Rattle.exactly_once.specs.client_base.Called.{new_connection}
 use Rattle.exactly_once.specs.client_base.Handled.{handled, lost}
 use Rattle.exactly_once.specs.Sends.{sends_to}
 use Rattle.exactly_once.specs.Sides.{Connection, Side}
-use Rattle.exactly_once.specs.Story.{Story, StoryStep, command_of, counted_at}
+use Rattle.exactly_once.specs.Story.{Story, StoryStep}
+use Rattle.exactly_once.specs.StoryCommands.{command_of, counted_at}
 use Rattle.exactly_once.specs.Story.StoryStep.{takes, others_take, receives, opens_anew, loses, disconnects, publishes_one, subscribes, unsubscribes}
 use Rattle.packet_world.specs.World.{End, ClientEnds, World, new_end, story_of, opening, IsFresh, with_client}
 

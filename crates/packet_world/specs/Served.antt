@@ -5,7 +5,7 @@ use Rattle.exactly_once.specs.broker_spec.Place.{Client}
 use Rattle.exactly_once.specs.broker_spec.declared.command.Command.{Command}
 use Rattle.snapshots.specs.lists.Lists.{In, IsPrefixOf}
 use Rattle.exactly_once.specs.Sides.{Connection}
-use Rattle.exactly_once.specs.Story.{is_packet_of}
+use Rattle.exactly_once.specs.StoryCommands.{is_packet_of}
 use Rattle.packet_world.specs.World.{End, ClientEnds, World, AreApart}
 use Rattle.packet_world.specs.Goes.{HasPipe, Reached, is_of_connection}
 use Rattle.packet_world.specs.Exact.{commands_from}

@@ -9,7 +9,8 @@ use Rattle.exactly_once.specs.broker_spec.declared.command.Command.{Command}
 use Rattle.snapshots.specs.lists.Lists.{Each}
 use Rattle.exactly_once.specs.client_base.Keeper.{Keeper, new_keeper}
 use Rattle.exactly_once.specs.Sides.{Connection}
-use Rattle.exactly_once.specs.Story.{Story, any_named}
+use Rattle.exactly_once.specs.Story.{Story}
+use Rattle.exactly_once.specs.StoryCommands.{any_named}
 
 -- the node's end of a connection
 pub record End : Type 0 where

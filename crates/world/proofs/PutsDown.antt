@@ -10,7 +10,7 @@ use Rattle.headline.specs.world_base.Core.{CountedCore}
 use Rattle.headline.specs.node_moves.Moves.NodeCall.{gives}
 use Rattle.escaping_nodes.specs.world_nodes.Running.{node_of}
 use Rattle.escaping_nodes.specs.world_nodes.Nodes.{NodesState}
-use Rattle.escaping_nodes.specs.world_nodes.Steps.{HandsIn}
+use Rattle.escaping_nodes.specs.world_nodes.HandingOver.{HandsIn}
 use Rattle.escaping_nodes.proofs.of_world_nodes.Exactly.{gives_acts}
 use Rattle.world_events.specs.world_pipes.declared.way.Way.{Way}
 use Rattle.world_events.specs.world_pipes.Piped.{Piped}

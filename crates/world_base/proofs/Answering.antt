@@ -17,8 +17,9 @@ use Rattle.ballot.specs.Sending.{Outcome, nothing_done}
 use Rattle.ballot.specs.Serving.{added, most_places, proposed}
 use Rattle.world_base.specs.Core.{CoreState, rules, serves}
 use Rattle.world_base.specs.Inside.{Acts, Answered, Delivered, ProposedBy, Ran}
-use Rattle.world_base.specs.Lossy.{Account, Delivers, Drives, Proposes, quietly}
-use Rattle.world_base.specs.Lossy.Declines.{no_room, forgets, stops}
+use Rattle.world_base.specs.Lossy.{Account, Delivers, Drives, quietly}
+use Rattle.world_base.specs.LossyProposals.{Proposes}
+use Rattle.world_base.specs.LossyProposals.Declines.{no_room, forgets, stops}
 use Rattle.world_base.specs.Turns.{has_room, heard}
 use Rattle.world_base.proofs.Asked.{left_true, right_false, has_room_by, proposed-stopped}
 use Rattle.world_base.proofs.Accounts.{ran_quietly}

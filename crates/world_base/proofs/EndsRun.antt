@@ -13,7 +13,8 @@ use Rattle.world_base.specs.Core.{CoreState}
 use Rattle.world_base.specs.Failing.{closes_failed}
 use Rattle.world_base.specs.Inside.{ProposedBy, Ran, Running, TellsLost}
 use Rattle.world_base.specs.KeepAlive.{lowest_silent}
-use Rattle.world_base.specs.Lossy.{Account, Declines, Proposes, Then, quietly}
+use Rattle.world_base.specs.Lossy.{Account, Then, quietly}
+use Rattle.world_base.specs.LossyProposals.{Declines, Proposes}
 use Rattle.world_base.specs.LossyStep.{Holds}
 use Rattle.world_base.specs.LossyReading.{Asks, Ends, EndsSilent, LosesFailed, Shuts}
 use Rattle.world_base.specs.LossyReading.Ends.{none_open, untold, told}

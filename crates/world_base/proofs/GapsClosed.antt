@@ -21,8 +21,9 @@ use Rattle.node_connections.specs.Connections.{asked, closed, failing, fresh, ha
 use Rattle.world_base.specs.Core.{CoreState, serves}
 use Rattle.world_base.specs.Failing.{closes_failed}
 use Rattle.world_base.specs.Going.{AGapIsClosed, AreNamedApart, EachGoesOn, GoOn, GoesOn, IsNew}
-use Rattle.world_base.specs.Lossy.{Account, Declines, Drives, Moves, Proposes, Repeated, Takes, Then, quietly}
-use Rattle.world_base.specs.Lossy.Declines.{no_room, forgets, stops}
+use Rattle.world_base.specs.Lossy.{Account, Drives, Moves, Repeated, Takes, Then, quietly}
+use Rattle.world_base.specs.LossyProposals.{Declines, Proposes}
+use Rattle.world_base.specs.LossyProposals.Declines.{no_room, forgets, stops}
 use Rattle.world_base.specs.LossyStep.{ActsOn, Cuts, Holds, Opens, TakesIn}
 use Rattle.world_base.specs.LossyReading.{Asks, Begins, Closes, Ends, EndsSilent, LosesFailed, ReadsNext, Shuts}
 use Rattle.world_base.specs.LossyStep.Cuts.{nothing_to_cut, cuts_log, forgets_cut}

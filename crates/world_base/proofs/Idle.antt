@@ -25,7 +25,7 @@ use Rattle.world_base.specs.Lossy.Delivers.{nothing}
 use Rattle.world_base.specs.LossyStep.{ActsOn, LosesAllFailed, ReadsAll, TakesIn}
 use Rattle.world_base.specs.LossyReading.{EndsSilent, ReadsNext}
 use Rattle.ballot.specs.Cutting.{can_cut}
-use Rattle.world_base.specs.Lossy.Declines.{no_room}
+use Rattle.world_base.specs.LossyProposals.Declines.{no_room}
 use Rattle.world_base.specs.LossyStep.Cuts.{nothing_to_cut}
 use Rattle.world_base.specs.LossyReading.Ends.{none_open}
 use Rattle.world_base.specs.LossyReading.EndsSilent.{none_silent}

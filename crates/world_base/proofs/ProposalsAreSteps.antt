@@ -13,8 +13,9 @@ use Rattle.ballot.specs.Sending.{Outcome}
 use Rattle.ballot.specs.Serving.{added, most_places, proposed}
 use Rattle.ballot.proofs.StepRows.{proposed-adds, proposed-full}
 use Rattle.world_base.specs.Core.{CoreState, rules, serves}
-use Rattle.world_base.specs.Lossy.{Account, Moves, ProposalsAreSteps}
-use Rattle.world_base.specs.Lossy.Declines.{no_room, forgets, stops}
+use Rattle.world_base.specs.Lossy.{Account, Moves}
+use Rattle.world_base.specs.LossyProposals.{ProposalsAreSteps}
+use Rattle.world_base.specs.LossyProposals.Declines.{no_room, forgets, stops}
 use Rattle.world_base.specs.Lossy.Delivers.{nothing}
 use Rattle.world_base.specs.Turns.{has_room}
 use Rattle.world_base.proofs.Asked.{left_true}

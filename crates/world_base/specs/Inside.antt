@@ -16,7 +16,8 @@ use Rattle.world_base.specs.Core.{CoreState, Turn, rules}
 use Rattle.node_connections.specs.declared.port.Port.{Port}
 use Rattle.node_connections.specs.Connections.{has_failed}
 use Rattle.world_base.specs.LossyReading.{Begins, Says}
-use Rattle.world_base.specs.Lossy.{Account, Declines, Delivers, Proposes, Takes, quietly}
+use Rattle.world_base.specs.Lossy.{Account, Delivers, Takes, quietly}
+use Rattle.world_base.specs.LossyProposals.{Declines, Proposes}
 use Rattle.world_base.specs.Turns.{has_room}
 
 -- a node during a step, and whether memory ran out in it

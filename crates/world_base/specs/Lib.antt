@@ -6,6 +6,7 @@ pub mod Inside
 pub mod KeepAlive
 pub mod Losses
 pub mod Lossy
+pub mod LossyProposals
 pub mod LossyReading
 pub mod LossyStep
 pub mod Reading

@@ -1,5 +1,5 @@
 -- What is given to the replica when memory may run out, and what happens to its effects.
-use Rattle.std.specs.Prelude.{◌≡◌, ◌⊎◌, ℕ, zero, suc, true, false, List, [], ◌∷◌, ◌++◌}
+use Rattle.std.specs.Prelude.{◌≡◌, ◌⊎◌, ℕ, zero, suc, true, List, [], ◌∷◌, ◌++◌}
 use Rattle.broker.specs.broker_base.State.{State}
 use Rattle.node_connections.specs.broker_spec.declared.command.Command.{Command}
 use Rattle.node_connections.specs.broker_spec.declared.command.Output.{Output}
@@ -7,13 +7,13 @@ use Rattle.node_connections.specs.broker_spec.declared.command.Output.TheVariant
 use Rattle.ballot.specs.Effect.{Effect}
 use Rattle.ballot.specs.Effect.TheVariants.{To, Out}
 use Rattle.ballot.specs.Message.{Message}
-use Rattle.ballot.specs.Losses.{Done, Steps, halted, one_more}
+use Rattle.ballot.specs.Losses.{Done, Steps}
 use Rattle.ballot.specs.Protocol.{Input}
 use Rattle.ballot.specs.Replica.{CountedReplica}
 use Rattle.ballot.specs.Sending.{Outcome}
-use Rattle.ballot.specs.Serving.{added, proposed}
+use Rattle.ballot.specs.Serving.{added}
 use Rattle.node_connections.specs.Connections.{failing}
-use Rattle.world_base.specs.Core.{CoreState, rules, serves}
+use Rattle.world_base.specs.Core.{CoreState, rules}
 use Rattle.world_base.specs.Turns.{changes_named, has_room, heard, served_by}
 
 -- ---- what was done
@@ -98,32 +98,3 @@ pub record Takes (command : Command) (core : CoreState) (did : Account) : Type 0
   pub replica : CountedReplica State Command
   pub done : Done core.replica (added rules core.replica.state command) replica [] did.given
   pub delivers : Delivers did.given (record core { replica = replica }) did.core did.messages
-
--- a command that it does not take, because it does not serve clients or its log is full, or because
--- memory ran out: then it counts a loss, and may stop
-pub data Declines (core : CoreState) (did : Account) : Type 0 where
-  no_room : has_room core ≡ false → did ≡ quietly core → Declines core did
-  forgets : has_room core ≡ true →
-      did ≡ quietly
-      (record core { replica = record core.replica { losses = one_more core.replica.losses } }) →
-      Declines core did
-  stops : has_room core ≡ true →
-      did ≡ quietly (record core {
-        replica = record {
-          state = halted rules core.replica.state;
-          losses = one_more core.replica.losses;
-        };
-      }) →
-      Declines core did
-
--- a command is proposed to the replica
-abbrev pub Proposes : Command → CoreState → Account → Type 0
-Proposes command core did = Takes command core did ⊎ Declines core did
-
--- in any case that is a step of the replica, exact or with losses; if the node does not serve
--- clients, no step
-abbrev pub ProposalsAreSteps : Type 0
-ProposalsAreSteps =
-    (command : Command) (core : CoreState) (did : Account) → Proposes command core did →
-    (serves core ≡ true → Moves (proposed rules core.replica.state command) core did)
-    × (serves core ≡ false → did ≡ quietly core)

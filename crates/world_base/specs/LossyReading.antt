@@ -16,7 +16,8 @@ use Rattle.node_connections.specs.Connections.{asked, closed, failing, has_faile
 use Rattle.world_base.specs.Core.{CoreState}
 use Rattle.world_base.specs.Failing.{closes_failed}
 use Rattle.world_base.specs.KeepAlive.{lowest_silent}
-use Rattle.world_base.specs.Lossy.{Account, Declines, Proposes, Takes, Then, quietly}
+use Rattle.world_base.specs.Lossy.{Account, Takes, Then, quietly}
+use Rattle.world_base.specs.LossyProposals.{Declines, Proposes}
 use Rattle.world_base.specs.Reading.{changes, open_at, refused}
 
 -- the connection of a port is closed as lost, and reported to the broker if its Connect was

@@ -13,7 +13,8 @@ use Rattle.node_connections.specs.Connections.{holding}
 use Rattle.ballot.specs.Cutting.{can_cut}
 use Rattle.ballot.specs.Losses.{one_more}
 use Rattle.world_base.specs.Core.{CoreState, rules}
-use Rattle.world_base.specs.Lossy.{Account, Drives, Proposes, Repeated, Then, quietly}
+use Rattle.world_base.specs.Lossy.{Account, Drives, Repeated, Then, quietly}
+use Rattle.world_base.specs.LossyProposals.{Proposes}
 use Rattle.world_base.specs.Reading.{changes, open_at, unread_of}
 use Rattle.world_base.specs.Step.{crashed, opens, settled, with_cut}
 use Rattle.world_base.specs.LossyReading.{Ends, EndsSilent, LosesFailed, ReadsNext}

@@ -1,7 +1,7 @@
 // Laws of a step in which memory may run out. The calls do nothing; their contracts are the laws.
 
 ghost use Rattle.world_base.specs.Going.{AGapIsClosed};
-ghost use Rattle.world_base.specs.Lossy.{ProposalsAreSteps};
+ghost use Rattle.world_base.specs.LossyProposals.{ProposalsAreSteps};
 
 /// In each step of a node, also one in which memory ran out, a connection keeps its port and its
 /// name, and is open only if it was. If it is still open afterwards, everything that the replica

@@ -8,7 +8,8 @@ ghost use Rattle.node_connections.specs.Connections.{closed, has_failed, holding
 ghost use Rattle.world_base.specs.Inside.{BeginsOrSays, IsCalm, Ran, TellsLost, Turns};
 ghost use Rattle.world_base.specs.declared.item.Item.TheVariants as items;
 ghost use Rattle.world_base.specs.Losses.{DoesNothing, IsHeardQuietly, ReadsNone, TakesNoMemory, is_told};
-ghost use Rattle.world_base.specs.Lossy.{Proposes, quietly};
+ghost use Rattle.world_base.specs.Lossy.{quietly};
+ghost use Rattle.world_base.specs.LossyProposals.{Proposes};
 ghost use Rattle.world_base.specs.LossyStep.{ActsOn, EndsAllSilent, Holds, LosesAllFailed, ReadsAll, TakesIn};
 ghost use Rattle.world_base.specs.LossyReading.{Connects, Ends, LosesFailed, ReadsNext, Says};
 ghost use Rattle.world_base.specs.Failing.{loses_all_failed, loses_failed};

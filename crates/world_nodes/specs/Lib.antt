@@ -2,6 +2,7 @@ pub mod Nodes
 pub mod Running
 pub mod Goes
 pub mod Steps
+pub mod HandingOver
 pub mod GroupSteps
 pub mod Quiet
 pub mod Agreed

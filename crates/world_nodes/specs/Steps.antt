@@ -9,15 +9,12 @@ use Rattle.master.specs.ballot.Losses.{Thinned, one_more}
 use Rattle.master.specs.ballot.Message.{Message}
 use Rattle.byte_world.specs.broker_spec.declared.command.Command.{Command}
 use Rattle.byte_world.specs.broker_spec.declared.command.Output.{Output}
-use Rattle.byte_world.specs.world_base.declared.Handed.{Handed}
-use Rattle.byte_world.specs.world_base.declared.Handed.TheVariants as answers
 use Rattle.byte_world.specs.world_base.declared.item.Item.{Item}
 use Rattle.byte_world.specs.world_base.declared.item.Item.TheVariants.{Cut, Expel, Peer}
-use Rattle.byte_world.specs.world_base.declared.Port.{Port}
 use Rattle.byte_world.specs.world_base.Core.{CountedCore}
 use Rattle.byte_world.specs.world_base.LossyStep.{RunsOn}
 use Rattle.byte_world.specs.node_moves.Moves.NodeCall.{takes}
-use Rattle.world_nodes.specs.Goes.{AnswersFor, GivesExactly, HandsOver, after_answer, after_node_call, after_giving}
+use Rattle.world_nodes.specs.Goes.{after_answer, after_node_call, after_giving}
 use Rattle.world_nodes.specs.Running.{cutting, running}
 use Rattle.world_nodes.specs.Nodes.{NodesState}
 
@@ -114,11 +111,3 @@ ComesIn None old new = ⊥
 ComesIn (Some (zero, message)) old new = HearsIn message.from message.body old new
 ComesIn (Some (suc at, message)) old new =
     TakesIn (suc at) (Peer message) old new ⊎ (new ≡ forgetful old)
-
--- What was queued was handed over and appended, and the answer says whether more may come. Or
--- nothing was, more may come, and that is counted.
-abbrev pub HandsIn : ℕ → Port → NodesState → NodesState → List ℕ → List ℕ → Handed → Type 0
-HandsIn node port old new before after handed =
-    (GivesExactly node port old new × HandsOver node port old before after
-    × AnswersFor node port old handed)
-    ⊎ ((new ≡ forgetful old) × (after ≡ before) × (handed ≡ answers.Open))

@@ -10,7 +10,8 @@ ghost use Rattle.world_nodes.specs.Nodes.{NodesState, StandsFor};
 ghost use Rattle.world_nodes.specs.Goes.{Acts, AnswersFor, Comes, ComesToNobody, CutsExactly, GivesExactly, HandsOver, TakesExactly, after_giving};
 ghost use Rattle.world_nodes.specs.Running.{cutting, node_of, proposing, running};
 ghost use Rattle.world_nodes.specs.Quiet.{ComesUnheeded, RestsAt, WaitsAtNone};
-ghost use Rattle.world_nodes.specs.Steps.{ComesIn, CutsIn, ExpelsIn, GivesIn, HandsIn, LosesNothing, TakesIn};
+ghost use Rattle.world_nodes.specs.Steps.{ComesIn, CutsIn, ExpelsIn, GivesIn, LosesNothing, TakesIn};
+ghost use Rattle.world_nodes.specs.HandingOver.{HandsIn};
 ghost use Rattle.world_nodes.specs.GroupSteps.{ActsOrRests, ComesOrRests, MasterGoesOrRests};
 
 use crate::counters::Counters;

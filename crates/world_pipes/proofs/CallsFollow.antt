@@ -14,7 +14,7 @@ use Rattle.byte_world.specs.node_moves.Puts.{spelled}
 use Rattle.client.specs.session_base.declared.publication.Publication.{Publication}
 use Rattle.byte_world.specs.exactly_once.Sides.{Connection}
 use Rattle.byte_world.specs.World.{ClientPipes, Pipe, after_writing, newly_written, sent_up}
-use Rattle.byte_world.specs.Goes.{CanBeSpelled}
+use Rattle.byte_world.specs.ClientSteps.{CanBeSpelled}
 use Rattle.byte_world.specs.Published.{published_by}
 use Rattle.byte_world.proofs.OnTheWay.{newly_is}
 use Rattle.world_pipes.specs.declared.sending.Sending.{Sending}

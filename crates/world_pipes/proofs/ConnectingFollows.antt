@@ -18,7 +18,7 @@ use Rattle.client.specs.Core.{AppendsAll, Core, Opens}
 use Rattle.byte_world.specs.node_moves.Puts.{spelled}
 use Rattle.byte_world.specs.world_base.declared.Port.{Port}
 use Rattle.byte_world.specs.World.{ClientPipes, new_client}
-use Rattle.byte_world.specs.Goes.{after_connecting}
+use Rattle.byte_world.specs.ClientSteps.{after_connecting}
 use Rattle.world_pipes.specs.declared.way.Way.{Way}
 use Rattle.world_pipes.specs.Following.{ConnectingFollows, FollowsAll}
 use Rattle.world_pipes.specs.Goes.{ClientGoes}

@@ -26,7 +26,7 @@ use Rattle.byte_world.specs.packet_world.Goes.{is_call}
 use Rattle.byte_world.specs.exactly_once.Sides.{Connection}
 use Rattle.byte_world.specs.exactly_once.Story.{StoryStep}
 use Rattle.byte_world.specs.World.{ClientPipes, packets_of}
-use Rattle.byte_world.specs.Goes.{story_alone}
+use Rattle.byte_world.specs.ClientSteps.{story_alone}
 use Rattle.byte_world.specs.Published.{published_by}
 use Rattle.world_pipes.proofs.NotRefused.{asked_so, is_published, not_refused}
 

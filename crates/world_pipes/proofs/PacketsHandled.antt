@@ -18,7 +18,7 @@ use Rattle.client.specs.Reading.{Handles, Reads, turn_of}
 use Rattle.byte_world.specs.node_moves.Puts.{spelled}
 use Rattle.byte_world.specs.exactly_once.Sides.{Connection, Side}
 use Rattle.byte_world.specs.World.{ClientPipes, Pipe, newly_written}
-use Rattle.byte_world.specs.Goes.{after_packet}
+use Rattle.byte_world.specs.ClientSteps.{after_packet}
 use Rattle.byte_world.proofs.OnTheWay.{newly_is}
 use Rattle.world_pipes.specs.Goes.{ClientGoes, ClientStep, published_along, published_with}
 use Rattle.byte_world.specs.exactly_once.Acceptance.{accepted_on}

@@ -5,7 +5,7 @@ use Rattle.std.proofs.lemmas.List.{append-nil, append_cancel_left, length-append
 use Rattle.std.specs.Prelude.{IfSome, slice_get}
 use Rattle.byte_world.specs.World.{ClientPipes, Pipe, with_pipe}
 use Rattle.world_pipes.specs.declared.way.Way.{Way}
-use Rattle.world_pipes.specs.Following.{FollowsDown, FollowsUp, HasWay, SwappingFollows, TakingUpFollows, place_in_model}
+use Rattle.world_pipes.specs.FollowingBytes.{FollowsDown, FollowsUp, HasWay, SwappingFollows, TakingUpFollows, place_in_model}
 use Rattle.world_pipes.specs.Piped.{Piped}
 use Rattle.world_pipes.specs.Standing.{AreWays, IsHolding, IsWay, StandsFor}
 use Rattle.world_pipes.proofs.Newest.{last_splits}

@@ -1,5 +1,5 @@
 -- What a `PipedClient` does is what clients of the model of worlds may do.
-use Rattle.std.specs.Prelude.{◌≡◌, ◌-◌, ℕ, true, false, List, [], ◌++◌, length, take, slice_get, IfSome, Some, Result, Ok, Err}
+use Rattle.std.specs.Prelude.{◌≡◌, ℕ, true, false, List, [], Result, Ok, Err}
 use Rattle.client.specs.packet.Spelling.{IsPacket}
 use Rattle.client.specs.packet.declared.packet.Packet.TheVariants as packets
 use Rattle.byte_world.specs.broker_spec.Commands.{usual_limits}
@@ -8,18 +8,16 @@ use Rattle.client.specs.client_base.declared.error.ClientError.{ClientError}
 use Rattle.client.specs.client_base.Handled.{lost}
 use Rattle.byte_world.specs.packet_world.Goes.{is_call}
 use Rattle.client.specs.session_base.declared.publication.Publication.{Publication}
-use Rattle.byte_world.specs.exactly_once.Sides.{Connection}
 use Rattle.byte_world.specs.exactly_once.Story.{StoryStep, Story}
 use Rattle.byte_world.specs.world_base.declared.Port.{Port}
-use Rattle.byte_world.specs.World.{ClientPipes, Pipe, after_writing, with_pipe}
-use Rattle.byte_world.specs.Goes.{CanBeSpelled, after_connecting, story_alone}
+use Rattle.byte_world.specs.World.{ClientPipes, after_writing}
+use Rattle.byte_world.specs.ClientSteps.{CanBeSpelled, after_connecting, story_alone}
 use Rattle.byte_world.specs.Published.{published_by}
 use Rattle.world_pipes.specs.declared.sending.Sending.{Sending}
 use Rattle.world_pipes.specs.declared.sending.Sending.TheVariants as sendings
-use Rattle.world_pipes.specs.declared.way.Way.{Way}
 use Rattle.world_pipes.specs.Goes.{ClientGoes, published_along}
 use Rattle.world_pipes.specs.Piped.{Hears, Piped, is_holding}
-use Rattle.world_pipes.specs.Standing.{IsWay, StandsFor}
+use Rattle.world_pipes.specs.Standing.{StandsFor}
 
 -- the model's client moves by steps in which it publishes this, and the client in code corresponds
 -- to the one after them
@@ -85,42 +83,3 @@ HearingFollows =
     (count : ℕ) (old new : Piped) (result : Result (Unit {0}) ClientError) (m : ClientPipes) →
     StandsFor old m → is_holding old ≡ true →
     Hears count old result new → Follows [] m new
-
--- ---- bytes that reach a node, and that go down from it
-
--- if the model has the connection of this place: its newest is the first
-abbrev pub place_in_model : ℕ → Piped → ℕ
-place_in_model at client = length client.ways - 1 - at
-
--- the model's connection for this one, with its pipe
-pub record HasWay (at : ℕ) (old : Piped) (way : Way) (m : ClientPipes) : Type 0 where
-  pub connection : Connection
-  pub pipe : Pipe
-  pub connected : slice_get m.connections (place_in_model at old) ≡ Some connection
-  pub piped : slice_get m.pipes (place_in_model at old) ≡ Some pipe
-  pub is_way : IsWay way pipe
-
--- this many bytes have come up on it
-pub record FollowsUp (count at : ℕ) (old : Piped) (way : Way) (new : Piped)
-    (m : ClientPipes) : Type 0 where
-  pub there : HasWay at old way m
-  pub rest : List ℕ
-  pub up : there.pipe.up ≡ take count way.up ++ rest
-  pub stands : StandsFor new (with_pipe (place_in_model at old) (record there.pipe { up = rest }) m)
-
-abbrev pub TakingUpFollows : ℕ → ℕ → Piped → Piped → Type 0
-TakingUpFollows at count old new =
-    (m : ClientPipes) → StandsFor old m →
-    IfSome (slice_get old.ways at) (λ way. FollowsUp count at old way new m)
-
--- these bytes are in transit down on it
-pub record FollowsDown (bytes : List ℕ) (at : ℕ) (old : Piped) (way : Way) (new : Piped)
-    (m : ClientPipes) : Type 0 where
-  pub there : HasWay at old way m
-  pub stands : StandsFor new
-      (with_pipe (place_in_model at old) (record there.pipe { down = bytes }) m)
-
-abbrev pub SwappingFollows : ℕ → List ℕ → Piped → Piped → Type 0
-SwappingFollows at bytes old new =
-    (m : ClientPipes) → StandsFor old m →
-    IfSome (slice_get old.ways at) (λ way. FollowsDown bytes at old way new m)

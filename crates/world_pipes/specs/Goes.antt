@@ -9,7 +9,8 @@ use Rattle.byte_world.specs.exactly_once.Sides.{Connection}
 use Rattle.byte_world.specs.exactly_once.Story.{Story, StoryStep}
 use Rattle.byte_world.specs.packet_world.Goes.{is_call}
 use Rattle.byte_world.specs.World.{ClientPipes, Pipe, World, after_writing, with_client, with_pipe}
-use Rattle.byte_world.specs.Goes.{CanBeSpelled, WorldStep, after_packet, story_alone}
+use Rattle.byte_world.specs.Goes.{WorldStep}
+use Rattle.byte_world.specs.ClientSteps.{CanBeSpelled, after_packet, story_alone}
 use Rattle.byte_world.specs.Published.{from_client, published_by, published_in}
 
 -- a step of a world, as the client that takes it sees it

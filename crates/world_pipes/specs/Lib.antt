@@ -4,3 +4,4 @@ pub mod Inside
 pub mod Standing
 pub mod Goes
 pub mod Following
+pub mod FollowingBytes

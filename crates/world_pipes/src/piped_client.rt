@@ -3,7 +3,8 @@
 ghost use Rattle.std.specs.Prelude.{◌≡◌, ◌<◌, ◌≤◌, drop, length, set, slice_get, IfSome};
 ghost use Rattle.client.specs.Core.{gone};
 ghost use Rattle.byte_world.specs.World.{new_client};
-ghost use Rattle.world_pipes.specs.Following.{FollowsLosing, SwappingFollows, TakingUpFollows};
+ghost use Rattle.world_pipes.specs.Following.{FollowsLosing};
+ghost use Rattle.world_pipes.specs.FollowingBytes.{SwappingFollows, TakingUpFollows};
 ghost use Rattle.world_pipes.specs.Piped.{is_holding, new_piped};
 ghost use Rattle.world_pipes.specs.Standing.{StandsFor};
 

@@ -16,7 +16,8 @@ use Rattle.client_base.specs.Written.{plain, publishes, writes_first}
 use Rattle.client_base.specs.Called.{adds_own, written_for}
 use Rattle.exactly_once.specs.Sides.{Connection}
 use Rattle.exactly_once.specs.Carried.{publication_in, publications_of}
-use Rattle.exactly_once.specs.Story.{Story, StoryStep, counted_at}
+use Rattle.exactly_once.specs.Story.{Story, StoryStep}
+use Rattle.exactly_once.specs.StoryCommands.{counted_at}
 use Rattle.exactly_once.specs.Story.StoryStep.{takes, others_take, receives, opens_anew, loses, disconnects, publishes_one, subscribes, unsubscribes}
 use Rattle.client_base.specs.OrderLaws.{AreNumbered}
 use Rattle.exactly_once.proofs.carrying.Publications.{IsOfOwn, AreOfOwn, of_more, carried_is}

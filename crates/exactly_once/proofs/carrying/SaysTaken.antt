@@ -25,7 +25,7 @@ use Rattle.exactly_once.proofs.Repeats.{good_repeat}
 use Rattle.client_base.specs.Keeper.{Written, Keeper}
 use Rattle.client_base.specs.Called.{opens}
 use Rattle.exactly_once.specs.Sides.{Connection}
-use Rattle.exactly_once.specs.Story.{counted_at, count_of, command_of}
+use Rattle.exactly_once.specs.StoryCommands.{counted_at, count_of, command_of}
 use Rattle.exactly_once.specs.Carried.{connection_named, number_at, new_numbers}
 use Rattle.exactly_once.specs.Inside.Projections.{forward_of_own, forward_of_one, backward_of_own, to_come, is_current, link_of_own, as_publisher}
 use Rattle.exactly_once.specs.Inside.Shape.{HasShape}

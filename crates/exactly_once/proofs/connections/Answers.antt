@@ -21,7 +21,7 @@ use Rattle.broker_base.specs.broker_spec.declared.command.Command.TheVariants as
 use Rattle.broker_base.specs.broker_spec.declared.command.Output.{Output}
 use Rattle.broker_base.specs.broker_spec.declared.command.Output.TheVariants.{Send, Close}
 use Rattle.client_base.proofs.of_lists.OfEach.{each_append}
-use Rattle.exactly_once.specs.Story.{is_packet_of}
+use Rattle.exactly_once.specs.StoryCommands.{is_packet_of}
 use Rattle.exactly_once.specs.Inside.ConnectionShape.{is_connack}
 
 -- a Connect on this connection

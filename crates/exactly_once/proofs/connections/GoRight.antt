@@ -18,7 +18,7 @@ use Rattle.broker_base.specs.broker_spec.declared.command.Output.TheVariants.{Se
 use Rattle.client_base.specs.lists.Lists.{Each}
 use Rattle.client_base.proofs.of_lists.OfEach.{each_append}
 use Rattle.exactly_once.specs.Sends.{sends_to}
-use Rattle.exactly_once.specs.Story.{is_packet_of, count_of}
+use Rattle.exactly_once.specs.StoryCommands.{is_packet_of, count_of}
 use Rattle.exactly_once.specs.Inside.ConnectionShape.{is_connack, no_connacks}
 use Rattle.broker_base.proofs.ConnectionNames.{same_name, same_itself}
 use Rattle.exactly_once.proofs.places.Counts.{current_counted}

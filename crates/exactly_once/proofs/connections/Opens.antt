@@ -19,7 +19,7 @@ use Rattle.client_base.proofs.of_lists.OfEach.{each_append}
 use Rattle.exactly_once.specs.Sends.{sends_to, put_to}
 use Rattle.client_base.specs.Keeper.{Written}
 use Rattle.exactly_once.specs.Sides.{Connection}
-use Rattle.exactly_once.specs.Story.{command_of}
+use Rattle.exactly_once.specs.StoryCommands.{command_of}
 use Rattle.exactly_once.specs.Inside.Projections.{backward_of_own}
 use Rattle.exactly_once.specs.Inside.ConnectionShape.{is_connack, no_connacks, ConnackFirst, ConnectionInShape}
 use Rattle.broker_base.proofs.ConnectionNames.{same_itself}

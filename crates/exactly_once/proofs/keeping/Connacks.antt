@@ -23,7 +23,7 @@ use Rattle.client_base.proofs.of_lists.OfEach.{each_append}
 use Rattle.exactly_once.specs.Sends.{sends_to, put_to}
 use Rattle.client_base.specs.Keeper.{Written}
 use Rattle.exactly_once.specs.Sides.{Connection}
-use Rattle.exactly_once.specs.Story.{is_packet_of, command_of}
+use Rattle.exactly_once.specs.StoryCommands.{is_packet_of, command_of}
 use Rattle.exactly_once.specs.Inside.ConnectionShape.{is_connack, ConnectionInShape}
 use Rattle.exactly_once.proofs.Deliveries.{sends_append}
 use Rattle.exactly_once.proofs.publishing.AtPlaces.{put_more}

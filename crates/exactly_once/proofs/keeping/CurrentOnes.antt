@@ -14,7 +14,8 @@ use Rattle.broker_base.proofs.ClientsInOrder.{same_is, same_self}
 use Rattle.client_base.proofs.of_lists.Tests.{or_right}
 use Rattle.client_base.specs.Keeper.{Written}
 use Rattle.exactly_once.specs.Sides.{Connection}
-use Rattle.exactly_once.specs.Story.{Story, any_named, names_client, command_of, counted_at}
+use Rattle.exactly_once.specs.Story.{Story}
+use Rattle.exactly_once.specs.StoryCommands.{any_named, names_client, command_of, counted_at}
 use Rattle.client_base.specs.Written.{writes_first}
 use Rattle.exactly_once.specs.Inside.Shape.{LastIsCurrent, NewestIsServed, NamesApart, HasShape}
 use Rattle.exactly_once.specs.Inside.ConnectionShape.{ConnackFirst, ConnectionInShape}

@@ -8,7 +8,8 @@ use Rattle.broker_base.specs.broker_spec.Commands.{place_of}
 use Rattle.client_base.specs.lists.Lists.{Each}
 use Rattle.exactly_once.specs.Sends.{put_to}
 use Rattle.exactly_once.specs.Sides.{Side}
-use Rattle.exactly_once.specs.Story.{Story, StoryStep, command_of}
+use Rattle.exactly_once.specs.Story.{Story, StoryStep}
+use Rattle.exactly_once.specs.StoryCommands.{command_of}
 use Rattle.exactly_once.specs.Story.StoryStep.{takes, others_take, receives, opens_anew, loses, disconnects, publishes_one, subscribes, unsubscribes}
 use Rattle.exactly_once.specs.Inside.Shape.{IsMeant, AreWelcomed, IsSoundStory}
 use Rattle.exactly_once.proofs.publishing.kept.KeepsNames.{events_keep_session}

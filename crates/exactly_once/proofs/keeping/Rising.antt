@@ -8,7 +8,7 @@ use Rattle.client_base.proofs.of_lists.Tests.{or_none}
 use Rattle.client_base.proofs.of_lists.OfEach.{each_then}
 use Rattle.client_base.specs.Keeper.{Written}
 use Rattle.exactly_once.specs.Sides.{Connection}
-use Rattle.exactly_once.specs.Story.{any_named, counted_at}
+use Rattle.exactly_once.specs.StoryCommands.{any_named, counted_at}
 use Rattle.client_base.specs.Written.{writes_first}
 use Rattle.exactly_once.specs.Inside.Projections.{last_confirmed}
 use Rattle.exactly_once.specs.Inside.Shape.{NamesApart}

@@ -5,7 +5,8 @@ use Rattle.broker_base.specs.broker_spec.QuietLaws.{IsSteady}
 use Rattle.exactly_once.specs.Story.{Story}
 use Rattle.exactly_once.specs.StoryTrace.{StoryTrace}
 use Rattle.exactly_once.specs.Acceptance.{AcceptedInOrder}
-use Rattle.exactly_once.specs.Inside.Shape.{EventKeepsShape, IsSoundStory}
+use Rattle.exactly_once.specs.Inside.Shape.{IsSoundStory}
+use Rattle.exactly_once.specs.Inside.EachEvent.{EventKeepsShape}
 use Rattle.exactly_once.proofs.connections.KeepsConnections.{events_keep_connections}
 use Rattle.exactly_once.proofs.keeping.KeepsShape.{events_keep_rest}
 use Rattle.exactly_once.proofs.publishing.events.Publishing.{events_publish}

@@ -7,7 +7,7 @@ use Rattle.broker_base.specs.broker_spec.Place.{Client, Mark, Place, Past, only_
 use Rattle.broker_base.specs.broker_spec.Past.{accepts, ends_any, newest_connection, current_connection}
 use Rattle.broker_base.specs.broker_spec.declared.command.Command.{Command}
 use Rattle.broker_base.specs.broker_spec.declared.command.Command.TheVariants as commands
-use Rattle.exactly_once.specs.Story.{is_packet_of, count_of}
+use Rattle.exactly_once.specs.StoryCommands.{is_packet_of, count_of}
 use Rattle.broker_base.proofs.ConnectionNames.{same_itself}
 
 -- a packet of x counts

@@ -9,7 +9,7 @@ use Rattle.broker_base.specs.broker_spec.Past.{any_connection, current_connectio
 use Rattle.broker_base.specs.broker_spec.Owner.{owner_of}
 use Rattle.broker_base.proofs.ClientsInOrder.{same_is}
 use Rattle.exactly_once.specs.Sides.{Connection}
-use Rattle.exactly_once.specs.Story.{any_named}
+use Rattle.exactly_once.specs.StoryCommands.{any_named}
 use Rattle.broker_base.proofs.ConnectionNames.{same_name, same_itself}
 use Rattle.exactly_once.proofs.places.Owners.{owner_has, owner_there}
 

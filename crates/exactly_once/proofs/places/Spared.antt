@@ -10,7 +10,7 @@ use Rattle.broker_base.specs.broker_spec.Past.{expels, session_of}
 use Rattle.broker_base.specs.broker_spec.declared.command.Command.{Command}
 use Rattle.broker_base.specs.broker_spec.declared.command.Command.TheVariants as commands
 use Rattle.broker_base.proofs.ClientsInOrder.{same_is}
-use Rattle.exactly_once.specs.Story.{command_of, names_client}
+use Rattle.exactly_once.specs.StoryCommands.{command_of, names_client}
 use Rattle.exactly_once.proofs.places.After.{IsSpared}
 
 -- a packet that was written

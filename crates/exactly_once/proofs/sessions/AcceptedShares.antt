@@ -7,7 +7,7 @@ use Rattle.broker_base.specs.broker_spec.Place.{Client, Place, Past, Limits}
 use Rattle.client_base.specs.Keeper.{Written, new_keeper}
 use Rattle.client_base.specs.Written.{writes_first}
 use Rattle.exactly_once.specs.Sides.{Connection}
-use Rattle.exactly_once.specs.Story.{counted_at}
+use Rattle.exactly_once.specs.StoryCommands.{counted_at}
 use Rattle.exactly_once.specs.Acceptance.{two_entries, accepted_on}
 use Rattle.exactly_once.specs.InStep.{is_at, opened_in, entries_in, accepted_in}
 use Rattle.exactly_once.specs.Lives.{AcceptedInSession}

@@ -18,7 +18,7 @@ use Rattle.client_base.specs.Keeper.{Keeper, ids_in_use}
 use Rattle.client_base.specs.Called.{opens}
 use Rattle.exactly_once.specs.Sides.{Connection}
 use Rattle.exactly_once.specs.Sends.{sends_to, put_to}
-use Rattle.exactly_once.specs.Story.{command_of}
+use Rattle.exactly_once.specs.StoryCommands.{command_of}
 use Rattle.exactly_once.specs.StoryTrace.{StoryTrace, unserved}
 use Rattle.exactly_once.specs.StoryTrace.StoryTrace.{goes_on}
 use Rattle.exactly_once.specs.Story.StoryStep.{takes}

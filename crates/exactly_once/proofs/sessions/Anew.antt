@@ -14,7 +14,7 @@ use Rattle.client_base.specs.Called.{new_connection}
 use Rattle.client_base.specs.Handled.{handled}
 use Rattle.exactly_once.specs.Sides.{Connection, Side}
 use Rattle.exactly_once.specs.Sends.{put_to}
-use Rattle.exactly_once.specs.Story.{count_of, any_named}
+use Rattle.exactly_once.specs.StoryCommands.{count_of, any_named}
 use Rattle.exactly_once.specs.StoryTrace.{StoryTrace, AreUnsent, unserved}
 use Rattle.exactly_once.specs.StoryTrace.StoryTrace.{begins_at, goes_on}
 use Rattle.exactly_once.specs.Story.StoryStep.{opens_anew, loses}

@@ -13,7 +13,8 @@ use Rattle.client_base.specs.Handled.{handled, lost}
 use Rattle.client_base.specs.Written.{plain, writes_first, publishes}
 use Rattle.exactly_once.specs.Sides.{Connection, Side}
 use Rattle.exactly_once.specs.Sends.{sends_to, put_to}
-use Rattle.exactly_once.specs.Story.{Story, StoryStep, command_of, counted_at, any_named, is_packet_of, with_side, names_client}
+use Rattle.exactly_once.specs.Story.{Story, StoryStep, with_side}
+use Rattle.exactly_once.specs.StoryCommands.{command_of, counted_at, any_named, is_packet_of, names_client}
 use Rattle.exactly_once.specs.StoryTrace.{StoryTrace}
 use Rattle.exactly_once.specs.StoryTrace.StoryTrace.{goes_on}
 use Rattle.exactly_once.specs.Story.StoryStep.{takes, others_take, receives, opens_anew, loses, disconnects, publishes_one, subscribes, unsubscribes}

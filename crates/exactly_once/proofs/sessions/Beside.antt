@@ -13,7 +13,8 @@ use Rattle.client_base.specs.Keeper.{Written, Keeper}
 use Rattle.client_base.specs.Called.{written_for}
 use Rattle.client_base.specs.Written.{plain, writes_first}
 use Rattle.exactly_once.specs.Sides.{Connection}
-use Rattle.exactly_once.specs.Story.{Story, StoryStep, command_of, counted_at, names_client, any_named, is_packet_of, with_side}
+use Rattle.exactly_once.specs.Story.{Story, StoryStep, with_side}
+use Rattle.exactly_once.specs.StoryCommands.{command_of, counted_at, names_client, any_named, is_packet_of}
 use Rattle.exactly_once.specs.StoryTrace.{StoryTrace}
 use Rattle.exactly_once.specs.StoryTrace.StoryTrace.{goes_on}
 use Rattle.exactly_once.specs.Story.StoryStep.{takes, others_take, receives, opens_anew, loses, disconnects, publishes_one, subscribes, unsubscribes}

@@ -22,7 +22,8 @@ use Rattle.client_base.specs.Called.{new_connection, written_for}
 use Rattle.client_base.specs.Written.{plain, writes_first}
 use Rattle.client_base.specs.Handled.{handled}
 use Rattle.exactly_once.specs.Sides.{Connection}
-use Rattle.exactly_once.specs.Story.{Story, StoryStep, any_named, counted_at, count_of}
+use Rattle.exactly_once.specs.Story.{Story, StoryStep}
+use Rattle.exactly_once.specs.StoryCommands.{any_named, counted_at, count_of}
 use Rattle.exactly_once.specs.Story.StoryStep.{takes, others_take, receives, opens_anew, loses, disconnects, publishes_one, subscribes, unsubscribes}
 use Rattle.exactly_once.specs.Carried.{carries, connection_named, number_at, more_by}
 use Rattle.exactly_once.specs.Inside.Shape.{NamesApart, LastIsCurrent}

@@ -15,7 +15,7 @@ use Rattle.broker_base.specs.broker_spec.declared.command.Command.TheVariants as
 use Rattle.client_base.specs.Keeper.{Written}
 use Rattle.client_base.specs.Called.{opens}
 use Rattle.exactly_once.specs.Sides.{Connection}
-use Rattle.exactly_once.specs.Story.{any_named, counted_at, command_of, count_of, is_packet_of}
+use Rattle.exactly_once.specs.StoryCommands.{any_named, counted_at, command_of, count_of, is_packet_of}
 use Rattle.broker_base.proofs.ConnectionNames.{same_itself}
 use Rattle.exactly_once.specs.InStep.{opens_on}
 use Rattle.exactly_once.specs.Inside.Shape.{NamesApart}

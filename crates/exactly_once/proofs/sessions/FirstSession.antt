@@ -10,10 +10,12 @@ use Rattle.broker_base.specs.broker_spec.Past.{accepts, begins, begins_session, 
 use Rattle.broker_base.specs.broker_spec.Commands.{place_of}
 use Rattle.broker_base.proofs.ClientsInOrder.{same_self}
 use Rattle.exactly_once.specs.Sides.{Connection}
-use Rattle.exactly_once.specs.Story.{Story, StoryStep, command_of, names_client}
+use Rattle.exactly_once.specs.Story.{Story, StoryStep}
+use Rattle.exactly_once.specs.StoryCommands.{command_of, names_client}
 use Rattle.exactly_once.specs.Story.StoryStep.{takes, others_take, receives, opens_anew, loses, disconnects, publishes_one, subscribes, unsubscribes}
 use Rattle.exactly_once.specs.InStep.{AreWelcome, IsFirstSession, WasWelcome, began_again, has_begun, opens_on, sessions_begun, starts_of}
-use Rattle.exactly_once.specs.Lives.{HasOneSession, IsUnexpelled, Lived, UnexpelledLivesAreInStep}
+use Rattle.exactly_once.specs.Lives.{Lived}
+use Rattle.exactly_once.specs.Unexpelled.{HasOneSession, IsUnexpelled, UnexpelledLivesAreInStep}
 use Rattle.exactly_once.specs.Lives.Lived.{opens, goes_on, is_expelled}
 use Rattle.exactly_once.proofs.places.After.{IsKeptSession, IsSpared}
 use Rattle.exactly_once.proofs.places.Spared.{other_spares}

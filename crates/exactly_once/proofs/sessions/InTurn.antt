@@ -12,7 +12,7 @@ use Rattle.broker_base.specs.broker_spec.Past.{begins}
 use Rattle.client_base.specs.Keeper.{Written}
 use Rattle.client_base.specs.Written.{writes_first}
 use Rattle.exactly_once.specs.Sides.{Connection}
-use Rattle.exactly_once.specs.Story.{counted_at}
+use Rattle.exactly_once.specs.StoryCommands.{counted_at}
 use Rattle.exactly_once.specs.Acceptance.{accepted_on}
 use Rattle.exactly_once.specs.InStep.{is_at, opened_in, accepted_in, starts_of}
 use Rattle.exactly_once.proofs.sessions.AcceptedShares.{share, none_in, accepted_placed, accepted_counted, accepted_new, kept_counted}

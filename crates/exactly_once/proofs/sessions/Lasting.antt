@@ -10,7 +10,7 @@ use Rattle.broker_base.specs.broker_spec.Place.{Client, Place, Past, Limits}
 use Rattle.broker_base.specs.broker_spec.Past.{accepts, session_of, session_start, begins}
 use Rattle.broker_base.specs.broker_spec.Times.{entries_of}
 use Rattle.exactly_once.specs.Sides.{Connection}
-use Rattle.exactly_once.specs.Story.{counted_at}
+use Rattle.exactly_once.specs.StoryCommands.{counted_at}
 use Rattle.exactly_once.specs.Acceptance.{accepted_on}
 use Rattle.exactly_once.specs.InStep.{has_begun, opens_on, is_at, opened_in, entries_in, accepted_in}
 use Rattle.exactly_once.proofs.places.After.{IsKeptSession, IsSpared}

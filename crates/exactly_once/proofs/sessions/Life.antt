@@ -11,7 +11,8 @@ use Rattle.broker_base.specs.broker_spec.declared.command.Command.{Command}
 use Rattle.client_base.specs.Keeper.{Keeper, ids_in_use}
 use Rattle.exactly_once.specs.Sides.{Connection}
 use Rattle.exactly_once.specs.Sends.{put_to}
-use Rattle.exactly_once.specs.Story.{Story, count_of}
+use Rattle.exactly_once.specs.Story.{Story}
+use Rattle.exactly_once.specs.StoryCommands.{count_of}
 use Rattle.exactly_once.specs.StoryTrace.{AreUnsent, unserved}
 use Rattle.client_base.specs.Called.{opens}
 use Rattle.client_base.proofs.NumbersStay.{AreAllNumbered}

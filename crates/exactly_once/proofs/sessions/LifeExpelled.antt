@@ -6,7 +6,8 @@ use Rattle.broker_base.specs.broker_spec.Commands.{place_of}
 use Rattle.broker_base.specs.broker_spec.declared.command.Command.TheVariants as commands
 use Rattle.broker_base.proofs.ClientsInOrder.{same_self}
 use Rattle.exactly_once.specs.Sides.{Connection}
-use Rattle.exactly_once.specs.Story.{Story, any_named, is_packet_of}
+use Rattle.exactly_once.specs.Story.{Story}
+use Rattle.exactly_once.specs.StoryCommands.{any_named, is_packet_of}
 use Rattle.exactly_once.proofs.sessions.Life.{IsLife}
 use Rattle.exactly_once.proofs.sessions.LifePlaces.{one_more, keeper_stays, other_connections}
 

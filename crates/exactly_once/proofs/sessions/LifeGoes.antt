@@ -7,7 +7,8 @@ use Rattle.broker_base.specs.broker_spec.Place.{Client, Limits}
 use Rattle.client_base.specs.Keeper.{Keeper, ids_in_use, next_number}
 use Rattle.client_base.specs.Called.{new_connection, adds_own, written_for, opens}
 use Rattle.client_base.specs.Written.{plain, publishes}
-use Rattle.exactly_once.specs.Story.{Story, StoryStep, names_client}
+use Rattle.exactly_once.specs.Story.{Story, StoryStep}
+use Rattle.exactly_once.specs.StoryCommands.{names_client}
 use Rattle.exactly_once.specs.Story.StoryStep.{takes, others_take, receives, opens_anew, loses, disconnects, publishes_one, subscribes, unsubscribes}
 use Rattle.exactly_once.proofs.publishing.kept.KeepsNobody.{nobody_opened}
 use Rattle.exactly_once.proofs.sessions.KeepsKeeper.{unserved_opened, unserved_publishes}

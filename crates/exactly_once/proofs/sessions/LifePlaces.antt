@@ -11,7 +11,8 @@ use Rattle.broker_base.specs.broker_spec.declared.command.Command.{Command}
 use Rattle.broker_base.specs.broker_spec.declared.command.Command.TheVariants as commands
 use Rattle.client_base.specs.Keeper.{Written, Keeper}
 use Rattle.exactly_once.specs.Sides.{Connection}
-use Rattle.exactly_once.specs.Story.{Story, any_named, counted_at, command_of, is_packet_of, names_client}
+use Rattle.exactly_once.specs.Story.{Story}
+use Rattle.exactly_once.specs.StoryCommands.{any_named, counted_at, command_of, is_packet_of, names_client}
 use Rattle.exactly_once.specs.InStep.{has_begun}
 use Rattle.exactly_once.proofs.places.After.{IsSpared}
 use Rattle.exactly_once.proofs.places.Spared.{other_spares}

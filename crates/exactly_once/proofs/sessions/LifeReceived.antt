@@ -9,7 +9,7 @@ use Rattle.client_base.specs.Keeper.{Keeper, Written}
 use Rattle.client_base.specs.Handled.{handled}
 use Rattle.exactly_once.specs.Sides.{Connection, Side}
 use Rattle.exactly_once.specs.Sends.{put_to}
-use Rattle.exactly_once.specs.Story.{any_named, count_of}
+use Rattle.exactly_once.specs.StoryCommands.{any_named, count_of}
 use Rattle.exactly_once.specs.InStep.{has_begun, opened_in}
 use Rattle.exactly_once.proofs.publishing.kept.KeepsNobody.{nobody_named}
 use Rattle.exactly_once.proofs.subscribing.Given.{Stays, one_handled, stays_handled}

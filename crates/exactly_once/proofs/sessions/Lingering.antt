@@ -12,7 +12,8 @@ use Rattle.broker_base.specs.broker_spec.Answers.{answers_at}
 use Rattle.client_base.specs.Keeper.{Keeper}
 use Rattle.exactly_once.specs.Sides.{Connection}
 use Rattle.exactly_once.specs.Sends.{sends_to, put_to}
-use Rattle.exactly_once.specs.Story.{Story, StoryStep, counted_at}
+use Rattle.exactly_once.specs.Story.{Story, StoryStep}
+use Rattle.exactly_once.specs.StoryCommands.{counted_at}
 use Rattle.exactly_once.specs.InStep.{has_begun, WasWelcome, AreWelcome, IsInStep, opens_on, is_at, opened_in, entries_in, accepted_in, starts_of}
 use Rattle.exactly_once.proofs.places.After.{none_opens}
 use Rattle.exactly_once.proofs.publishing.AtPlaces.{put_more}

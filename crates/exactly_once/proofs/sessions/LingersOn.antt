@@ -14,7 +14,8 @@ use Rattle.client_base.specs.Handled.{handled, lost}
 use Rattle.client_base.specs.Written.{plain, writes_first}
 use Rattle.exactly_once.specs.Sides.{Connection, Side}
 use Rattle.exactly_once.specs.Sends.{put_to}
-use Rattle.exactly_once.specs.Story.{Story, StoryStep, command_of, counted_at, names_client, is_packet_of, with_side}
+use Rattle.exactly_once.specs.Story.{Story, StoryStep, with_side}
+use Rattle.exactly_once.specs.StoryCommands.{command_of, counted_at, names_client, is_packet_of}
 use Rattle.exactly_once.specs.Story.StoryStep.{takes, others_take, receives, opens_anew, loses, disconnects, publishes_one, subscribes, unsubscribes}
 use Rattle.exactly_once.specs.InStep.{AreWelcome, IsInStep}
 use Rattle.exactly_once.proofs.keeping.CurrentOnes.{none_opened}

@@ -17,7 +17,8 @@ use Rattle.broker_base.specs.broker_spec.declared.command.Command.TheVariants as
 use Rattle.client_base.specs.Keeper.{Written}
 use Rattle.exactly_once.specs.Sides.{Connection}
 use Rattle.exactly_once.specs.Sends.{sends_to}
-use Rattle.exactly_once.specs.Story.{Story, any_named, command_of, counted_at, is_packet_of}
+use Rattle.exactly_once.specs.Story.{Story}
+use Rattle.exactly_once.specs.StoryCommands.{any_named, command_of, counted_at, is_packet_of}
 use Rattle.exactly_once.specs.InStep.{has_begun, AreWelcome}
 use Rattle.exactly_once.proofs.connections.GoRight.{place_to_nobody}
 use Rattle.exactly_once.proofs.places.Sessions.{current_has_session}

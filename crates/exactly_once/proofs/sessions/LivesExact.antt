@@ -8,7 +8,8 @@ use Rattle.broker_base.specs.broker_spec.Commands.{place_of}
 use Rattle.broker_base.specs.broker_spec.declared.command.Command.TheVariants as commands
 use Rattle.client_base.specs.Keeper.{all_own}
 use Rattle.exactly_once.specs.Sides.{Connection}
-use Rattle.exactly_once.specs.Story.{Story, StoryStep, no_story, counted_at, command_of}
+use Rattle.exactly_once.specs.Story.{Story, StoryStep, no_story}
+use Rattle.exactly_once.specs.StoryCommands.{counted_at, command_of}
 use Rattle.exactly_once.specs.Story.StoryStep.{takes, others_take, receives, opens_anew, loses, disconnects, publishes_one, subscribes, unsubscribes}
 use Rattle.exactly_once.specs.StoryTrace.{StoryTrace}
 use Rattle.exactly_once.specs.StoryTrace.StoryTrace.{begins}

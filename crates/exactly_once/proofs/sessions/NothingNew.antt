@@ -11,7 +11,7 @@ use Rattle.broker_base.specs.broker_spec.declared.command.Command.{Command}
 use Rattle.broker_base.specs.broker_spec.declared.command.Command.TheVariants as commands
 use Rattle.client_base.specs.Called.{opens}
 use Rattle.exactly_once.specs.Sides.{Connection}
-use Rattle.exactly_once.specs.Story.{any_named, count_of, is_packet_of}
+use Rattle.exactly_once.specs.StoryCommands.{any_named, count_of, is_packet_of}
 use Rattle.exactly_once.specs.Carried.{carries, connection_named, number_of, number_at, more_by, new_numbers}
 use Rattle.exactly_once.specs.InStep.{has_begun, sessions_begun}
 use Rattle.exactly_once.proofs.carrying.KeepsPlaces.{none_carried}

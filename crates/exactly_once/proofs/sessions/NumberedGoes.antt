@@ -17,7 +17,8 @@ use Rattle.std.specs.Prelude.{slice_get}
 use Rattle.exactly_once.proofs.keeping.StoryTrace.{told_stories_are_sound}
 use Rattle.exactly_once.specs.Sends.{put_to}
 use Rattle.exactly_once.specs.Sides.{Connection}
-use Rattle.exactly_once.specs.Story.{Story, StoryStep, command_of, count_of, is_packet_of}
+use Rattle.exactly_once.specs.Story.{Story, StoryStep}
+use Rattle.exactly_once.specs.StoryCommands.{command_of, count_of, is_packet_of}
 use Rattle.exactly_once.specs.Story.StoryStep.{takes, others_take, receives, opens_anew, loses, disconnects, publishes_one, subscribes, unsubscribes}
 use Rattle.exactly_once.specs.Carried.{carries, more_by, new_numbers}
 use Rattle.exactly_once.specs.InStep.{sessions_begun, IsInStep}

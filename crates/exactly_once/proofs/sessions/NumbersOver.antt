@@ -17,7 +17,8 @@ use Rattle.broker_base.proofs.QuietPasts.{no_connection}
 use Rattle.client_base.specs.session_base.declared.publication.Publication.{Publication}
 use Rattle.client_base.specs.Keeper.{Written, all_own, next_number}
 use Rattle.exactly_once.specs.Sides.{Connection}
-use Rattle.exactly_once.specs.Story.{Story, StoryStep, command_of, counted_at}
+use Rattle.exactly_once.specs.Story.{Story, StoryStep}
+use Rattle.exactly_once.specs.StoryCommands.{command_of, counted_at}
 use Rattle.exactly_once.specs.Story.StoryStep.{takes, others_take, receives, opens_anew, loses, disconnects, publishes_one, subscribes, unsubscribes}
 use Rattle.exactly_once.specs.Carried.{carries, more_by, new_numbers, published, publications_of}
 use Rattle.exactly_once.specs.Lives.{IsRising}

@@ -13,7 +13,7 @@ use Rattle.broker_base.specs.broker_spec.declared.command.Command.{Command}
 use Rattle.broker_base.specs.broker_spec.declared.command.Command.TheVariants as commands
 use Rattle.broker_base.specs.broker_spec.Connection.{ConnectionName}
 use Rattle.exactly_once.specs.Sides.{Connection}
-use Rattle.exactly_once.specs.Story.{counted_at}
+use Rattle.exactly_once.specs.StoryCommands.{counted_at}
 use Rattle.exactly_once.specs.InStep.{has_begun, WasWelcome, AreWelcome, opens_on, is_at, opened_in, entries_in}
 use Rattle.exactly_once.proofs.places.After.{none_opens}
 use Rattle.exactly_once.proofs.sessions.Again.{accepted_at, again_there}

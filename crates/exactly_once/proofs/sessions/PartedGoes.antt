@@ -15,7 +15,8 @@ use Rattle.client_base.specs.Called.{new_connection, written_for}
 use Rattle.client_base.specs.Handled.{handled}
 use Rattle.client_base.specs.Written.{plain, writes_first}
 use Rattle.exactly_once.specs.Sides.{Connection, Side}
-use Rattle.exactly_once.specs.Story.{Story, StoryStep, command_of, counted_at, names_client}
+use Rattle.exactly_once.specs.Story.{Story, StoryStep}
+use Rattle.exactly_once.specs.StoryCommands.{command_of, counted_at, names_client}
 use Rattle.exactly_once.specs.Story.StoryStep.{takes, others_take, receives, opens_anew, loses, disconnects, publishes_one, subscribes, unsubscribes}
 use Rattle.exactly_once.specs.InStep.{AreWelcome, IsInStep, is_at, opened_in, sessions_begun}
 use Rattle.exactly_once.proofs.keeping.CurrentOnes.{none_opened}

@@ -12,7 +12,7 @@ use Rattle.broker_base.specs.broker_spec.Answers.{answers_at}
 use Rattle.broker_base.proofs.ConnectionNames.{same_itself}
 use Rattle.exactly_once.specs.Sides.{Connection}
 use Rattle.exactly_once.specs.Sends.{sends_to, put_to}
-use Rattle.exactly_once.specs.Story.{count_of, is_packet_of}
+use Rattle.exactly_once.specs.StoryCommands.{count_of, is_packet_of}
 use Rattle.exactly_once.specs.InStep.{opens_on, opened_in}
 use Rattle.exactly_once.specs.Inside.ConnectionShape.{no_connacks}
 use Rattle.exactly_once.proofs.places.After.{session_opens}

@@ -15,7 +15,8 @@ use Rattle.broker_base.specs.broker_spec.declared.command.Command.{Command}
 use Rattle.client_base.specs.session_base.declared.publication.Publication.{Publication}
 use Rattle.client_base.specs.Keeper.{Written, Keeper}
 use Rattle.exactly_once.specs.Sides.{Connection}
-use Rattle.exactly_once.specs.Story.{Story, count_of, counted_at, command_of}
+use Rattle.exactly_once.specs.Story.{Story}
+use Rattle.exactly_once.specs.StoryCommands.{count_of, counted_at, command_of}
 use Rattle.exactly_once.specs.Carried.{carries, more_by, new_numbers}
 use Rattle.exactly_once.specs.Inside.Shape.{NamesApart, LastIsCurrent, IsSoundStory}
 use Rattle.exactly_once.proofs.keeping.StoryTrace.{told_stories_are_sound}

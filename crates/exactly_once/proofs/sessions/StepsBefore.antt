@@ -11,7 +11,8 @@ use Rattle.client_base.specs.Keeper.{Written}
 use Rattle.client_base.specs.Called.{written_for}
 use Rattle.client_base.specs.Written.{plain, writes_first}
 use Rattle.exactly_once.specs.Sides.{Connection, Side}
-use Rattle.exactly_once.specs.Story.{Story, StoryStep, command_of, counted_at}
+use Rattle.exactly_once.specs.Story.{Story, StoryStep}
+use Rattle.exactly_once.specs.StoryCommands.{command_of, counted_at}
 use Rattle.exactly_once.specs.Story.StoryStep.{takes, others_take, receives, opens_anew, loses, disconnects, publishes_one, subscribes, unsubscribes}
 use Rattle.exactly_once.specs.InStep.{opens_on, has_begun, began_again, WasWelcome, AreWelcome, IsInStep}
 use Rattle.exactly_once.proofs.subscribing.Given.{stays_handled}

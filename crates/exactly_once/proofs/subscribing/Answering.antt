@@ -9,7 +9,8 @@ use Rattle.exactly_once.specs.Handshake.{Backward, heard, reply, with_items}
 use Rattle.exactly_once.specs.Handshake.Run.{stays}
 use Rattle.client_base.specs.Keeper.{Written}
 use Rattle.exactly_once.specs.Sides.{Connection}
-use Rattle.exactly_once.specs.Story.{Story, counted_at}
+use Rattle.exactly_once.specs.Story.{Story}
+use Rattle.exactly_once.specs.StoryCommands.{counted_at}
 use Rattle.exactly_once.specs.Inside.Projections.{GoesTo}
 use Rattle.exactly_once.specs.Inside.AsSubscriber.{items_of, left_behind, as_subscriber}
 use Rattle.exactly_once.proofs.Items.{items_pubcomp}

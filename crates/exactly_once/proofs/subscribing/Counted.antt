@@ -8,7 +8,7 @@ use Rattle.client_base.specs.lists.Lists.{Each}
 use Rattle.client_base.proofs.of_lists.Tests.{or_right, or_left}
 use Rattle.client_base.specs.Keeper.{Written, Keeper}
 use Rattle.exactly_once.specs.Sides.{Connection}
-use Rattle.exactly_once.specs.Story.{any_named, counted_at}
+use Rattle.exactly_once.specs.StoryCommands.{any_named, counted_at}
 use Rattle.exactly_once.specs.Acceptance.{accepted_on}
 use Rattle.exactly_once.specs.Inside.Projections.{to_be_taken}
 use Rattle.exactly_once.specs.Inside.AsSubscriber.{backward_of, left_behind}

@@ -17,7 +17,8 @@ use Rattle.exactly_once.specs.Sends.{sends_to, put_to}
 use Rattle.client_base.specs.Keeper.{Written}
 use Rattle.exactly_once.specs.Sides.{Connection, Side}
 use Rattle.client_base.specs.Handled.{is_sent_with, takes_in, releasing, handled_online, handled_first, handled}
-use Rattle.exactly_once.specs.Story.{Story, StoryStep, counted_at}
+use Rattle.exactly_once.specs.Story.{Story, StoryStep}
+use Rattle.exactly_once.specs.StoryCommands.{counted_at}
 use Rattle.client_base.specs.Written.{writes_first}
 use Rattle.exactly_once.specs.Story.StoryStep.{takes, others_take, receives, opens_anew, loses, disconnects, publishes_one, subscribes, unsubscribes}
 use Rattle.exactly_once.specs.Inside.Shape.{HasShape}

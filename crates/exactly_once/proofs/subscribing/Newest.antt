@@ -9,7 +9,7 @@ use Rattle.broker_base.specs.broker_spec.Past.{accepts, ends_any, current_connec
 use Rattle.client_base.specs.lists.Lists.{Each}
 use Rattle.client_base.proofs.of_lists.Tests.{or_none}
 use Rattle.exactly_once.specs.Sides.{Connection}
-use Rattle.exactly_once.specs.Story.{any_named, counted_at}
+use Rattle.exactly_once.specs.StoryCommands.{any_named, counted_at}
 use Rattle.exactly_once.specs.Inside.Shape.{NamesApart, NewestIsServed}
 use Rattle.exactly_once.proofs.Takes.{same_name_self}
 use Rattle.exactly_once.proofs.subscribing.events.Leaving.{same_name}

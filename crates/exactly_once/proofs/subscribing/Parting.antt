@@ -14,7 +14,8 @@ use Rattle.exactly_once.specs.Handshake.Run.{stays, goes_on}
 use Rattle.exactly_once.specs.Sends.{sends_to}
 use Rattle.exactly_once.specs.Sides.{Connection}
 use Rattle.client_base.specs.Keeper.{Keeper}
-use Rattle.exactly_once.specs.Story.{Story, any_named}
+use Rattle.exactly_once.specs.Story.{Story}
+use Rattle.exactly_once.specs.StoryCommands.{any_named}
 use Rattle.exactly_once.specs.Acceptance.{accepted_on}
 use Rattle.exactly_once.specs.Inside.Projections.{to_come, is_current, GoesTo}
 use Rattle.exactly_once.specs.Inside.AsSubscriber.{items_of, forward_of, held, left_behind, link_to, as_subscriber}

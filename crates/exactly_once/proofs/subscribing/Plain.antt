@@ -17,7 +17,8 @@ use Rattle.exactly_once.specs.Handshake.{publishing}
 use Rattle.exactly_once.specs.Handshake.Run.{stays}
 use Rattle.exactly_once.specs.Sends.{sends_to}
 use Rattle.exactly_once.specs.Sides.{Connection}
-use Rattle.exactly_once.specs.Story.{Story, any_named}
+use Rattle.exactly_once.specs.Story.{Story}
+use Rattle.exactly_once.specs.StoryCommands.{any_named}
 use Rattle.exactly_once.specs.Acceptance.{accepted_on}
 use Rattle.exactly_once.specs.Inside.Projections.{is_current, GoesTo}
 use Rattle.exactly_once.specs.Inside.AsSubscriber.{forward_of, left_behind, as_subscriber}

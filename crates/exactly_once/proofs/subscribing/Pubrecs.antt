@@ -22,7 +22,8 @@ use Rattle.exactly_once.specs.HandshakeInvariant.{IsGood}
 use Rattle.exactly_once.specs.Sends.{sends_to}
 use Rattle.client_base.specs.Keeper.{Written}
 use Rattle.exactly_once.specs.Sides.{Connection}
-use Rattle.exactly_once.specs.Story.{Story, counted_at}
+use Rattle.exactly_once.specs.Story.{Story}
+use Rattle.exactly_once.specs.StoryCommands.{counted_at}
 use Rattle.exactly_once.specs.Inside.Projections.{is_current, GoesTo}
 use Rattle.exactly_once.specs.Inside.AsSubscriber.{items_of, forward_of, left_behind, as_subscriber}
 use Rattle.exactly_once.proofs.Items.{items_pubrec}

@@ -10,7 +10,7 @@ use Rattle.exactly_once.specs.Handshake.{Forward, Backward, Link, publishing}
 use Rattle.exactly_once.specs.Sends.{sends_to, put_to}
 use Rattle.exactly_once.specs.Sides.{Connection}
 use Rattle.client_base.specs.Keeper.{Keeper}
-use Rattle.exactly_once.specs.Story.{any_named}
+use Rattle.exactly_once.specs.StoryCommands.{any_named}
 use Rattle.exactly_once.specs.Inside.Projections.{to_come, to_be_taken, is_current}
 use Rattle.exactly_once.specs.Inside.AsSubscriber.{forward_of, backward_of, held, if_taken, left_behind, link_to}
 use Rattle.exactly_once.specs.Inside.ConnectionShape.{ConnectionInShape}

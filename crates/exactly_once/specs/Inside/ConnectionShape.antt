@@ -8,7 +8,7 @@ use Rattle.broker_base.specs.broker_spec.Received.{is_exactly_once}
 use Rattle.exactly_once.specs.Sends.{put_to}
 use Rattle.client_base.specs.Keeper.{Written}
 use Rattle.exactly_once.specs.Sides.{Connection}
-use Rattle.exactly_once.specs.Story.{count_of}
+use Rattle.exactly_once.specs.StoryCommands.{count_of}
 use Rattle.client_base.specs.Called.{opens}
 use Rattle.exactly_once.specs.Inside.Projections.{backward_of_own}
 

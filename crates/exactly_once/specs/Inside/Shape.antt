@@ -7,15 +7,15 @@ use Rattle.client_base.specs.lists.Lists.{has_id, IsDistinct, Each}
 use Rattle.broker_base.specs.broker_spec.Connection.{ConnectionName, same_connection}
 use Rattle.broker_base.specs.broker_spec.Place.{Client, Past, Limits, same_client}
 use Rattle.broker_base.specs.broker_spec.Past.{current_connection, session_of}
-use Rattle.broker_base.specs.broker_spec.QuietLaws.{IsSteady}
 use Rattle.exactly_once.specs.Items.{has_released}
 use Rattle.exactly_once.specs.HandshakeInvariant.{IsGood}
 use Rattle.exactly_once.specs.Sends.{put_to}
 use Rattle.client_base.specs.Keeper.{Own, Keeper, ids_in_use}
 use Rattle.exactly_once.specs.Sides.{Connection}
-use Rattle.exactly_once.specs.Story.{Story, StoryStep, any_named}
+use Rattle.exactly_once.specs.Story.{Story}
+use Rattle.exactly_once.specs.StoryCommands.{any_named}
 use Rattle.exactly_once.specs.Carried.{is_two}
-use Rattle.exactly_once.specs.Inside.Projections.{items_of_own, last_confirmed, as_publisher, GoesTo}
+use Rattle.exactly_once.specs.Inside.Projections.{items_of_own, last_confirmed, as_publisher}
 use Rattle.exactly_once.specs.Inside.AsSubscriber.{as_subscriber}
 use Rattle.exactly_once.specs.Inside.ConnectionShape.{ConnectionInShape}
 
@@ -109,23 +109,3 @@ pub record IsSoundStory (limits : Limits) (s : Story) : Type 0 where
   pub shape : HasShape limits s
   pub publisher : IsGood (as_publisher limits s)
   pub subscriber : IsGood (as_subscriber limits s)
-
--- ---- what is left to show of each event
-
-abbrev pub EventKeepsShape : Type 0
-EventKeepsShape =
-    (limits : Limits) (s t : Story) → IsSoundStory limits s → StoryStep limits s t →
-    HasShape limits t
-
--- Each event is a run of the handshake in which the client publishes, and of that in which it
--- subscribes; the latter only while the window changes only at a new ballot, since what starts at
--- another place is not always sent.
-abbrev pub EventPublishes : Type 0
-EventPublishes =
-    (limits : Limits) (s t : Story) → IsSoundStory limits s → StoryStep limits s t →
-    GoesTo (as_publisher limits s) (as_publisher limits t)
-
-abbrev pub EventSubscribes : Type 0
-EventSubscribes =
-    (limits : Limits) (s t : Story) → IsSteady limits → IsSoundStory limits s →
-    StoryStep limits s t → GoesTo (as_subscriber limits s) (as_subscriber limits t)

@@ -21,7 +21,7 @@ use Rattle.broker_base.proofs.ConnectionsOfSessions.{same_turned}
 use Rattle.client_base.proofs.of_lists.Tests.{or_none}
 use Rattle.exactly_once.specs.Sides.{Connection}
 use Rattle.client_base.specs.Keeper.{Keeper}
-use Rattle.exactly_once.specs.Story.{any_named, is_packet_of, count_of, names_client}
+use Rattle.exactly_once.specs.StoryCommands.{any_named, is_packet_of, count_of, names_client}
 use Rattle.exactly_once.specs.Carried.{carries, connection_named, number_at, more_by, new_numbers}
 use Rattle.exactly_once.specs.Inside.Projections.{last_confirmed, as_publisher, GoesTo}
 use Rattle.exactly_once.specs.Inside.Shape.{HasShape, LastIsCurrent}

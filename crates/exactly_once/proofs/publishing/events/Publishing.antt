@@ -14,7 +14,8 @@ use Rattle.client_base.specs.Handled.{handled}
 use Rattle.exactly_once.specs.Story.{Story, with_side}
 use Rattle.exactly_once.specs.Story.StoryStep.{takes, others_take, receives, opens_anew, loses, disconnects, publishes_one, subscribes, unsubscribes}
 use Rattle.exactly_once.specs.Inside.Projections.{as_publisher, GoesTo}
-use Rattle.exactly_once.specs.Inside.Shape.{HeldInShape, HasShape, EventPublishes}
+use Rattle.exactly_once.specs.Inside.Shape.{HeldInShape, HasShape}
+use Rattle.exactly_once.specs.Inside.EachEvent.{EventPublishes}
 use Rattle.exactly_once.specs.Inside.ConnectionShape.{ConnectionInShape}
 use Rattle.exactly_once.proofs.publishing.Calls.{loses_it, opens_another, disconnects_it, writes_quietly}
 use Rattle.exactly_once.proofs.publishing.events.PublishesOne.{publishes_it}

@@ -13,7 +13,7 @@ use Rattle.broker_base.specs.broker_spec.declared.command.Command.{Command}
 use Rattle.broker_base.specs.broker_spec.declared.command.Command.TheVariants as commands
 use Rattle.client_base.specs.Keeper.{Written, Keeper}
 use Rattle.exactly_once.specs.Sides.{Connection}
-use Rattle.exactly_once.specs.Story.{counted_at, command_of}
+use Rattle.exactly_once.specs.StoryCommands.{counted_at, command_of}
 use Rattle.exactly_once.specs.Inside.Projections.{as_publisher, GoesTo}
 use Rattle.exactly_once.specs.Inside.Shape.{HasShape}
 use Rattle.exactly_once.proofs.Packets.{at_packet}

@@ -15,7 +15,7 @@ use Rattle.exactly_once.specs.Handshake.Run.{stays, goes_on}
 use Rattle.exactly_once.specs.Sends.{sends_to, put_to}
 use Rattle.client_base.specs.Keeper.{Written, Keeper}
 use Rattle.exactly_once.specs.Sides.{Connection}
-use Rattle.exactly_once.specs.Story.{counted_at}
+use Rattle.exactly_once.specs.StoryCommands.{counted_at}
 use Rattle.exactly_once.specs.Inside.Projections.{forward_of_own, forward_of_one, backward_of_own, to_come, to_be_taken, is_current, last_confirmed, link_of_own, as_publisher, GoesTo}
 use Rattle.exactly_once.specs.Inside.Shape.{HasShape}
 use Rattle.exactly_once.specs.Inside.ConnectionShape.{ConnectionInShape}

@@ -20,7 +20,7 @@ use Rattle.exactly_once.specs.Handshake.{Forward, Handshake}
 use Rattle.exactly_once.specs.Sends.{sends_to}
 use Rattle.client_base.specs.Keeper.{Written, Keeper}
 use Rattle.exactly_once.specs.Sides.{Connection}
-use Rattle.exactly_once.specs.Story.{counted_at}
+use Rattle.exactly_once.specs.StoryCommands.{counted_at}
 use Rattle.exactly_once.specs.Inside.Projections.{forward_of_one, backward_of_own, as_publisher, GoesTo}
 use Rattle.exactly_once.proofs.Packets.{at_packet, copies_none}
 use Rattle.broker_base.proofs.ConnectionNames.{same_itself}

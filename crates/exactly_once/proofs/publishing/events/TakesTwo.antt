@@ -19,7 +19,7 @@ use Rattle.exactly_once.specs.Handshake.{Forward, Link, Handshake, accepting}
 use Rattle.exactly_once.specs.Sends.{sends_to}
 use Rattle.client_base.specs.Keeper.{Written, Keeper}
 use Rattle.exactly_once.specs.Sides.{Connection}
-use Rattle.exactly_once.specs.Story.{counted_at, count_of}
+use Rattle.exactly_once.specs.StoryCommands.{counted_at, count_of}
 use Rattle.exactly_once.specs.Carried.{connection_named, number_at, number_of, more_by}
 use Rattle.exactly_once.specs.Inside.Projections.{backward_of_own, as_publisher, GoesTo}
 use Rattle.exactly_once.specs.Inside.Shape.{NamesApart}

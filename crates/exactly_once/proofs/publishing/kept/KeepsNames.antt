@@ -14,7 +14,8 @@ use Rattle.broker_base.proofs.ClientsInOrder.{same_is}
 use Rattle.client_base.specs.Keeper.{Written}
 use Rattle.exactly_once.specs.Sides.{Connection}
 use Rattle.client_base.specs.Written.{plain}
-use Rattle.exactly_once.specs.Story.{Story, StoryStep, any_named, counted_at, command_of, names_client}
+use Rattle.exactly_once.specs.Story.{Story, StoryStep}
+use Rattle.exactly_once.specs.StoryCommands.{any_named, counted_at, command_of, names_client}
 use Rattle.client_base.specs.Called.{opens, written_for}
 use Rattle.client_base.specs.Written.{writes_first}
 use Rattle.exactly_once.specs.Story.StoryStep.{takes, others_take, receives, opens_anew, loses, disconnects, publishes_one, subscribes, unsubscribes}

@@ -15,7 +15,8 @@ use Rattle.broker_base.proofs.ClientsInOrder.{same_is, same_self}
 use Rattle.client_base.specs.Keeper.{Written}
 use Rattle.exactly_once.specs.Sides.{Connection}
 use Rattle.client_base.specs.Written.{plain}
-use Rattle.exactly_once.specs.Story.{Story, StoryStep, any_named, is_packet_of, count_of, counted_at, command_of}
+use Rattle.exactly_once.specs.Story.{Story, StoryStep}
+use Rattle.exactly_once.specs.StoryCommands.{any_named, is_packet_of, count_of, counted_at, command_of}
 use Rattle.client_base.specs.Called.{opens, written_for, new_connection}
 use Rattle.client_base.specs.Written.{writes_first}
 use Rattle.exactly_once.specs.Story.StoryStep.{takes, others_take, receives, opens_anew, loses, disconnects, publishes_one, subscribes, unsubscribes}

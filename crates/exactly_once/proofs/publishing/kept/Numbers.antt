@@ -10,7 +10,7 @@ use Rattle.broker_base.specs.broker_spec.declared.command.Command.{Command}
 use Rattle.broker_base.specs.broker_spec.declared.command.Command.TheVariants as commands
 use Rattle.client_base.specs.Keeper.{Written}
 use Rattle.exactly_once.specs.Sides.{Connection}
-use Rattle.exactly_once.specs.Story.{is_packet_of, count_of, counted_at}
+use Rattle.exactly_once.specs.StoryCommands.{is_packet_of, count_of, counted_at}
 use Rattle.exactly_once.specs.Carried.{carries, connection_named, number_at, number_of, more_by, new_numbers}
 use Rattle.broker_base.proofs.ConnectionNames.{same_name, same_itself}
 use Rattle.exactly_once.proofs.places.Counts.{counted_here, counted_still}

@@ -17,7 +17,8 @@ use Rattle.exactly_once.specs.Handshake.Moves.{sender_leaves, parts, restarts}
 use Rattle.exactly_once.specs.Handshake.Run.{stays, goes_on}
 use Rattle.client_base.specs.Keeper.{Written}
 use Rattle.exactly_once.specs.Sides.{Connection}
-use Rattle.exactly_once.specs.Story.{Story, counted_at}
+use Rattle.exactly_once.specs.Story.{Story}
+use Rattle.exactly_once.specs.StoryCommands.{counted_at}
 use Rattle.exactly_once.specs.Inside.Projections.{GoesTo}
 use Rattle.exactly_once.specs.Inside.AsSubscriber.{items_of, held, left_behind, link_to, as_subscriber}
 use Rattle.exactly_once.specs.Inside.Shape.{HasShape}

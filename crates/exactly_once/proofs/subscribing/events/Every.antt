@@ -1,6 +1,6 @@
 -- Each event of a story is a run of the handshake in which the client subscribes.
 use Rattle.exactly_once.specs.Story.StoryStep.{takes, others_take, receives, opens_anew, loses, disconnects, publishes_one, subscribes, unsubscribes}
-use Rattle.exactly_once.specs.Inside.Shape.{EventSubscribes}
+use Rattle.exactly_once.specs.Inside.EachEvent.{EventSubscribes}
 use Rattle.exactly_once.proofs.subscribing.events.Leaving.{goes_lost, goes_disconnected, goes_anew}
 use Rattle.exactly_once.proofs.subscribing.Writing.{goes_published, goes_subscribed, goes_unsubscribed}
 use Rattle.exactly_once.proofs.subscribing.events.Received.{goes_received}

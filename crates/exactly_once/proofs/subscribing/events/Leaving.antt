@@ -13,7 +13,8 @@ use Rattle.client_base.specs.Keeper.{Written, Keeper}
 use Rattle.exactly_once.specs.Sides.{Connection}
 use Rattle.client_base.specs.Written.{plain}
 use Rattle.client_base.specs.Handled.{lost}
-use Rattle.exactly_once.specs.Story.{Story, any_named}
+use Rattle.exactly_once.specs.Story.{Story}
+use Rattle.exactly_once.specs.StoryCommands.{any_named}
 use Rattle.client_base.specs.Called.{new_connection}
 use Rattle.client_base.specs.Written.{writes_first}
 use Rattle.exactly_once.specs.Acceptance.{accepted_on}

@@ -13,7 +13,7 @@ use Rattle.client_base.specs.lists.Lists.{Each}
 use Rattle.exactly_once.specs.Sends.{sends_to, put_to}
 use Rattle.client_base.specs.Keeper.{Written, Keeper}
 use Rattle.exactly_once.specs.Sides.{Connection}
-use Rattle.exactly_once.specs.Story.{any_named, counted_at}
+use Rattle.exactly_once.specs.StoryCommands.{any_named, counted_at}
 use Rattle.client_base.specs.Called.{opens}
 use Rattle.exactly_once.specs.Inside.Projections.{to_come, is_current}
 use Rattle.exactly_once.specs.Inside.AsSubscriber.{forward_of, backward_of, left_behind}

@@ -12,7 +12,8 @@ use Rattle.broker_base.specs.broker_spec.QuietLaws.{IsSteady}
 use Rattle.broker_base.proofs.ClientsInOrder.{same_is}
 use Rattle.broker_base.proofs.ConnectionsOfSessions.{same_turned}
 use Rattle.exactly_once.specs.Sides.{Connection}
-use Rattle.exactly_once.specs.Story.{Story, any_named}
+use Rattle.exactly_once.specs.Story.{Story}
+use Rattle.exactly_once.specs.StoryCommands.{any_named}
 use Rattle.exactly_once.specs.Inside.Shape.{LastIsCurrent, HasShape}
 use Rattle.exactly_once.proofs.Packets.{at_packet}
 use Rattle.exactly_once.proofs.Takes.{same_name_self}

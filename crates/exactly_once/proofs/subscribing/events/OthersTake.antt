@@ -11,7 +11,8 @@ use Rattle.broker_base.specs.broker_spec.QuietLaws.{IsSteady}
 use Rattle.broker_base.specs.broker_spec.declared.command.Command.{Command}
 use Rattle.broker_base.specs.broker_spec.declared.command.Command.TheVariants as commands
 use Rattle.exactly_once.specs.Sends.{sends_to}
-use Rattle.exactly_once.specs.Story.{Story, names_client, is_packet_of, any_named}
+use Rattle.exactly_once.specs.Story.{Story}
+use Rattle.exactly_once.specs.StoryCommands.{names_client, is_packet_of, any_named}
 use Rattle.exactly_once.specs.Inside.Projections.{GoesTo}
 use Rattle.exactly_once.specs.Inside.AsSubscriber.{forward_of, as_subscriber}
 use Rattle.exactly_once.specs.Inside.Shape.{HasShape}

@@ -18,7 +18,8 @@ use Rattle.exactly_once.specs.Handshake.Run.{stays, goes_on}
 use Rattle.exactly_once.specs.Sends.{sends_to}
 use Rattle.client_base.specs.Keeper.{Written}
 use Rattle.exactly_once.specs.Sides.{Connection}
-use Rattle.exactly_once.specs.Story.{Story, counted_at, count_of}
+use Rattle.exactly_once.specs.Story.{Story}
+use Rattle.exactly_once.specs.StoryCommands.{counted_at, count_of}
 use Rattle.exactly_once.specs.Inside.Projections.{GoesTo}
 use Rattle.exactly_once.specs.Inside.AsSubscriber.{items_of, forward_of, held, left_behind, link_to, as_subscriber}
 use Rattle.exactly_once.proofs.subscribing.Views.{link_as, link_is}

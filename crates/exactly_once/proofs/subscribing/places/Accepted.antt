@@ -20,7 +20,7 @@ use Rattle.broker_base.proofs.EntriesStartedBefore.{before_below}
 use Rattle.broker_base.proofs.QueueAfter.{sound_entries}
 use Rattle.exactly_once.specs.Handshake.{publishing, resend}
 use Rattle.exactly_once.specs.Sends.{sends_to}
-use Rattle.exactly_once.specs.Story.{is_packet_of, count_of}
+use Rattle.exactly_once.specs.StoryCommands.{is_packet_of, count_of}
 use Rattle.exactly_once.specs.Inside.AsSubscriber.{items_of, forward_of}
 use Rattle.exactly_once.proofs.Starts.{rows_started}
 use Rattle.exactly_once.proofs.Takes.{same_name_self}

@@ -1,0 +1,43 @@
+-- Which command a packet becomes, which connection or client a command names, and how many packets
+-- of a connection are in the list.
+use Rattle.std.specs.Prelude.{◌≡◌, ℕ, zero, suc, Bool, true, false, ◌||◌, if◌then◌else◌, List, [], ◌∷◌, is_some}
+use Rattle.client_base.specs.packet.declared.packet.Packet.{Packet}
+use Rattle.client_base.specs.packet.declared.packet.Packet.TheVariants as packets
+use Rattle.broker_base.specs.broker_spec.Connection.{ConnectionName, same_connection}
+use Rattle.broker_base.specs.broker_spec.Place.{Client, Past}
+use Rattle.broker_base.specs.broker_spec.declared.command.Command.{Command}
+use Rattle.broker_base.specs.broker_spec.declared.command.Command.TheVariants as commands
+use Rattle.exactly_once.specs.Sides.{Connection}
+use Rattle.broker_base.specs.broker_spec.Past.{session_of}
+
+-- the first packet of a connection is a CONNECT and becomes a Connect; each later one a Packet
+abbrev pub command_of : ConnectionName → ℕ → Packet → Command
+command_of x zero (packets.Connect c) = commands.Connect x c.client c.clean
+command_of x taken packet = commands.Packet x packet
+
+-- the connection of this place in the list, one more packet of it taken
+abbrev pub counted_at : ℕ → List Connection → List Connection
+counted_at i [] = []
+counted_at zero (κ ∷ connections) = record κ { taken = suc κ.taken } ∷ connections
+counted_at (suc i) (κ ∷ connections) = κ ∷ counted_at i connections
+
+-- a Connect of the client, and an Expel of it if it has a session
+abbrev pub names_client : Past → Client → Command → Type 0
+names_client past c (commands.Connect x d clean) = d ≡ c
+names_client past c (commands.Expel d) = (d ≡ c) × (is_some (session_of past c) ≡ true)
+names_client past c _ = ⊥
+
+abbrev pub is_packet_of : Command → ConnectionName → Bool
+is_packet_of (commands.Packet x packet) y = same_connection x y
+is_packet_of (commands.Connect x d clean) y = same_connection x y
+is_packet_of _ y = false
+
+-- how many of its packets are in the list
+abbrev pub count_of : ConnectionName → Past → ℕ
+count_of x (place ∷ past) =
+    if is_packet_of place.command x then suc (count_of x past) else count_of x past
+count_of x [] = 0
+
+abbrev pub any_named : (ConnectionName → Bool) → List Connection → Bool
+any_named test (κ ∷ connections) = test κ.name || any_named test connections
+any_named test [] = false

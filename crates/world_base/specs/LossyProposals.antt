@@ -1,0 +1,37 @@
+-- What is done with a proposal if memory may run out: it is taken, or the replica declines it.
+use Rattle.std.specs.Prelude.{◌≡◌, ◌⊎◌, true, false}
+use Rattle.node_connections.specs.broker_spec.declared.command.Command.{Command}
+use Rattle.ballot.specs.Losses.{halted, one_more}
+use Rattle.ballot.specs.Serving.{proposed}
+use Rattle.world_base.specs.Core.{CoreState, rules, serves}
+use Rattle.world_base.specs.Turns.{has_room}
+use Rattle.world_base.specs.Lossy.{Account, quietly, Moves, Takes}
+
+-- a command that it does not take, because it does not serve clients or its log is full, or because
+-- memory ran out: then it counts a loss, and may stop
+pub data Declines (core : CoreState) (did : Account) : Type 0 where
+  no_room : has_room core ≡ false → did ≡ quietly core → Declines core did
+  forgets : has_room core ≡ true →
+      did ≡ quietly
+      (record core { replica = record core.replica { losses = one_more core.replica.losses } }) →
+      Declines core did
+  stops : has_room core ≡ true →
+      did ≡ quietly (record core {
+        replica = record {
+          state = halted rules core.replica.state;
+          losses = one_more core.replica.losses;
+        };
+      }) →
+      Declines core did
+
+-- a command is proposed to the replica
+abbrev pub Proposes : Command → CoreState → Account → Type 0
+Proposes command core did = Takes command core did ⊎ Declines core did
+
+-- in any case that is a step of the replica, exact or with losses; if the node does not serve
+-- clients, no step
+abbrev pub ProposalsAreSteps : Type 0
+ProposalsAreSteps =
+    (command : Command) (core : CoreState) (did : Account) → Proposes command core did →
+    (serves core ≡ true → Moves (proposed rules core.replica.state command) core did)
+    × (serves core ≡ false → did ≡ quietly core)

@@ -1,0 +1,16 @@
+-- What a node handed over if memory may have run out.
+use Rattle.std.specs.Prelude.{◌≡◌, ◌⊎◌, ℕ, List}
+use Rattle.byte_world.specs.world_base.declared.Handed.{Handed}
+use Rattle.byte_world.specs.world_base.declared.Handed.TheVariants as answers
+use Rattle.byte_world.specs.world_base.declared.Port.{Port}
+use Rattle.world_nodes.specs.Goes.{AnswersFor, GivesExactly, HandsOver}
+use Rattle.world_nodes.specs.Nodes.{NodesState}
+use Rattle.world_nodes.specs.Steps.{forgetful}
+
+-- What was queued was handed over and appended, and the answer says whether more may come. Or
+-- nothing was, more may come, and that is counted.
+abbrev pub HandsIn : ℕ → Port → NodesState → NodesState → List ℕ → List ℕ → Handed → Type 0
+HandsIn node port old new before after handed =
+    (GivesExactly node port old new × HandsOver node port old before after
+    × AnswersFor node port old handed)
+    ⊎ ((new ≡ forgetful old) × (after ≡ before) × (handed ≡ answers.Open))

@@ -1,0 +1,44 @@
+-- How the client of a model follows bytes that reach a node, and bytes that go down from it.
+use Rattle.std.specs.Prelude.{◌≡◌, ◌-◌, ℕ, List, ◌++◌, length, take, slice_get, IfSome, Some}
+use Rattle.byte_world.specs.exactly_once.Sides.{Connection}
+use Rattle.byte_world.specs.World.{ClientPipes, Pipe, with_pipe}
+use Rattle.world_pipes.specs.declared.way.Way.{Way}
+use Rattle.world_pipes.specs.Piped.{Piped}
+use Rattle.world_pipes.specs.Standing.{IsWay, StandsFor}
+
+-- if the model has the connection of this place: its newest is the first
+abbrev pub place_in_model : ℕ → Piped → ℕ
+place_in_model at client = length client.ways - 1 - at
+
+-- the model's connection for this one, with its pipe
+pub record HasWay (at : ℕ) (old : Piped) (way : Way) (m : ClientPipes) : Type 0 where
+  pub connection : Connection
+  pub pipe : Pipe
+  pub connected : slice_get m.connections (place_in_model at old) ≡ Some connection
+  pub piped : slice_get m.pipes (place_in_model at old) ≡ Some pipe
+  pub is_way : IsWay way pipe
+
+-- this many bytes have come up on it
+pub record FollowsUp (count at : ℕ) (old : Piped) (way : Way) (new : Piped)
+    (m : ClientPipes) : Type 0 where
+  pub there : HasWay at old way m
+  pub rest : List ℕ
+  pub up : there.pipe.up ≡ take count way.up ++ rest
+  pub stands : StandsFor new (with_pipe (place_in_model at old) (record there.pipe { up = rest }) m)
+
+abbrev pub TakingUpFollows : ℕ → ℕ → Piped → Piped → Type 0
+TakingUpFollows at count old new =
+    (m : ClientPipes) → StandsFor old m →
+    IfSome (slice_get old.ways at) (λ way. FollowsUp count at old way new m)
+
+-- these bytes are in transit down on it
+pub record FollowsDown (bytes : List ℕ) (at : ℕ) (old : Piped) (way : Way) (new : Piped)
+    (m : ClientPipes) : Type 0 where
+  pub there : HasWay at old way m
+  pub stands : StandsFor new
+      (with_pipe (place_in_model at old) (record there.pipe { down = bytes }) m)
+
+abbrev pub SwappingFollows : ℕ → List ℕ → Piped → Piped → Type 0
+SwappingFollows at bytes old new =
+    (m : ClientPipes) → StandsFor old m →
+    IfSome (slice_get old.ways at) (λ way. FollowsDown bytes at old way new m)
