@@ -21,19 +21,19 @@ none_sent (Item.Released v id ∷ items) w = elim w.0 [ ]
 none_sent (Item.Finished v ∷ items) w = elim w.0 [ ]
 
 -- after items that do not wait
-pub start_behind : {V : Type 0} (received : ℕ → Bool) (id : ℕ) (old new : List (Item V)) → Each (IsOld received) old → start_first id (old ++ new) ≡ old ++ start_first id new
-start_behind received id [] new h = refl
-start_behind received id (Item.Waits v ∷ old) new h = elim h.0 [ ]
-start_behind received id (Item.Sent v i ∷ old) new h = ap (λ l. Item.Sent v i ∷ l) (start_behind received id old new h.1)
-start_behind received id (Item.Released v i ∷ old) new h = ap (λ l. Item.Released v i ∷ l) (start_behind received id old new h.1)
-start_behind received id (Item.Finished v ∷ old) new h = ap (λ l. Item.Finished v ∷ l) (start_behind received id old new h.1)
+pub start_after : {V : Type 0} (received : ℕ → Bool) (id : ℕ) (old new : List (Item V)) → Each (IsOld received) old → start_first id (old ++ new) ≡ old ++ start_first id new
+start_after received id [] new h = refl
+start_after received id (Item.Waits v ∷ old) new h = elim h.0 [ ]
+start_after received id (Item.Sent v i ∷ old) new h = ap (λ l. Item.Sent v i ∷ l) (start_after received id old new h.1)
+start_after received id (Item.Released v i ∷ old) new h = ap (λ l. Item.Released v i ∷ l) (start_after received id old new h.1)
+start_after received id (Item.Finished v ∷ old) new h = ap (λ l. Item.Finished v ∷ l) (start_after received id old new h.1)
 
-pub waiting_behind : {V : Type 0} (received : ℕ → Bool) (old new : List (Item V)) → Each (IsOld received) old → first_waiting (old ++ new) ≡ first_waiting new
-waiting_behind received [] new h = refl
-waiting_behind received (Item.Waits v ∷ old) new h = elim h.0 [ ]
-waiting_behind received (Item.Sent v i ∷ old) new h = waiting_behind received old new h.1
-waiting_behind received (Item.Released v i ∷ old) new h = waiting_behind received old new h.1
-waiting_behind received (Item.Finished v ∷ old) new h = waiting_behind received old new h.1
+pub waiting_after : {V : Type 0} (received : ℕ → Bool) (old new : List (Item V)) → Each (IsOld received) old → first_waiting (old ++ new) ≡ first_waiting new
+waiting_after received [] new h = refl
+waiting_after received (Item.Waits v ∷ old) new h = elim h.0 [ ]
+waiting_after received (Item.Sent v i ∷ old) new h = waiting_after received old new h.1
+waiting_after received (Item.Released v i ∷ old) new h = waiting_after received old new h.1
+waiting_after received (Item.Finished v ∷ old) new h = waiting_after received old new h.1
 
 pub record Started {V : Type 0} (received : ℕ → Bool) (id : ℕ) (v : V) (new : List (Item V)) : Type 0 where
   pub sent_is : sent (start_first id new) ≡ sent new ++ (id, v) ∷ []

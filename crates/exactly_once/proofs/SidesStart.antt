@@ -8,7 +8,7 @@ use Rattle.exactly_once.specs.HandshakeInvariant.{IsNew, IsWaiting, WaitsLast, A
 use Rattle.client_base.proofs.of_lists.Identifiers.{has_join, has_split, distinct_push}
 use Rattle.client_base.proofs.of_lists.OfEach.{each_append}
 use Rattle.exactly_once.proofs.BusyIdentifiers.{busy_append, sent_append}
-use Rattle.exactly_once.proofs.ItemsStarted.{start_behind, waiting_behind, Started, starts_new}
+use Rattle.exactly_once.proofs.ItemsStarted.{start_after, waiting_after, Started, starts_new}
 
 -- ---- a publication comes
 
@@ -57,11 +57,11 @@ pub sides_start : {V : Type 0} (items : List (Item V)) (accepted : List V) (rece
     → Started received id v new × AreSides (start_first id items) accepted received old (start_first id new)
 sides_start items accepted received old new id v s e w =
     let free = free_of items old new id s.is e in
-    let first : first_waiting new ≡ Some v = sym (waiting_behind received old new s.olds) ∙ sym (ap first_waiting s.is) ∙ w in
+    let first : first_waiting new ≡ Some v = sym (waiting_after received old new s.olds) ∙ sym (ap first_waiting s.is) ∙ w in
     let started = starts_new received id v new (free_is_new received (busy old) id s.known free.0) s.news s.waits_last first in (
       started,
       record {
-        is = ap (start_first id) s.is ∙ start_behind received id old new s.olds;
+        is = ap (start_first id) s.is ∙ start_after received id old new s.olds;
         accepted_is = s.accepted_is;
         olds = s.olds;
         news = started.news;

@@ -33,19 +33,19 @@ none_more (Item.Sent v id ∷ pre) more n m = none_more pre more n m
 none_more (Item.Released v id ∷ pre) more n m = none_more pre more n m
 none_more (Item.Finished v ∷ pre) more n m = none_more pre more n m
 
-first_behind : {V : Type 0} (pre more : List (Item V)) → NoneWaits pre → first_waiting (pre ++ more) ≡ first_waiting more
-first_behind [] more n = refl
-first_behind (Item.Waits v ∷ pre) more n = elim n [ ]
-first_behind (Item.Sent v id ∷ pre) more n = first_behind pre more n
-first_behind (Item.Released v id ∷ pre) more n = first_behind pre more n
-first_behind (Item.Finished v ∷ pre) more n = first_behind pre more n
+first_after : {V : Type 0} (pre more : List (Item V)) → NoneWaits pre → first_waiting (pre ++ more) ≡ first_waiting more
+first_after [] more n = refl
+first_after (Item.Waits v ∷ pre) more n = elim n [ ]
+first_after (Item.Sent v id ∷ pre) more n = first_after pre more n
+first_after (Item.Released v id ∷ pre) more n = first_after pre more n
+first_after (Item.Finished v ∷ pre) more n = first_after pre more n
 
-start_behind : {V : Type 0} (id : ℕ) (pre more : List (Item V)) → NoneWaits pre → start_first id (pre ++ more) ≡ pre ++ start_first id more
-start_behind id [] more n = refl
-start_behind id (Item.Waits v ∷ pre) more n = elim n [ ]
-start_behind id (Item.Sent v i ∷ pre) more n = ap (λ l. Item.Sent v i ∷ l) (start_behind id pre more n)
-start_behind id (Item.Released v i ∷ pre) more n = ap (λ l. Item.Released v i ∷ l) (start_behind id pre more n)
-start_behind id (Item.Finished v ∷ pre) more n = ap (λ l. Item.Finished v ∷ l) (start_behind id pre more n)
+start_after : {V : Type 0} (id : ℕ) (pre more : List (Item V)) → NoneWaits pre → start_first id (pre ++ more) ≡ pre ++ start_first id more
+start_after id [] more n = refl
+start_after id (Item.Waits v ∷ pre) more n = elim n [ ]
+start_after id (Item.Sent v i ∷ pre) more n = ap (λ l. Item.Sent v i ∷ l) (start_after id pre more n)
+start_after id (Item.Released v i ∷ pre) more n = ap (λ l. Item.Released v i ∷ l) (start_after id pre more n)
+start_after id (Item.Finished v ∷ pre) more n = ap (λ l. Item.Finished v ∷ l) (start_after id pre more n)
 
 -- what waits is not busy
 waiting_free : (es : List Entry) → AllByRecursion IsWaiting es → busy (items_of es) ≡ []
@@ -113,17 +113,17 @@ starts_one : (h : Handshake Publication) (pre : List (Item Publication)) (id : �
 starts_one h pre id p es ids e n c free w =
     let fresh : has_id id (busy h.items) ≡ false =
     ap (λ l. has_id id (busy l)) e ∙ ap (has_id id) (busy_append pre (Item.Waits p ∷ items_of es) ∙ ap (λ l. busy pre ++ l) (waiting_free es w) ∙ append-nil (busy pre)) ∙ c id free in
-    let first : first_waiting h.items ≡ Some p = ap first_waiting e ∙ first_behind pre (Item.Waits p ∷ items_of es) n in (
+    let first : first_waiting h.items ≡ Some p = ap first_waiting e ∙ first_after pre (Item.Waits p ∷ items_of es) n in (
       goes_on stays (starts id p fresh first),
-      ap (start_first id) e ∙ start_behind id pre (Item.Waits p ∷ items_of es) n ∙ sym (append_assoc pre (Item.Sent p id ∷ []) (items_of es)),
+      ap (start_first id) e ∙ start_after id pre (Item.Waits p ∷ items_of es) n ∙ sym (append_assoc pre (Item.Sent p id ∷ []) (items_of es)),
     )
 
-waits_behind : (es : List Entry) → AllByRecursion IsWaiting es → WaitsLast es
-waits_behind [] w = tt
-waits_behind (Entry.Waits made p ∷ es) w = w.1
-waits_behind (Entry.Started made p id start ∷ es) w = elim w.0 [ ]
-waits_behind (Entry.Released made p id start release ∷ es) w = elim w.0 [ ]
-waits_behind (Entry.Finished made p id start release finish ∷ es) w = elim w.0 [ ]
+waits_after : (es : List Entry) → AllByRecursion IsWaiting es → WaitsLast es
+waits_after [] w = tt
+waits_after (Entry.Waits made p ∷ es) w = w.1
+waits_after (Entry.Started made p id start ∷ es) w = elim w.0 [ ]
+waits_after (Entry.Released made p id start release ∷ es) w = elim w.0 [ ]
+waits_after (Entry.Finished made p id start release finish ∷ es) w = elim w.0 [ ]
 
 -- all starts of a place
 pub all_starts : (w n : ℕ) (ids : List ℕ) (pre : List (Item Publication)) (es : List Entry) (h : Handshake Publication)
@@ -163,9 +163,9 @@ all_starts w n ids pre (Entry.Finished made p id start release finish ∷ es) h 
 all_starts w n ids pre (Entry.Waits made p ∷ es) h e nw c l =
     by (nat_lt (length ids) w)
     (two (is_two p.qos) e
-    (λ e'. all_starts w n (least_free ids ∷ ids) pre es h e' nw (covers_more ids pre (least_free ids) c) (waits_behind es l))
+    (λ e'. all_starts w n (least_free ids ∷ ids) pre es h e' nw (covers_more ids pre (least_free ids) c) (waits_after es l))
     (λ k e'. all_starts w n (least_free ids ∷ ids) (pre ++ Item.Sent p (least_free ids) ∷ []) es k e' (none_more pre (Item.Sent p (least_free ids) ∷ []) nw tt)
-    (covers_one ids pre (Item.Sent p (least_free ids)) (least_free ids) refl c) (waits_behind es l)))
+    (covers_one ids pre (Item.Sent p (least_free ids)) (least_free ids) refl c) (waits_after es l)))
   where
     two : (b : Bool) → h.items ≡ pre ++ (if b then Item.Waits p ∷ items_of es else items_of es)
         → (h.items ≡ pre ++ items_of es → Starts h (pre ++ items_of (start_all w n (least_free ids ∷ ids) es)) (rows_started w (least_free ids ∷ ids) es))

@@ -33,18 +33,18 @@ heard_stopped input r e = ap (λ (b : Bool). if b then nothing_done Output r els
 heard_running : (input : Input Command) (r : ReplicaState State Command) → r.stopped ≡ false → replica_step rules r input ≡ heard input r
 heard_running input r e = ap (λ (b : Bool). if b then nothing_done Output r else replica_step rules r input) (sym e)
 
-pub acts_heard : (input : Input Command) (old : CoreState) (new : CountedReplica State Command) (before behind : List (Effect Command Output)) →
+pub acts_heard : (input : Input Command) (old : CoreState) (new : CountedReplica State Command) (before later : List (Effect Command Output)) →
     before ≡ [] →
-    (old.replica.state.stopped ≡ false → Stepped rules old.replica (replica_step rules old.replica.state input) new before behind) →
-    (old.replica.state.stopped ≡ true → (new ≡ old.replica) × (behind ≡ before)) →
-    Acts (heard input old.replica.state) old (record old { replica = new }) behind
-acts_heard input old new before behind none step stays =
+    (old.replica.state.stopped ≡ false → Stepped rules old.replica (replica_step rules old.replica.state input) new before later) →
+    (old.replica.state.stopped ≡ true → (new ≡ old.replica) × (later ≡ before)) →
+    Acts (heard input old.replica.state) old (record old { replica = new }) later
+acts_heard input old new before later none step stays =
     record { replica = new; core = refl; steps = by (old.replica.state.stopped) refl }
   where
-    by : (b : Bool) → old.replica.state.stopped ≡ b → Steps rules old.replica (heard input old.replica.state) new behind
+    by : (b : Bool) → old.replica.state.stopped ≡ b → Steps rules old.replica (heard input old.replica.state) new later
     by true e =
         let same = stays e in
-        subst (λ (o : Outcome State Command Output). Steps rules old.replica o new behind) (heard_stopped input old.replica.state e)
+        subst (λ (o : Outcome State Command Output). Steps rules old.replica o new later) (heard_stopped input old.replica.state e)
         (inl (
           ap (λ (r : CountedReplica State Command). r.state) same.0,
           same.1 ∙ none,
@@ -52,8 +52,8 @@ acts_heard input old new before behind none step stays =
         ))
     by false e =
         let did = step e in
-        let given : did.given ≡ behind = sym (did.appended ∙ ap (λ (l : List (Effect Command Output)). l ++ did.given) none) in
-        subst (λ (o : Outcome State Command Output). Steps rules old.replica o new behind) (heard_running input old.replica.state e)
+        let given : did.given ≡ later = sym (did.appended ∙ ap (λ (l : List (Effect Command Output)). l ++ did.given) none) in
+        subst (λ (o : Outcome State Command Output). Steps rules old.replica o new later) (heard_running input old.replica.state e)
         (subst (λ (l : List (Effect Command Output)). Steps rules old.replica (replica_step rules old.replica.state input) new l) given did.steps)
 
 pub drives_all : (input : Input Command) (a b c : CoreState) (given x y : List (Effect Command Output)) →
@@ -71,23 +71,23 @@ drives_all input a b c given x y acts delivered =
     }
 
 -- the same as the code has it: the node was changed no more after it
-pub acts_kept : (input : Input Command) (old : CoreState) (new : CountedReplica State Command) (before behind : List (Effect Command Output))
+pub acts_kept : (input : Input Command) (old : CoreState) (new : CountedReplica State Command) (before later : List (Effect Command Output))
     (after : CoreState) → before ≡ [] →
-    (old.replica.state.stopped ≡ false → Stepped rules old.replica (replica_step rules old.replica.state input) new before behind) →
-    (old.replica.state.stopped ≡ true → (new ≡ old.replica) × (behind ≡ before)) → after ≡ record old { replica = new } →
-    Acts (heard input old.replica.state) old after behind
-acts_kept input old new before behind after none step stays kept =
-    subst (λ (k : CoreState). Acts (heard input old.replica.state) old k behind) (sym kept)
-    (acts_heard input old new before behind none step stays)
+    (old.replica.state.stopped ≡ false → Stepped rules old.replica (replica_step rules old.replica.state input) new before later) →
+    (old.replica.state.stopped ≡ true → (new ≡ old.replica) × (later ≡ before)) → after ≡ record old { replica = new } →
+    Acts (heard input old.replica.state) old after later
+acts_kept input old new before later after none step stays kept =
+    subst (λ (k : CoreState). Acts (heard input old.replica.state) old k later) (sym kept)
+    (acts_heard input old new before later none step stays)
 
 -- a replica that has stopped hands nothing out
-pub err_of_stopped : {E : Type 0} (result : Result (Unit {0}) E) (old new : CountedReplica State Command) (before behind : List (Effect Command Output)) →
+pub err_of_stopped : {E : Type 0} (result : Result (Unit {0}) E) (old new : CountedReplica State Command) (before later : List (Effect Command Output)) →
     (IsErr result → new.state.stopped ≡ true) × (new.state.stopped ≡ true → IsErr result) →
-    OnErr result (behind ≡ before) → new ≡ old → old.state.stopped ≡ true → behind ≡ before
-err_of_stopped (Ok x) old new before behind told err same stopped =
+    OnErr result (later ≡ before) → new ≡ old → old.state.stopped ≡ true → later ≡ before
+err_of_stopped (Ok x) old new before later told err same stopped =
     let e = told.1 (ap (λ (r : CountedReplica State Command). r.state.stopped) same ∙ stopped) in
     absurd cc
-err_of_stopped (Err e) old new before behind told err same stopped = err
+err_of_stopped (Err e) old new before later told err same stopped = err
 
 -- ---- a command
 
@@ -127,38 +127,38 @@ stopped_by old command new given active running stopped (inr (inr (inl same), co
 stopped_by old command new given active running stopped (inr (inr (inr halts), counted)) = (halts.0, counted)
 
 pub answered : (result : Result (Unit {0}) ProposeError) (old : CoreState) (new : CountedReplica State Command) (command : Command)
-    (before behind : List (Effect Command Output)) → before ≡ [] → serves old ≡ true →
-    Stepped rules old.replica (proposed rules old.replica.state command) new before behind →
-    OnOk result (Done old.replica (added rules old.replica.state command) new before behind) →
+    (before later : List (Effect Command Output)) → before ≡ [] → serves old ≡ true →
+    Stepped rules old.replica (proposed rules old.replica.state command) new before later →
+    OnOk result (Done old.replica (added rules old.replica.state command) new before later) →
     (IsErrOf result Halted → new.state.stopped ≡ true) →
     (IsErrOf result NotActive → (old.replica.state.stopped ≡ false) × (is_active old.replica.state.role ≡ false)) →
     (IsErrOf result LogFull → most_places ≤ places old.replica.state.log) →
     (most_places ≤ places old.replica.state.log → IsErrOf result LogFull) →
     (IsErrOf result Memory → new ≡ record old.replica { losses = one_more old.replica.losses }) →
     (IsErrOf result LogFull → new ≡ old.replica) →
-    OnErr result (behind ≡ before) →
-    Answered (is_ok result) command old (record old { replica = new }) behind
-answered (Ok x) old new command before behind none serving step done halts inactive full is_full memory same err =
+    OnErr result (later ≡ before) →
+    Answered (is_ok result) command old (record old { replica = new }) later
+answered (Ok x) old new command before later none serving step done halts inactive full is_full memory same err =
     record {
       room = room_in old serving (λ over. (let e = is_full over in absurd cc));
       replica = new;
       core = refl;
-      done = subst (λ (l : List (Effect Command Output)). Done old.replica (added rules old.replica.state command) new l behind) none done;
+      done = subst (λ (l : List (Effect Command Output)). Done old.replica (added rules old.replica.state command) new l later) none done;
     }
-answered (Err NotActive) old new command before behind none serving step done halts inactive full is_full memory same err =
+answered (Err NotActive) old new command before later none serving step done halts inactive full is_full memory same err =
     let active = active_in old serving in
     let e = (inactive refl).1 in
     absurd cc
-answered (Err LogFull) old new command before behind none serving step done halts inactive full is_full memory same err = (
+answered (Err LogFull) old new command before later none serving step done halts inactive full is_full memory same err = (
   no_room (full_in old serving (full refl)) (ap (λ (r : CountedReplica State Command). quietly (record old { replica = r })) (same refl)),
   err ∙ none,
 )
-answered (Err Memory) old new command before behind none serving step done halts inactive full is_full memory same err = (
+answered (Err Memory) old new command before later none serving step done halts inactive full is_full memory same err = (
   forgets (room_in old serving (λ over. (let e = is_full over in absurd cc)))
       (ap (λ (r : CountedReplica State Command). quietly (record old { replica = r })) (memory refl)),
   err ∙ none,
 )
-answered (Err Halted) old new command before behind none serving step done halts inactive full is_full memory same err =
+answered (Err Halted) old new command before later none serving step done halts inactive full is_full memory same err =
     let did = stopped_by old.replica command new step.given (active_in old serving) (running_in old serving) (halts refl) step.steps in (
       stops (room_in old serving (λ over. (let e = is_full over in absurd cc)))
           (ap (λ (s : ReplicaState State Command). quietly (record old { replica = record { state = s; losses = new.losses } })) did.0
@@ -167,20 +167,20 @@ answered (Err Halted) old new command before behind none serving step done halts
     )
 
 pub answered_kept : (result : Result (Unit {0}) ProposeError) (old : CoreState) (new : CountedReplica State Command) (command : Command)
-    (before behind : List (Effect Command Output)) (after : CoreState) → before ≡ [] → serves old ≡ true →
-    Stepped rules old.replica (proposed rules old.replica.state command) new before behind →
-    OnOk result (Done old.replica (added rules old.replica.state command) new before behind) →
+    (before later : List (Effect Command Output)) (after : CoreState) → before ≡ [] → serves old ≡ true →
+    Stepped rules old.replica (proposed rules old.replica.state command) new before later →
+    OnOk result (Done old.replica (added rules old.replica.state command) new before later) →
     (IsErrOf result Halted → new.state.stopped ≡ true) →
     (IsErrOf result NotActive → (old.replica.state.stopped ≡ false) × (is_active old.replica.state.role ≡ false)) →
     (IsErrOf result LogFull → most_places ≤ places old.replica.state.log) →
     (most_places ≤ places old.replica.state.log → IsErrOf result LogFull) →
     (IsErrOf result Memory → new ≡ record old.replica { losses = one_more old.replica.losses }) →
     (IsErrOf result LogFull → new ≡ old.replica) →
-    OnErr result (behind ≡ before) → after ≡ record old { replica = new } →
-    Answered (is_ok result) command old after behind
-answered_kept result old new command before behind after none serving step done halts inactive full is_full memory same err kept =
-    subst (λ (k : CoreState). Answered (is_ok result) command old k behind) (sym kept)
-    (answered result old new command before behind none serving step done halts inactive full is_full memory same err)
+    OnErr result (later ≡ before) → after ≡ record old { replica = new } →
+    Answered (is_ok result) command old after later
+answered_kept result old new command before later after none serving step done halts inactive full is_full memory same err kept =
+    subst (λ (k : CoreState). Answered (is_ok result) command old k later) (sym kept)
+    (answered result old new command before later none serving step done halts inactive full is_full memory same err)
 
 -- with what it gave
 pub proposed_all : (taken : Bool) (command : Command) (a b c : CoreState) (given x y : List (Effect Command Output)) →

@@ -18,7 +18,7 @@ use Rattle.exactly_once.specs.Carried.{publications_of}
 use Rattle.client_base.specs.OrderLaws.{AreNumbered}
 use Rattle.std.proofs.lemmas.List.{append-nil}
 use Rattle.exactly_once.proofs.publishing.Answered.{counted_side}
-use Rattle.exactly_once.proofs.carrying.Publications.{IsOfOwn, plain_of, said_puback, said_pubrec, said_pubcomp, said_sent, resent_of, said_behind}
+use Rattle.exactly_once.proofs.carrying.Publications.{IsOfOwn, plain_of, said_puback, said_pubrec, said_pubcomp, said_sent, resent_of, said_after}
 
 pub record Handles (keeper : Keeper) (κ : Connection) (side : Side) : Type 0 where
   pub said : publications_of (all_own side.keeper) ≡ publications_of (all_own keeper)
@@ -49,15 +49,15 @@ pubrec_handles keeper κ i = by (is_sent_with i keeper.own) (has_id i keeper.rel
     by : (b r : Bool) → Handles keeper κ (if b then writing (plain (packets.Pubrel i) ∷ [])
         (counted_side (record keeper { own = map (at_pubrec i) keeper.own; releases = keeper.releases ++ i ∷ [] }) κ)
         else if r then writing (plain (packets.Pubrel i) ∷ []) (counted_side keeper κ) else counted_side keeper κ)
-    by true r = record { said = said_behind keeper.earlier keeper.own (map (at_pubrec i) keeper.own) (said_pubrec i keeper.own); of = one_more keeper κ (packets.Pubrel i) }
+    by true r = record { said = said_after keeper.earlier keeper.own (map (at_pubrec i) keeper.own) (said_pubrec i keeper.own); of = one_more keeper κ (packets.Pubrel i) }
     by false true = record { said = refl; of = one_more keeper κ (packets.Pubrel i) }
     by false false = record { said = refl; of = λ all. all }
 
 online_handles : (keeper : Keeper) (κ : Connection) (packet : Packet) → Handles keeper κ (handled_online packet (counted_side keeper κ))
 online_handles keeper κ (packets.Publish p) = publish_handles keeper κ p.delivery (publication_of p)
-online_handles keeper κ (packets.Puback i) = record { said = said_behind keeper.earlier keeper.own (map (at_puback i) keeper.own) (said_puback i keeper.own); of = λ all. all }
+online_handles keeper κ (packets.Puback i) = record { said = said_after keeper.earlier keeper.own (map (at_puback i) keeper.own) (said_puback i keeper.own); of = λ all. all }
 online_handles keeper κ (packets.Pubrec i) = pubrec_handles keeper κ i
-online_handles keeper κ (packets.Pubcomp i) = record { said = said_behind keeper.earlier keeper.own (map (at_pubcomp i) keeper.own) (said_pubcomp i keeper.own); of = λ all. all }
+online_handles keeper κ (packets.Pubcomp i) = record { said = said_after keeper.earlier keeper.own (map (at_pubcomp i) keeper.own) (said_pubcomp i keeper.own); of = λ all. all }
 online_handles keeper κ (packets.Pubrel i) = record { said = refl; of = one_more keeper κ (packets.Pubcomp i) }
 online_handles keeper κ _ = record { said = refl; of = λ all. all }
 
@@ -76,7 +76,7 @@ confirmed_handles keeper κ present numbered = by (not present && keeper.was_ser
         }
     by false =
         record {
-          said = said_behind keeper.earlier keeper.own (sent_all keeper.own) (said_sent keeper.own);
+          said = said_after keeper.earlier keeper.own (sent_all keeper.own) (said_sent keeper.own);
           of = λ all. each_append (IsOfOwn (publications_of (all_own keeper))) κ.written (resent keeper) all (resent_of keeper numbered);
         }
 

@@ -132,12 +132,12 @@ releases_of ps [] = tt
 releases_of ps (id ∷ ids) = (tt, releases_of ps ids)
 
 -- the others come after these
-get_behind : (xs ys : List Publication) (j : ℕ) → slice_get (xs ++ ys) (length xs + j) ≡ slice_get ys j
-get_behind [] ys j = let same : 0 + j ≡ j = omega arith in ap (slice_get ys) same
-get_behind (x ∷ xs) ys j = let same : suc (length xs) + j ≡ suc (length xs + j) = omega arith in ap (slice_get (x ∷ xs ++ ys)) same ∙ get_behind xs ys j
+get_after : (xs ys : List Publication) (j : ℕ) → slice_get (xs ++ ys) (length xs + j) ≡ slice_get ys j
+get_after [] ys j = let same : 0 + j ≡ j = omega arith in ap (slice_get ys) same
+get_after (x ∷ xs) ys j = let same : suc (length xs) + j ≡ suc (length xs + j) = omega arith in ap (slice_get (x ∷ xs ++ ys)) same ∙ get_after xs ys j
 
-pub said_behind : (earlier own later : List Own) → publications_of later ≡ publications_of own → publications_of (earlier ++ later) ≡ publications_of (earlier ++ own)
-said_behind earlier own later e = map-append publication_in earlier later ∙ ap (λ l. publications_of earlier ++ l) e ∙ sym (map-append publication_in earlier own)
+pub said_after : (earlier own later : List Own) → publications_of later ≡ publications_of own → publications_of (earlier ++ later) ≡ publications_of (earlier ++ own)
+said_after earlier own later e = map-append publication_in earlier later ∙ ap (λ l. publications_of earlier ++ l) e ∙ sym (map-append publication_in earlier own)
 
 pub resent_of : (keeper : Keeper) → AreNumbered (length keeper.earlier) keeper.own → Each (IsOfOwn (publications_of (all_own keeper))) (resent keeper)
 resent_of keeper numbered =
@@ -146,7 +146,7 @@ resent_of keeper numbered =
     let stand : StandFrom ps n (publications_of keeper.own) = λ j q e.
     ap (λ l. slice_get l (n + j)) (map-append publication_in keeper.earlier keeper.own)
     ∙ ap (λ m. slice_get (publications_of keeper.earlier ++ publications_of keeper.own) (m + j)) (sym (length-map keeper.earlier publication_in))
-    ∙ get_behind (publications_of keeper.earlier) (publications_of keeper.own) j ∙ e in
+    ∙ get_after (publications_of keeper.earlier) (publications_of keeper.own) j ∙ e in
     each_append (IsOfOwn ps) (map (λ id. plain (packets.Pubrel id)) keeper.releases ++ sent_again keeper.own) (sent_first keeper.own)
     (each_append (IsOfOwn ps) (map (λ id. plain (packets.Pubrel id)) keeper.releases) (sent_again keeper.own) (releases_of ps keeper.releases)
     (again_of ps n keeper.own numbered stand))

@@ -49,9 +49,9 @@ is_over place past c opens spared kept same over =
 -- ---- the client's own Connect
 
 -- accepted
-pub behind_connect : (past : Past) (c : Client) (x : ConnectionName) → IsKeptSession (session_of past c)
+pub after_connect : (past : Past) (c : Client) (x : ConnectionName) → IsKeptSession (session_of past c)
     → Behind (record { command = commands.Connect x c false; mark = Mark.Accepted }) past c (Some x) (Some false) (received_of past c)
-behind_connect past c x kept =
+after_connect past c x kept =
     let place : Place = record { command = commands.Connect x c false; mark = Mark.Accepted } in
     let opened = ap (λ b. only_if b (Some (x, false))) (same_self c) in
     record {
@@ -82,9 +82,9 @@ own_ends past c x packet mark current =
     ap (any_connection (λ y. same_connection x y && is_leaving mark)) current ∙ ap (λ b. b && is_leaving mark) (same_itself x)
 
 -- a packet that stays
-pub behind_packet : (past : Past) (c : Client) (x : ConnectionName) (packet : Packet) (mark : Mark) → current_connection past c ≡ Some x → session_of past c ≡ Some false → is_leaving mark ≡ false
+pub after_packet : (past : Past) (c : Client) (x : ConnectionName) (packet : Packet) (mark : Mark) → current_connection past c ≡ Some x → session_of past c ≡ Some false → is_leaving mark ≡ false
     → Behind (at_packet x packet mark) past c (Some x) (Some false) (received_by (commands.Packet x packet) mark c (received_of past c))
-behind_packet past c x packet mark current live staying =
+after_packet past c x packet mark current live staying =
     let place = at_packet x packet mark in
     record {
       connection_is = current_stays place past c refl (own_ends past c x packet mark current ∙ staying) ∙ current;
@@ -93,10 +93,10 @@ behind_packet past c x packet mark current live staying =
     }
 
 -- a new publication at QoS 2
-pub behind_taken : (past : Past) (c : Client) (x : ConnectionName) (p : Publish) → current_connection past c ≡ Some x → session_of past c ≡ Some false
+pub after_taken : (past : Past) (c : Client) (x : ConnectionName) (p : Publish) → current_connection past c ≡ Some x → session_of past c ≡ Some false
     → Behind (at_packet x (packets.Publish p) (Mark.Taken c)) past c (Some x) (Some false) (receives p.delivery (received_of past c))
-behind_taken past c x p current live =
-    let b = behind_packet past c x (packets.Publish p) (Mark.Taken c) current live refl in
+after_taken past c x p current live =
+    let b = after_packet past c x (packets.Publish p) (Mark.Taken c) current live refl in
     record {
       connection_is = b.connection_is;
       session_is = b.session_is;
@@ -104,10 +104,10 @@ behind_taken past c x p current live =
     }
 
 -- a PUBREL
-pub behind_pubrel : (past : Past) (c : Client) (x : ConnectionName) (id : ℕ) → current_connection past c ≡ Some x → session_of past c ≡ Some false
+pub after_pubrel : (past : Past) (c : Client) (x : ConnectionName) (id : ℕ) → current_connection past c ≡ Some x → session_of past c ≡ Some false
     → Behind (at_packet x (packets.Pubrel id) (Mark.Handled c)) past c (Some x) (Some false) (without_id id (received_of past c))
-behind_pubrel past c x id current live =
-    let b = behind_packet past c x (packets.Pubrel id) (Mark.Handled c) current live refl in
+after_pubrel past c x id current live =
+    let b = after_packet past c x (packets.Pubrel id) (Mark.Handled c) current live refl in
     record {
       connection_is = b.connection_is;
       session_is = b.session_is;
@@ -116,12 +116,12 @@ behind_pubrel past c x id current live =
 
 -- ---- the connection is lost, and a new ballot
 
-pub behind_lost : (past : Past) (c : Client) (x : ConnectionName) → IsKeptSession (session_of past c) → any_connection (same_connection x) (current_connection past c) ≡ true
+pub after_lost : (past : Past) (c : Client) (x : ConnectionName) → IsKeptSession (session_of past c) → any_connection (same_connection x) (current_connection past c) ≡ true
     → IsOver (record { command = commands.Lost x; mark = Mark.NoPart }) past c
-behind_lost past c x kept over = is_over (record { command = commands.Lost x; mark = Mark.NoPart }) past c refl refl kept refl over
+after_lost past c x kept over = is_over (record { command = commands.Lost x; mark = Mark.NoPart }) past c refl refl kept refl over
 
-pub behind_start : (past : Past) (c : Client) (ballot : ℕ) → IsKeptSession (session_of past c) → IsOver (record { command = commands.Start ballot; mark = Mark.NoPart }) past c
-behind_start past c ballot kept = by (current_connection past c) refl
+pub after_start : (past : Past) (c : Client) (ballot : ℕ) → IsKeptSession (session_of past c) → IsOver (record { command = commands.Start ballot; mark = Mark.NoPart }) past c
+after_start past c ballot kept = by (current_connection past c) refl
   where
     place : Place
     place = record { command = commands.Start ballot; mark = Mark.NoPart }

@@ -57,9 +57,9 @@ none_yet : (past : Past) (c : Client) (connections : List Connection) → Each (
 none_yet past c [] = tt
 none_yet past c (κ ∷ connections) = (not_yet past c κ, none_yet past c connections)
 
-behind_place : (place : Place) (past : Past) (c : Client) (connections : List Connection) → Each (IsFresh place c) connections
+after_place : (place : Place) (past : Past) (c : Client) (connections : List Connection) → Each (IsFresh place c) connections
     → flat_map (λ start. accepted_in (place ∷ past) c start connections) (starts_of (place ∷ past) c) ≡ flat_map (λ start. accepted_in past c start connections) (starts_of past c)
-behind_place place past c connections fresh = by (begins place past c)
+after_place place past c connections fresh = by (begins place past c)
   where
     now : ℕ → List Publication
     now start = accepted_in (place ∷ past) c start connections
@@ -81,7 +81,7 @@ behind_place place past c connections fresh = by (begins place past c)
 turn_placed : (place : Place) (past : Past) (c : Client) (i : ℕ) (connections : List Connection) → Each (IsFresh place c) connections → IsInTurn past c connections
     → IsInTurn (place ∷ past) c (counted_at i connections)
 turn_placed place past c i connections fresh h =
-    kept_counted [] i connections ∙ h ∙ sym (behind_place place past c connections fresh)
+    kept_counted [] i connections ∙ h ∙ sym (after_place place past c connections fresh)
     ∙ flat_map_same (λ start. accepted_in (place ∷ past) c start connections) (λ start. accepted_in (place ∷ past) c start (counted_at i connections))
     (λ start. sym (accepted_counted (place ∷ past) c start i connections)) (starts_of (place ∷ past) c)
 

@@ -29,14 +29,14 @@ abbrev pub IsHeadOpened : Past → Client → List Connection → Type 0
 IsHeadOpened past c [] = Unit {0}
 IsHeadOpened past c (κ ∷ others) = (opened_in past c κ.name ≡ None) ⊎ (opened_in past c κ.name ≡ session_start past c)
 
-abbrev pub behind_first : List Bool → List Bool
-behind_first [] = []
-behind_first (b ∷ flags) = flags
+abbrev pub after_first : List Bool → List Bool
+after_first [] = []
+after_first (b ∷ flags) = flags
 
 -- what it accepted in this session on the others it accepted on those that are kept
 abbrev pub IsTailKept : Past → Client → ℕ → List Bool → List Connection → Type 0
 IsTailKept past c start flags [] = Unit {0}
-IsTailKept past c start flags (κ ∷ others) = accepted_in past c start others ≡ accepted_on (kept_of (behind_first flags) others)
+IsTailKept past c start flags (κ ∷ others) = accepted_in past c start others ≡ accepted_on (kept_of (after_first flags) others)
 
 pub record Lasts (limits : Limits) (c : Client) (flags : List Bool) (past : Past) (connections : List Connection) : Type 0 where
   pub head : IsHeadOpened past c connections
@@ -84,7 +84,7 @@ tail_placed : (place : Place) (past : Past) (c : Client) (start i : ℕ) (flags 
 tail_placed place past c start i flags [] fresh h = tt
 tail_placed place past c start zero flags (κ ∷ others) fresh h = accepted_placed place past c start others fresh.1 ∙ h
 tail_placed place past c start (suc i) flags (κ ∷ others) fresh h =
-    accepted_counted (place ∷ past) c start i others ∙ accepted_placed place past c start others fresh.1 ∙ h ∙ sym (kept_counted (behind_first flags) i others)
+    accepted_counted (place ∷ past) c start i others ∙ accepted_placed place past c start others fresh.1 ∙ h ∙ sym (kept_counted (after_first flags) i others)
 
 -- if it begins, the first one
 nothing_kept : (past : Past) (c : Client) (start : ℕ) (flags : List Bool) (others : List Connection) → Each (λ (κ : Connection). κ.accepted ≡ []) others
@@ -97,9 +97,9 @@ nothing_kept past c start flags others h =
 tail_begins : (place : Place) (past : Past) (c : Client) (start i : ℕ) (flags : List Bool) (connections : List Connection) → Each (λ (κ : Connection). κ.accepted ≡ []) connections
     → IsTailKept (place ∷ past) c start flags (counted_at i connections)
 tail_begins place past c start i flags [] h = tt
-tail_begins place past c start zero flags (κ ∷ others) h = nothing_kept (place ∷ past) c start (behind_first flags) others h.1
+tail_begins place past c start zero flags (κ ∷ others) h = nothing_kept (place ∷ past) c start (after_first flags) others h.1
 tail_begins place past c start (suc i) flags (κ ∷ others) h =
-    accepted_counted (place ∷ past) c start i others ∙ nothing_kept (place ∷ past) c start (behind_first flags) others h.1 ∙ sym (kept_counted (behind_first flags) i others)
+    accepted_counted (place ∷ past) c start i others ∙ nothing_kept (place ∷ past) c start (after_first flags) others h.1 ∙ sym (kept_counted (after_first flags) i others)
 
 pub entries_over : (limits : Limits) (place : Place) (past : Past) (c : Client) (start : ℕ) → is_at start (session_start (place ∷ past) c) ≡ false → entries_in limits (place ∷ past) c start ≡ entries_in limits past c start
 entries_over limits place past c start e = ap (λ b. if b then entries_of limits (place ∷ past) c else entries_in limits past c start) e

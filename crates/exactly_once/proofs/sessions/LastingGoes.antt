@@ -28,7 +28,7 @@ use Rattle.exactly_once.proofs.sessions.Openings.{unopened}
 use Rattle.exactly_once.proofs.sessions.AcceptedShares.{accepts_same, accepted_head, accepted_new}
 use Rattle.exactly_once.proofs.sessions.Life.{AreShutUnopened, IsLife}
 use Rattle.exactly_once.proofs.sessions.LifePlaces.{life_command, own_opens, own_spares}
-use Rattle.exactly_once.proofs.sessions.Lasting.{IsHeadOpened, behind_first, Lasts, lasts_placed}
+use Rattle.exactly_once.proofs.sessions.Lasting.{IsHeadOpened, after_first, Lasts, lasts_placed}
 use Rattle.client_base.specs.lists.Lists.{Each}
 
 -- ---- the whole of this session
@@ -38,7 +38,7 @@ on_none [] = refl
 on_none (true ∷ flags) = refl
 on_none (false ∷ flags) = refl
 
-on_head : (flags : List Bool) (κ : Connection) (others : List Connection) → IsHeadKept flags → accepted_on (kept_of flags (κ ∷ others)) ≡ accepted_on (kept_of (behind_first flags) others) ++ κ.accepted
+on_head : (flags : List Bool) (κ : Connection) (others : List Connection) → IsHeadKept flags → accepted_on (kept_of flags (κ ∷ others)) ≡ accepted_on (kept_of (after_first flags) others) ++ κ.accepted
 on_head [] κ others h = refl
 on_head (true ∷ flags) κ others h = refl
 on_head (false ∷ flags) κ others h = absurd h

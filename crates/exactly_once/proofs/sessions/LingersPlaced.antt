@@ -74,14 +74,14 @@ first_taken i connections κ newest count others names at are some new name =
         both_ways (same_connection κ.name newest.name) (other_name newest.name others j κ names.0 at) (ap (same_connection κ.name) (sym name) ∙ same_itself κ.name)
 
 -- nor is an older one's accepted, if the client is in step
-behind_newest : (limits : Limits) (c : Client) (past : Past) (i : ℕ) (κ newest : Connection) (count : ℕ) (others : List Connection) → session_of past c ≡ None → has_begun past c ≡ true
+after_newest : (limits : Limits) (c : Client) (past : Past) (i : ℕ) (κ newest : Connection) (count : ℕ) (others : List Connection) → session_of past c ≡ None → has_begun past c ≡ true
     → slice_get (record newest { taken = count } ∷ others) i ≡ Some κ → 1 ≤ count → κ.taken ≡ 0 → κ.confirmed ≡ false
     → AreWelcome (accepted_at κ.name c ∷ past) c (counted_at i (record newest { taken = count } ∷ others)) → ⊥
-behind_newest limits c past zero κ newest count others none begun at some new unconfirmed step =
+after_newest limits c past zero κ newest count others none begun at some new unconfirmed step =
     let same : record newest { taken = count } ≡ κ = cc in
     let e : count ≡ κ.taken = ap (λ (z : Connection). z.taken) same in
     omega (arith, some, new, e)
-behind_newest limits c past (suc j) κ newest count others none begun at some new unconfirmed step =
+after_newest limits c past (suc j) κ newest count others none begun at some new unconfirmed step =
     none_older past c j κ (record newest { taken = count }) others none begun at unconfirmed step
 
 pub lingers_takes : (limits : Limits) (c : Client) (s : Story) (i : ℕ) (κ : Connection) (w : Written) → IsLife limits c s → (l : Lingers limits c s) → slice_get s.connections i ≡ Some κ → slice_get κ.written κ.taken ≡ Some w
@@ -122,7 +122,7 @@ lingers_takes limits c s i κ w life l stands next step = by (life_command limit
 
     older : κ.taken ≡ 0 → place_of limits s.past command ≡ accepted_at κ.name c → ⊥
     older new at =
-        behind_newest limits c s.past i κ l.newest l.count l.others l.since.none l.since.begun (subst (λ (cs : List Connection). slice_get cs i ≡ Some κ) l.are stands) l.since.some new
+        after_newest limits c s.past i κ l.newest l.count l.others l.since.none l.since.begun (subst (λ (cs : List Connection). slice_get cs i ≡ Some κ) l.are stands) l.since.some new
         (ap (λ (z : Connection). z.confirmed) (untouched new).is)
         (subst (λ (q : Place). AreWelcome (q ∷ s.past) c (counted_at i (record l.newest { taken = l.count } ∷ l.others))) at
         (subst (λ (cs : List Connection). AreWelcome (place_of limits s.past command ∷ s.past) c (counted_at i cs)) l.are step))

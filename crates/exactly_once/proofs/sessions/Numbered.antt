@@ -19,7 +19,7 @@ use Rattle.exactly_once.proofs.keeping.StoryTrace.{told_stories_are_sound}
 use Rattle.exactly_once.proofs.sessions.Beside.{kept_of, HasBeside, with_connections}
 use Rattle.exactly_once.proofs.sessions.Anew.{waiting}
 use Rattle.exactly_once.proofs.sessions.Awaiting.{HasAwaiting}
-use Rattle.exactly_once.proofs.sessions.Rising.{rising_behind, published_from, published_below, published_rises, prefix_each, prefix_rises}
+use Rattle.exactly_once.proofs.sessions.Rising.{rising_after, published_from, published_below, published_rises, prefix_each, prefix_rises}
 use Rattle.exactly_once.proofs.sessions.Life.{IsLife}
 use Rattle.exactly_once.proofs.sessions.LastingGoes.{Stands}
 
@@ -64,7 +64,7 @@ lasts_rises : (limits : Limits) → IsSteady limits → (c : Client) (flags : Li
 lasts_rises limits steady c flags s life b o alone =
     record {
       rising = subst IsRising (sym o.is)
-          (rising_behind bound o.olds news o.rising o.below (prefix_rises news (published own) front (published_rises bound own numbers)) (prefix_each (λ m. bound ≤ m) news (published own) front (published_from bound own numbers)));
+          (rising_after bound o.olds news o.rising o.below (prefix_rises news (published own) front (published_rises bound own numbers)) (prefix_each (λ m. bound ≤ m) news (published own) front (published_from bound own numbers)));
       below = subst (Each (λ n. n < next_number s.keeper)) (sym o.is)
           (each_append (λ n. n < next_number s.keeper) o.olds news (each_then (λ n. n < bound) (λ n. n < next_number s.keeper) o.olds (λ n less. omega (arith, less)) o.below)
           (prefix_each (λ n. n < next_number s.keeper) news (published own) front (published_below bound own numbers)));

@@ -24,9 +24,9 @@ joined x [] ys h g = g
 joined x (z ∷ xs) ys h g = (h.0, joined x xs ys h.1 g)
 
 -- those below a bound are in front of those from it on
-pub rising_behind : (b : ℕ) (xs ys : List ℕ) → IsRising xs → Each (λ n. n < b) xs → IsRising ys → Each (λ n. b ≤ n) ys → IsRising (xs ++ ys)
-rising_behind b [] ys h less g more = g
-rising_behind b (x ∷ xs) ys h less g more = (joined x xs ys h.0 (above b x ys less.0 more), rising_behind b xs ys h.1 less.1 g more)
+pub rising_after : (b : ℕ) (xs ys : List ℕ) → IsRising xs → Each (λ n. n < b) xs → IsRising ys → Each (λ n. b ≤ n) ys → IsRising (xs ++ ys)
+rising_after b [] ys h less g more = g
+rising_after b (x ∷ xs) ys h less g more = (joined x xs ys h.0 (above b x ys less.0 more), rising_after b xs ys h.1 less.1 g more)
 
 -- what rises is distinct
 other : (x y : ℕ) → x < y → (x == y) ≡ false

@@ -22,7 +22,7 @@ use Rattle.exactly_once.specs.Inside.AsSubscriber.{items_of, forward_of, held, l
 use Rattle.exactly_once.specs.Inside.Shape.{HasShape}
 use Rattle.exactly_once.specs.Inside.ConnectionShape.{ConnectionInShape}
 use Rattle.exactly_once.proofs.Takes.{same_name_self}
-use Rattle.exactly_once.proofs.subscribing.Views.{View, seen, view, link_as, link_is, parted, comes_behind}
+use Rattle.exactly_once.proofs.subscribing.Views.{View, seen, view, link_as, link_is, parted, comes_after}
 use Rattle.exactly_once.proofs.subscribing.Placed.{placed}
 
 -- a client without a connection has nothing in transit on an earlier one
@@ -51,7 +51,7 @@ view_parted limits place past c current other keeper (κ ∷ others) g sends not
     by true zero = refl
     by true (suc n) =
         ap₂ (λ l b. Some (l, b))
-        (comes_behind limits place past κ g.0.handled_within ∙ ap (λ l. forward_of (to_come limits past κ) ++ l) (sends κ.name first) ∙ append-nil (forward_of (to_come limits past κ)))
+        (comes_after limits place past κ g.0.handled_within ∙ ap (λ l. forward_of (to_come limits past κ) ++ l) (sends κ.name first) ∙ append-nil (forward_of (to_come limits past κ)))
         (not κ.name first)
 
 -- the sender leaves, if it had not

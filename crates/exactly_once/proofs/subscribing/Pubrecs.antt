@@ -36,7 +36,7 @@ use Rattle.exactly_once.proofs.subscribing.Placed.{placed}
 use Rattle.exactly_once.proofs.subscribing.Heard.{pubrec_due}
 use Rattle.exactly_once.proofs.subscribing.Elsewhere.{goes_elsewhere}
 use Rattle.exactly_once.proofs.subscribing.Own.{IsOwn, own_left}
-use Rattle.exactly_once.proofs.subscribing.places.Answered.{all_queued, full_pubrec, now_released, has_behind}
+use Rattle.exactly_once.proofs.subscribing.places.Answered.{all_queued, full_pubrec, now_released, has_after}
 use Rattle.exactly_once.proofs.subscribing.places.Quiet.{full_rows}
 use Rattle.exactly_once.proofs.subscribing.Answers.{at_own, answered, entries_answered, answers_on, own_if}
 use Rattle.exactly_once.proofs.subscribing.Answering.{own_hears}
@@ -76,7 +76,7 @@ pubrec_has limits s y id e sent =
     (entries_answered limits s y (packets.Pubrec id) e refl ∙ ap (λ o. started w n o (answered s limits y (packets.Pubrec id) ++ [])) e)
     ∙ ap (has_id id) (released_started (suc n) w n [] (answered s limits y (packets.Pubrec id) ++ []))
     ∙ ap (λ (l : List Entry). has_id id (released_below (suc n) l)) (append-nil (answered s limits y (packets.Pubrec id)) ∙ own_if s (map (at_pubrec n id) es) es)
-    ∙ has_behind id (released_below n (map (at_pubrec n id) es)) (released_at n (map (at_pubrec n id) es)) (now_released n id es sent)
+    ∙ has_after id (released_below n (map (at_pubrec n id) es)) (released_at n (map (at_pubrec n id) es)) (now_released n id es sent)
 
 -- a PUBREC
 pub own_pubrec : (limits : Limits) (s : Story) (i : ℕ) (κ : Connection) (w : Written) (id : ℕ) → IsOwn limits s i κ w → IsGood (as_subscriber limits s) → w.packet ≡ packets.Pubrec id

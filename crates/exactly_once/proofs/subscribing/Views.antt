@@ -70,9 +70,9 @@ unfolding put_to
 put_more limits place past x = refl
 
 -- what a place sends comes after
-pub comes_behind : (limits : Limits) (place : Place) (past : Past) (κ : Connection) → κ.handled ≤ length (put_to limits past κ.name)
+pub comes_after : (limits : Limits) (place : Place) (past : Past) (κ : Connection) → κ.handled ≤ length (put_to limits past κ.name)
     → forward_of (to_come limits (place ∷ past) κ) ≡ forward_of (to_come limits past κ) ++ forward_of (sends_to κ.name (answers_at limits place past))
-comes_behind limits place past κ h =
+comes_after limits place past κ h =
     ap (λ ps. forward_of (drop κ.handled ps)) (put_more limits place past κ.name)
     ∙ ap forward_of (drop-append-le κ.handled (put_to limits past κ.name) (sends_to κ.name (answers_at limits place past)) h)
     ∙ forward_append (to_come limits past κ) (sends_to κ.name (answers_at limits place past))
@@ -137,5 +137,5 @@ view_grown limits place past c current keeper (κ ∷ others) more g sends = by 
     by true zero = refl
     by true (suc n) =
         ap (λ l. Some (l, is_current current κ.name))
-        (comes_behind limits place past κ g.0.handled_within ∙ ap (λ l. forward_of (to_come limits past κ) ++ l) (sends κ.name (first_named κ others)))
+        (comes_after limits place past κ g.0.handled_within ∙ ap (λ l. forward_of (to_come limits past κ) ++ l) (sends κ.name (first_named κ others)))
         ∙ one (is_current current κ.name)

@@ -39,12 +39,12 @@ backward_append (w ∷ ws) more =
     ∙ ap (λ l. l ++ backward_of more) (sym (backward_first w ws))
 
 -- what is written after is to be taken after
-pub taken_behind : (n : ℕ) (ws more : List Written) → n ≤ length ws → backward_of (drop n (ws ++ more)) ≡ backward_of (drop n ws) ++ backward_of more
-taken_behind n ws more h = ap backward_of (drop-append-le n ws more h) ∙ backward_append (drop n ws) more
+pub taken_after : (n : ℕ) (ws more : List Written) → n ≤ length ws → backward_of (drop n (ws ++ more)) ≡ backward_of (drop n ws) ++ backward_of more
+taken_after n ws more h = ap backward_of (drop-append-le n ws more h) ∙ backward_append (drop n ws) more
 
 -- what is no answer changes nothing
 pub taken_same : (n : ℕ) (ws more : List Written) → n ≤ length ws → backward_of more ≡ [] → backward_of (drop n (ws ++ more)) ≡ backward_of (drop n ws)
-taken_same n ws more h e = taken_behind n ws more h ∙ ap (λ l. backward_of (drop n ws) ++ l) e ∙ append-nil (backward_of (drop n ws))
+taken_same n ws more h e = taken_after n ws more h ∙ ap (λ l. backward_of (drop n ws) ++ l) e ∙ append-nil (backward_of (drop n ws))
 
 -- ---- a CONNACK's writing
 

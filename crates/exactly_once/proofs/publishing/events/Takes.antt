@@ -23,7 +23,7 @@ use Rattle.exactly_once.proofs.publishing.First.{story_by}
 use Rattle.exactly_once.proofs.publishing.Last.{is_named}
 use Rattle.exactly_once.proofs.publishing.Counted.{takes_nobodys}
 use Rattle.exactly_once.proofs.publishing.events.TakesConnect.{takes_connect}
-use Rattle.exactly_once.proofs.publishing.events.TakesOwn.{behind_place}
+use Rattle.exactly_once.proofs.publishing.events.TakesOwn.{after_place}
 use Rattle.exactly_once.proofs.publishing.events.TakesPacket.{takes_own, on_current}
 
 -- the current connection, or another
@@ -36,9 +36,9 @@ current_or_not (Some y) x = by (cases_Bool (same_connection y x))
     by (inr e) = inr (λ f. let same : y ≡ x = cc in both_ways (same_connection y x) e (ap (λ z. same_connection z x) same ∙ same_itself x))
 
 -- each packet after the first is a Packet
-packet_behind : (x : ConnectionName) (n : ℕ) (packet : Packet) → commands.Packet x packet ≡ command_of x (suc n) packet
-packet_behind x n (packets.Connect q) = refl
-packet_behind x n _ = refl
+packet_after : (x : ConnectionName) (n : ℕ) (packet : Packet) → commands.Packet x packet ≡ command_of x (suc n) packet
+packet_after x n (packets.Connect q) = refl
+packet_after x n _ = refl
 
 takes_later : (limits : Limits) (past : Past) (keeper : Keeper) (connections : List Connection) (i : ℕ) (κ : Connection) (n : ℕ) (w : Written) → HasShape limits (story_by past connections keeper)
     → slice_get connections i ≡ Some κ → slice_get κ.written κ.taken ≡ Some w → κ.taken ≡ suc n
@@ -50,7 +50,7 @@ takes_later limits past keeper connections i κ n w shape stands next some = by 
         → GoesTo (as_publisher limits (story_by past connections keeper))
         (as_publisher limits (story_by (place_of limits past (commands.Packet κ.name w.packet) ∷ past) (counted_at i connections) keeper))
     by (inl current) =
-        subst (λ (m : Mark). GoesTo (as_publisher limits (story_by past connections keeper)) (behind_place limits past keeper connections i (at_packet κ.name w.packet m)))
+        subst (λ (m : Mark). GoesTo (as_publisher limits (story_by past connections keeper)) (after_place limits past keeper connections i (at_packet κ.name w.packet m)))
         (sym (ap (packet_mark_of limits past w.packet) (own_owner past keeper.client connections κ.name shape.nobody_else (is_named i connections κ stands) current)))
         (takes_own limits past keeper connections i κ w.packet w.number (on_current limits past keeper connections i κ n w shape stands next some current))
     by (inr not) = takes_nobodys limits past keeper connections i κ w.packet shape stands not
@@ -67,5 +67,5 @@ takes_it limits past keeper connections i κ w shape stands next = by κ.taken r
     by zero e = takes_connect limits past keeper connections i κ w shape stands (ap (slice_get κ.written) (sym e) ∙ next) e
     by (suc n) e =
         subst (λ (command : Command). GoesTo (as_publisher limits (story_by past connections keeper))
-        (as_publisher limits (story_by (place_of limits past command ∷ past) (counted_at i connections) keeper))) (packet_behind κ.name n w.packet)
+        (as_publisher limits (story_by (place_of limits past command ∷ past) (counted_at i connections) keeper))) (packet_after κ.name n w.packet)
         (takes_later limits past keeper connections i κ n w shape stands next e)

@@ -42,8 +42,8 @@ pub record OnCurrent (limits : Limits) (past : Past) (keeper : Keeper) (connecti
   pub live : session_of past keeper.client ≡ Some false
 
 -- the story's handshake after a place
-abbrev pub behind_place : Limits → Past → Keeper → List Connection → ℕ → Place → Handshake ℕ
-behind_place limits past keeper connections i place = as_publisher limits (story_by (place ∷ past) (counted_at i connections) keeper)
+abbrev pub after_place : Limits → Past → Keeper → List Connection → ℕ → Place → Handshake ℕ
+after_place limits past keeper connections i place = as_publisher limits (story_by (place ∷ past) (counted_at i connections) keeper)
 
 -- the packet that is taken comes off the front
 pub taken_front : (κ : Connection) (w : Written) → slice_get κ.written κ.taken ≡ Some w
@@ -57,7 +57,7 @@ pub passes : (limits : Limits) (past : Past) (keeper : Keeper) (connections : Li
     → received_by (commands.Packet κ.name w.packet) mark keeper.client (received_of past keeper.client) ≡ received_of past keeper.client
     → NoneSent κ.name (packet_answers limits (at_packet κ.name w.packet mark) past κ.name w.packet mark)
     → ((f : List (Forward ℕ)) → forward_of_one w.packet w.number f ≡ f)
-    → GoesTo (as_publisher limits (story_by past connections keeper)) (behind_place limits past keeper connections i (at_packet κ.name w.packet mark))
+    → GoesTo (as_publisher limits (story_by past connections keeper)) (after_place limits past keeper connections i (at_packet κ.name w.packet mark))
 passes limits past keeper connections i κ w mark o staying old received none quiet =
     let place = at_packet κ.name w.packet mark in
     goes_counted limits place past keeper connections i κ o.whole o.stands old (sym (received_live place past keeper.client refl refl o.live ∙ received))
@@ -76,7 +76,7 @@ pub ends_current : (limits : Limits) (past : Past) (keeper : Keeper) (connection
     → is_leaving mark ≡ true → is_new (commands.Packet κ.name w.packet) mark ≡ false
     → received_by (commands.Packet κ.name w.packet) mark keeper.client (received_of past keeper.client) ≡ received_of past keeper.client
     → NoneSent κ.name (packet_answers limits (at_packet κ.name w.packet mark) past κ.name w.packet mark)
-    → GoesTo (as_publisher limits (story_by past connections keeper)) (behind_place limits past keeper connections i (at_packet κ.name w.packet mark))
+    → GoesTo (as_publisher limits (story_by past connections keeper)) (after_place limits past keeper connections i (at_packet κ.name w.packet mark))
 ends_current limits past keeper connections i κ w mark o leaving old received none =
     let place = at_packet κ.name w.packet mark in
     let over = ap (any_connection (λ y. same_connection κ.name y && is_leaving mark)) o.current ∙ ap₂ (λ a b. a && b) (same_itself κ.name) leaving in
@@ -113,10 +113,10 @@ link_taken (Forward.Publish id v) h l = by (h.received id)
 pub takes_one : (limits : Limits) (past : Past) (keeper : Keeper) (connections : List Connection) (i : ℕ) (κ : Connection) (w : Written) (mark : Mark) (m : Forward ℕ)
     → OnCurrent limits past keeper connections i κ w → is_leaving mark ≡ false → ((f : List (Forward ℕ)) → forward_of_one w.packet w.number f ≡ m ∷ f)
     → backward_of_own (sends_to κ.name (packet_answers limits (at_packet κ.name w.packet mark) past κ.name w.packet mark)) ≡ answer m ∷ []
-    → ((l : Link ℕ) → (taking m (as_publisher limits (story_by past connections keeper)) l).accepted ≡ (behind_place limits past keeper connections i (at_packet κ.name w.packet mark)).accepted)
+    → ((l : Link ℕ) → (taking m (as_publisher limits (story_by past connections keeper)) l).accepted ≡ (after_place limits past keeper connections i (at_packet κ.name w.packet mark)).accepted)
     → ((l : Link ℕ) (id : ℕ) → (taking m (as_publisher limits (story_by past connections keeper)) l).received id
     ≡ has_id id (received_by (commands.Packet κ.name w.packet) mark keeper.client (received_of past keeper.client)))
-    → GoesTo (as_publisher limits (story_by past connections keeper)) (behind_place limits past keeper connections i (at_packet κ.name w.packet mark))
+    → GoesTo (as_publisher limits (story_by past connections keeper)) (after_place limits past keeper connections i (at_packet κ.name w.packet mark))
 takes_one limits past keeper connections i κ w mark m o staying forward answers accepted received =
     let place = at_packet κ.name w.packet mark in
     let h = as_publisher limits (story_by past connections keeper) in
@@ -133,7 +133,7 @@ takes_one limits past keeper connections i κ w mark m o staying forward answers
     let l = link_by true online f (b ++ answer m ∷ []) in
     let come : backward_of_own (drop κ.handled (put_to limits (place ∷ past) κ.name)) ≡ b ++ answer m ∷ [] =
     come_more limits place past κ o.shape.handled_within ∙ ap (λ g. b ++ g) answers in
-    let after : (behind_place limits past keeper connections i place).link ≡ l =
+    let after : (after_place limits past keeper connections i place).link ≡ l =
     ap (link_of_own limits (place ∷ past) later online) o.after ∙ link_is limits (place ∷ past) later online (Some (taken_more κ))
     ∙ ap₂ (λ c g. link_by c online f g) there come in
     record {

@@ -28,7 +28,7 @@ use Rattle.exactly_once.proofs.publishing.First.{story_by}
 use Rattle.exactly_once.proofs.publishing.events.Receives.{each_at}
 use Rattle.exactly_once.proofs.publishing.Last.{each_there, taken_more, LastAfter, last_counted}
 use Rattle.exactly_once.proofs.publishing.PacketAnswers.{IsOfHandshake, packet_none}
-use Rattle.exactly_once.proofs.publishing.events.TakesOwn.{OnCurrent, behind_place, passes, ends_current}
+use Rattle.exactly_once.proofs.publishing.events.TakesOwn.{OnCurrent, after_place, passes, ends_current}
 use Rattle.exactly_once.proofs.publishing.events.TakesPublish.{takes_pubrel, takes_low}
 use Rattle.exactly_once.proofs.publishing.events.TakesTwo.{takes_two}
 use Rattle.exactly_once.proofs.publishing.Elsewhere.{none_one}
@@ -39,21 +39,21 @@ handles : (limits : Limits) (past : Past) (keeper : Keeper) (connections : List 
     → is_new (commands.Packet κ.name packet) (Mark.Handled keeper.client) ≡ false
     → received_by (commands.Packet κ.name packet) (Mark.Handled keeper.client) keeper.client (received_of past keeper.client) ≡ received_of past keeper.client
     → (IsOfHandshake packet → ⊥) → ((f : List (Forward ℕ)) → forward_of_one packet number f ≡ f)
-    → GoesTo (as_publisher limits (story_by past connections keeper)) (behind_place limits past keeper connections i (at_packet κ.name packet (packet_mark limits past keeper.client packet)))
+    → GoesTo (as_publisher limits (story_by past connections keeper)) (after_place limits past keeper connections i (at_packet κ.name packet (packet_mark limits past keeper.client packet)))
 handles limits past keeper connections i κ packet number o marked old same other quiet =
-    subst (λ (m : Mark). GoesTo (as_publisher limits (story_by past connections keeper)) (behind_place limits past keeper connections i (at_packet κ.name packet m))) marked
+    subst (λ (m : Mark). GoesTo (as_publisher limits (story_by past connections keeper)) (after_place limits past keeper connections i (at_packet κ.name packet m))) marked
     (passes limits past keeper connections i κ (record { packet = packet; number = number }) (Mark.Handled keeper.client) o refl old same
     (packet_none κ.name limits (at_packet κ.name packet (Mark.Handled keeper.client)) past κ.name packet (Mark.Handled keeper.client) (λ h. absurd (other h))) quiet)
 
 -- by the kind of packet
 pub takes_own : (limits : Limits) (past : Past) (keeper : Keeper) (connections : List Connection) (i : ℕ) (κ : Connection) (packet : Packet) (number : Option ℕ)
     → OnCurrent limits past keeper connections i κ (record { packet = packet; number = number })
-    → GoesTo (as_publisher limits (story_by past connections keeper)) (behind_place limits past keeper connections i (at_packet κ.name packet (packet_mark limits past keeper.client packet)))
+    → GoesTo (as_publisher limits (story_by past connections keeper)) (after_place limits past keeper connections i (at_packet κ.name packet (packet_mark limits past keeper.client packet)))
 takes_own limits past keeper connections i κ (packets.Publish p) number o = by p.delivery number o
   where
     by : (d : Delivery) (number : Option ℕ) → OnCurrent limits past keeper connections i κ (record { packet = packets.Publish (record p { delivery = d }); number = number })
         → GoesTo (as_publisher limits (story_by past connections keeper))
-        (behind_place limits past keeper connections i (at_packet κ.name (packets.Publish (record p { delivery = d })) (packet_mark limits past keeper.client (packets.Publish (record p { delivery = d })))))
+        (after_place limits past keeper connections i (at_packet κ.name (packets.Publish (record p { delivery = d })) (packet_mark limits past keeper.client (packets.Publish (record p { delivery = d })))))
     by deliveries.AtMostOnce number o = takes_low limits past keeper connections i κ (record p { delivery = deliveries.AtMostOnce }) number o refl refl (λ ids. refl) refl (λ f. refl)
     by (deliveries.AtLeastOnce dup id) number o =
         takes_low limits past keeper connections i κ (record p { delivery = deliveries.AtLeastOnce dup id }) number o refl refl (λ ids. refl) (none_one κ.name κ.name (packets.Puback id) refl) (λ f. refl)

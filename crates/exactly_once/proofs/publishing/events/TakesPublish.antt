@@ -28,7 +28,7 @@ use Rattle.exactly_once.proofs.publishing.kept.Numbers.{same_counted}
 use Rattle.exactly_once.proofs.publishing.First.{story_by}
 use Rattle.exactly_once.proofs.publishing.Elsewhere.{NoneSent, none_both}
 use Rattle.exactly_once.proofs.publishing.AtPlaces.{no_number}
-use Rattle.exactly_once.proofs.publishing.events.TakesOwn.{OnCurrent, behind_place, passes, ends_current, takes_one}
+use Rattle.exactly_once.proofs.publishing.events.TakesOwn.{OnCurrent, after_place, passes, ends_current, takes_one}
 use Rattle.client_base.proofs.of_session_base.KeptIdentifiers.{has_without}
 
 -- one packet to its own connection
@@ -39,7 +39,7 @@ own_send x packet = ap (λ b. if b then packet ∷ [] else []) (same_itself x)
 
 pub takes_pubrel : (limits : Limits) (past : Past) (keeper : Keeper) (connections : List Connection) (i : ℕ) (κ : Connection) (id : ℕ) (number : Option ℕ)
     → OnCurrent limits past keeper connections i κ (record { packet = packets.Pubrel id; number = number })
-    → GoesTo (as_publisher limits (story_by past connections keeper)) (behind_place limits past keeper connections i (at_packet κ.name (packets.Pubrel id) (Mark.Handled keeper.client)))
+    → GoesTo (as_publisher limits (story_by past connections keeper)) (after_place limits past keeper connections i (at_packet κ.name (packets.Pubrel id) (Mark.Handled keeper.client)))
 takes_pubrel limits past keeper connections i κ id number o =
     let place = at_packet κ.name (packets.Pubrel id) (Mark.Handled keeper.client) in
     let ids = received_of past keeper.client in
@@ -55,7 +55,7 @@ pub takes_low : (limits : Limits) (past : Past) (keeper : Keeper) (connections :
     → is_exactly_once p.delivery ≡ false → ((ids : List ℕ) → receives p.delivery ids ≡ ids) → NoneSent κ.name (acknowledged κ.name p.delivery)
     → ((f : List (Forward ℕ)) → forward_of_one (packets.Publish p) number f ≡ f)
     → GoesTo (as_publisher limits (story_by past connections keeper))
-    (behind_place limits past keeper connections i (at_packet κ.name (packets.Publish p) (packet_mark limits past keeper.client (packets.Publish p))))
+    (after_place limits past keeper connections i (at_packet κ.name (packets.Publish p) (packet_mark limits past keeper.client (packets.Publish p))))
 takes_low limits past keeper connections i κ p number o first low same none quiet =
     subst (λ (b : Bool). GoesTo h (after (if b then Mark.Repeat keeper.client else if is_refused limits past (publication_of p) then Mark.Refused keeper.client else Mark.Taken keeper.client)))
     (sym first) (by (is_refused limits past (publication_of p)))
@@ -67,7 +67,7 @@ takes_low limits past keeper connections i κ p number o first low same none qui
     h = as_publisher limits (story_by past connections keeper)
 
     after : Mark → Handshake ℕ
-    after m = behind_place limits past keeper connections i (at_packet κ.name (packets.Publish p) m)
+    after m = after_place limits past keeper connections i (at_packet κ.name (packets.Publish p) m)
 
     kept : (b : Bool) (ids : List ℕ) → (if b then receives p.delivery ids else ids) ≡ ids
     kept true ids = same ids

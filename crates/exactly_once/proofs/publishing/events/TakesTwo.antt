@@ -35,7 +35,7 @@ use Rattle.exactly_once.proofs.publishing.kept.Numbers.{same_numbers, same_count
 use Rattle.exactly_once.proofs.publishing.First.{story_by}
 use Rattle.exactly_once.proofs.publishing.AtPlaces.{no_number}
 use Rattle.exactly_once.proofs.publishing.events.TakesPublish.{own_send}
-use Rattle.exactly_once.proofs.publishing.events.TakesOwn.{OnCurrent, behind_place, ends_current, takes_one}
+use Rattle.exactly_once.proofs.publishing.events.TakesOwn.{OnCurrent, after_place, ends_current, takes_one}
 
 -- the connection of this name
 pub connection_at : (i : ℕ) (connections : List Connection) (κ : Connection) → NamesApart connections → slice_get connections i ≡ Some κ → connection_named κ.name connections ≡ Some κ
@@ -79,7 +79,7 @@ at_two p dup id = record p { delivery = deliveries.ExactlyOnce dup id }
 pub takes_two : (limits : Limits) (past : Past) (keeper : Keeper) (connections : List Connection) (i : ℕ) (κ : Connection) (p : Publish) (dup : Bool) (id k : ℕ)
     → OnCurrent limits past keeper connections i κ (record { packet = packets.Publish (at_two p dup id); number = Some k })
     → GoesTo (as_publisher limits (story_by past connections keeper))
-    (behind_place limits past keeper connections i (at_packet κ.name (packets.Publish (at_two p dup id)) (packet_mark limits past keeper.client (packets.Publish (at_two p dup id)))))
+    (after_place limits past keeper connections i (at_packet κ.name (packets.Publish (at_two p dup id)) (packet_mark limits past keeper.client (packets.Publish (at_two p dup id)))))
 takes_two limits past keeper connections i κ p dup id k o = by (cases_Bool (has_id id (received_of past keeper.client))) (is_refused limits past (publication_of q))
   where
     q : Publish
@@ -95,7 +95,7 @@ takes_two limits past keeper connections i κ p dup id k o = by (cases_Bool (has
     h = as_publisher limits (story_by past connections keeper)
 
     after : Mark → Handshake ℕ
-    after m = behind_place limits past keeper connections i (at_packet κ.name (packets.Publish q) m)
+    after m = after_place limits past keeper connections i (at_packet κ.name (packets.Publish q) m)
 
     -- another try
     again : has_id id (received_of past keeper.client) ≡ true → GoesTo h (after (Mark.Repeat keeper.client))

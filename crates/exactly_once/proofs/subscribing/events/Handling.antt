@@ -22,7 +22,7 @@ use Rattle.exactly_once.specs.Acceptance.{accepted_on}
 use Rattle.exactly_once.specs.Inside.Projections.{to_come, to_be_taken, is_current, IsLike, GoesTo}
 use Rattle.exactly_once.specs.Inside.AsSubscriber.{items_of, published_in, forward_of, backward_of, held, link_to, as_subscriber}
 use Rattle.exactly_once.specs.Inside.ConnectionShape.{ConnectionInShape}
-use Rattle.exactly_once.proofs.subscribing.Written.{taken_behind}
+use Rattle.exactly_once.proofs.subscribing.Written.{taken_after}
 
 -- one packet in front
 abbrev pub forward_one : Packet → List (Forward Publication) → List (Forward Publication)
@@ -77,7 +77,7 @@ link_after limits s κ others n side more accepted received g taken h =
     ap₂ (λ (c : Client) (o : Option Connection). link_to limits s.past (current_connection s.past c) (κ' ∷ others) o) h.client (held_first side.keeper κ' others n h.stays_open (h.taken ∙ taken))
     ∙ ap₂ (λ x (k : ℕ). link_with (is_current (current_connection s.past s.keeper.client) x) (forward_of (drop k (put_to limits s.past x))) (backward_of (to_be_taken κ'))) h.name h.handled
     ∙ ap (link_with (is_current (current_connection s.past s.keeper.client) κ.name) (forward_of (drop (suc κ.handled) (put_to limits s.past κ.name))))
-    (ap₂ (λ (k : ℕ) (ws : List Written). backward_of (drop k ws)) h.taken h.written ∙ taken_behind κ.taken κ.written more g.within)
+    (ap₂ (λ (k : ℕ) (ws : List Written). backward_of (drop k ws)) h.taken h.written ∙ taken_after κ.taken κ.written more g.within)
 
 -- all fields but the link
 like_after : (limits : Limits) (s : Story) (κ : Connection) (others : List Connection) (side : Side) (more : List Written) (accepted : List Publication) (received : ℕ → Bool) (l : Link Publication)

@@ -21,7 +21,7 @@ use Rattle.exactly_once.specs.Inside.Shape.{NamesApart}
 use Rattle.exactly_once.specs.Inside.ConnectionShape.{ConnackFirst, ConnectionInShape}
 use Rattle.exactly_once.proofs.Takes.{same_name_self}
 use Rattle.exactly_once.proofs.subscribing.Counted.{named_at, left_own}
-use Rattle.exactly_once.proofs.subscribing.Views.{seen, view, parted, comes_behind}
+use Rattle.exactly_once.proofs.subscribing.Views.{seen, view, parted, comes_after}
 
 -- it is held from now on
 pub record IsFresh (keeper : Keeper) (connections : List Connection) (i : ℕ) (κ : Connection) : Type 0 where
@@ -91,7 +91,7 @@ is_new_one limits past c κ w g t next = record { written = written; put = put; 
 pub new_comes : (limits : Limits) (place : Place) (past : Past) (c : Client) (κ : Connection) (w : Written) → ConnectionInShape limits past c κ → IsNew limits past c κ w
     → forward_of (to_come limits (place ∷ past) κ) ≡ forward_of (sends_to κ.name (answers_at limits place past))
 new_comes limits place past c κ w g new =
-    comes_behind limits place past κ g.handled_within ∙ ap (λ l. forward_of (drop κ.handled l) ++ forward_of (sends_to κ.name (answers_at limits place past))) new.put
+    comes_after limits place past κ g.handled_within ∙ ap (λ l. forward_of (drop κ.handled l) ++ forward_of (sends_to κ.name (answers_at limits place past))) new.put
     ∙ ap (λ l. forward_of l ++ forward_of (sends_to κ.name (answers_at limits place past))) (drops κ.handled)
   where
     drops : (n : ℕ) → drop {A = Packet} n [] ≡ []
@@ -123,7 +123,7 @@ view_stale limits place past c current keeper (first ∷ others) i κ g apart at
     one : (n : ℕ) → same_connection first.name κ.name ≡ false → seen limits (place ∷ past) (Some κ.name) first (suc n) ≡ parted (seen limits past current first (suc n))
     one n f =
         ap₂ (λ l b. Some (l, b))
-        (comes_behind limits place past first g.0.handled_within ∙ ap (λ l. forward_of (to_come limits past first) ++ forward_of l) (sends first.name f) ∙ append-nil (forward_of (to_come limits past first)))
+        (comes_after limits place past first g.0.handled_within ∙ ap (λ l. forward_of (to_come limits past first) ++ forward_of l) (sends first.name f) ∙ append-nil (forward_of (to_come limits past first)))
         (same_turned κ.name first.name ∙ f)
 
     by : (opened : Bool) (taken : ℕ) → ((n : ℕ) → taken ≡ suc n → same_connection first.name κ.name ≡ false)

@@ -104,6 +104,6 @@ now_released n i (Entry.Released made p id start release ∷ es) e = by (release
 now_released n i (Entry.Finished made p id start release finish ∷ es) e = now_released n i es (skipped i (is_two p.qos) (Item.Finished p) (items_of es) (λ e. e) e)
 
 -- identifiers after others
-pub has_behind : (i : ℕ) (xs ys : List ℕ) → has_id i ys ≡ true → has_id i (xs ++ ys) ≡ true
-has_behind i [] ys h = h
-has_behind i (x ∷ xs) ys h = or_right (i == x) (has_id i (xs ++ ys)) (has_behind i xs ys h)
+pub has_after : (i : ℕ) (xs ys : List ℕ) → has_id i ys ≡ true → has_id i (xs ++ ys) ≡ true
+has_after i [] ys h = h
+has_after i (x ∷ xs) ys h = or_right (i == x) (has_id i (xs ++ ys)) (has_after i xs ys h)
