@@ -4,11 +4,11 @@
 ghost use Rattle.headline.specs.Exact.{WorldsAreExact};
 ghost use Rattle.headline.specs.OneSession.{OneSessionIsPromised};
 
-/// Whatever happens in a world of clients with identifiers of their own, pipes of bytes and nodes:
-/// by the list on which the nodes agree the QoS 2 publications of each client that is in step are
-/// new there in the order of its calls, each at most once, and once if it was answered; it accepts
-/// a prefix of what each of its sessions has at QoS 2, in order, each once; and an ended session
-/// gets nothing more (MQTT 4.3.3, 4.4, 4.6).
+/// States that, whatever happens in a world of clients with identifiers of their own, pipes of
+/// bytes and nodes: by the list on which the nodes agree the QoS 2 publications of each client that
+/// is in step are new there in the order of its calls, each at most once, and once if it was
+/// answered; it accepts a prefix of what each of its sessions has at QoS 2, in order, each once;
+/// and an ended session gets nothing more (MQTT 4.3.3, 4.4, 4.6).
 pub fn worlds_are_exact()
     ensures { WorldsAreExact }
 {}

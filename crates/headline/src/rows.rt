@@ -3,14 +3,15 @@
 
 ghost use Rattle.headline.specs.Rows.{AClientIsServed, APublicationIsAccepted};
 
-/// A client connects to a node that is the only one of its group: its CONNECT comes up as bytes,
-/// the node opens a session, and the CONNACK comes down, so the client is served (MQTT 3.1, 3.2).
+/// Shows that a client connects to a node that is the only one of its group: its CONNECT comes up
+/// as bytes, the node opens a session, and the CONNACK comes down, so the client is served (MQTT
+/// 3.1, 3.2).
 pub fn a_client_is_served()
     ensures { AClientIsServed }
 {}
 
-/// It subscribes, publishes at QoS 2 to itself, and both handshakes go to their ends over the bytes
-/// of its connection: what it published once it has accepted once (MQTT 4.3.3).
+/// Shows that it subscribes, publishes at QoS 2 to itself, and both handshakes go to their ends
+/// over the bytes of its connection: what it published once it has accepted once (MQTT 4.3.3).
 pub fn a_publication_is_accepted()
     ensures { APublicationIsAccepted }
 {}

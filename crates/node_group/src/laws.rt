@@ -4,21 +4,22 @@ ghost use Rattle.node_group.specs.Ballots.{PutsInTheBallotOfTheName};
 ghost use Rattle.node_group.specs.Order.{GroupsKeepTheOrder};
 ghost use Rattle.node_group.specs.Pasts.{GroupsArePasts};
 
-/// Whatever the nodes of a group, its master and its clients do, the steps of its replicas are a
-/// past for which all that is proved for agreement holds. What was proposed there is what the nodes
-/// proposed to their replicas, in order, and of that all packets of connections were taken.
+/// States that, whatever the nodes of a group, its master and its clients do, the steps of its
+/// replicas are a past for which all that is proved for agreement holds. What was proposed there is
+/// what the nodes proposed to their replicas, in order, and of that all packets of connections were
+/// taken.
 pub fn groups_are_pasts()
     ensures { GroupsArePasts }
 {}
 
-/// Whatever happens in a group, a node proposes the packets of a connection, including its CONNECT,
-/// to its replica only in the ballot of the connection's name.
+/// States that, whatever happens in a group, a node proposes the packets of a connection, including
+/// its CONNECT, to its replica only in the ballot of the connection's name.
 pub fn puts_in_the_ballot_of_the_name()
     ensures { PutsInTheBallotOfTheName }
 {}
 
-/// For each connection, the log of each node, and the agreed list, has a prefix of the packets that
-/// nodes proposed for it, in the order of proposing (MQTT 4.6).
+/// States that for each connection, the log of each node, and the agreed list, has a prefix of the
+/// packets that nodes proposed for it, in the order of proposing (MQTT 4.6).
 pub fn groups_keep_the_order()
     ensures { GroupsKeepTheOrder }
 {}

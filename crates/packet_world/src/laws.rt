@@ -8,43 +8,45 @@ ghost use Rattle.packet_world.specs.Served.{WorldsAreServed};
 
 use snapshots::machine::Machine;
 
-/// Whatever clients, nodes and the network between them do, connections carry packets in order, the
-/// publications of each client that is in step are published once and what it accepts in each of
-/// its sessions is in order, and an ended session gets nothing more, as long as the nodes agree on
-/// one list of commands that only grows, in which each connection's commands are in order.
+/// States that, whatever clients, nodes and the network between them do, connections carry packets
+/// in order, the publications of each client that is in step are published once and what it accepts
+/// in each of its sessions is in order, and an ended session gets nothing more, as long as the
+/// nodes agree on one list of commands that only grows, in which each connection's commands are in
+/// order.
 pub fn worlds_are_exact()
     ensures { WorldsAreExact }
 {}
 
-/// If the list on which the nodes agree grows, and keeps for each connection the order in which its
-/// packets were proposed, a world reaches the longer list: so its steps need no more from the nodes
-/// than their agreement.
+/// States that if the list on which the nodes agree grows, and keeps for each connection the order
+/// in which its packets were proposed, a world reaches the longer list: so its steps need no more
+/// from the nodes than their agreement.
 pub fn worlds_are_served()
     ensures { WorldsAreServed }
 {}
 
-/// Of the commands that were taken only in one ballot, such as those of one connection, the list
-/// on which nodes agree has a prefix in the order of proposing; the past says which were taken.
+/// States that of the commands that were taken only in one ballot, such as those of one connection,
+/// the list on which nodes agree has a prefix in the order of proposing; the past says which were
+/// taken.
 pub fn agreed_keeps_the_order<M: Machine>()
     ensures { AgreedKeepsTheOrder M.rules }
 {}
 
-/// A group of nodes that take of each connection the packets that its end has read, in order and in
-/// the ballot of its name, and none of other connections, serves the world: what it agrees on next
-/// is a list to which the world comes.
+/// States that a group of nodes that take of each connection the packets that its end has read, in
+/// order and in the ballot of its name, and none of other connections, serves the world: what it
+/// agrees on next is a list to which the world comes.
 pub fn groups_serve()
     ensures { GroupsServe }
 {}
 
-/// The outputs of the broker's machine at the next places of the agreed list, none left out, may be
-/// sent on an open end of a connection, as far as they are for the connection: a world reaches a
-/// state that has them.
+/// States that the outputs of the broker's machine at the next places of the agreed list, none left
+/// out, may be sent on an open end of a connection, as far as they are for the connection: a world
+/// reaches a state that has them.
 pub fn given_is_put_out()
     ensures { GivenIsPutOut }
 {}
 
-/// The same holds for all outputs of a node of a group between two moments of a ballot that it
-/// leads, on an open end that has what the node output before.
+/// States that the same holds for all outputs of a node of a group between two moments of a ballot
+/// that it leads, on an open end that has what the node output before.
 pub fn groups_put_out()
     ensures { GroupsPutOut }
 {}

@@ -2,7 +2,8 @@
 
 ghost use Rattle.world_pipes.specs.Goes.{ClientsStepInWorlds};
 
-/// What a client does without its nodes is a step of every world in which it is a client.
+/// States that what a client does without its nodes is a step of every world in which it is a
+/// client.
 pub fn clients_step_in_worlds()
     ensures { ClientsStepInWorlds }
 {}
