@@ -82,7 +82,7 @@ master_steps {config = config} g h {earlier = earlier} came same f =
           (nodes_stay g h (moment_of g ∷ earlier) (moment_of h ∷ f.before) xs.0 ys same f.kept (f.grows xs.0 ys xs.1 after) (good xs.0 xs.1)));
     }
 
-pub assigned_nodes : (g : Group) (config : Config) (why : Option AssignRefusal) → (with_master (after_assign g config why) (master_behind g.master config why)).nodes ≡ g.nodes
+pub assigned_nodes : (g : Group) (config : Config) (why : Option AssignRefusal) → (with_master (after_assign g config why) (master_after g.master config why)).nodes ≡ g.nodes
 assigned_nodes g config None = refl
 assigned_nodes g config (Some why) = refl
 

@@ -6,7 +6,7 @@ use Rattle.node_moves.specs.ballot.Config.{Config}
 use Rattle.packet_world.specs.broker_base.State.{State}
 use Rattle.packet_world.specs.broker_spec.declared.command.Command.{Command}
 use Rattle.packet_world.specs.broker_spec.declared.command.Output.{Output}
-use Rattle.packet_world.specs.agreement.MasterState.{AssignRefusal, MasterState, master_behind, opening_master, refusal}
+use Rattle.packet_world.specs.agreement.MasterState.{AssignRefusal, MasterState, master_after, opening_master, refusal}
 use Rattle.packet_world.specs.snapshots.Past.{Moment, Past, opening_moment}
 use Rattle.packet_world.specs.snapshots.Past.Past.{began}
 use Rattle.packet_world.specs.snapshots.Steps.{world_after}
@@ -36,8 +36,8 @@ opens_as nodes config =
     ap (λ l. at_moment (opening_master config) (let w : World State Command Output = record { nodes = l; sent = []; left = []; archive = [] } in w)) (opened_replicas nodes config)
 
 assigned_as : (g : Group) (config : Config) (why : Option AssignRefusal)
-    → at_moment (master_behind g.master config why) (world_behind g.master (moment_of g).world config why)
-    ≡ moment_of (with_master (after_assign g config why) (master_behind g.master config why))
+    → at_moment (master_after g.master config why) (world_after g.master (moment_of g).world config why)
+    ≡ moment_of (with_master (after_assign g config why) (master_after g.master config why))
 assigned_as g config (Some why) = refl
 assigned_as g config None = refl
 

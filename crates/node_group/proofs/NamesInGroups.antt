@@ -5,7 +5,7 @@ use Rattle.std.proofs.lemmas.Option.{same_Some, none-some}
 use Rattle.packet_world.specs.lists.Lists.{Each}
 use Rattle.packet_world.proofs.of_lists.OfEach.{each_append}
 use Rattle.node_moves.specs.ballot.Config.{Config}
-use Rattle.packet_world.specs.agreement.MasterState.{AssignRefusal, master_behind, refusal}
+use Rattle.packet_world.specs.agreement.MasterState.{AssignRefusal, master_after, refusal}
 use Rattle.packet_world.specs.broker_spec.Connection.{ConnectionName}
 use Rattle.node_moves.specs.world_base.declared.Connection.{Connection}
 use Rattle.node_moves.specs.world_base.Connections.{closed, is_listed, is_over}
@@ -106,7 +106,7 @@ record WentWell {g h : Group} (step : GroupStep g h) : Type 0 where
   pub puts : Each IsInItsBallot (put_in_step step)
 
 assigned_well : (g : Group) (config : Config) (why : Option AssignRefusal) → Each IsWell g.nodes
-    → Each IsWell (with_master (after_assign g config why) (master_behind g.master config why)).nodes
+    → Each IsWell (with_master (after_assign g config why) (master_after g.master config why)).nodes
 assigned_well g config None well = well
 assigned_well g config (Some why) well = well
 

@@ -7,7 +7,7 @@ use Rattle.node_moves.specs.ballot.Effect.{Effect}
 use Rattle.node_moves.specs.ballot.Losses.{Thinned}
 use Rattle.packet_world.specs.broker_spec.declared.command.Command.{Command}
 use Rattle.packet_world.specs.broker_spec.declared.command.Output.{Output}
-use Rattle.packet_world.specs.agreement.MasterState.{AssignRefusal, master_behind, refusal}
+use Rattle.packet_world.specs.agreement.MasterState.{AssignRefusal, master_after, refusal}
 use Rattle.packet_world.specs.snapshots.Masters.{activated, assigned}
 use Rattle.packet_world.specs.agreement.World.{can_open}
 use Rattle.node_moves.specs.world_base.Core.{CoreState, Turn}
@@ -49,7 +49,7 @@ pub data GroupStep (g : Group) : Group → Type 0 where
   -- an administrator asks for another configuration
   master_assigns : (config : Config) →
       GroupStep g (with_master (after_assign g config (refusal g.master config))
-      (master_behind g.master config (refusal g.master config)))
+      (master_after g.master config (refusal g.master config)))
   -- a primary asks for its ballot to become the active one
   master_hears : (from ballot : ℕ) → In (0, record { from = from; body = Activate ballot }) g.sent →
       GroupStep g (with_master
@@ -57,7 +57,7 @@ pub data GroupStep (g : Group) : Group → Type 0 where
       (activated Command g.master ballot from g.master.waiting).state)
   -- the same if the master's message is lost
   assigns_unheard : (config : Config) →
-      GroupStep g (with_master g (master_behind g.master config (refusal g.master config)))
+      GroupStep g (with_master g (master_after g.master config (refusal g.master config)))
   answers_unheard : (from ballot : ℕ) →
       In (0, record { from = from; body = Activate ballot }) g.sent →
       GroupStep g (with_master g (activated Command g.master ballot from g.master.waiting).state)

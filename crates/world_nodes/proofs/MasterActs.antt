@@ -57,7 +57,7 @@ does_by {h = h} b = record { after = h; step = b.step; is = b.is; faithful = b.f
 
 assigns_by : (g : Group) (config : Config) → refusal g.master config ≡ None → ByMaster g (group_giving config g)
 assigns_by g config e =
-    subst (λ (r : Option AssignRefusal). ByMaster g (with_master (after_assign g config r) (master_behind g.master config r))) e
+    subst (λ (r : Option AssignRefusal). ByMaster g (with_master (after_assign g config r) (master_after g.master config r))) e
     (record { step = master_assigns config; is = refl; faithful = tt })
 
 hears_by : (g : Group) (from ballot : ℕ) → In (0, record { from = from; body = Activate ballot }) g.sent → ByMaster g (group_answer from ballot g)

@@ -14,7 +14,11 @@ use Rattle.client_base.proofs.of_lists.OfEach.{each_append}
 use Rattle.client_base.specs.Keeper.{Own, Written, Keeper}
 use Rattle.exactly_once.specs.Sides.{Connection, Side}
 use Rattle.client_base.specs.Written.{plain, writing, sent_again, sent_first, resent}
-use Rattle.client_base.specs.Handled.{at_pubrec, is_sent_with, takes_in, releasing, discarded, confirmed, handled, handled_online, handled_first}
+use Rattle.client_base.specs.Handled.{discarded, confirmed, handled, handled_online, handled_first}
+use Rattle.client_base.specs.Handshakes.{releasing}
+use Rattle.client_base.specs.Handshakes.{takes_in}
+use Rattle.client_base.specs.Handshakes.{is_sent_with}
+use Rattle.client_base.specs.Handshakes.{at_pubrec}
 use Rattle.exactly_once.specs.Inside.ConnectionShape.{is_two_unnumbered, is_connect}
 use Rattle.exactly_once.proofs.publishing.Answered.{counted_side}
 

@@ -16,7 +16,10 @@ use Rattle.client_base.proofs.of_lists.OfEach.{each_then}
 use Rattle.exactly_once.specs.Sends.{sends_to, put_to}
 use Rattle.client_base.specs.Keeper.{Written}
 use Rattle.exactly_once.specs.Sides.{Connection, Side}
-use Rattle.client_base.specs.Handled.{is_sent_with, takes_in, releasing, handled_online, handled_first, handled}
+use Rattle.client_base.specs.Handled.{handled_online, handled_first, handled}
+use Rattle.client_base.specs.Handshakes.{releasing}
+use Rattle.client_base.specs.Handshakes.{takes_in}
+use Rattle.client_base.specs.Handshakes.{is_sent_with}
 use Rattle.exactly_once.specs.Story.{Story, StoryStep}
 use Rattle.exactly_once.specs.StoryCommands.{counted_at}
 use Rattle.client_base.specs.Written.{writes_first}
