@@ -32,7 +32,7 @@ returns-then-index-clause-state c =
     let served : IsServed (state_in t) c.args.connection c.in-Some.client kept
     = is_served t c.args.connection c.in-Some.client kept c.requires
     (sym (c.requires.tied.owners c.args.connection) ∙ sym c.in-Some.ensures.value) c.index.ensures in
-    let clean : kept.clean ≡ true = sym (ap (λ (k : ClientSession). k.clean) c.after-self.view_is) ∙ c.if-index.true in
+    let clean : kept.clean ≡ true = sym (ap (λ (k : ClientSession). k.clean) c.behind-self.view_is) ∙ c.if-index.true in
     ap (λ (rows : Sessions). record { window = t.window; sessions = rows; retained = t.retained })
     (c.remove-then-index.ensures.entries
     ∙ sym (ap (λ o. written c.in-Some.client o t.sessions.entries) (left_clean kept clean)))
@@ -45,7 +45,7 @@ returns-then-index-clause-tied c =
     let served : IsServed (state_in t) c.args.connection c.in-Some.client kept
     = is_served t c.args.connection c.in-Some.client kept c.requires
     (sym (c.requires.tied.owners c.args.connection) ∙ sym c.in-Some.ensures.value) c.index.ensures in
-    let clean : kept.clean ≡ true = sym (ap (λ (k : ClientSession). k.clean) c.after-self.view_is) ∙ c.if-index.true in
+    let clean : kept.clean ≡ true = sym (ap (λ (k : ClientSession). k.clean) c.behind-self.view_is) ∙ c.if-index.true in
     ties_after t _ c.args.connection c.in-Some.client kept served c.requires.tied c.remove.ensures.updates.0
     (c.remove-then-index.ensures.entries
     ∙ sym (ap (λ o. written c.in-Some.client o t.sessions.entries) (left_clean kept clean)))
@@ -63,7 +63,7 @@ returns-clause-state c =
     (sym (c.requires.tied.owners c.args.connection) ∙ sym c.in-Some.ensures.value) held in
     let other : kept.clean ≡ false
     = ap (λ (k : ClientSession). k.clean) (some_is kept c.index.result.now (sym held ∙ c.index.ensures))
-    ∙ sym (ap (λ (k : ClientSession). k.clean) c.after-self.view_is) ∙ c.if-index.false in
+    ∙ sym (ap (λ (k : ClientSession). k.clean) c.behind-self.view_is) ∙ c.if-index.false in
     ap (λ (rows : Sessions). record { window = t.window; sessions = rows; retained = t.retained })
     ((c.get_mut.follows.holds _).0
     ∙ ap (λ (k : ClientSession). set_value (is_at (by_bytes c.in-Some.client)) t.sessions.entries (record { clean = k.clean; connection = None; state = k.state }))
@@ -82,7 +82,7 @@ returns-clause-tied c =
     (sym (c.requires.tied.owners c.args.connection) ∙ sym c.in-Some.ensures.value) held in
     let other : kept.clean ≡ false
     = ap (λ (k : ClientSession). k.clean) (some_is kept c.index.result.now (sym held ∙ c.index.ensures))
-    ∙ sym (ap (λ (k : ClientSession). k.clean) c.after-self.view_is) ∙ c.if-index.false in
+    ∙ sym (ap (λ (k : ClientSession). k.clean) c.behind-self.view_is) ∙ c.if-index.false in
     ties_after t _ c.args.connection c.in-Some.client kept served c.requires.tied c.remove.ensures.updates.0
     ((c.get_mut.follows.holds _).0
     ∙ ap (λ (k : ClientSession). set_value (is_at (by_bytes c.in-Some.client)) t.sessions.entries (record { clean = k.clean; connection = None; state = k.state }))
