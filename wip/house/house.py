@@ -376,9 +376,8 @@ def mend(line, old, new):
 
 
 # Types, functions and modules by the field's terms: the crates in whose files they are renamed, and the words. A module goes with its file.
-WORDS = [
-    (("node_moves", "node_group", "byte_world", "headline", "world_nodes", "escaping_nodes", "world"), {"deed": "node_call", "deeds": "node_calls"}, {}),
-]
+# Crates, the first of which defines the words; words and their new names; modules and their new names.
+WORDS = []
 
 
 def words():

@@ -56,11 +56,10 @@ def paths_of(lines):
 
 # What the proofs of the machine's laws lead to, which a contract of `broker` cites: they may come through no crate that hands them up. (Both names of crates that are renamed.)
 LAWS = {
-    "session_form": "packet packet_base",
     "session_base": "packet packet_base",
-    "broker_form": "packet packet_base session_base broker_base broker_model broker_spec lists",
+    "broker_form": "packet packet_base session_base broker_base broker_spec lists",
     "broker_base": "session_base",
-    "broker_rows": "broker_model broker_spec",
+    "broker_rows": "broker_spec",
 }
 
 
