@@ -4,10 +4,12 @@
 //!     load connects HOST PORT   clients connect and disconnect, one after the other
 //!     load drain HOST PORT      messages wait in a queue until their subscriber comes back
 //!
-//! Options are `--NAME VALUE`: `seconds`, `qos`, `size` of a payload, `window` (publications of one publisher that are not answered yet),
-//! `publishers`, `subscribers`, `each` (1: publisher i to subscriber i, 0: all to all), `rate` (messages a second of each publisher;
-//! 0: as fast as windows let), `ahead` (how far a publisher may be before its slowest subscriber), `kept` (1: the subscribers'
-//! sessions are kept ones), `idle` (further clients that are connected and do nothing), `parallel`, `messages`, `pid` (a process whose processor time and memory are read).
+//! Options are `--NAME VALUE`: `seconds`, `qos`, `size` of a payload, `window` (publications of one
+//! publisher that are not answered yet), `publishers`, `subscribers`, `each` (1: publisher i to
+//! subscriber i, 0: all to all), `rate` (messages a second of each publisher; 0: as fast as windows
+//! let), `ahead` (how far a publisher may be before its slowest subscriber), `kept` (1: the
+//! subscribers' sessions are kept ones), `idle` (further clients that are connected and do
+//! nothing), `parallel`, `messages`, `pid` (a process whose processor time and memory are read).
 //! Each run is bounded in time. Build: `rustc --edition 2021 -O -o load tools/load.rs`.
 
 use std::collections::{HashMap, HashSet};
@@ -163,7 +165,8 @@ impl Client {
                 self.filled += count;
                 Ok(true)
             }
-            Err(error) if matches!(error.kind(), ErrorKind::WouldBlock | ErrorKind::TimedOut) => Ok(false),
+            Err(error) if matches!(error.kind(), ErrorKind::WouldBlock | ErrorKind::TimedOut) =>
+                Ok(false),
             Err(error) => Err(error),
         }
     }
@@ -263,7 +266,8 @@ impl Times {
         Times { kept: many.flat_map(|it| it.kept).collect(), ..Times::default() }
     }
 
-    /// Returns in milliseconds what the half, 99 of 100 and 999 of 1,000 of the times are at most, as a list of JSON.
+    /// Returns in milliseconds what the half, 99 of 100 and 999 of 1,000 of the times are at most,
+    /// as a list of JSON.
     fn shares(mut self) -> String {
         self.kept.sort_unstable();
         let share = |share: f64| {
@@ -302,19 +306,24 @@ impl Sending {
     }
 }
 
-/// Publishes until the time is over and all is answered; returns how many, and the times until the answers.
+/// Publishes until the time is over and all is answered; returns how many, and the times until the
+/// answers.
 fn publish(flow: &Flow, mut client: Client, at: usize) -> Result<(u64, Times), Fault> {
     let (qos, topic, rate) = (flow.qos(), flow.topic(at), flow.options.get("rate", 0));
     let window = flow.options.get("window", 16) as u16;
     let mut payload = vec![b'x'; (flow.options.get("size", 100) as usize).max(HEADER)];
-    let mut sending = Sending { free: (1..=window).rev().collect(), since: HashMap::new(), times: Times::default() };
+    let mut sending = Sending {
+        free: (1..=window).rev().collect(), since: HashMap::new(), times: Times::default() };
     let (mut out, mut sent, began) = (Vec::with_capacity(1 << 17), 0, Instant::now());
     // (a read that waits is a millisecond long at least, so one who keeps a pace does not wait)
     client.stream.set_nonblocking(rate > 0)?;
     while !flow.is_over.load(Relaxed) || !sending.since.is_empty() {
-        let due = if rate == 0 { UNKNOWN } else { (began.elapsed().as_secs_f64() * rate as f64) as u64 };
-        while out.len() < 1 << 16 && sent < due && !flow.is_over.load(Relaxed) && !flow.is_ahead(at, sent) {
-            let id = if qos == 0 { 0 } else if let Some(id) = sending.free.pop() { id } else { break };
+        let due = if rate == 0 { UNKNOWN } else {
+            (began.elapsed().as_secs_f64() * rate as f64) as u64 };
+        while out.len() < 1 << 16 && sent < due && !flow.is_over.load(Relaxed)
+            && !flow.is_ahead(at, sent) {
+            let id = if qos == 0 { 0 }
+                else if let Some(id) = sending.free.pop() { id } else { break };
             flow.mark(&mut payload, at, sent);
             put_publish(&mut out, &topic, qos, id, &payload);
             sent += 1;
@@ -341,7 +350,8 @@ fn write(client: &mut Client, mut out: &[u8]) -> io::Result<()> {
     while !out.is_empty() {
         match client.stream.write(out) {
             Ok(count) => out = &out[count..],
-            Err(error) if error.kind() == ErrorKind::WouldBlock => thread::sleep(Duration::from_micros(50)),
+            Err(error) if error.kind() == ErrorKind::WouldBlock =>
+                thread::sleep(Duration::from_micros(50)),
             Err(error) => return Err(error),
         }
     }
@@ -441,7 +451,8 @@ fn subscribers(flow: &Arc<Flow>) -> Result<Vec<JoinHandle<Result<Came, Fault>>>,
     (0..flow.came.len()).map(start).collect()
 }
 
-fn publishers(flow: &Arc<Flow>, count: usize) -> Result<Vec<JoinHandle<Result<(u64, Times), Fault>>>, Fault> {
+fn publishers(flow: &Arc<Flow>, count: usize)
+    -> Result<Vec<JoinHandle<Result<(u64, Times), Fault>>>, Fault> {
     let start = |at: usize| {
         let client = Client::open(&flow.options, &format!("load-p{at}"), true)?;
         let flow = flow.clone();
@@ -462,7 +473,8 @@ fn end_sessions(flow: &Flow) -> Result<(), Fault> {
 }
 
 fn flow(options: &Options) -> Result<String, Fault> {
-    let (count, readers) = (options.get("publishers", 1) as usize, options.get("subscribers", 1) as usize);
+    let (count, readers) =
+        (options.get("publishers", 1) as usize, options.get("subscribers", 1) as usize);
     let flow = Arc::new(Flow {
         options: options.clone(),
         began: Instant::now(),
@@ -471,7 +483,8 @@ fn flow(options: &Options) -> Result<String, Fault> {
         came: (0..readers).map(|_| AtomicU64::new(0)).collect(),
         due: (0..readers).map(|_| AtomicU64::new(UNKNOWN)).collect(),
     });
-    let idle = (0..options.get("idle", 0)).map(|at| Client::open(options, &format!("load-i{at}"), true));
+    let idle = (0..options.get("idle", 0))
+        .map(|at| Client::open(options, &format!("load-i{at}"), true));
     let _idle = idle.collect::<Result<Vec<_>, _>>()?;
     let accepting = subscribers(&flow)?;
     let publishing = publishers(&flow, count)?;
@@ -493,8 +506,10 @@ fn flow(options: &Options) -> Result<String, Fault> {
     let (within, count) = (total(|it| it.within), total(|it| it.count));
     let (doubled, disordered) = (total(|it| it.doubled), total(|it| it.disordered));
     Ok(format!(
-        "{{\"per_second\": {:.0}, \"sent\": {all}, \"missing\": {}, \"doubled\": {doubled}, \"disordered\": {disordered}, \
-         \"way_ms\": {}, \"answer_ms\": {}, \"processor_us\": {:.3}, \"resident_mb\": {resident:.1}}}",
+        "{{\"per_second\": {:.0}, \"sent\": {all}, \"missing\": {}, \
+         \"doubled\": {doubled}, \"disordered\": {disordered}, \
+         \"way_ms\": {}, \"answer_ms\": {}, \"processor_us\": {:.3}, \
+         \"resident_mb\": {resident:.1}}}",
         within as f64 / took,
         (all * copies).saturating_sub(count),
         Times::of_all(came.into_iter().map(|it| it.times)).shares(),
@@ -545,7 +560,8 @@ fn fill_queue(client: &mut Client, count: u64, payload: &[u8]) -> Result<(), Fau
 }
 
 fn drain(options: &Options) -> Result<String, Fault> {
-    let (count, payload) = (options.get("messages", 4000), vec![b'x'; options.get("size", 100) as usize]);
+    let (count, payload) =
+        (options.get("messages", 4000), vec![b'x'; options.get("size", 100) as usize]);
     let mut client = Client::open(options, "load-q", false)?;
     client.stream.write_all(&subscribe("load/queue", 1))?;
     client.wait()?;
@@ -576,15 +592,18 @@ fn drain(options: &Options) -> Result<String, Fault> {
 // ---- the broker's process
 
 fn processor_seconds(options: &Options) -> f64 {
-    let text = std::fs::read_to_string(format!("/proc/{}/stat", options.get("pid", 0))).unwrap_or_default();
+    let text = std::fs::read_to_string(format!("/proc/{}/stat", options.get("pid", 0)))
+        .unwrap_or_default();
     let fields: Vec<&str> = text.rsplit(')').next().unwrap_or("").split_whitespace().collect();
     let ticks = |at: usize| fields.get(at).and_then(|it| it.parse::<f64>().ok()).unwrap_or(0.0);
     (ticks(11) + ticks(12)) / 100.0
 }
 
 fn resident_megabytes(options: &Options) -> f64 {
-    let text = std::fs::read_to_string(format!("/proc/{}/statm", options.get("pid", 0))).unwrap_or_default();
-    text.split_whitespace().nth(1).and_then(|it| it.parse::<f64>().ok()).unwrap_or(0.0) * 4.0 / 1024.0
+    let text = std::fs::read_to_string(format!("/proc/{}/statm", options.get("pid", 0)))
+        .unwrap_or_default();
+    text.split_whitespace().nth(1).and_then(|it| it.parse::<f64>().ok()).unwrap_or(0.0) * 4.0
+        / 1024.0
 }
 
 fn main() -> Result<(), Fault> {

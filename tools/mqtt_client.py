@@ -1,4 +1,5 @@
-"""A small MQTT 3.1.1 client for the scripts of this folder: packets, a stream of them, and a client that keeps every rule over lost connections."""
+"""A small MQTT 3.1.1 client for the scripts of this folder: packets, a stream of them, and a client
+that keeps every rule over lost connections."""
 import select
 import socket
 import struct
@@ -22,7 +23,9 @@ def packet(first, body=b""):
 
 def connect(name, clean=True, keep_alive=60):
     """Returns a CONNECT (3.1)."""
-    return packet(0x10, b"\x00\x04MQTT\x04" + bytes([2 if clean else 0]) + struct.pack(">H", keep_alive) + text(name))
+    return packet(0x10,
+        b"\x00\x04MQTT\x04" + bytes([2 if clean else 0])
+        + struct.pack(">H", keep_alive) + text(name))
 
 
 def publish(topic, qos, number, payload, again=False):
@@ -83,15 +86,18 @@ class Stream:
 
 
 class Client:
-    """A client with a kept session that goes from address to address and forgets nothing between them (4.4)."""
+    """A client with a kept session that goes from address to address and forgets nothing between
+    them (4.4)."""
 
     def __init__(self, name, ports):
         self.name, self.ports, self.turn, self.connects, self.stream = name, ports, 0, 0, None
-        # What it published and is not done with: identifier to (stage, topic, QoS, payload), in order; what it received and is not released.
+        # What it published and is not done with: identifier to (stage, topic, QoS, payload), in
+        # order; what it received and is not released.
         self.pending, self.received, self.next, self.gone = {}, set(), 0, 0.0
 
     def open(self, until):
-        """Connects to the node that serves, and sends again what is not done. Returns whether its session was present."""
+        """Connects to the node that serves, and sends again what is not done. Returns whether its
+        session was present."""
         began = time.monotonic()
         while time.monotonic() < until:
             self.turn += 1
@@ -102,7 +108,8 @@ class Client:
                 if first == 0x20 and body[1] == 0:
                     self.connects, self.gone = self.connects + 1, time.monotonic() - began
                     for identifier, (stage, topic, qos, payload) in self.pending.items():
-                        again = answer(0x62, identifier) if stage == "released" else publish(topic, qos, identifier, payload, True)
+                        again = (answer(0x62, identifier) if stage == "released"
+                            else publish(topic, qos, identifier, payload, True))
                         self.stream.send(again)
                     return body[0] == 1
                 self.stream.close()
@@ -122,7 +129,8 @@ class Client:
         return self.stream.send(publish(topic, qos, self.next, payload))
 
     def take(self):
-        """Reads a packet and answers it. Returns (topic, QoS, payload) of a message that it accepts, else None."""
+        """Reads a packet and answers it. Returns (topic, QoS, payload) of a message that it
+        accepts, else None."""
         first, body = self.stream.read()
         kind, number = first & 0xF0, int.from_bytes(body[:2], "big")
         if kind == 0x30:
@@ -142,7 +150,8 @@ class Client:
     def accept(self, qos, body):
         """Answers a PUBLISH, and returns it if it is new."""
         at = 2 + int.from_bytes(body[:2], "big")
-        topic, number, payload = body[2:at], int.from_bytes(body[at : at + 2], "big"), body[at + (2 if qos else 0) :]
+        topic, number, payload = (body[2:at], int.from_bytes(body[at : at + 2], "big"),
+            body[at + (2 if qos else 0) :])
         if qos == 1:
             self.stream.send(answer(0x40, number))
         if qos == 2:

@@ -1,4 +1,5 @@
-// An adapter of libmqtt-client-java (see tools/clients). It has no list of addresses, so each is tried in turn.
+// An adapter of libmqtt-client-java (see tools/clients). It has no list of addresses, so each is
+// tried in turn.
 import java.util.concurrent.TimeUnit;
 import org.fusesource.mqtt.client.BlockingConnection;
 import org.fusesource.mqtt.client.MQTT;
@@ -10,7 +11,8 @@ public class FuseJava {
     static volatile boolean ended;
 
     // Connects to one address after the other until a CONNACK 0 comes.
-    static BlockingConnection connect(String words, String name, boolean keep, int keepAlive) throws Exception {
+    static BlockingConnection connect(String words, String name, boolean keep, int keepAlive)
+            throws Exception {
         while (true) {
             for (String it : words.split(",")) {
                 MQTT options = new MQTT();
@@ -47,15 +49,18 @@ public class FuseJava {
         input.setDaemon(true);
         input.start();
         while (!ended) {
-            BlockingConnection connection = connect(words[1], words[2], words[3].equals("1"), Integer.parseInt(words[6]));
+            BlockingConnection connection = connect(words[1], words[2],
+                    words[3].equals("1"), Integer.parseInt(words[6]));
             try {
-                connection.subscribe(new Topic[] {new Topic(words[4], QoS.values()[Integer.parseInt(words[5])])});
+                connection.subscribe(new Topic[] {
+                    new Topic(words[4], QoS.values()[Integer.parseInt(words[5])])});
                 System.out.println("subscribed");
                 while (!ended && connection.isConnected()) {
                     Message it = connection.receive(100, TimeUnit.MILLISECONDS);
                     if (it != null) {
                         // (nor the QoS and the RETAIN of a message)
-                        System.out.println("got ? ? " + it.getTopic() + " " + new String(it.getPayload()));
+                        System.out.println("got ? ? " + it.getTopic() + " "
+                                + new String(it.getPayload()));
                         it.ack();
                     }
                 }
@@ -69,7 +74,8 @@ public class FuseJava {
 
     static void publish(String[] words) throws Exception {
         BlockingConnection connection = connect(words[1], words[2], words[3].equals("1"), 60);
-        connection.publish(words[4], words[7].getBytes(), QoS.values()[Integer.parseInt(words[5])], words[6].equals("1"));
+        connection.publish(words[4], words[7].getBytes(),
+                QoS.values()[Integer.parseInt(words[5])], words[6].equals("1"));
         connection.disconnect();
     }
 

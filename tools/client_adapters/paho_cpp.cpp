@@ -20,7 +20,8 @@ static std::shared_ptr<mqtt::string_collection> uris(const std::string& words) {
 }
 
 // Connects to one address after the other until a CONNACK 0 comes.
-static void connect(mqtt::async_client& client, const std::string& words, bool keep, int keep_alive) {
+static void connect(mqtt::async_client& client, const std::string& words, bool keep,
+                    int keep_alive) {
     mqtt::connect_options options;
     options.set_clean_session(!keep);
     options.set_mqtt_version(MQTTVERSION_3_1_1);
@@ -31,7 +32,8 @@ static void connect(mqtt::async_client& client, const std::string& words, bool k
         try {
             auto token = client.connect(options);
             if (token->wait_for(5s)) {
-                std::cout << "up " << token->get_connect_response().is_session_present() << std::endl;
+                std::cout << "up " << token->get_connect_response().is_session_present()
+                          << std::endl;
                 return;
             }
         } catch (const mqtt::exception&) {
@@ -43,7 +45,8 @@ static void connect(mqtt::async_client& client, const std::string& words, bool k
 static int subscribe(mqtt::async_client& client, const std::vector<std::string>& words) {
     std::atomic<bool> ended{false}, lost{false};
     client.set_message_callback([](mqtt::const_message_ptr it) {
-        std::cout << "got " << it->get_qos() << " " << it->is_retained() << " " << it->get_topic() << " " << it->to_string() << std::endl;
+        std::cout << "got " << it->get_qos() << " " << it->is_retained() << " "
+                  << it->get_topic() << " " << it->to_string() << std::endl;
     });
     client.set_connection_lost_handler([&](const std::string&) { lost = true; });
     std::thread input([&] {
@@ -69,7 +72,8 @@ static int subscribe(mqtt::async_client& client, const std::vector<std::string>&
 
 static int publish(mqtt::async_client& client, const std::vector<std::string>& words) {
     connect(client, words[1], words[3] == "1", 60);
-    bool done = client.publish(words[4], words[7], std::stoi(words[5]), words[6] == "1")->wait_for(10s);
+    bool done = client.publish(words[4], words[7], std::stoi(words[5]), words[6] == "1")
+                    ->wait_for(10s);
     client.disconnect()->wait_for(5s);
     return done ? 0 : 1;
 }

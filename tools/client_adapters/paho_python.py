@@ -21,7 +21,8 @@ def connect(client, words, keep_alive):
     while True:
         for host, port in addresses(words):
             up = threading.Event()
-            client.on_connect = lambda _c, _u, flags, code: (say_up(flags, code), up.set()) if code == 0 else None
+            client.on_connect = lambda _c, _u, flags, code: (
+                (say_up(flags, code), up.set()) if code == 0 else None)
             try:
                 client.connect(host, port, keep_alive)
             except OSError:
@@ -40,7 +41,8 @@ def say_up(flags, _code):
 def subscribe(words, name, keep, topic, qos, keep_alive):
     """Subscribes, and prints each message until the input ends."""
     client = client_of(name, keep)
-    client.on_message = lambda _c, _u, it: print("got", it.qos, int(it.retain), it.topic, it.payload.decode(), flush=True)
+    client.on_message = lambda _c, _u, it: print("got", it.qos, int(it.retain), it.topic,
+        it.payload.decode(), flush=True)
     ended = threading.Event()
     threading.Thread(target=lambda: (sys.stdin.read(), ended.set()), daemon=True).start()
     while not ended.is_set():
