@@ -72,17 +72,20 @@ fn played_out(
     transcript_of(alloc, whole.as_str())
 }
 
-// Returns the last line of a transcript, and how many lines are idle.
-fn end_of(transcript: &str) -> (&str, usize) {
-    let mut last = "";
-    let mut idle = 0usize;
-    for line in transcript.lines() {
-        last = line;
-        if line.ends_with(" idle") {
-            idle = idle.saturating_add(1);
-        }
-    }
-    (last, idle)
+// Returns the last bytes of a transcript, as many as asked for.
+fn end_of(transcript: &str, len: usize) -> &[u8] {
+    let bytes = transcript.as_bytes();
+    let from = bytes.len().saturating_sub(len);
+    bytes.get(from..).unwrap_or(bytes)
+}
+
+// Returns how many lines of a transcript are idle.
+fn idle_lines(transcript: &str) -> usize {
+    transcript
+        .as_bytes()
+        .split(|byte| *byte == b'\n')
+        .filter(|line| line.ends_with(b" idle"))
+        .count()
 }
 
 #[test]
@@ -98,11 +101,12 @@ fn ways_are_told(rt: HostRuntime) {
 #[test]
 fn ways_are_played(rt: HostRuntime) {
     for (row, members, client, agreed, active) in WAYS {
-        let (_, idle) = end_of(row[1]);
         let played = played_out(rt.alloc(), row[0], members, client);
-        let end = format!(in rt.alloc(); "end agreed={agreed} active={active}");
+        let told = text_of(&played);
+        let end = format!(in rt.alloc(); "end agreed={agreed} active={active}\n");
         let end = end.expect(&rt, "memory is left");
-        assert_eq!(rt; end_of(text_of(&played)), (end.as_str(), idle));
+        assert_eq!(rt; end_of(told, end.len()), end.as_bytes());
+        assert_eq!(rt; idle_lines(told), idle_lines(row[1]));
     }
 }
 
