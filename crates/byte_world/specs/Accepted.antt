@@ -4,10 +4,12 @@ use Rattle.node_group.specs.session_base.declared.publication.Publication.{Publi
 use Rattle.node_group.specs.client_base.declared.accepted.Accepted.{Accepted}
 use Rattle.node_group.specs.exactly_once.Carried.{is_two}
 
+-- what a client accepted, as a publication
 abbrev pub publication_accepted : Accepted → Publication
 publication_accepted a =
     record { retain = a.retain; qos = a.qos; topic = a.topic; payload = a.payload }
 
+-- whether it was accepted at QoS 2
 abbrev pub is_accepted_once : Accepted → Bool
 is_accepted_once a = is_two a.qos
 

@@ -14,12 +14,12 @@ use Rattle.node_group.specs.Goes.{GroupStep}
 use Rattle.node_group.specs.Goes.GroupStep.{node_acts, node_loses, master_assigns, master_hears, assigns_unheard, answers_unheard}
 use Rattle.node_group.specs.Streams.{bytes_named, handed_in_run}
 
--- the bytes that arrive on the connection of a name with a call, and those that are handed over on
--- it
+-- the bytes that arrive on the connection of a name with a call
 abbrev pub coming_with : ConnectionName → NodeCall → CoreState → List ℕ
 coming_with x (takes (Bytes port piece now)) core = piece_on x piece (open_at port core)
 coming_with x _ core = []
 
+-- .. and those that are handed over on it
 abbrev pub going_with : ConnectionName → NodeCall → CoreState → List ℕ
 going_with x (gives port) core = bytes_named x (listed_at port core)
 going_with x _ core = []

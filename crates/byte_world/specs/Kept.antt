@@ -29,6 +29,7 @@ pub record AsksForNoneClean {nodes : ℕ} {config : Config} {cs : List Client} {
   pub none : (agreed : List Command) → IsAgreed config (moment_of w.group ∷ of.earlier) agreed →
       NoneIsClean agreed
 
+-- that holds for each world that can be reached
 abbrev pub NoConnectIsClean : Type 0
 NoConnectIsClean =
     (nodes : ℕ) (config : Config) (cs : List Client) (w : World)

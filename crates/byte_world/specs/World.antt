@@ -26,15 +26,18 @@ pub record ClientPipes : Type 0 where
   pub connections : List Connection
   pub pipes : List Pipe
 
+-- a group of nodes, and its clients with their connections and pipes
 pub record World : Type 0 where
   pub group : Group
   pub clients : List ClientPipes
 
 -- ---- as it opens
 
+-- a client that has no connection yet
 abbrev pub new_client : Client → ClientPipes
 new_client c = record { keeper = new_keeper c; connections = []; pipes = [] }
 
+-- a group as it opens, and clients without connections
 abbrev pub opening : ℕ → Config → List Client → World
 opening nodes config cs = record { group = opening_group nodes config; clients = map new_client cs }
 
@@ -51,17 +54,21 @@ pub record HasPipe (w : World) (i : ℕ) (c : ClientPipes) (j : ℕ) (κ : Conne
 abbrev pub leads_to : ℕ → Port → Pipe → Bool
 leads_to n port p = (p.node == n) && (p.port.0 == port.0)
 
+-- whether any client's connection leads to this port of node n
 abbrev pub is_used : ℕ → Port → List ClientPipes → Bool
 is_used n port = list_any (λ (c : ClientPipes). list_any (leads_to n port) c.pipes)
 
 -- ---- changes
 
+-- the world with this client at an index
 abbrev pub with_client : ℕ → ClientPipes → World → World
 with_client i c w = record w { clients = set w.clients i c }
 
+-- the client with this pipe at an index
 abbrev pub with_pipe : ℕ → Pipe → ClientPipes → ClientPipes
 with_pipe j p c = record c { pipes = set c.pipes j p }
 
+-- the packets that were written, without the numbers of their publications
 abbrev pub packets_of : List Written → List Packet
 packets_of written = map (λ (w : Written). w.packet) written
 

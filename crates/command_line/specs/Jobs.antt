@@ -26,9 +26,11 @@ pub record HasNumber (id : Text) (rows : List Row) (n : ℕ) : Type 0 where
   pub given : one_of id rows ≡ Some text
   pub said : IsNumber text n
 
+-- the job is to serve the nodes of the file of `--config`
 abbrev pub IsServe : List Row → Serve → Type 0
 IsServe rows job = first_of (codes "config") rows ≡ Some job.config.now
 
+-- the job is to publish, with the values that the arguments have
 pub record IsPublish (rows : List Row) (job : Publish) : Type 0 where
   pub id : first_of (codes "id") rows ≡ Some job.id.now
   pub topic : first_of (codes "topic") rows ≡ Some job.topic.now
@@ -39,6 +41,7 @@ pub record IsPublish (rows : List Row) (job : Publish) : Type 0 where
   pub tries : HasNumber (codes "tries") rows job.tries
   pub addresses : all_of (codes "address") rows ≡ Some (texts job.addresses.items)
 
+-- the job is to subscribe, with the values that the arguments have
 pub record IsSubscribe (rows : List Row) (job : Subscribe) : Type 0 where
   pub id : first_of (codes "id") rows ≡ Some job.id.now
   pub filter : first_of (codes "filter") rows ≡ Some job.filter.now
@@ -54,9 +57,11 @@ IsEscapeOf (Some members) (Some client) (Some job) =
     (members ≡ job.members.now) × (client ≡ job.client.now)
 IsEscapeOf _ _ _ = ⊥
 
+-- the way out that the words ask for, if they do
 abbrev pub IsEscape : List Row → Option Escape → Type 0
 IsEscape rows job = IsEscapeOf (first_of (codes "escape") rows) (first_of (codes "client") rows) job
 
+-- the job is to play the script in this file, or on standard input
 pub record IsPlay (rows : List Row) (job : Play) : Type 0 where
   pub script : first_of (codes "file") rows ≡ option_map (λ script. script.now) job.script
   pub escape : IsEscape rows job.escape

@@ -22,12 +22,15 @@ abbrev pub number_option : Text → ℕ → ℕ → Rule
 number_option name least most =
     record (required_option name) { parser = Some (parsers.Signed (pos least) (pos most)) }
 
+-- `--config FILE`, which has to be given
 abbrev pub config_rule : Rule
 config_rule = required_option (codes "config")
 
+-- `--qos N`, from 0 to 2
 abbrev pub qos_rule : Rule
 qos_rule = number_option (codes "qos") 0 2
 
+-- `--count N`, from 1 to 1,000,000
 abbrev pub count_rule : Rule
 count_rule = number_option (codes "count") 1 1000000
 
@@ -57,6 +60,7 @@ address_rule = record (new_rule (codes "address")) {
 abbrev pub file_rule : Rule
 file_rule = record (new_rule (codes "file")) { value_names = 1 }
 
+-- the subcommand `serve`
 abbrev pub serve_app : App
 serve_app = with_rule (new_app (codes "serve")) config_rule
 
@@ -64,6 +68,7 @@ serve_app = with_rule (new_app (codes "serve")) config_rule
 abbrev pub with_openings : App → App
 with_openings app = with_rule (with_rule app tries_rule) address_rule
 
+-- the subcommand `pub`
 abbrev pub publish_app : App
 publish_app = with_openings
     (with_rule
@@ -72,6 +77,7 @@ publish_app = with_openings
     (with_rule (with_rule (new_app (codes "pub")) (required_option (codes "id")))
     (required_option (codes "topic"))) qos_rule) (required_option (codes "message"))) retain_rule)
 
+-- the subcommand `sub`
 abbrev pub subscribe_app : App
 subscribe_app = with_openings
     (with_rule
@@ -79,6 +85,7 @@ subscribe_app = with_openings
     (with_rule (with_rule (new_app (codes "sub")) (required_option (codes "id")))
     (required_option (codes "filter"))) qos_rule) count_rule)
 
+-- the subcommand `play`
 abbrev pub play_app : App
 play_app = with_rule
     (with_rule (with_rule (new_app (codes "play")) (free_option (codes "escape")))

@@ -8,6 +8,7 @@ use Rattle.ballot_base.specs.LawfulConfig.{is_lawful}
 use Rattle.command_line.specs.declared.node_table.ListeningNode.{ListeningNode}
 use Rattle.command_line.specs.declared.node_table.NodeTable.{NodeTable}
 
+-- a number as a value of TOML
 abbrev pub number : ℕ → Data
 number n = integer (pos n)
 

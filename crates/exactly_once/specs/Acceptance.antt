@@ -10,6 +10,7 @@ use Rattle.exactly_once.specs.Sides.{Connection}
 use Rattle.exactly_once.specs.Story.{Story}
 use Rattle.exactly_once.specs.Carried.{is_two}
 
+-- whether an entry was queued at QoS 2
 abbrev pub is_two_entry : Entry → Bool
 is_two_entry entry = is_two (publication_in entry).qos
 
@@ -22,6 +23,7 @@ abbrev pub accepted_on : List Connection → List Publication
 accepted_on (κ ∷ connections) = accepted_on connections ++ κ.accepted
 accepted_on [] = []
 
+-- whether a PUBREC of the client has released an entry (MQTT 4.3.3)
 abbrev pub is_released : Entry → Bool
 is_released entry = is_there (release_place entry)
   where

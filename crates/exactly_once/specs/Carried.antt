@@ -14,15 +14,18 @@ use Rattle.client_base.specs.Keeper.{Own, Written}
 use Rattle.exactly_once.specs.Sides.{Connection}
 use Rattle.exactly_once.specs.StoryCommands.{count_of}
 
+-- the client's connection of this name, if it has one
 abbrev pub connection_named : ConnectionName → List Connection → Option Connection
 connection_named x (κ ∷ connections) =
     if same_connection x κ.name then Some κ else connection_named x connections
 connection_named x [] = None
 
+-- the number of the publication in a written packet, if it is one
 abbrev pub number_of : Option Written → Option ℕ
 number_of (Some w) = w.number
 number_of None = None
 
+-- the same for the j-th packet that was written on a connection
 abbrev pub number_at : ℕ → Option Connection → Option ℕ
 number_at j (Some κ) = number_of (slice_get κ.written j)
 number_at j None = None
@@ -33,6 +36,7 @@ carries connections (commands.Packet x (packets.Publish p)) past =
     number_at (count_of x past) (connection_named x connections)
 carries connections _ past = None
 
+-- the number, if the publication is new at its place
 abbrev pub more_by : Bool → Option ℕ → List ℕ
 more_by true (Some k) = k ∷ []
 more_by _ _ = []
@@ -43,17 +47,20 @@ new_numbers connections (place ∷ past) =
     new_numbers connections past ++ more_by (is_new place.command place.mark) (carries connections place.command past)
 new_numbers connections [] = []
 
+-- whether it is QoS 2
 abbrev pub is_two : QoS → Bool
 is_two levels.AtMostOnce = false
 is_two levels.AtLeastOnce = false
 is_two levels.ExactlyOnce = true
 
+-- the number of a publication: how many the client published before it
 abbrev pub number_in : Own → ℕ
 number_in (Own.Unsent k p id) = k
 number_in (Own.Sent k p id) = k
 number_in (Own.Released k p id) = k
 number_in (Own.Done k p) = k
 
+-- the publication itself
 abbrev pub publication_in : Own → Publication
 publication_in (Own.Unsent k p id) = p
 publication_in (Own.Sent k p id) = p

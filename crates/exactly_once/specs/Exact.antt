@@ -6,6 +6,7 @@ use Rattle.exactly_once.specs.Handshake.{Forward, Link, Handshake, Run, opening}
 
 -- ---- what holds after every run
 
+-- whether the receiver's PUBREC for an item has come to the sender
 abbrev pub is_over : {V : Type 0} → Item V → Bool
 is_over (Item.Released v id) = true
 is_over (Item.Finished v) = true

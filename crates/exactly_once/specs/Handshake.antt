@@ -4,12 +4,12 @@ use Rattle.std.specs.Prelude.{◌≡◌, ℕ, Bool, true, false, not, ◌&&◌, 
 use Rattle.client_base.specs.lists.Lists.{has_id, IsDistinct, Each}
 use Rattle.exactly_once.specs.Items.{Item, busy, sent, has_released, releasing, finishing, start_first, first_waiting}
 
--- ---- what is in transit
-
+-- a packet from the sender to the receiver
 pub data Forward (V : Type 0) : Type 0 where
   Publish : (id : ℕ) → (value : V) → Forward V
   Pubrel : (id : ℕ) → Forward V
 
+-- a packet from the receiver to the sender
 pub data Backward : Type 0 where
   Pubrec : (id : ℕ) → Backward
   Pubcomp : (id : ℕ) → Backward
@@ -21,16 +21,19 @@ pub data Link (V : Type 0) : Type 0 where
   Behind : (backward : List Backward) → Link V
   Ahead : (forward : List (Forward V)) → Link V
 
+-- the items, what is accepted, which identifiers the receiver knows, and what is in transit
 pub record Handshake (V : Type 0) : Type 0 where
   pub items : List (Item V)
   pub accepted : List V
   pub received : ℕ → Bool
   pub link : Link V
 
+-- the receiver's answer to a packet of the sender
 abbrev pub answer : {V : Type 0} → Forward V → Backward
 answer (Forward.Publish id v) = Backward.Pubrec id
 answer (Forward.Pubrel id) = Backward.Pubcomp id
 
+-- the sender's answer to a packet of the receiver
 abbrev pub reply : {V : Type 0} → Backward → List (Forward V)
 reply (Backward.Pubrec id) = Forward.Pubrel id ∷ []
 reply (Backward.Pubcomp id) = []
@@ -47,6 +50,7 @@ accepting id v false h l =
       link = l;
     }
 
+-- the receiver takes a packet: it accepts a PUBLISH, or forgets a PUBREL's identifier
 abbrev pub taking : {V : Type 0} → Forward V → Handshake V → Link V → Handshake V
 taking (Forward.Publish id v) h l = accepting id v (h.received id) h l
 taking (Forward.Pubrel id) h l =
@@ -62,6 +66,7 @@ abbrev pub heard : {V : Type 0} → Backward → List (Item V) → List (Item V)
 heard (Backward.Pubrec id) items = map (releasing id) items
 heard (Backward.Pubcomp id) items = map (finishing id) items
 
+-- the same handshake with these items and this connection
 abbrev pub with_items : {V : Type 0} → List (Item V) → Link V → Handshake V → Handshake V
 with_items items l h =
     record { items = items; accepted = h.accepted; received = h.received; link = l }
@@ -72,9 +77,11 @@ sending m (Link.Joined f b) = Link.Joined (f ++ m ∷ []) b
 sending m (Link.Behind b) = Link.Behind b
 sending m (Link.Ahead f) = Link.Ahead f
 
+-- the PUBLISH of an item that was sent
 abbrev pub publishing : {V : Type 0} → ℕ × V → Forward V
 publishing row = Forward.Publish row.0 row.1
 
+-- what the sender sends on a new connection: PUBRELs, and each PUBLISH again (MQTT 4.4)
 abbrev pub resend : {V : Type 0} → List ℕ → List (Item V) → List (Forward V)
 resend releases items = map (λ id. Forward.Pubrel id) releases ++ map publishing (sent items)
 
@@ -107,5 +114,6 @@ pub data Run {V : Type 0} (h : Handshake V) : Handshake V → Type 0 where
   stays : Run h h
   goes_on : {k l : Handshake V} → Run h k → Moves k l → Run h l
 
+-- nothing was sent yet, and there is no connection
 abbrev pub opening : (V : Type 0) → Handshake V
 opening V = record { items = []; accepted = []; received = λ id. false; link = Link.Behind [] }

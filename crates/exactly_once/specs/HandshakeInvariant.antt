@@ -18,6 +18,7 @@ IsNew received (Item.Sent v id) = received id ≡ false
 IsNew received (Item.Released v id) = ⊥
 IsNew received (Item.Finished v) = ⊥
 
+-- the item was not sent yet
 abbrev pub IsWaiting : {V : Type 0} → Item V → Type 0
 IsWaiting (Item.Waits v) = Unit {0}
 IsWaiting _ = ⊥
@@ -30,15 +31,18 @@ WaitsLast [] = Unit {0}
 
 -- ---- what is in transit
 
+-- the PUBLISH packets in transit, each as its identifier and value
 abbrev pub publishes : {V : Type 0} → List (Forward V) → List (ℕ × V)
 publishes (Forward.Publish id v ∷ f) = (id, v) ∷ publishes f
 publishes (Forward.Pubrel id ∷ f) = publishes f
 publishes [] = []
 
+-- the identifier of a packet from the sender
 abbrev pub forward_id : {V : Type 0} → Forward V → ℕ
 forward_id (Forward.Publish id v) = id
 forward_id (Forward.Pubrel id) = id
 
+-- the identifier of a packet from the receiver
 abbrev pub backward_id : Backward → ℕ
 backward_id (Backward.Pubrec id) = id
 backward_id (Backward.Pubcomp id) = id
@@ -66,6 +70,7 @@ pub record Comes {V : Type 0} (old : List (Item V)) (f : List (Forward V))
   pub known : Each (IsSent old) again
   pub meant : Each (IsMeant old) f
 
+-- both sides: each new item that was sent comes, answers are due, identifiers differ
 pub record IsJoined {V : Type 0} (received : ℕ → Bool) (old new : List (Item V))
     (f : List (Forward V)) (b : List Backward)
     : Type 0 where
@@ -73,17 +78,20 @@ pub record IsJoined {V : Type 0} (received : ℕ → Bool) (old new : List (Item
   pub due : Each (IsDue received old) b
   pub apart : IsDistinct (map forward_id f ++ map backward_id b)
 
+-- only to the sender: answers are due, and identifiers differ
 pub record IsBehind {V : Type 0} (received : ℕ → Bool) (old : List (Item V))
     (b : List Backward) : Type 0 where
   pub due : Each (IsDue received old) b
   pub apart : IsDistinct (map backward_id b)
 
+-- only to the receiver: of the new items that were sent, a prefix comes
 pub record IsAhead {V : Type 0} (old new : List (Item V)) (f : List (Forward V)) : Type 0 where
   pub next : List (ℕ × V)
   pub more : List (ℕ × V)
   pub comes : Comes old f next
   pub front : sent new ≡ next ++ more
 
+-- what is in transit fits the items, by which sides are on the connection
 abbrev pub IsLinked : {V : Type 0} → (ℕ → Bool) → List (Item V) → List (Item V) → Link V → Type 0
 IsLinked received old new (Link.Joined f b) = IsJoined received old new f b
 IsLinked received old new (Link.Behind b) = IsBehind received old b
@@ -101,6 +109,7 @@ pub record AreSides {V : Type 0} (items : List (Item V)) (accepted : List V) (re
   pub apart : IsDistinct (busy (old ++ new))
   pub known : (id : ℕ) → received id ≡ true → has_id id (busy old) ≡ true
 
+-- the items are accepted ones, then new ones, and what is in transit fits them
 pub record IsGood {V : Type 0} (h : Handshake V) : Type 0 where
   pub old : List (Item V)
   pub new : List (Item V)

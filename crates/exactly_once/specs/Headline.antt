@@ -100,6 +100,7 @@ pub record PublishedOnce (limits : Limits) (s : Story) : Type 0 where
 
 -- ---- the whole
 
+-- one story is exact: its client as a publisher, and as a subscriber
 pub record ExactlyOnce (limits : Limits) (s : Story) : Type 0 where
   pub publishers : PublishedOnce limits s
   pub subscribers : AcceptedInOrder limits s

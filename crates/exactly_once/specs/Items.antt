@@ -10,6 +10,7 @@ pub data Item (V : Type 0) : Type 0 where
   Released : (value : V) → (id : ℕ) → Item V
   Finished : (value : V) → Item V
 
+-- the publication of an item
 abbrev pub value_of : {V : Type 0} → Item V → V
 value_of (Item.Waits v) = v
 value_of (Item.Sent v id) = v
@@ -23,16 +24,19 @@ busy (Item.Released v id ∷ items) = id ∷ busy items
 busy (_ ∷ items) = busy items
 busy [] = []
 
+-- the items that were sent and not released, each as its identifier and value
 abbrev pub sent : {V : Type 0} → List (Item V) → List (ℕ × V)
 sent (Item.Sent v id ∷ items) = (id, v) ∷ sent items
 sent (_ ∷ items) = sent items
 sent [] = []
 
+-- whether an item with this identifier was sent and not released
 abbrev pub has_sent : {V : Type 0} → ℕ → List (Item V) → Bool
 has_sent i (Item.Sent v id ∷ items) = (i == id) || has_sent i items
 has_sent i (_ ∷ items) = has_sent i items
 has_sent i [] = false
 
+-- whether an item with this identifier is released and not finished
 abbrev pub has_released : {V : Type 0} → ℕ → List (Item V) → Bool
 has_released i (Item.Released v id ∷ items) = (i == id) || has_released i items
 has_released i (_ ∷ items) = has_released i items
@@ -43,6 +47,7 @@ abbrev pub releasing : {V : Type 0} → ℕ → Item V → Item V
 releasing i (Item.Sent v id) = if i == id then Item.Released v id else Item.Sent v id
 releasing i item = item
 
+-- the same for a PUBCOMP with this identifier
 abbrev pub finishing : {V : Type 0} → ℕ → Item V → Item V
 finishing i (Item.Released v id) = if i == id then Item.Finished v else Item.Released v id
 finishing i item = item
@@ -53,6 +58,7 @@ start_first id (Item.Waits v ∷ items) = Item.Sent v id ∷ items
 start_first id (item ∷ items) = item ∷ start_first id items
 start_first id [] = []
 
+-- the value of the first item that waits
 abbrev pub first_waiting : {V : Type 0} → List (Item V) → Option V
 first_waiting (Item.Waits v ∷ items) = Some v
 first_waiting (_ ∷ items) = first_waiting items

@@ -45,6 +45,7 @@ StoriesEnter =
 abbrev pub StoriesPublishOnce : Type 0
 StoriesPublishOnce = PublishesOnce usual_limits
 
+-- the same of what clients accept
 abbrev pub StoriesAcceptInOrder : Type 0
 StoriesAcceptInOrder = AcceptsInOrder usual_limits
 
@@ -52,6 +53,7 @@ StoriesAcceptInOrder = AcceptsInOrder usual_limits
 abbrev pub SteadyStoriesPublishOnce : Type 0
 SteadyStoriesPublishOnce = (limits : Limits) → IsSteady limits → PublishesOnce limits
 
+-- the same of what clients accept, for any such limits
 abbrev pub SteadyStoriesAcceptInOrder : Type 0
 SteadyStoriesAcceptInOrder = (limits : Limits) → IsSteady limits → AcceptsInOrder limits
 
@@ -59,6 +61,7 @@ SteadyStoriesAcceptInOrder = (limits : Limits) → IsSteady limits → AcceptsIn
 abbrev pub UsualStoriesAreExact : Type 0
 UsualStoriesAreExact = StoriesAreExact usual_limits
 
+-- both sides, for any such limits
 abbrev pub SteadyStoriesAreExact : Type 0
 SteadyStoriesAreExact = (limits : Limits) → IsSteady limits → StoriesAreExact limits
 
@@ -66,6 +69,7 @@ SteadyStoriesAreExact = (limits : Limits) → IsSteady limits → StoriesAreExac
 abbrev pub UsualLivesAccept : Type 0
 UsualLivesAccept = AcceptsInEachSession usual_limits
 
+-- the same for any such limits
 abbrev pub SteadyLivesAccept : Type 0
 SteadyLivesAccept = (limits : Limits) → IsSteady limits → AcceptsInEachSession limits
 
@@ -73,5 +77,6 @@ SteadyLivesAccept = (limits : Limits) → IsSteady limits → AcceptsInEachSessi
 abbrev pub UsualLivesAreExact : Type 0
 UsualLivesAreExact = LivesAreExact usual_limits
 
+-- the same for any such limits
 abbrev pub SteadyLivesAreExact : Type 0
 SteadyLivesAreExact = (limits : Limits) → IsSteady limits → LivesAreExact limits

@@ -28,11 +28,13 @@ pub record Story : Type 0 where
   pub connections : List Connection
   pub keeper : Keeper
 
+-- a client's story before anything has happened
 abbrev pub no_story : Client → Story
 no_story c = record { past = []; connections = []; keeper = new_keeper c }
 
 -- ---- the client
 
+-- the story with another state of the client and of its newest connection
 abbrev pub with_side : Story → List Connection → Side → Story
 with_side s others side =
     record { past = s.past; connections = side.connection ∷ others; keeper = side.keeper }

@@ -27,6 +27,7 @@ names_client past c (commands.Connect x d clean) = d ≡ c
 names_client past c (commands.Expel d) = (d ≡ c) × (is_some (session_of past c) ≡ true)
 names_client past c _ = ⊥
 
+-- whether a command is a packet, or the Connect, of this connection
 abbrev pub is_packet_of : Command → ConnectionName → Bool
 is_packet_of (commands.Packet x packet) y = same_connection x y
 is_packet_of (commands.Connect x d clean) y = same_connection x y
@@ -38,6 +39,7 @@ count_of x (place ∷ past) =
     if is_packet_of place.command x then suc (count_of x past) else count_of x past
 count_of x [] = 0
 
+-- whether the name of any of these connections passes a test
 abbrev pub any_named : (ConnectionName → Bool) → List Connection → Bool
 any_named test (κ ∷ connections) = test κ.name || any_named test connections
 any_named test [] = false

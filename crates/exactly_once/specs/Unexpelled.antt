@@ -16,6 +16,7 @@ pub record HasOneSession (s : Story) : Type 0 where
   pub first : IsFirstSession s.past s.keeper.client
   pub in_step : IsInStep s
 
+-- that holds for each client that no command expels, with any limits
 abbrev pub UnexpelledLivesAreInStep : Type 0
 UnexpelledLivesAreInStep =
     (limits : Limits) (c : Client) (s : Story) → Lived limits c s → IsUnexpelled c s.past →

@@ -69,6 +69,7 @@ pub record PromiseBy (c : Client) (connections : List Connection) (published : L
   pub names : (x : ConnectionName) → connects_of x past ≤ 1
   pub ended : EndsWithTheSession usual_limits past
 
+-- the promise by the list of commands on which the nodes agree
 abbrev pub Promise : List Connection → List Publication → List Command → ClientState → Type 0
 Promise connections published agreed state =
     PromiseBy state.client connections published (past_of usual_limits agreed) state

@@ -33,6 +33,7 @@ pub record AClientIsServed : Type 0 where
 
 -- ---- it publishes
 
+-- a packet on the first connection, as a command
 abbrev pub said : Packet → Command
 said packet = commands.Packet first_name packet
 
@@ -47,9 +48,11 @@ list_done =
     ∷ said (packets.Pubcomp 1)
     ∷ []
 
+-- what a client accepted at QoS 2, on all of its connections
 abbrev pub accepted_by : ClientPipes → List Publication
 accepted_by c = accepted_on c.connections
 
+-- what a client published
 abbrev pub published_by : ClientPipes → List Own
 published_by c = c.keeper.own
 

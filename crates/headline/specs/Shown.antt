@@ -30,9 +30,11 @@ use Rattle.byte_world.specs.Accepted.{accepted_once}
 
 -- ---- of its publications
 
+-- whether a publication has QoS 2
 abbrev pub is_at_two : Publication → Bool
 is_at_two p = is_two p.qos
 
+-- those at QoS 2
 abbrev pub at_two : List Publication → List Publication
 at_two = filter is_at_two
 
@@ -40,12 +42,13 @@ at_two = filter is_at_two
 abbrev pub kept_of : ClientState → List Publication
 kept_of state = map (λ (k : KeptPublication). k.publication) (state.sent ++ state.unsent)
 
--- those that are new in the list, by place (MQTT 4.3.3)
+-- the publication that is new at a place, if there is one (MQTT 4.3.3)
 abbrev pub new_at : Client → Command → Mark → List Publication
 new_at c (commands.Packet x (packets.Publish p)) (Mark.Taken d) =
     if same_client d c && is_exactly_once p.delivery then publication_of p ∷ [] else []
 new_at c command mark = []
 
+-- those that are new in the list, by place
 abbrev pub new_of : Client → Past → List Publication
 new_of c (place ∷ below) = new_of c below ++ new_at c place.command place.mark
 new_of c [] = []

@@ -19,6 +19,7 @@ abbrev pub held_of : Option Status → ℕ
 held_of None = 0
 held_of (Some status) = status.held
 
+-- how many commands a node knows to be committed: 0 if it shows no status
 abbrev pub committed_of : Option Status → ℕ
 committed_of None = 0
 committed_of (Some status) = status.committed

@@ -21,6 +21,7 @@ bytes_of_packet (packets.Unsubscribe unsubscribe) =
     sum_by (λ (filter : List ℕ). length filter) unsubscribe.filters
 bytes_of_packet _ = 0
 
+-- the size of a command: that of its packet, or 0
 abbrev pub bytes_of_command : Command → ℕ
 bytes_of_command (commands.Packet connection packet) = bytes_of_packet packet
 bytes_of_command _ = 0
@@ -32,6 +33,7 @@ bytes_of_body (State ballot log) = sum_by bytes_of_command log.rest
 bytes_of_body (Install ballot log) = sum_by bytes_of_command log.rest
 bytes_of_body _ = 0
 
+-- the bytes that an item brings: those of its message, or those of its piece
 abbrev pub bytes_of_item : Item → ℕ
 bytes_of_item (Peer message) = bytes_of_body message.body
 bytes_of_item (Bytes port piece now) = length piece

@@ -18,11 +18,12 @@ abbrev pub WritesShort : Option (List ℕ) → Option (List ℕ) → List ℕ �
 WritesShort old new bytes =
     (count : ℕ) × (count < length bytes) × Appends old new (take count bytes)
 
--- the count of failed calls after a read or a write: one that failed is counted
+-- the count of failed calls after a read: one that failed is counted
 abbrev pub counted_read : ReadOutcome → ℕ → ℕ
 counted_read Fault faults = counted_once faults
 counted_read _ faults = faults
 
+-- the same after a write
 abbrev pub counted_write : WriteOutcome → ℕ → ℕ
 counted_write writes.Fault faults = counted_once faults
 counted_write _ faults = faults

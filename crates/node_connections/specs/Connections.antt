@@ -7,20 +7,21 @@ use Rattle.node_connections.specs.declared.connection.Stage.{Stage}
 use Rattle.node_connections.specs.declared.connection.Stage.TheVariants.{Awaits, Proposed, Over, Failed}
 use Rattle.node_connections.specs.declared.connection.Connection.{Connection}
 
--- ---- one connection
-
+-- whether the node has closed it, for good or as lost
 abbrev pub is_over : Stage → Bool
 is_over Awaits = false
 is_over Proposed = false
 is_over Over = true
 is_over Failed = true
 
+-- whether its first packet is still to come
 abbrev pub is_first : Stage → Bool
 is_first Awaits = true
 is_first Proposed = false
 is_first Over = false
 is_first Failed = false
 
+-- whether its CONNECT was proposed, and it is open
 abbrev pub is_proposed : Stage → Bool
 is_proposed Awaits = false
 is_proposed Proposed = true
@@ -34,16 +35,19 @@ is_failed Proposed = false
 is_failed Over = false
 is_failed Failed = true
 
+-- the same of a connection
 abbrev pub has_failed : Connection → Bool
 has_failed c = is_failed c.stage
 
--- a connection of a port, also a closed one; the open one; the open one of a name
+-- whether it is a connection of this port, open or closed
 abbrev pub is_at : Port → Connection → Bool
 is_at port c = c.port.0 == port.0
 
+-- whether it is the open connection of a port
 abbrev pub is_open_at : Port → Connection → Bool
 is_open_at port c = not (is_over c.stage) && is_at port c
 
+-- whether it is the open connection of a name
 abbrev pub is_open_named : ConnectionName → Connection → Bool
 is_open_named name c = not (is_over c.stage) && same_connection c.name name
 
@@ -107,8 +111,6 @@ put_out bytes c =
 -- what was queued is handed over
 abbrev pub handed : Connection → Connection
 handed c = record c { pending = [] }
-
--- ---- the list
 
 -- the list after a change of that connection
 abbrev pub changed : (Connection → Bool) → (Connection → Connection) → List Connection →

@@ -10,6 +10,7 @@ abbrev pub lower : Option Port → Port → Port
 lower None port = port
 lower (Some low) port = if nat_lt port.0 low.0 then port else low
 
+-- the lowest port so far, after one more connection
 abbrev pub lower_silent : ℕ → Option Port → Connection → Option Port
 lower_silent now low c = if is_silent now c then Some (lower low c.port) else low
 

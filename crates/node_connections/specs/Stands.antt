@@ -6,6 +6,7 @@ use Rattle.node_connections.specs.declared.connection.Stage.TheVariants as stage
 use Rattle.node_connections.specs.declared.standing.Standing.{Standing}
 use Rattle.node_connections.specs.declared.standing.Standing.TheVariants.{Awaits, Open, Closed}
 
+-- the state that the stream's code is told, by the stage of the connection
 abbrev pub standing_at : Stage → Standing
 standing_at stages.Awaits = Awaits
 standing_at stages.Proposed = Open

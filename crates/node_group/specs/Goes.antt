@@ -31,6 +31,7 @@ after_assign g config None = told_by_master g (assigned Command g.master config)
 abbrev pub keeping : List (Effect Command Output) → Turn → Turn
 keeping kept turn = record turn { messages = kept }
 
+-- one step of a group
 pub data GroupStep (g : Group) : Group → Type 0 where
   -- a node takes an item, or hands over bytes, by these moves; what its replica receives, or a cut,
   -- comes first
@@ -77,6 +78,7 @@ put_in_step (master_hears from ballot sent) = []
 put_in_step (assigns_unheard config) = []
 put_in_step (answers_unheard from ballot sent) = []
 
+-- the commands that were proposed in all steps, each with its ballot, the oldest first
 abbrev pub all_put : {nodes : ℕ} {config : Config} {g : Group} → GroupTrace nodes config g →
     List (ℕ × Command)
 all_put (opened can) = []

@@ -26,10 +26,12 @@ pub record Group : Type 0 where
 
 -- ---- as it opens
 
+-- this many nodes as they open, the node of number 1 first
 abbrev pub opening_cores : ℕ → Config → List CoreState
 opening_cores zero config = []
 opening_cores (suc n) config = opening_cores n config ++ opening_core (n + 1) config ∷ []
 
+-- no message was sent yet, and nothing was recorded
 abbrev pub opening_group : ℕ → Config → Group
 opening_group nodes config =
     record {
@@ -66,9 +68,11 @@ with_record g archive = record g { archive = archive }
 
 -- ---- its replicas, as they are seen if nodes agree
 
+-- the replica of a node
 abbrev pub replica_of : CoreState → ReplicaState State Command
 replica_of core = core.replica.state
 
+-- the group without the connections of its nodes
 abbrev pub moment_of : Group → Moment State Command Output
 moment_of g =
     record {

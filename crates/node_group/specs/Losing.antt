@@ -20,12 +20,13 @@ abbrev pub WereSent : Group → ℕ → List (Input Command) → Type 0
 WereSent g n [] = Unit {0}
 WereSent g n (input ∷ inputs) = InputWasSent g n input × WereSent g n inputs
 
--- the record of places after a move, and after a run
+-- the record of places after a move
 abbrev pub recorded_by : List Command → {core : CoreState} {turn : Turn} → LossyMoves core turn →
     List Command
 recorded_by archive (exactly m) = exactly_recorded archive m
 recorded_by archive _ = archive
 
+-- the record after a run
 abbrev pub recorded_in : List Command → {core : CoreState} {turn : Turn} → LossyRuns core turn →
     List Command
 recorded_in archive rests = archive
@@ -47,6 +48,7 @@ abbrev pub put_in_move : {core : CoreState} {turn : Turn} → LossyMoves core tu
     List (ℕ × Command)
 put_in_move {core = core} m = map (λ command. ((replica_of core).joined, command)) (commands_put m)
 
+-- .. and in a run, in order
 abbrev pub put_in_run : {core : CoreState} {turn : Turn} → LossyRuns core turn → List (ℕ × Command)
 put_in_run rests = []
 put_in_run (goes_on m run) = put_in_move m ++ put_in_run run

@@ -29,17 +29,18 @@ WasSent g n {core = core} (cuts_log can) =
     rules.thawed (rules.frozen (replica_of core).machine) ≡ Some (replica_of core).machine
 WasSent g n _ = Unit {0}
 
+-- the same for each move of a run
 abbrev pub AllWasSent : Group → ℕ → {core : CoreState} {turn : Turn} → Runs core turn → Type 0
 AllWasSent g n rests = Unit {0}
 AllWasSent g n (goes_on m run) = WasSent g n m × AllWasSent g n run
 
--- the record of places after a move, and after a run: a cut adds what the log that is cut has
--- applied
+-- the record of places after a move: a cut adds what the log that is cut has applied
 abbrev pub recorded_by : List Command → {core : CoreState} {turn : Turn} → Moves core turn →
     List Command
 recorded_by archive {core = core} (cuts_log can) = recorded archive (replica_of core)
 recorded_by archive _ = archive
 
+-- the record after a run
 abbrev pub recorded_in : List Command → {core : CoreState} {turn : Turn} → Runs core turn →
     List Command
 recorded_in archive rests = archive
@@ -67,6 +68,7 @@ commands_put _ = []
 abbrev pub put_in_move : {core : CoreState} {turn : Turn} → Moves core turn → List (ℕ × Command)
 put_in_move {core = core} m = map (λ command. ((replica_of core).joined, command)) (commands_put m)
 
+-- .. and in a run, in order
 abbrev pub put_in_run : {core : CoreState} {turn : Turn} → Runs core turn → List (ℕ × Command)
 put_in_run rests = []
 put_in_run (goes_on m run) = put_in_move m ++ put_in_run run

@@ -27,6 +27,7 @@ comes_up x (master_hears from ballot sent) = []
 comes_up x (assigns_unheard config) = []
 comes_up x (answers_unheard from ballot sent) = []
 
+-- what came up on it in all steps, in order
 abbrev pub came_up : ConnectionName → {nodes : ℕ} {config : Config} {g : Group} →
     GroupTrace nodes config g → List ℕ
 came_up x (opened can) = []
@@ -34,6 +35,7 @@ came_up x (then_went went step) = came_up x went ++ comes_up x step
 
 -- ---- down
 
+-- the bytes that are queued on a connection, if it has this name
 abbrev pub bytes_named : ConnectionName → Option Connection → List ℕ
 bytes_named x None = []
 bytes_named x (Some c) = if same_connection c.name x then c.pending else []
@@ -43,6 +45,7 @@ abbrev pub handed_on : ConnectionName → {core : CoreState} {turn : Turn} → M
 handed_on x {core = core} (hands port) = bytes_named x (listed_at port core)
 handed_on x _ = []
 
+-- .. in a run, in order
 abbrev pub handed_in_run : ConnectionName → {core : CoreState} {turn : Turn} → Runs core turn →
     List ℕ
 handed_in_run x rests = []
@@ -57,6 +60,7 @@ goes_down x (master_hears from ballot sent) = []
 goes_down x (assigns_unheard config) = []
 goes_down x (answers_unheard from ballot sent) = []
 
+-- what went down on it in all steps, in order
 abbrev pub went_down : ConnectionName → {nodes : ℕ} {config : Config} {g : Group} →
     GroupTrace nodes config g → List ℕ
 went_down x (opened can) = []

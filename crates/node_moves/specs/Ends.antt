@@ -71,16 +71,16 @@ abbrev pub piece_on : ConnectionName → List ℕ → Option Connection → List
 piece_on x piece None = []
 piece_on x piece (Some c) = if same_connection c.name x then piece else []
 
+-- .. in a move
 abbrev pub came_on : ConnectionName → {core : CoreState} {turn : Turn} → Moves core turn → List ℕ
 came_on x {core = core} (holds port piece) = piece_on x piece (open_at port core)
 came_on x _ = []
-
--- ---- the connection
 
 -- what a node holds for a connection is the stream of a cutter that found no fault
 abbrev pub stream_of : List ℕ → Stream
 stream_of unread = record { held = unread; failed = false }
 
+-- whether no packet was read
 abbrev pub is_nothing : List Packet → Bool
 is_nothing [] = true
 is_nothing (p ∷ ps) = false

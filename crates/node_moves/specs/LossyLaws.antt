@@ -80,6 +80,7 @@ pub data IsClosedBy (x : ConnectionName) {core : CoreState} {turn : Turn} (m : L
       IsPrefixOf front (spelled (refusal_in x m ++ sends_to x (outputs_of (given_in m)))) →
       IsClosedBy x m d
 
+-- each connection that is closed after a move is closed in this way
 abbrev pub LossesPutNothingOnClosed : Type 0
 LossesPutNothingOnClosed =
     (core : CoreState) (turn : Turn) (m : LossyMoves core turn) → IsOrderly core →

@@ -41,6 +41,7 @@ halting core =
       };
     }
 
+-- one move of a node, exact or with losses
 pub data LossyMoves (core : CoreState) : Turn → Type 0 where
   exactly : {turn : Turn} → Moves core turn → LossyMoves core turn
   -- the replica receives a message or a tick, perhaps with losses; some of the messages that it

@@ -64,6 +64,7 @@ abbrev pub refusal_in : ConnectionName → {core : CoreState} {turn : Turn} → 
 refusal_in x (exactly m) = exact_refusal x m
 refusal_in x _ = []
 
+-- whether bytes are handed over in it
 abbrev pub is_handing : {core : CoreState} {turn : Turn} → LossyMoves core turn → Bool
 is_handing (exactly m) = exact_handing m
 is_handing _ = false
@@ -80,6 +81,7 @@ abbrev pub inputs_of : {core : CoreState} {turn : Turn} → Moves core turn → 
 inputs_of (hears input other) = input ∷ []
 inputs_of _ = []
 
+-- the same in a move that may have losses
 abbrev pub inputs_in : {core : CoreState} {turn : Turn} → LossyMoves core turn →
     List (Input Command)
 inputs_in (exactly m) = inputs_of m

@@ -35,17 +35,18 @@ abbrev pub HearsAtFirst : {core : CoreState} {turn : Turn} → LossyRuns core tu
 HearsAtFirst rests = Unit {0}
 HearsAtFirst (goes_on m run) = IsCalm run
 
--- the commands that a node proposes in a run, in order, and the bytes that come on the connection
--- of a name
+-- the commands that a node proposes in a run, in order
 abbrev pub proposals_of : {core : CoreState} {turn : Turn} → LossyRuns core turn → List Command
 proposals_of rests = []
 proposals_of (goes_on m run) = proposal_of m ++ proposals_of run
 
+-- the bytes that come on the connection of a name in it, in order
 abbrev pub bytes_on : ConnectionName → {core : CoreState} {turn : Turn} → LossyRuns core turn →
     List ℕ
 bytes_on x rests = []
 bytes_on x (goes_on m run) = came_on x m ++ bytes_on x run
 
+-- what the replica receives in a run, in order
 abbrev pub all_inputs : {core : CoreState} {turn : Turn} → LossyRuns core turn →
     List (Input Command)
 all_inputs rests = []
@@ -61,6 +62,7 @@ abbrev pub exactly_cuts : {core : CoreState} {turn : Turn} → Moves core turn �
 exactly_cuts (cuts_log can) = true
 exactly_cuts _ = false
 
+-- the same in a move that may have losses
 abbrev pub cuts_in : {core : CoreState} {turn : Turn} → LossyMoves core turn → Bool
 cuts_in (exactly m) = exactly_cuts m
 cuts_in _ = false
@@ -76,23 +78,23 @@ Freezes {core = core} (exactly (cuts_log can)) =
     rules.thawed (rules.frozen core.replica.state.machine) ≡ Some core.replica.state.machine
 Freezes _ = Unit {0}
 
+-- the same for each move of a run
 abbrev pub AllFreeze : {core : CoreState} {turn : Turn} → LossyRuns core turn → Type 0
 AllFreeze rests = Unit {0}
 AllFreeze (goes_on m run) = Freezes m × AllFreeze run
 
--- ---- what a node does for an item
-
--- what the replica receives with an item, and the bytes that come with it on the connection of a
--- name
+-- what the replica receives with an item
 abbrev pub heard_with : Item → List (Input Command)
 heard_with (Peer message) = Receives message ∷ []
 heard_with (Tick now) = Ticks ∷ []
 heard_with _ = []
 
+-- the bytes that come with an item on the connection of a name
 abbrev pub came_with : ConnectionName → Item → CoreState → List ℕ
 came_with x (Bytes port piece now) core = piece_on x piece (open_at port core)
 came_with x _ core = []
 
+-- whether an item is a cut
 abbrev pub is_cut : Item → Bool
 is_cut Cut = true
 is_cut _ = false
@@ -109,6 +111,7 @@ pub record IsRunOn (item : Item) (core : CoreState) (turn : Turn) : Type 0 where
   pub cuts : is_cut item ≡ false → CutsNothing run
   pub freezes : AllFreeze run
 
+-- each step on an item, with losses or not, is such a run
 abbrev pub LossesAreMoves : Type 0
 LossesAreMoves =
     (item : Item) (core later : CoreState) (messages : List (Effect Command Output)) →

@@ -29,6 +29,7 @@ is_proposal (Receives message) = false
 is_proposal (Proposes command) = true
 is_proposal Ticks = false
 
+-- one move of a node, without losses
 pub data Moves (core : CoreState) : Turn → Type 0 where
   -- the replica receives a message or a tick, and its effects are done
   hears : (input : Input Command) → is_proposal input ≡ false → Moves core (drives input core)
@@ -90,6 +91,7 @@ pub data NodeCall : Type 0 where
   takes : Item → NodeCall
   gives : Port → NodeCall
 
+-- what a call of a node does: it takes an item, or hands over bytes
 abbrev pub done : NodeCall → CoreState → Turn
 done (takes item) core = node_step item core
 done (gives port) core = quiet (hands_over port core)

@@ -14,11 +14,12 @@ use Rattle.node_moves.specs.Moves.{Moves, Runs}
 use Rattle.node_moves.specs.Moves.Runs.{rests, goes_on}
 use Rattle.node_moves.specs.Ends.{proposal_of, came_on, IsEnd, commands_of}
 
--- the commands that it proposes, in order, and the bytes that come on the connection of a name
+-- the commands that it proposes in a run, in order
 abbrev pub proposals_of : {core : CoreState} {turn : Turn} → Runs core turn → List Command
 proposals_of rests = []
 proposals_of (goes_on m run) = proposal_of m ++ proposals_of run
 
+-- the bytes that come on the connection of a name in it, in order
 abbrev pub bytes_on : ConnectionName → {core : CoreState} {turn : Turn} → Runs core turn → List ℕ
 bytes_on x rests = []
 bytes_on x (goes_on m run) = came_on x m ++ bytes_on x run

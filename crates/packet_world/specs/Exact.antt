@@ -40,6 +40,7 @@ abbrev pub IsExactInStep : List Command → ClientEnds → Type 0
 IsExactInStep agreed c =
     IsInStep (story_of agreed c) → ExactlyOnceOverSessions usual_limits (story_of agreed c)
 
+-- what is promised in a world: for its connections, its clients, and ended sessions
 pub record WorldIsExact (w : World) : Type 0 where
   -- connections carry packets in order, both ways
   pub pipes : Each (λ (c : ClientEnds). PipesInOrder w.agreed c.connections c.ends) w.clients

@@ -66,6 +66,7 @@ pub record HasPipe (w : World) (i : ℕ) (c : ClientEnds) (j : ℕ) (κ : Connec
   pub connection : slice_get c.connections j ≡ Some κ
   pub end : slice_get c.ends j ≡ Some e
 
+-- one step of a world
 pub data Goes (w : World) : World → Type 0 where
   -- a client calls, or loses its connection
   calls : (i : ℕ) (c : ClientEnds) (t : Story)

@@ -7,6 +7,7 @@ use Rattle.exactly_once.specs.Rows.{writer, news, commands_there}
 use Rattle.packet_world.specs.World.{ClientEnds, World}
 use Rattle.packet_world.specs.Goes.{Reached}
 
+-- what a client accepted at QoS 2, on all of its connections
 abbrev pub accepted_by : ClientEnds → List Publication
 accepted_by c = accepted_on c.connections
 

@@ -42,6 +42,7 @@ pub record ComesTo (cs : List Client) (w : World) (later : List Command) : Type 
   pub agreed : after.agreed ≡ later
   pub clients : map untaken after.clients ≡ map untaken w.clients
 
+-- that holds for each reachable world, and each such list
 abbrev pub WorldsAreServed : Type 0
 WorldsAreServed =
     (cs : List Client) (w : World) (later : List Command) → AreApart cs → Reached cs w →

@@ -19,6 +19,7 @@ pub record End : Type 0 where
   pub put : List Packet  -- what it sent on the connection
   pub is_open : Bool
 
+-- as it opens, at a node that applied this many places of the list
 abbrev pub new_end : ℕ → End
 new_end seen = record { read = 0; seen = seen; put = []; is_open = true }
 
@@ -28,9 +29,11 @@ pub record ClientEnds : Type 0 where
   pub connections : List Connection
   pub ends : List End
 
+-- a client that has no connection yet
 abbrev pub new_client : Client → ClientEnds
 new_client c = record { keeper = new_keeper c; connections = []; ends = [] }
 
+-- the list on which the nodes agree, and the clients with both ends of their connections
 pub record World : Type 0 where
   pub agreed : List Command
   pub clients : List ClientEnds

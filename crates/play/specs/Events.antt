@@ -15,6 +15,7 @@ use Rattle.world.specs.World.{WorldState}
 abbrev pub is_small : ℕ → Bool
 is_small number = nat_le number 255
 
+-- the number of the node that an order names, if a node can have it
 abbrev pub node_of : ℕ → Option ℕ
 node_of number = if is_small number then Some number else None
 

@@ -42,6 +42,7 @@ pub record Ends (world : WorldState) (old new : List ℕ) : Type 0 where
 
 -- ---- clients
 
+-- the identifiers of the clients of these listeners
 abbrev pub names_of : List Listener → List (List ℕ)
 names_of listeners = map (λ (l : Listener). l.client) listeners
 

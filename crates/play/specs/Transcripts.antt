@@ -19,8 +19,7 @@ use Rattle.world.specs.World.{WorldState}
 use Rattle.world.specs.world_nodes.Agreed.{AgreeOnSoMany}
 use Rattle.play.specs.Events.{asked_in}
 
--- ---- what clients accepted
-
+-- what a client accepted: nothing if there is none
 abbrev pub accepted_by : Option Core → List Accepted
 accepted_by None = []
 accepted_by (Some core) = core.state.accepted

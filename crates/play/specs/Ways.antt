@@ -27,6 +27,7 @@ members_text (member ∷ members) = decimal member ++ more_members members
 abbrev pub one_field : List ℕ → List ℕ → List ℕ
 one_field word field = word ++ (field ++ 10 ∷ [])
 
+-- a line with a word and two fields
 abbrev pub two_fields : List ℕ → List ℕ → List ℕ → List ℕ
 two_fields word field other = word ++ (field ++ (32 ∷ (other ++ 10 ∷ [])))
 
@@ -43,6 +44,7 @@ event_line (events.CarryDown connection count) =
 event_line (events.Abandon client) = one_field (codes "abandon ") client
 event_line _ = []
 
+-- the lines of events, in order
 abbrev pub event_lines : List Event → List ℕ
 event_lines [] = []
 event_lines (event ∷ more) = event_line event ++ event_lines more

@@ -14,6 +14,7 @@ use Rattle.session_base.specs.packet.declared.qos.QoS.TheVariants as levels
 use Rattle.script.specs.declared.order.Amount.{Amount}
 use Rattle.script.specs.declared.order.Amount.TheVariants as amounts
 
+-- a text by its bytes
 abbrev pub Text : Type 0
 Text = List ℕ
 

@@ -51,6 +51,7 @@ pub data IsOpening : List Text → Opening → Type 0 where
 abbrev pub IsOpeningLine : Text → Opening → Type 0
 IsOpeningLine line opening = IsUtf8 line × IsOpening (fields_of line) opening
 
+-- a line is UTF-8, and its fields are those of an order
 abbrev pub IsOrderLine : Text → Order → Type 0
 IsOrderLine line order = IsUtf8 line × IsOrder (fields_of line) order
 
@@ -71,6 +72,7 @@ IsScript (first ∷ lines) script =
 abbrev pub HasOrder : Text → Type 0
 HasOrder line = (order : Order) × IsOrderLine line order
 
+-- a line is a first line, which opens some world
 abbrev pub HasOpening : Text → Type 0
 HasOpening line = (opening : Opening) × IsOpeningLine line opening
 

@@ -4,6 +4,7 @@ use Rattle.node_threads.specs.post.node.declared.OpeningError.TheVariants as ope
 use Rattle.server.specs.declared.serve_error.ServeError.{ServeError}
 use Rattle.server.specs.declared.serve_error.ServeError.TheVariants.{BadMembers, Memory}
 
+-- the error of `serve`, by the error of a node that did not open
 abbrev pub serve_error_of : OpeningError → ServeError
 serve_error_of opening.BadMembers = BadMembers
 serve_error_of opening.Memory = Memory

@@ -22,6 +22,7 @@ FitsItsQoS (Entry.Finished made p id start None finish) = is_acknowledged p.qos 
 FitsItsQoS (Entry.Finished made p id start (Some release) finish) = is_acknowledged p.qos ≡ false
 FitsItsQoS _ = Unit {0}
 
+-- each entry of each session fits its QoS
 abbrev pub EntriesFitTheirQoS : Type 0
 EntriesFitTheirQoS =
     (limits : Limits) (past : Past) (c : Client)

@@ -17,9 +17,11 @@ abbrev pub printed_byte : ℕ → List ℕ
 printed_byte byte = if is_plain byte then byte ∷ []
     else 92 ∷ 120 ∷ digit (byte / 16) ∷ digit (byte % 16) ∷ []
 
+-- a text, byte by byte
 abbrev pub printed : List ℕ → List ℕ
 printed text = flat_map printed_byte text
 
+-- RETAIN as a digit: `1` or `0`
 abbrev pub flag : Bool → ℕ
 flag retain = if retain then 49 else 48
 

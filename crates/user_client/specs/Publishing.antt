@@ -14,5 +14,6 @@ abbrev pub IsAcknowledgedAs : Option Publish → Called → Type 0
 IsAcknowledgedAs None caller = kept_count caller.core.state ≡ 0
 IsAcknowledgedAs (Some publish) caller = ⊤
 
+-- the same of a `Publishing`
 abbrev pub IsAcknowledged : Publishing → Type 0
 IsAcknowledged publishing = IsAcknowledgedAs publishing.once publishing.caller

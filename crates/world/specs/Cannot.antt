@@ -17,11 +17,12 @@ use Rattle.world.specs.declared.world.WorldClient.{WorldClient}
 use Rattle.world.specs.Found.{core_named, is_named, place_numbered, way_of}
 use Rattle.world.specs.World.{WorldState}
 
--- there is no such client, or it holds no connection; or there is none, or it holds one
+-- there is no such client, or it holds no connection
 abbrev pub HoldsNone : Option Core → Type 0
 HoldsNone None = Unit {0}
 HoldsNone (Some core) = is_open core.state.stage ≡ false
 
+-- there is no such client, or it holds a connection
 abbrev pub IsTaken : Option Core → Type 0
 IsTaken None = Unit {0}
 IsTaken (Some core) = is_open core.state.stage ≡ true
@@ -46,6 +47,7 @@ abbrev pub is_held_by : Option WorldClient → ℕ → Bool
 is_held_by None at = false
 is_held_by (Some client) at = is_holding client.piped && (suc at == length client.piped.ways)
 
+-- whether the client of this slot holds the connection
 abbrev pub is_held : Option ConnectionSlot → List WorldClient → Bool
 is_held None clients = false
 is_held (Some place) clients = is_held_by (slice_get clients place.client) place.at
@@ -54,14 +56,17 @@ is_held (Some place) clients = is_held_by (slice_get clients place.client) place
 abbrev pub IsNoPart : ℕ → List ℕ → Type 0
 IsNoPart count waiting = (count ≡ 0) ⊎ (length waiting < count)
 
+-- the bytes in transit to the node: none if there is no connection
 abbrev pub up_of : Option Way → List ℕ
 up_of None = []
 up_of (Some way) = way.up
 
+-- the bytes in transit to the client: none if there is no connection
 abbrev pub down_of : Option Way → List ℕ
 down_of None = []
 down_of (Some way) = way.down
 
+-- why an event cannot happen in a world, kind by kind
 abbrev pub CannotHappen : Event → WorldState → Type 0
 CannotHappen (events.Assign config) w = refusal w.nodes.master config ≡ None → ⊥
 CannotHappen (events.Deliver number) w = ComesToNobody (slice_get w.nodes.sent number) w.nodes

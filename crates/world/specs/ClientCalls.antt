@@ -27,6 +27,7 @@ Asks call false old new =
 abbrev pub LosesAsking : Call → Piped → Piped → Type 0
 LosesAsking call old new = Calls (keeper_step call old.core.state) old (Ok sendings.Lost) new
 
+-- its DISCONNECT is in transit; if losses are allowed, its connection may be lost instead
 abbrev pub Leaves : Bool → Piped → Piped → Type 0
 Leaves true old new =
     TakesLeave (keeper_step Call.Disconnects old.core.state) old (Ok sendings.Sent) new
@@ -34,6 +35,7 @@ Leaves false old new =
     (sending : Sending)
     × TakesLeave (keeper_step Call.Disconnects old.core.state) old (Ok sending) new
 
+-- it leaves without one: there was no memory for its DISCONNECT
 abbrev pub LosesLeaving : Piped → Piped → Type 0
 LosesLeaving old new =
     TakesLeave (keeper_step Call.Disconnects old.core.state) old (Ok sendings.Lost) new

@@ -23,6 +23,7 @@ abbrev pub Assigns : Bool → Config → NodesState → NodesState → Type 0
 Assigns true config old new = new ≡ after_giving config old
 Assigns false config old new = GivesIn config old new
 
+-- a message comes to its receiver, exactly or perhaps with losses
 abbrev pub Delivers : Bool → Option (ℕ × Message Command) → NodesState → NodesState → Type 0
 Delivers true message old new = Comes message old new
 Delivers false message old new = ComesIn message old new
@@ -42,6 +43,7 @@ abbrev pub receiver_of : Option (ℕ × Message Command) → ℕ
 receiver_of None = 0
 receiver_of (Some (receiver, message)) = receiver
 
+-- what an event does to a world, kind by kind
 abbrev pub Does : Bool → Event → WorldState → WorldState → Type 0
 Does whole (events.Assign config) old new =
     (between : NodesState) × Assigns whole config old.nodes between

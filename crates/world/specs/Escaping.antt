@@ -30,6 +30,7 @@ abbrev pub configuration_of : List ℕ → Config
 configuration_of [] = record { members = []; primary = 0 }
 configuration_of (first ∷ others) = record { members = first ∷ others; primary = first }
 
+-- whether there is a node, and it has not stopped
 abbrev pub is_up : Option CountedCore → Bool
 is_up None = false
 is_up (Some node) = not node.core.replica.state.stopped
@@ -38,6 +39,7 @@ is_up (Some node) = not node.core.replica.state.stopped
 abbrev pub is_running : List CountedCore → ℕ → Bool
 is_running nodes node = is_up (node_of nodes node)
 
+-- how long the log of a node is: 0 if there is none
 abbrev pub held_in : Option CountedCore → ℕ
 held_in None = 0
 held_in (Some node) = places node.core.replica.state.log

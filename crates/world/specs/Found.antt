@@ -9,15 +9,18 @@ use Rattle.world.specs.declared.connection_slot.ConnectionSlot.{ConnectionSlot}
 use Rattle.world.specs.declared.world.WorldClient.{WorldClient}
 use Rattle.world.specs.World.{WorldState}
 
+-- whether a client has this identifier
 abbrev pub is_named : List ℕ → WorldClient → Bool
 is_named name client = bytes_eq client.name name
 
 -- ---- a client
 
+-- what a client keeps, if there is one
 abbrev pub core_of : Option WorldClient → Option Core
 core_of None = None
 core_of (Some client) = Some client.piped.core
 
+-- what the client at an index keeps, if there is one
 abbrev pub core_at : Option ℕ → List WorldClient → Option Core
 core_at None clients = None
 core_at (Some at) clients = core_of (slice_get clients at)
@@ -44,10 +47,12 @@ with_piped at client piped w =
 abbrev pub place_numbered : ℕ → List ConnectionSlot → Option ConnectionSlot
 place_numbered number connections = if number == 0 then None else slice_get connections (number - 1)
 
+-- a client's connection at an index, with the bytes in transit
 abbrev pub way_in : Option WorldClient → ℕ → Option Way
 way_in None at = None
 way_in (Some client) at = slice_get client.piped.ways at
 
+-- the connection of a slot, with the bytes in transit
 abbrev pub way_at : Option ConnectionSlot → List WorldClient → Option Way
 way_at None clients = None
 way_at (Some place) clients = way_in (slice_get clients place.client) place.at

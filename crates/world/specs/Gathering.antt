@@ -23,6 +23,7 @@ abbrev pub put_out : Port → Option CountedCore → List ℕ
 put_out port None = []
 put_out port (Some node) = bytes_of (listed_at port node.core)
 
+-- whether the node's end of a connection stays open after it handed over bytes
 abbrev pub is_more : Handed → Bool
 is_more answers.Open = true
 is_more answers.Closed = false
@@ -66,6 +67,7 @@ MayBeAsked true number old new = IsAsked number old new
 MayBeAsked false number old new =
     IsAsked number old new ⊎ (new ≡ record old { nodes = forgetful old.nodes })
 
+-- its node is asked for its bytes if this is true; otherwise nothing changes
 abbrev pub AskedWhere : Bool → Bool → ℕ → WorldState → WorldState → Type 0
 AskedWhere whole true number old new = MayBeAsked whole number old new
 AskedWhere whole false number old new = new ≡ old

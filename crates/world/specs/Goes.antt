@@ -15,6 +15,7 @@ use Rattle.world.specs.World.{WorldState}
 
 -- ---- steps of a group, one after another
 
+-- steps of a group, one after another
 pub data Goes (g : Group) : Group → Type 0 where
   rests : Goes g g
   goes_on : {h k : Group} → Goes g h → GroupStep h k → Goes g k

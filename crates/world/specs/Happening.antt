@@ -50,6 +50,7 @@ Run (event ∷ events) old new =
 
 -- ---- how it begins
 
+-- a client that has no connection yet
 abbrev pub new_world_client : List ℕ → WorldClient
 new_world_client name = record { name = name; piped = new_piped name }
 

@@ -15,14 +15,16 @@ use Rattle.world.specs.Found.{Named, port_of, with_piped}
 use Rattle.world.specs.Gathering.{TakesItem}
 use Rattle.world.specs.World.{WorldState}
 
--- a client has a new connection to a node: its CONNECT is in transit on it, under the next number
+-- the number of the next connection
 abbrev pub next_number : WorldState → ℕ
 next_number w = suc (length w.connections)
 
+-- a client has a new connection to a node: its CONNECT is in transit on it, under this number
 abbrev pub ConnectsTo : ℕ → ℕ → Piped → Piped → Type 0
 ConnectsTo node number old new =
     Connects (node - 1) (port_of number) (keeper_step Call.Opens old.core.state) old (Ok tt) new
 
+-- the world with that client, and a slot for its new connection, whose end is open
 abbrev pub with_connection : {name : List ℕ} {w : WorldState} → Named name w → Piped → ℕ →
     WorldState
 with_connection {w = w} c piped node =
@@ -49,6 +51,7 @@ NoneOpens node port old client new later =
     × Connects (node - 1) port (keeper_step Call.Opens client.core.state) client (Ok tt) opened
     × (later ≡ taken_back opened) × ((new ≡ old) ⊎ TakesIn node (items.Opened port 0) old new))
 
+-- the same in a world: no slot is added
 abbrev pub OpensNone : List ℕ → ℕ → WorldState → WorldState → Type 0
 OpensNone name node old new =
     (c : Named name old) × (piped : Piped) × (between : NodesState)
@@ -61,10 +64,12 @@ abbrev pub is_full : Option CountedCore → Bool
 is_full None = false
 is_full (Some node) = not (is_connection_name (next_name node.core))
 
+-- if its names are used up nothing changes; otherwise the node takes the connection
 abbrev pub OpensUnless : Bool → Bool → List ℕ → ℕ → WorldState → WorldState → Type 0
 OpensUnless true whole name node old new = new ≡ old
 OpensUnless false whole name node old new = OpensOne whole name node old new
 
+-- exactly that, or, if losses are allowed, perhaps no new connection
 abbrev pub OpensWhere : Bool → List ℕ → ℕ → WorldState → WorldState → Type 0
 OpensWhere true name node old new =
     OpensUnless (is_full (node_of old.nodes.nodes node)) true name node old new

@@ -23,6 +23,7 @@ pub record LeadsThere (all : List (List (ℕ × Port))) (number : ℕ)
   pub way : slice_get ways place.at ≡ Some (node, record { 0 = number })
   pub numbered : suc node ≡ place.node
 
+-- each slot leads to its client's connection, and each port that was used has a slot
 pub record AreHoused (all : List (List (ℕ × Port)))
     (connections : List ConnectionSlot) : Type 0 where
   -- connection n + 1 is at index n

@@ -12,6 +12,7 @@ use Rattle.world_base.specs.Turns.{quiet, proposes, repeated}
 abbrev pub closes_failed : CoreState → CoreState
 closes_failed core = record core { connections = changed has_failed closed core.connections }
 
+-- if there is such a connection, it is closed for good, and its loss is proposed
 abbrev pub loses_if : Option Connection → CoreState → Turn
 loses_if None core = quiet core
 loses_if (Some c) core = proposes (commands.Lost c.name) (closes_failed core)

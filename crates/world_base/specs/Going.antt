@@ -21,11 +21,12 @@ use Rattle.world_base.specs.Lossy.{Account}
 use Rattle.world_base.specs.LossyStep.{ActsOn}
 use Rattle.world_base.specs.Step.{next_name}
 
--- the bytes of all that the replica output for a connection, in order
+-- the bytes of one output for a connection: none if it is for another
 abbrev pub bytes_by : Output → ConnectionName → List ℕ
 bytes_by (outputs.Send to packet) name = if same_connection name to then spelling packet else []
 bytes_by (outputs.Close to) name = []
 
+-- the bytes of all that the replica output for a connection, in order
 abbrev pub bytes_for : List (Effect Command Output) → ConnectionName → List ℕ
 bytes_for [] name = []
 bytes_for (Out place output ∷ given) name = bytes_by output name ++ bytes_for given name
@@ -76,6 +77,7 @@ pub record GoOn (item : Item) (core : CoreState) (did : Account) : Type 0 where
   pub each : AreNamedApart (core.connections ++ new) →
       EachGoesOn did.given (core.connections ++ new) did.core.connections
 
+-- that holds for each item and each step that is allowed, even if memory runs out
 abbrev pub AGapIsClosed : Type 0
 AGapIsClosed =
     (item : Item) (core : CoreState) (did : Account) → ActsOn item core did → GoOn item core did

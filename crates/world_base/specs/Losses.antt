@@ -76,6 +76,7 @@ WaitsNothing core = Each (λ (c : Connection). c.pending ≡ []) core.connection
 
 -- ---- what is counted
 
+-- the state, the messages and the count of losses are those of the step
 abbrev pub IsExactly : CountedCore → Turn → CountedCore → List (Effect Command Output) → Type 0
 IsExactly old turn new given =
     (new.core ≡ turn.core) × (given ≡ turn.messages) × (new.losses ≡ old.losses)

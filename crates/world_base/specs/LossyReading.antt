@@ -46,11 +46,11 @@ pub data LosesFailed (core : CoreState) (did : Account) : Type 0 where
 abbrev pub Asks : Command → (CoreState → Account → Type 0) → CoreState → Account → Type 0
 Asks command Otherwise core did = Takes command core did ⊎ Then Declines Otherwise core did
 
--- a connection is closed; or it is closed as lost, and the loss is still to be reported to the
--- broker
+-- a connection is closed
 abbrev pub Closes : Port → CoreState → Account → Type 0
 Closes port core did = did ≡ quietly (changes port closed core)
 
+-- .. or it is closed as lost, and the loss is still to be reported to the broker
 abbrev pub Shuts : Port → CoreState → Account → Type 0
 Shuts port core did = Closes port core did ⊎ (did ≡ quietly (changes port failing core))
 
@@ -65,6 +65,7 @@ Begins port name (packets.Connect connect) core did =
     Connects port name connect (changes port (asked connect.keep_alive) core) did
 Begins port name _ core did = Closes port core did
 
+-- a later packet is proposed; if it is not taken, the connection ends
 abbrev pub Says : Port → ConnectionName → Packet → CoreState → Account → Type 0
 Says port name packet core did = Asks (commands.Packet name packet) (Shuts port) core did
 

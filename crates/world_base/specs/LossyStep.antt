@@ -45,9 +45,11 @@ pub data Cuts (core : CoreState) (did : Account) : Type 0 where
 abbrev pub EndsAllSilent : ℕ → CoreState → Account → Type 0
 EndsAllSilent now core did = Repeated (length core.connections) (EndsSilent now) core did
 
+-- the loss of each connection that failed is reported, or memory ran out for that
 abbrev pub LosesAllFailed : CoreState → Account → Type 0
 LosesAllFailed core did = Repeated (length core.connections) LosesFailed core did
 
+-- the packets of a port are read, one after another, at most as many as it has bytes
 abbrev pub ReadsAll : ℕ → Port → CoreState → Account → Type 0
 ReadsAll now port core did = Repeated (unread_of (open_at port core)) (ReadsNext now port) core did
 

@@ -17,6 +17,7 @@ use Rattle.world_base.specs.Core.{CoreState, Turn}
 use Rattle.world_base.specs.Turns.{quiet, repeated, proposes, has_room}
 pub use Rattle.node_connections.specs.Refusing.{refused}
 
+-- the open connection of a port, if there is one
 abbrev pub open_at : Port → CoreState → Option Connection
 open_at port core = find (is_open_at port) core.connections
 
@@ -32,6 +33,7 @@ loses port c core =
     then proposes (commands.Lost c.name) (changes port closed core)
     else quiet (changes port closed core)
 
+-- the same if there is one; nothing happens otherwise
 abbrev pub loses_open : Port → CoreState → Option Connection → Turn
 loses_open port core None = quiet core
 loses_open port core (Some c) = loses port c core
@@ -71,6 +73,7 @@ reads now port c core (Ok (packet, rest)) =
     then begins port c.name packet (changes port (left_with now rest) core)
     else says port c.name packet (changes port (left_with now rest) core)
 
+-- the packet at the front of its bytes is read, if there is a connection
 abbrev pub reads_of : ℕ → Port → CoreState → Option Connection → Turn
 reads_of now port core None = quiet core
 reads_of now port core (Some c) = reads now port c core (verdict c.unread)
@@ -79,6 +82,7 @@ reads_of now port core (Some c) = reads now port c core (verdict c.unread)
 unfoldable pub reads_next : ℕ → Port → CoreState → Turn
 reads_next now port core = reads_of now port core (open_at port core)
 
+-- how many bytes of a connection wait to be read: 0 if there is none
 abbrev pub unread_of : Option Connection → ℕ
 unread_of None = 0
 unread_of (Some c) = length c.unread

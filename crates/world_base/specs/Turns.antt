@@ -48,10 +48,12 @@ abbrev pub served_by : Output → CoreState → CoreState
 served_by (outputs.Send name packet) core = changes_named name (put_out (spelling packet)) core
 served_by (outputs.Close name) core = changes_named name closed core
 
+-- the same for any effect: a message does nothing to connections
 abbrev pub served : CoreState → Effect Command Output → CoreState
 served core (Out place output) = served_by output core
 served core (To receiver message) = core
 
+-- whether an effect is a message to another node, and not an output
 abbrev pub is_message : Effect Command Output → Bool
 is_message (Out place output) = false
 is_message (To receiver message) = true
@@ -62,6 +64,7 @@ abbrev pub delivered : List (Effect Command Output) → CoreState → Turn
 delivered effects core =
     record { core = fold served core effects; messages = filter is_message effects }
 
+-- a node after a step of its replica: it has the new state, and the effects are handled
 abbrev pub moved : Outcome State Command Output → CoreState → Turn
 moved outcome core =
     delivered outcome.effects

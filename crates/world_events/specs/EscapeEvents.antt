@@ -4,12 +4,12 @@ use Rattle.ways_out.specs.Deliveries.{asked_and_answered}
 use Rattle.world_events.specs.declared.event.Event.{Event}
 use Rattle.world_events.specs.declared.event.Event.TheVariants as events
 
--- a client that holds a connection loses it; it opens another, and its CONNECT reaches the new
--- primary
+-- a client that holds a connection loses it
 abbrev pub leaving : Bool → List ℕ → List Event
 leaving true name = events.Abandon name ∷ []
 leaving false name = []
 
+-- that, and then it opens another one, and its CONNECT reaches the new primary
 abbrev pub client_events : Bool → List ℕ → ℕ → ℕ → ℕ → List Event
 client_events holds name primary number bytes =
     leaving holds name ++ events.Open name primary ∷ events.CarryUp number bytes ∷ []

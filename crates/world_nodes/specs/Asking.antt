@@ -28,11 +28,12 @@ log_of n node = log_in n.archive (node_of n.nodes node)
 abbrev pub first_connection : ConnectionName
 first_connection = record { ballot = 1; count = 1 }
 
--- whether an output is a CONNACK 0 with session present, and whether outputs begin with one
+-- whether an output is a CONNACK 0 with session present
 abbrev pub is_present : Output → Bool
 is_present (Send x (Connack (Accepted present))) = present
 is_present _ = false
 
+-- whether the first of these outputs is a CONNACK 0 with session present
 abbrev pub is_welcome : List Output → Bool
 is_welcome [] = false
 is_welcome (output ∷ more) = is_present output

@@ -87,10 +87,11 @@ after_master o n =
       sent = n.sent ++ (o.receiver, record { from = master; body = o.body }) ∷ [];
     }
 
--- after an Assign that is not refused, and after an Activate of a node
+-- after an Assign that is not refused
 abbrev pub after_giving : Config → NodesState → NodesState
 after_giving config n = after_master (assigned Command n.master config) n
 
+-- .. and after an Activate of a node
 abbrev pub after_answer : ℕ → ℕ → NodesState → NodesState
 after_answer from ballot n =
     after_master (activated Command n.master ballot from n.master.waiting) n

@@ -21,6 +21,7 @@ ActsOrRests at node_call old new = Acts at node_call old new ⊎ (new ≡ forget
 abbrev pub MasterGoes : NodesState → NodesState → Type 0
 MasterGoes old new = (g : Group) → StandsFor g old → GoesBy None g new
 
+-- the master answers; or memory ran out, and that is counted
 abbrev pub MasterGoesOrRests : NodesState → NodesState → Type 0
 MasterGoesOrRests old new = MasterGoes old new ⊎ (new ≡ forgetful old)
 
@@ -29,6 +30,7 @@ abbrev pub MasterHears : Body Command → NodesState → NodesState → Type 0
 MasterHears (Activate ballot) old new = MasterGoes old new
 MasterHears _ old new = new ≡ old
 
+-- a message comes to the master (number 0) or to a node; or memory ran out for it
 abbrev pub ComesOrRests : Option (ℕ × Message Command) → NodesState → NodesState → Type 0
 ComesOrRests None old new = ⊥
 ComesOrRests (Some (zero, message)) old new = MasterHears message.body old new

@@ -16,6 +16,7 @@ pub record NodesState : Type 0 where
   pub archive : List Command
   pub losses : ℕ
 
+-- nodes without their counts of losses
 abbrev pub cores_of : List CountedCore → List CoreState
 cores_of nodes = map (λ (c : CountedCore). c.core) nodes
 

@@ -4,6 +4,7 @@ use Rattle.master.specs.ballot.Cutting.{can_cut}
 use Rattle.byte_world.specs.world_base.Core.{CountedCore}
 use Rattle.byte_world.specs.world_base.Turns.{has_room}
 
+-- the node, if it has not stopped
 abbrev pub unless_stopped : Option CountedCore → Option CountedCore
 unless_stopped None = None
 unless_stopped (Some c) = if c.core.replica.state.stopped then None else Some c
@@ -13,23 +14,25 @@ abbrev pub running : List CountedCore → ℕ → Option CountedCore
 running nodes zero = None
 running nodes (suc at) = unless_stopped (slice_get nodes at)
 
--- .. and if it exists
+-- the node of a number, if it exists
 abbrev pub node_of : List CountedCore → ℕ → Option CountedCore
 node_of nodes zero = None
 node_of nodes (suc at) = slice_get nodes at
 
--- .. and if it runs and has something to cut
+-- the node, if it has something to cut
 abbrev pub unless_whole : Option CountedCore → Option CountedCore
 unless_whole None = None
 unless_whole (Some c) = if can_cut c.core.replica.state then Some c else None
 
+-- the node of a number, if it runs and has something to cut
 abbrev pub cutting : List CountedCore → ℕ → Option CountedCore
 cutting nodes node = unless_whole (running nodes node)
 
--- .. and if it serves clients and its log has room
+-- the node, if it serves clients and its log has room
 abbrev pub unless_full : Option CountedCore → Option CountedCore
 unless_full None = None
 unless_full (Some c) = if has_room c.core then Some c else None
 
+-- the node of a number, if it serves clients and its log has room
 abbrev pub proposing : List CountedCore → ℕ → Option CountedCore
 proposing nodes node = unless_full (running nodes node)

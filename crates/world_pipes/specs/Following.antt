@@ -27,6 +27,7 @@ pub record Follows (published : List Publication) (m : ClientPipes) (new : Piped
   pub publishes : published_along goes ≡ published
   pub stands : StandsFor new next
 
+-- the same for each client of the model that corresponded to it before
 abbrev pub FollowsBy : List Publication → Piped → Piped → Type 0
 FollowsBy published old new = (m : ClientPipes) → StandsFor old m → Follows published m new
 
@@ -40,6 +41,7 @@ FollowsAll old new = FollowsBy [] old new
 abbrev pub after_losing : ClientPipes → ClientPipes
 after_losing m = after_writing (lost m.keeper) m.connections m
 
+-- the model's client loses its connection, too, and publishes nothing
 abbrev pub FollowsLosing : Piped → Piped → Type 0
 FollowsLosing old new =
     (m : ClientPipes) → StandsFor old m →
@@ -48,6 +50,7 @@ FollowsLosing old new =
 
 -- ---- a new connection: the model's, under any name that its node gives it
 
+-- the model's client gets a new connection, or moves without one after an error
 abbrev pub ConnectingFollows : ℕ → Port → Piped → Result (Unit {0}) ClientError → Piped → Type 0
 ConnectingFollows node port old (Ok done) new =
     (m : ClientPipes) (x : ConnectionName) → StandsFor old m →
@@ -78,6 +81,7 @@ CallingFollows published old (Err cause) new = new ≡ old
 
 -- ---- receiving: a piece arrives, whole packets are handled, and the connection may be lost
 
+-- whatever a client does with bytes, the model's client may do, and publishes nothing
 abbrev pub HearingFollows : Type 0
 HearingFollows =
     (count : ℕ) (old new : Piped) (result : Result (Unit {0}) ClientError) (m : ClientPipes) →

@@ -26,6 +26,7 @@ pub record FollowsUp (count at : ℕ) (old : Piped) (way : Way) (new : Piped)
   pub up : there.pipe.up ≡ take count way.up ++ rest
   pub stands : StandsFor new (with_pipe (place_in_model at old) (record there.pipe { up = rest }) m)
 
+-- the same for each client of the model that corresponded to it before
 abbrev pub TakingUpFollows : ℕ → ℕ → Piped → Piped → Type 0
 TakingUpFollows at count old new =
     (m : ClientPipes) → StandsFor old m →
@@ -38,6 +39,7 @@ pub record FollowsDown (bytes : List ℕ) (at : ℕ) (old : Piped) (way : Way) (
   pub stands : StandsFor new
       (with_pipe (place_in_model at old) (record there.pipe { down = bytes }) m)
 
+-- the same for each client of the model that corresponded to it before
 abbrev pub SwappingFollows : ℕ → List ℕ → Piped → Piped → Type 0
 SwappingFollows at bytes old new =
     (m : ClientPipes) → StandsFor old m →

@@ -40,11 +40,13 @@ pub data ClientGoes (c : ClientPipes) : ClientPipes → Type 0 where
 
 -- ---- what it publishes
 
+-- what a client publishes in a step
 abbrev pub published_with : {c d : ClientPipes} → ClientStep c d → List Publication
 published_with (ClientStep.calls t h is spelled) = published_by h
 published_with (ClientStep.arrives j κ p piece rest connection pipe down) = []
 published_with (ClientStep.handles κ others p pipes packet left connections are up cut spelled) = []
 
+-- .. in steps, one after another, the oldest first
 abbrev pub published_along : {c d : ClientPipes} → ClientGoes c d → List Publication
 published_along ClientGoes.stays = []
 published_along (ClientGoes.goes_on goes step) = published_along goes ++ published_with step
@@ -56,6 +58,7 @@ pub record StepsIn (w : World) (i : ℕ) {c d : ClientPipes} (step : ClientStep 
   pub is : WorldStep w (with_client i d w)
   pub published : published_in is ≡ from_client i (published_with step)
 
+-- that holds for each step of each client
 abbrev pub ClientsStepInWorlds : Type 0
 ClientsStepInWorlds =
     (w : World) (i : ℕ) (c d : ClientPipes) → slice_get w.clients i ≡ Some c →

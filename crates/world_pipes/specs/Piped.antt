@@ -12,10 +12,12 @@ use Rattle.world_pipes.specs.declared.way.Way.{Way}
 use Rattle.world_pipes.specs.declared.sending.Sending.{Sending}
 use Rattle.world_pipes.specs.declared.sending.Sending.TheVariants as sendings
 
+-- a client, and its connections with the bytes in transit, the oldest first
 pub record Piped : Type 0 where
   pub core : Core
   pub ways : List Way
 
+-- a `Piped` of these
 abbrev pub piped : Core → List Way → Piped
 piped core ways = record { core = core; ways = ways }
 

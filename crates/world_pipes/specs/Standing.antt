@@ -22,6 +22,7 @@ pub record IsWay (way : Way) (p : Pipe) : Type 0 where
   pub up : IsPrefixOf way.up p.up
   pub down : p.down ≡ way.down
 
+-- the connections correspond to the model's pipes, one to one and in the same order
 abbrev pub AreWays : List Way → List Pipe → Type 0
 AreWays (way ∷ ways) (p ∷ pipes) = IsWay way p × AreWays ways pipes
 AreWays [] [] = Unit {0}
@@ -51,6 +52,7 @@ pub record CanGoOut (state : ClientState) : Type 0 where
   pub sent : Each (λ (kept : KeptPublication). IsPacket (publish_kept false kept)) state.sent
   pub unsent : Each (λ (kept : KeptPublication). IsPacket (publish_kept false kept)) state.unsent
 
+-- the client in code corresponds to this one of the model
 pub record StandsFor (client : Piped) (m : ClientPipes) : Type 0 where
   pub keeper : history.StandsFor m.keeper client.core.state
   pub fits : CanGoOut client.core.state

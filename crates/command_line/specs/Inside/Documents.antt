@@ -9,6 +9,7 @@ use Rattle.command_line.specs.declared.node_table.NodeTable.{NodeTable}
 abbrev pub is_small : ℕ → Bool
 is_small n = nat_le n 15
 
+-- whether a node's number is such a number
 abbrev pub has_small_id : ListeningNode → Bool
 has_small_id node = is_small node.id
 

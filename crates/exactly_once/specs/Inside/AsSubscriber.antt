@@ -21,10 +21,12 @@ use Rattle.exactly_once.specs.Carried.{is_two}
 use Rattle.exactly_once.specs.Acceptance.{accepted_on}
 use Rattle.exactly_once.specs.Inside.Projections.{to_come, to_be_taken, is_current}
 
+-- the item before these, if its publication has QoS 2
 abbrev pub two_item : Publication → Item Publication → List (Item Publication) →
     List (Item Publication)
 two_item p item items = if is_two p.qos then item ∷ items else items
 
+-- the QoS 2 entries of a session, as items of the handshake
 abbrev pub items_of : List Entry → List (Item Publication)
 items_of (Entry.Waits made p ∷ entries) = two_item p (Item.Waits p) (items_of entries)
 items_of (Entry.Started made p id start ∷ entries) = two_item p (Item.Sent p id) (items_of entries)
@@ -34,6 +36,7 @@ items_of (Entry.Finished made p id start release finish ∷ entries) =
     two_item p (Item.Finished p) (items_of entries)
 items_of [] = []
 
+-- the PUBLISH before these packets, if it has QoS 2
 abbrev pub published_in : Delivery → Publication → List (Forward Publication) →
     List (Forward Publication)
 published_in (deliveries.ExactlyOnce dup id) p f = Forward.Publish id p ∷ f
@@ -56,11 +59,12 @@ backward_of (w ∷ more) = by w.packet (backward_of more)
     by _ b = b
 backward_of [] = []
 
--- the connection that the client holds, if the list has its Connect
+-- the connection, if the list has its Connect
 abbrev pub if_taken : ℕ → Connection → Option Connection
 if_taken zero κ = None
 if_taken (suc n) κ = Some κ
 
+-- the connection that the client holds, if the list has its Connect
 abbrev pub held : Keeper → List Connection → Option Connection
 held keeper (κ ∷ connections) = if keeper.is_open then if_taken κ.taken κ else None
 held keeper [] = None
@@ -72,6 +76,7 @@ left_behind (Some x) (κ ∷ connections) =
     else left_behind (Some x) connections
 left_behind _ _ = []
 
+-- what is in transit: both ways if the client's connection is current, otherwise one way
 abbrev pub link_to : Limits → Past → Option ConnectionName → List Connection → Option Connection →
     Link Publication
 link_to limits past current connections (Some κ) =

@@ -12,10 +12,12 @@ use Rattle.exactly_once.specs.StoryCommands.{count_of}
 use Rattle.client_base.specs.Called.{opens}
 use Rattle.exactly_once.specs.Inside.Projections.{backward_of_own}
 
+-- whether a packet is a CONNACK
 abbrev pub is_connack : Packet → Bool
 is_connack (packets.Connack c) = true
 is_connack _ = false
 
+-- none of these packets is a CONNACK
 abbrev pub no_connacks : List Packet → Type 0
 no_connacks = Each (λ packet. is_connack packet ≡ false)
 
@@ -25,6 +27,7 @@ ConnackFirst zero put = put ≡ []
 ConnackFirst (suc taken) [] = ⊥
 ConnackFirst (suc taken) (first ∷ put) = (is_connack first ≡ true) × no_connacks put
 
+-- whether a written packet is a CONNECT
 abbrev pub is_connect : Written → Bool
 is_connect w = by w.packet
   where
@@ -37,6 +40,7 @@ abbrev pub is_two_unnumbered : Packet → Option ℕ → Bool
 is_two_unnumbered (packets.Publish p) None = is_exactly_once p.delivery
 is_two_unnumbered _ _ = false
 
+-- the counts, the order and the first packets of one connection are as they have to be
 pub record ConnectionInShape (limits : Limits) (past : Past) (c : Client)
     (κ : Connection) : Type 0 where
   pub more : List Written

@@ -24,9 +24,11 @@ use Rattle.exactly_once.specs.Carried.{is_two, new_numbers}
 abbrev pub to_come : Limits → Past → Connection → List Packet
 to_come limits past κ = drop κ.handled (put_to limits past κ.name)
 
+-- what the client wrote on a connection and the list does not have yet
 abbrev pub to_be_taken : Connection → List Written
 to_be_taken κ = drop κ.taken κ.written
 
+-- whether this connection is the current one of its client
 abbrev pub is_current : Option ConnectionName → ConnectionName → Bool
 is_current (Some y) x = same_connection y x
 is_current None x = false
@@ -35,9 +37,11 @@ is_current None x = false
 
 -- as new
 
+-- the item before these, if its publication has QoS 2
 abbrev pub own_item : Publication → Item ℕ → List (Item ℕ) → List (Item ℕ)
 own_item p item items = if is_two p.qos then item ∷ items else items
 
+-- the client's QoS 2 publications, as items of the handshake
 abbrev pub items_of_own : List Own → List (Item ℕ)
 items_of_own (Own.Unsent k p id ∷ own) = own_item p (Item.Waits k) (items_of_own own)
 items_of_own (Own.Sent k p id ∷ own) = own_item p (Item.Sent k id) (items_of_own own)
@@ -45,19 +49,23 @@ items_of_own (Own.Released k p id ∷ own) = own_item p (Item.Released k id) (it
 items_of_own (Own.Done k p ∷ own) = own_item p (Item.Finished k) (items_of_own own)
 items_of_own [] = []
 
+-- the PUBLISH before these packets, if it has QoS 2 and a number
 abbrev pub carried_by : Delivery → Option ℕ → List (Forward ℕ) → List (Forward ℕ)
 carried_by (deliveries.ExactlyOnce dup id) (Some k) f = Forward.Publish id k ∷ f
 carried_by _ _ f = f
 
+-- a written packet before these, if it belongs to the handshake
 abbrev pub forward_of_one : Packet → Option ℕ → List (Forward ℕ) → List (Forward ℕ)
 forward_of_one (packets.Publish p) number f = carried_by p.delivery number f
 forward_of_one (packets.Pubrel id) number f = Forward.Pubrel id ∷ f
 forward_of_one _ number f = f
 
+-- the part of what the client wrote that belongs to the handshake
 abbrev pub forward_of_own : List Written → List (Forward ℕ)
 forward_of_own (w ∷ more) = forward_of_one w.packet w.number (forward_of_own more)
 forward_of_own [] = []
 
+-- the part of the broker's answers that belongs to the handshake
 abbrev pub backward_of_own : List Packet → List Backward
 backward_of_own (packets.Pubrec id ∷ more) = Backward.Pubrec id ∷ backward_of_own more
 backward_of_own (packets.Pubcomp id ∷ more) = Backward.Pubcomp id ∷ backward_of_own more
@@ -69,6 +77,7 @@ abbrev pub last_confirmed : List Connection → Option Connection
 last_confirmed (κ ∷ connections) = if κ.confirmed then Some κ else last_confirmed connections
 last_confirmed [] = None
 
+-- what is in transit, by the last connection on which a CONNACK 0 came
 abbrev pub link_of_own : Limits → Past → Option ConnectionName → Bool → Option Connection → Link ℕ
 link_of_own limits past current online (Some κ) =
     if is_current current κ.name
@@ -78,6 +87,7 @@ link_of_own limits past current online (Some κ) =
     else (if online then Link.Behind (backward_of_own (to_come limits past κ)) else Link.Behind [])
 link_of_own limits past current online None = Link.Behind []
 
+-- the client sends, the broker accepts
 abbrev pub as_publisher : Limits → Story → Handshake ℕ
 as_publisher limits s =
     record {
@@ -98,6 +108,7 @@ pub record IsLike {A : Type 0} (h k : Handshake A) : Type 0 where
   pub received : (id : ℕ) → h.received id ≡ k.received id
   pub link : h.link ≡ k.link
 
+-- a run of the first handshake ends in the second, apart from what is not relevant
 pub record GoesTo {A : Type 0} (h k : Handshake A) : Type 0 where
   pub between : Handshake A
   pub run : Run h between

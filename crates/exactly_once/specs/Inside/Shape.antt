@@ -30,11 +30,13 @@ AreNumbered n (Own.Released k p id ∷ own) =
 AreNumbered n (Own.Done k p ∷ own) = (k ≡ n) × AreNumbered (suc n) own
 AreNumbered n [] = Unit {0}
 
+-- whether each of these publications was sent
 abbrev pub none_unsent : List Own → Bool
 none_unsent (Own.Unsent k p id ∷ own) = false
 none_unsent (_ ∷ own) = none_unsent own
 none_unsent [] = true
 
+-- the client's identifiers, numbers and releases fit its publications
 pub record OwnInShape (keeper : Keeper) : Type 0 where
   pub ids_apart : IsDistinct (ids_in_use keeper)
   pub numbered : AreNumbered (length keeper.earlier) keeper.own
@@ -45,6 +47,7 @@ pub record OwnInShape (keeper : Keeper) : Type 0 where
 
 -- ---- all of them
 
+-- no two connections have the same name
 abbrev pub NamesApart : List Connection → Type 0
 NamesApart (κ ∷ connections) =
     (any_named (same_connection κ.name) connections ≡ false) × NamesApart connections
@@ -85,10 +88,12 @@ IsMeant c past packet =
 abbrev pub IsWelcomed : Limits → Past → Client → ConnectionName → Type 0
 IsWelcomed limits past c x = Each (IsMeant c past) (put_to limits past x)
 
+-- the same for each of these connections
 abbrev pub AreWelcomed : Limits → Past → Client → List Connection → Type 0
 AreWelcomed limits past c connections =
     Each (λ (κ : Connection). IsWelcomed limits past c κ.name) connections
 
+-- all that a story keeps besides the two handshakes
 pub record HasShape (limits : Limits) (s : Story) : Type 0 where
   pub own : OwnInShape s.keeper
   pub connections : Each (ConnectionInShape limits s.past s.keeper.client) s.connections
@@ -105,6 +110,7 @@ pub record HasShape (limits : Limits) (s : Story) : Type 0 where
   pub welcomed : AreWelcomed limits s.past s.keeper.client s.connections
   pub served : s.keeper.was_served ≡ true → session_of s.past s.keeper.client ≡ Some false
 
+-- a story has this shape, and both its handshakes are good
 pub record IsSoundStory (limits : Limits) (s : Story) : Type 0 where
   pub shape : HasShape limits s
   pub publisher : IsGood (as_publisher limits s)

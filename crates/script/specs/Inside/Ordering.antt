@@ -30,6 +30,7 @@ two make reads next (field ∷ []) = None
 two make reads next (field ∷ other ∷ []) = with (with (Some make) (reads field)) (next other)
 two make reads next (field ∷ other ∷ third ∷ more) = None
 
+-- the order by which a client subscribes to a filter
 abbrev pub subscription_order : Text → Text → QoS → Order
 subscription_order client filter qos = orders.Subscribe client filter qos
 
@@ -42,6 +43,7 @@ subscribe_of (c ∷ f ∷ q ∷ []) =
     with (with (with (Some subscription_order) (client_of c)) (filter_of f)) (qos_of q)
 subscribe_of (c ∷ f ∷ q ∷ d ∷ more) = None
 
+-- a publication of these fields
 abbrev pub publication : Text → QoS → Bool → Text → Publication
 publication topic qos retain payload =
     record { retain = retain; qos = qos; topic = topic; payload = payload }
@@ -52,6 +54,7 @@ publication_of t q r p =
     with (with (with (with (Some publication) (topic_of t)) (qos_of q)) (retain_of r))
     (payload_of p)
 
+-- the order by which a client publishes
 abbrev pub publication_order : Text → Publication → Order
 publication_order client sent = orders.Publish client sent
 

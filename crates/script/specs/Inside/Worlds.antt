@@ -12,13 +12,16 @@ pub record Values : Type 0 where
   pub primary : ℕ
   pub clients : List Text
 
+-- the values of the first line: nodes, members, primary, clients
 abbrev pub values : ℕ → List ℕ → ℕ → List Text → Values
 values n m p c = record { nodes = n; members = m; primary = p; clients = c }
 
+-- the values of an `Opening`
 abbrev pub values_of : Opening → Values
 values_of opening = values opening.nodes opening.config.members opening.config.primary
     opening.clients.items
 
+-- whether a number is at most 15, as a number of a node is
 abbrev pub is_small : ℕ → Bool
 is_small n = nat_le n 15
 

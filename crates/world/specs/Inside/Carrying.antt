@@ -72,6 +72,7 @@ TakesUpOnWhere false number place count old new =
     (new ≡ old) × (client : WorldClient) × (slice_get old.clients place.client ≡ Some client)
     × CanTake place count old.nodes client.piped
 
+-- the same in a world
 abbrev pub CannotTakeOn : ConnectionSlot → ℕ → WorldState → Type 0
 CannotTakeOn place count w =
     (client : WorldClient) → slice_get w.clients place.client ≡ Some client →
@@ -87,6 +88,7 @@ pub record HearsOn (had : Bool) (at count : ℕ) (old new : Piped) : Type 0 wher
   pub hears : HearsThem had count old new
   pub lost : had ≡ false → Hears count old (Err errors.Memory) new
 
+-- it does not hold the connection at this index, or too few bytes wait there
 abbrev pub CannotHear : ℕ → ℕ → Piped → Type 0
 CannotHear at count client =
     (way : Way) → slice_get client.ways at ≡ Some way →

@@ -46,6 +46,7 @@ MayHandDown node port old before new after =
     (NodesStay old new × (after ≡ before))
     ⊎ (Acts (node - 1) (gives port) old new × HandsOver node port old before after)
 
+-- the same after what is in transit to a client on the connection at this index
 abbrev pub MayPutDown : ℕ → ℕ → Port → NodesState → Piped → NodesState → Piped → Type 0
 MayPutDown at node port old client new later =
     (way : Way) → slice_get client.ways at ≡ Some way →
