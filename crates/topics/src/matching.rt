@@ -36,11 +36,11 @@ fn matches_levels(filter: &[u8], topic: &[u8]) -> bool
     requires { IsPair filter.now topic.now }
     ensures { result ≡ matches_levels filter.now topic.now }
 {
-    let (mut parts, mut names) = after_front(filter, topic);
-    while starts_with(b'+', parts) {
-        (parts, names) = after_front(&parts[1..], after_level(names));
+    let (mut filter_rest, mut topic_rest) = after_front(filter, topic);
+    while starts_with(b'+', filter_rest) {
+        (filter_rest, topic_rest) = after_front(&filter_rest[1..], after_level(topic_rest));
     }
-    ends_match(parts, names)
+    ends_match(filter_rest, topic_rest)
 }
 
 /// Returns what is left of the texts after the bytes with which both begin.
@@ -51,16 +51,16 @@ fn after_front<'a>(filter: &'a [u8], topic: &'a [u8]) -> (&'a [u8], &'a [u8])
     ensures apart { IsApart result.0.now result.1.now }
     ensures shorter { length result.0.now ≤ length filter.now }
 {
-    let mut parts = filter;
-    let mut names = topic;
-    while let ([part, parts_after @ ..], [name, names_after @ ..]) = (parts, names) {
+    let mut filter_rest = filter;
+    let mut topic_rest = topic;
+    while let ([part, after_part @ ..], [name, after_name @ ..]) = (filter_rest, topic_rest) {
         if part != name {
             break;
         }
-        parts = parts_after;
-        names = names_after;
+        filter_rest = after_part;
+        topic_rest = after_name;
     }
-    (parts, names)
+    (filter_rest, topic_rest)
 }
 
 /// Returns the text from its first `/` on.
@@ -77,13 +77,13 @@ fn after_level(text: &[u8]) -> &[u8]
 }
 
 /// Says whether what is left matches, once the next bytes differ.
-fn ends_match(parts: &[u8], names: &[u8]) -> bool
-    ensures { result ≡ ends_match parts.now names.now }
+fn ends_match(filter_rest: &[u8], topic_rest: &[u8]) -> bool
+    ensures { result ≡ ends_match filter_rest.now topic_rest.now }
 {
-    match parts {
-        [] => names.is_empty(),
+    match filter_rest {
+        [] => topic_rest.is_empty(),
         [b'#', ..] => true,
-        [part, after @ ..] => *part == b'/' && is_hash(after) && names.is_empty(),
+        [part, after @ ..] => *part == b'/' && is_hash(after) && topic_rest.is_empty(),
     }
 }
 

@@ -3,11 +3,11 @@ use Rattle.std.proofs.Common.{length}
 use Rattle.topics.specs.Inside.{IsLeft, IsApart}
 use Rattle.topics.proofs.matching.matches_levels.Given as goal
 
-abbrev pub invariant-loop-parts : goal.invariant-loop-parts
-invariant-loop-parts l = record {
-  left : IsLeft l.filter l.topic l.parts l.names;
-  apart : IsApart l.parts l.names;
+abbrev pub invariant-loop-filter_rest : goal.invariant-loop-filter_rest
+invariant-loop-filter_rest l = record {
+  left : IsLeft l.filter l.topic l.filter_rest l.topic_rest;
+  apart : IsApart l.filter_rest l.topic_rest;
 }
 
-abbrev pub decreases-loop-parts : goal.decreases-loop-parts
-decreases-loop-parts l = length l.parts
+abbrev pub decreases-loop-filter_rest : goal.decreases-loop-filter_rest
+decreases-loop-filter_rest l = length l.filter_rest
