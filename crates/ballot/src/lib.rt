@@ -10,4 +10,4 @@ pub use ballot_base::{
     Body, Config, Effect, Log, Members, Message, Role, Status, copy_log, machine,
 };
 pub use error::{OpeningError, ProposeError};
-pub use replica::{MOST_PLACES, Replica};
+pub use replica::{MAX_PLACES, Replica};

@@ -29,7 +29,7 @@ mod messages;
 mod ticking;
 
 /// The most places of a log.
-pub const MOST_PLACES: u64 = 1 << 40;
+pub const MAX_PLACES: u64 = 1 << 40;
 
 /// A log, the machine that it drives and a role in a ballot. It reaches other nodes only by the
 /// messages that its calls return. Its calls also return the machine's outputs, with their places.
@@ -207,7 +207,7 @@ impl<M: Machine> Replica<M> {
         if !self.role.is_active() {
             return Err(ProposeError::NotActive);
         }
-        if self.log.places() >= MOST_PLACES {
+        if self.log.places() >= MAX_PLACES {
             return Err(ProposeError::LogFull);
         }
         self.add(command, out)

@@ -3,7 +3,7 @@
 ghost use Rattle.std.specs.Prelude.{◌≡◌, ◌≤◌};
 
 use anyhow::{Result, bail};
-use mailbox::{Inbox, Lane, MOST_LANES, Naming, Receiver};
+use mailbox::{Inbox, Lane, MAX_LANES, Naming, Receiver};
 use std::alloc::Global;
 use std::marker::Brand;
 use std::sync::Wait;
@@ -30,7 +30,7 @@ fn measure<J: Naming + Send, R: Threads + Wait + Sync + Clock + CpuClock + Print
     lanes: u8,
 ) -> Result<()>
     requires named { inbox ≡ J.inbox_of 1 }
-    requires lanes { (1 ≤ lanes) × (lanes ≤ MOST_LANES) }
+    requires lanes { (1 ≤ lanes) × (lanes ≤ MAX_LANES) }
 {
     let (mut receiver, senders) = inbox.named::<J>(1, lanes)?;
     measure_over(rt, &mut receiver, senders, lanes)
@@ -98,7 +98,7 @@ fn pour<J: Naming, R: Wait>(rt: &R, mut lane: Lane<u64, J>, each: u64) {
 
 // Says whether this many numbers come from each lane, from 0 on and with none left out.
 fn come_in_order<J: Naming, R: Wait>(rt: &R, receiver: &mut Receiver<u64, J>, each: u64) -> bool {
-    let mut next = [0u64; MOST_LANES as usize];
+    let mut next = [0u64; MAX_LANES as usize];
     let mut missing = receiver.lanes();
     for _ in rt.forever() {
         if missing == 0 {

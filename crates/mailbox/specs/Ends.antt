@@ -2,7 +2,7 @@
 use Rattle.std.specs.Prelude.{◌≡◌, ℕ, zero, suc, ◌+◌, ◌-◌, ◌≤◌, List, [], ◌∷◌, ◌++◌, length, map, take, slice_index}
 use Rattle.crossbeam_queue.specs.Fifo.{Held}
 use Rattle.mailbox.specs.declared.inbox.TheConstants.{INBOX_ITEMS}
-use Rattle.mailbox.specs.declared.lane.TheConstants.{MOST_SENT}
+use Rattle.mailbox.specs.declared.lane.TheConstants.{MAX_SENT}
 use Rattle.mailbox.specs.declared.view.Bounds.{Bounds}
 use Rattle.mailbox.specs.Delivery.{items_of, lane_view, taker_view, Moment}
 
@@ -39,17 +39,17 @@ module _ {T : Type 0} where
   abbrev pub WasFull : Sender T → Receipted → Type 0
   WasFull s receipt =
       Held INBOX_ITEMS
-      (Moment (lane_view s.lane s.sent s.met (MOST_SENT - length s.sent) receipt.bounds))
+      (Moment (lane_view s.lane s.sent s.met (MAX_SENT - length s.sent) receipt.bounds))
 
   -- as far as the receipt says, there may be no room: what was taken, what the inbox can hold and
   -- what this lane may still send do not exceed what all lanes will ever send
   abbrev pub IsFullByReceipt : Sender T → Receipted → Type 0
   IsFullByReceipt s receipt =
-      receipt.bounds.taken + INBOX_ITEMS + (MOST_SENT - length s.sent) ≤ receipt.bounds.most
+      receipt.bounds.taken + INBOX_ITEMS + (MAX_SENT - length s.sent) ≤ receipt.bounds.most
 
   -- the lane has sent as much as it ever may
   abbrev pub IsSpent : Sender T → Type 0
-  IsSpent s = MOST_SENT ≤ length s.sent
+  IsSpent s = MAX_SENT ≤ length s.sent
 
   -- at one moment, at which everything that the receipt says was true, the inbox held nothing
   abbrev pub WasEmpty : Taker T → Receipted → Type 0

@@ -16,7 +16,7 @@ use std::sync::Arc;
 pub const INBOX_ITEMS: usize = 1_024;
 
 /// The most lanes of an inbox.
-pub const MOST_LANES: u8 = 64;
+pub const MAX_LANES: u8 = 64;
 
 /// An empty inbox that has no number and no lanes yet. In contracts it is its identity, which no
 /// other inbox has.

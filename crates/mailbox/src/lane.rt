@@ -12,7 +12,7 @@ use std::marker::{Model, PhantomData};
 use std::sync::{Arc, Wait};
 
 /// How many items a lane may send.
-pub const MOST_SENT: u64 = 1 << 55;
+pub const MAX_SENT: u64 = 1 << 55;
 
 /// The right to send through one lane of an inbox. It has one holder, and knows what it sent.
 #[derive(Drop)]
@@ -116,7 +116,7 @@ impl<T: Drop, J: Naming> Lane<T, J> {
     }
 
     /// Sends an item. It comes back only if the inbox was full at some moment of the call, or if
-    /// the lane has sent [`MOST_SENT`] items. If the receipt says that there is room, it does not
+    /// the lane has sent [`MAX_SENT`] items. If the receipt says that there is room, it does not
     /// come back.
     pub fn send<R: Wait>(&mut self, rt: &R, item: T, receipt: Receipt<T, J>) -> Result<(), T>
         requires { receipt.inbox ≡ self.old.inbox }
@@ -129,7 +129,7 @@ impl<T: Drop, J: Naming> Lane<T, J> {
         ensures back { IfErr result (λ x. x ≡ item) }
         ensures same { OnErr result (self.new ≡ self.old) }
     {
-        if self.count >= MOST_SENT {
+        if self.count >= MAX_SENT {
             return Err(item);
         }
         self.queue.absorb::<Hears>(&mut self.pass, receipt.pass);

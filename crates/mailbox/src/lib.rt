@@ -12,8 +12,8 @@ mod receipt;
 mod receiver;
 mod view;
 
-pub use inbox::{INBOX_ITEMS, Inbox, MOST_LANES};
-pub use lane::{Lane, MOST_SENT};
+pub use inbox::{INBOX_ITEMS, Inbox, MAX_LANES};
+pub use lane::{Lane, MAX_SENT};
 pub use naming::Naming;
 pub use receipt::Receipt;
 pub use receiver::Receiver;

@@ -7,7 +7,7 @@ use world_base::packet::{Packet, Subscribe, Unsubscribe};
 use world_base::{Body, Command, Item};
 
 /// The least that counts as many bytes when a log is cut because of its size.
-const LEAST: u64 = 16_777_216;
+const MIN_LARGE: u64 = 16_777_216;
 
 /// What a command of the log counts in addition to the bytes of its packet.
 const COMMAND_BYTES: u64 = 128;
@@ -19,7 +19,7 @@ pub(crate) fn is_large(bytes: u64, commands: u64, snapshot: &[u8]) -> bool
         result ≡ nat_lt (max 16777216 (length snapshot.now)) (all + 128 * commands) }
 {
     let size = commands.saturating_mul(COMMAND_BYTES).saturating_add(bytes);
-    size > LEAST.max(snapshot.len() as u64)
+    size > MIN_LARGE.max(snapshot.len() as u64)
 }
 
 /// Returns how many bytes items brought since the last cut, after one more item. The count

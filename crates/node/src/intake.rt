@@ -7,13 +7,13 @@ use std::marker::Model;
 use world_base::Status;
 
 /// How many places may be open when more bytes are taken.
-const MOST_OPEN: u64 = 4_096;
+const MAX_OPEN: u64 = 4_096;
 
 /// How many bytes may be in open places when more bytes are taken.
-const MOST_BYTES: u64 = 67_108_864;
+const MAX_OPEN_BYTES: u64 = 67_108_864;
 
 /// How many bytes may be in transit when more are taken.
-const MOST_ENTERING: u64 = 262_144;
+const MAX_ENTERING: u64 = 262_144;
 
 /// What a node takes from its clients, and its status. Of the bytes that are not known to be
 /// agreed, those are counted that may be in places that some member does not hold. The type bounds
@@ -80,9 +80,9 @@ impl Intake {
             self.new ≡ record self.old { entering = self.old.entering + bytes } }
         ensures same { result ≡ false → self.new ≡ self.old }
     {
-        let admits = open_places(&self.status) <= MOST_OPEN
-            && self.earlier + self.later <= MOST_BYTES
-            && self.entering <= MOST_ENTERING;
+        let admits = open_places(&self.status) <= MAX_OPEN
+            && self.earlier + self.later <= MAX_OPEN_BYTES
+            && self.entering <= MAX_ENTERING;
         if admits {
             self.entering += bytes;
         }

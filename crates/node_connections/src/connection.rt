@@ -20,7 +20,7 @@ use std::alloc::Global;
 
 /// How many bytes may wait to be handed over on one connection: more than a client can be sent
 /// again.
-const MOST_PENDING: usize = 134_217_728;
+const MAX_PENDING: usize = 134_217_728;
 
 /// How far a connection is.
 #[derive(Clone, Copy, Debug, PartialEq, Eq)]
@@ -244,7 +244,7 @@ impl Connection {
         ensures whole { result ≡ true → self.new ≡ put_out (spelling packet.now) self.old }
         ensures lost { result ≡ false → self.new ≡ failing self.old }
     {
-        match self.pending.put_within(packet, MOST_PENDING) {
+        match self.pending.put_within(packet, MAX_PENDING) {
             Ok(true) => true,
             Ok(false) => {
                 self.fail();

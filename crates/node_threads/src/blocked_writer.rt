@@ -20,7 +20,7 @@ const LOOK_MILLIS: u64 = 200;
 /// milliseconds.
 const FIRST_MILLIS: u64 = 1;
 
-const MOST_MILLIS: u64 = 16;
+const MAX_MILLIS: u64 = 16;
 
 impl<'a, J: NodeNaming, S: Stated<J>, G: Gate> Shared<'a, J, S, G> {
     /// Continues with connections whose sockets were full, until the listener is closed. No thread
@@ -107,6 +107,6 @@ fn next_pause(pause: u64, tried: usize, left: usize) -> u64 {
     if left == 0 || left < tried {
         FIRST_MILLIS
     } else {
-        pause.saturating_mul(2).min(MOST_MILLIS)
+        pause.saturating_mul(2).min(MAX_MILLIS)
     }
 }

@@ -16,7 +16,7 @@ use std::time::Clock;
 use streams::{CONNECTIONS, IdleLanes, Link};
 
 /// How many connections are written to in most turns.
-const FEW: usize = 8;
+const BUSY_CAPACITY: usize = 8;
 
 impl<'a, J: NodeNaming, S: Stated<J>, G: Gate> Shared<'a, J, S, G> {
     /// Sends an item by a lane, and takes what waits in the inbox, including that item. Once it
@@ -59,7 +59,7 @@ impl<'a, J: NodeNaming, S: Stated<J>, G: Gate> Shared<'a, J, S, G> {
     // them, or some are missing.
     fn busy_links<R: Wait>(&self, rt: &R, first: usize) -> Vec<Arc<Link, Global>> {
         let mut idle = room_for(self.alloc, usize::from(CONNECTIONS));
-        let mut busy = room_for(self.alloc, FEW);
+        let mut busy = room_for(self.alloc, BUSY_CAPACITY);
         let _ = self.node.lock(rt).state().idle_ports(&mut idle);
         self.context
             .listener

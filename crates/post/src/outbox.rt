@@ -25,11 +25,11 @@ use std::marker::Model;
 use std::mem;
 
 /// How many items may wait when a message of another node is queued.
-const MOST_WAITING: usize = 524_288;
+const MAX_WAITING: usize = 524_288;
 
 /// How many items may wait, at most, for a thread that queued one of them to take them in place of
 /// the node's own thread.
-const FEW: usize = 16;
+const MAX_HELPED: usize = 16;
 
 /// What the other nodes and the master have for a node, in the order in which it was queued. It is
 /// behind a lock, so its type says where each item comes from, and how many messages of other nodes
@@ -88,7 +88,7 @@ impl Outbox {
     pub(crate) fn is_long(&self) -> bool
         ensures { result ≡ is_long self.now.items }
     {
-        self.items.len() > FEW
+        self.items.len() > MAX_HELPED
     }
 
     /// Queues an item after all that waits, or replaces the newest if it supersedes that one.
@@ -178,7 +178,7 @@ impl Outbox {
     fn has_room(&self, item: &Item) -> bool
         ensures { result ≡ has_room item.now self.now.items }
     {
-        !is_of_node(item) || self.items.len() < MOST_WAITING
+        !is_of_node(item) || self.items.len() < MAX_WAITING
     }
 
     // Drops the newest of the items that wait, if this one supersedes it.

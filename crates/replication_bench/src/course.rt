@@ -9,7 +9,7 @@ use world::{Config, Event, Members, World};
 pub const CLIENTS: [&str; 4] = ["a", "b", "c", "d"];
 
 /// The most messages that one event may lead to.
-const MOST: u32 = 1_000;
+const MAX_MESSAGES: u32 = 1_000;
 
 /// How far a world has come.
 #[derive(Clone, Copy)]
@@ -74,7 +74,7 @@ pub fn happens(world: &mut World, course: &mut Course, event: &Event) -> Result<
 
 /// Delivers all messages, in the order of sending, and those to which they lead.
 pub fn all_come(world: &mut World, course: &mut Course) -> Result<()> {
-    for _message in 0..MOST {
+    for _message in 0..MAX_MESSAGES {
         if course.next >= world.messages() {
             return Ok(());
         }

@@ -24,7 +24,7 @@ pub struct Opening {
 }
 
 /// The greatest number of a node.
-const MOST: u64 = 15;
+const MAX_NODE: u64 = 15;
 
 /// Returns the world that the fields of the first line open.
 pub(crate) fn opening_of(alloc: Global, fields: &[&str]) -> Result<Opening, LineFault>
@@ -61,10 +61,10 @@ fn config(alloc: Global, count: u64, members: &[u64], primary: u64) -> Result<Co
     ensures form { IsErrOf result LineFault.Form
         → is_lawful_opening count members.now primary ≡ false }
 {
-    if count > MOST || !are_nodes(count, members) {
+    if count > MAX_NODE || !are_nodes(count, members) {
         return Err(LineFault::Form);
     }
-    if primary > MOST {
+    if primary > MAX_NODE {
         return Err(LineFault::Form);
     }
     let members = small_members(alloc, members)?;

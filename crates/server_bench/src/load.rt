@@ -4,7 +4,7 @@ use server::packet::QoS;
 use std::time::Duration;
 
 /// How far a publisher may be ahead of its subscribers: a queue holds 4,096.
-const MOST_AHEAD: u64 = 2_000;
+const MAX_AHEAD: u64 = 2_000;
 
 /// What publishers and subscribers do.
 #[derive(Clone, Copy)]
@@ -37,7 +37,7 @@ impl Load {
     /// all subscribers accepted this many.
     pub fn room(&self, sent: u64, done: u64, taken: u64) -> u64 {
         let window = self.window.saturating_sub(sent.saturating_sub(done));
-        let ahead = MOST_AHEAD.saturating_sub(sent.saturating_sub(taken));
+        let ahead = MAX_AHEAD.saturating_sub(sent.saturating_sub(taken));
         window.min(ahead)
     }
 

@@ -15,13 +15,13 @@ ghost use Rattle.world.specs.Inside.Escaping.{IsFetchedFrom, escaping_events};
 use crate::world::World;
 use escaping_client::packet::ClientId;
 use escaping_nodes::ways_out::ways_are_short;
-use headline::ballot::MOST_PLACES;
+use headline::ballot::MAX_PLACES;
 use headline::world_base::{Config, Members, Memory};
 use std::alloc::Global;
 use world_events::{EscapeError, Event, push_answers, push_client, push_group};
 
 // More messages than any memory holds.
-const MOST_MESSAGES: u64 = 4_611_686_018_427_387_904;
+const MAX_MESSAGES: u64 = 4_611_686_018_427_387_904;
 
 impl World {
     /// Returns a list of events that leads out of this world, at most 6n + 5 for n members: to a
@@ -86,7 +86,7 @@ impl World {
         let place = self.first_running()?;
         let (_, members) = self.nodes.active();
         let source = members[place];
-        if self.held(source) <= MOST_PLACES - 2 {
+        if self.held(source) <= MAX_PLACES - 2 {
             Some((place, source))
         } else {
             None
@@ -155,7 +155,7 @@ impl World {
             client.now (14 + length found.piped.core.state.client)) }
     {
         let sent = self.nodes.messages();
-        if sent > MOST_MESSAGES {
+        if sent > MAX_MESSAGES {
             return Err(Memory);
         }
         let (_, active) = self.nodes.active();

@@ -16,7 +16,7 @@ ghost use Rattle.world_base.specs.Reading.{changes, open_at, refused, unread_of}
 ghost use Rattle.world_base.specs.Step.{accepted, accepts, next_name, opens, settled};
 ghost use Rattle.world_base.specs.Turns.{changes_named, has_room};
 
-use ballot::{Config, MOST_PLACES, OpeningError, Replica, Status};
+use ballot::{Config, MAX_PLACES, OpeningError, Replica, Status};
 use broker::BrokerMachine;
 use node_connections::broker_spec::{Command, ConnectionId};
 use node_connections::packet::{Packet, RefusalCode};
@@ -144,7 +144,7 @@ impl NodeInStep {
     pub fn has_room(&self) -> bool
         ensures { result ≡ has_room self.now.core }
     {
-        self.serves() && self.replica.status().held < MOST_PLACES
+        self.serves() && self.replica.status().held < MAX_PLACES
     }
 
     /// Returns the index of the open connection of a port in the list.

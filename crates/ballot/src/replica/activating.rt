@@ -13,7 +13,7 @@ ghost use Rattle.ballot_base.specs.Losses.{halted, one_more};
 ghost use Rattle.ballot_base.specs.Applying.{applied_to};
 ghost use Rattle.ballot_base.specs.lists.Lists.{IsPrefixOf};
 
-use super::{MOST_PLACES, Replica};
+use super::{MAX_PLACES, Replica};
 use ballot_base::machine::{Halted, Machine, Memory};
 use ballot_base::{
     Body, Effect, Progress, Role, apply_dropping, counted, least_held, progress_of_others,
@@ -208,6 +208,6 @@ impl<M: Machine> Replica<M> {
             && (nat_le (length self.now.state.lacking) 0
             && nat_lt (places self.now.state.log) most_places)) }
     {
-        self.installs(ballot) && (self.lacking.is_empty() && self.log.places() < MOST_PLACES)
+        self.installs(ballot) && (self.lacking.is_empty() && self.log.places() < MAX_PLACES)
     }
 }

@@ -21,7 +21,7 @@ use crate::telling::{answer_of, asks_for, tell};
 use crate::told::turn_over;
 use crate::turning::{Taken, counted};
 use ballot::machine::{Machine, Memory};
-use ballot::{Body, Config, MOST_PLACES, Members};
+use ballot::{Body, Config, MAX_PLACES, Members};
 
 impl<M: Machine> Group<M> {
     /// Lets an active primary take a command; [`Idle`] comes for any other node and for a full log.
@@ -37,7 +37,7 @@ impl<M: Machine> Group<M> {
             return Err(Idle);
         };
         let status = self.nodes[at].status();
-        if !status.role.is_active() || status.held >= MOST_PLACES {
+        if !status.role.is_active() || status.held >= MAX_PLACES {
             return Err(Idle);
         }
         match M::copy(self.alloc, command) {

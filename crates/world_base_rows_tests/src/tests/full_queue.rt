@@ -8,7 +8,7 @@ use std::alloc::Global;
 use world_base::{Item, NodeCore, Port};
 
 // How many entries a queue holds, except one.
-const MOST_BUT_ONE: usize = 4_095;
+const ALL_BUT_ONE: usize = 4_095;
 
 // PUBLISH of `w` on `t/1` at QoS 1 with identifier 1, and its PUBACK.
 const FILLING: &[u8] = &[0x32, 0x08, 0x00, 0x03, 0x74, 0x2F, 0x31, 0x00, 0x01, 0x77];
@@ -78,7 +78,7 @@ fn fills(way: Way, node: &mut NodeCore) -> bool {
     take(way.alloc, node, Item::Ended(Port(1)));
     let away = hands_over(way.alloc, node, 1, NOTHING, false);
     let filled = connects(way, node, 2, CONNECT_A, ACCEPTED)
-        && (0..MOST_BUT_ONE).all(|_| answers(way, node, 2, FILLING, FILLED, true));
+        && (0..ALL_BUT_ONE).all(|_| answers(way, node, 2, FILLING, FILLED, true));
     subscribed && away && filled
 }
 
@@ -154,7 +154,7 @@ impl Got {
 
     // Answers all that came, until nothing comes any more.
     fn finish(&mut self, way: Way, node: &mut NodeCore, port: u64) -> Option<()> {
-        for _round in 0..MOST_BUT_ONE {
+        for _round in 0..ALL_BUT_ONE {
             if !brings(way, node, port, self.answers.as_slice()) {
                 return None;
             }
@@ -168,7 +168,7 @@ impl Got {
 
 // Of all that came only the last three are no filling, and each of them came once.
 fn ends_with_three(payloads: &[u8]) -> bool {
-    match payloads.split_at_checked(MOST_BUT_ONE) {
+    match payloads.split_at_checked(ALL_BUT_ONE) {
         Some((filling, three)) => filling.iter().all(|byte| *byte == 0x77)
             && three == [0x78, 0x79, 0x7A].as_slice(),
         None => false,

@@ -1,11 +1,11 @@
 use Rattle.script.proofs.Lawful.{large_primary, nodes_are_small}
 use Rattle.script.proofs.opening.config.Goals as goal
 
-pub returns-then-primary-gt-MOST-clause-form : goal.returns-then-primary-gt-MOST-clause-form
-returns-then-primary-gt-MOST-clause-form c same =
-    large_primary c.args.count c.args.members.now c.args.primary _ c.if-count-gt-MOST.false c.are_nodes.ensures
-    c.if-not-are_nodes.false c.if-primary-gt-MOST.true
+pub returns-then-primary-gt-MAX_NODE-clause-form : goal.returns-then-primary-gt-MAX_NODE-clause-form
+returns-then-primary-gt-MAX_NODE-clause-form c same =
+    large_primary c.args.count c.args.members.now c.args.primary _ c.if-count-gt-MAX_NODE.false c.are_nodes.ensures
+    c.if-not-are_nodes.false c.if-primary-gt-MAX_NODE.true
 
 pub small_members-requires : goal.small_members-requires
 small_members-requires c =
-    nodes_are_small c.args.count c.args.members.now _ c.if-count-gt-MOST.false c.are_nodes.ensures c.if-not-are_nodes.false
+    nodes_are_small c.args.count c.args.members.now _ c.if-count-gt-MAX_NODE.false c.are_nodes.ensures c.if-not-are_nodes.false

@@ -12,8 +12,8 @@ returns-then-not-is_active-clause-step g c =
     rw (← c.self.view_is) (λ running. stays_step steps _ _ _
     (proposed-not_active steps _ c.args.command (sym c.is_active.ensures ∙ c.if-not-is_active.true)))
 
-pub returns-then-places-ge-MOST_PLACES-clause-step : goal.returns-then-places-ge-MOST_PLACES-clause-step
-returns-then-places-ge-MOST_PLACES-clause-step g c =
+pub returns-then-places-ge-MAX_PLACES-clause-step : goal.returns-then-places-ge-MAX_PLACES-clause-step
+returns-then-places-ge-MAX_PLACES-clause-step g c =
     let steps = g.M.Machine.rules in
     let full : most_places ≤ places c.self.inside.log = omega (arith, c.places.ensures) in
     rw (← c.self.view_is) (λ running. stays_step steps _ _ _

@@ -36,7 +36,7 @@ returns-in-Ok-clause-step g c =
     let inside = rw (← c.self.view_is) at x.stands in
     let same = same_replica c.self.inside.nodes.items c.in-Some.at c.index.result.now x.replica c.index.ensures inside in
     let status : c.status-status.result ≡ status_of x.replica = c.status-status.ensures ∙ ap status_of same in
-    let can = proposal_taken x.replica c.status-status.result c.is_active.result c.args.command.now status c.is_active.ensures c.if-not-is_active.false c.if-status-ge-MOST_PLACES.false in
+    let can = proposal_taken x.replica c.status-status.result c.is_active.result c.args.command.now status c.is_active.ensures c.if-not-is_active.false c.if-status-ge-MAX_PLACES.false in
     let goes = takes_turn rules c.args.self.now.moment.world c.args.node c.in-Some.at (Proposes c.args.command.now) x can in
     let turned = c.take_turn.ensures x.replica x.stands in
     steps_turn rules c.args.self.now c.take_turn.new.self (Propose c.args.node c.args.command.now) _ goes
@@ -49,7 +49,7 @@ returns-in-Ok-clause-idle g c =
     let inside = rw (← c.self.view_is) at x.stands in
     let same = same_replica c.self.inside.nodes.items c.in-Some.at c.index.result.now x.replica c.index.ensures inside in
     let status : c.status-status.result ≡ status_of x.replica = c.status-status.ensures ∙ ap status_of same in
-    let can = proposal_taken x.replica c.status-status.result c.is_active.result c.args.command.now status c.is_active.ensures c.if-not-is_active.false c.if-status-ge-MOST_PLACES.false in
+    let can = proposal_taken x.replica c.status-status.result c.is_active.result c.args.command.now status c.is_active.ensures c.if-not-is_active.false c.if-status-ge-MAX_PLACES.false in
     let goes = takes_turn rules c.args.self.now.moment.world c.args.node c.in-Some.at (Proposes c.args.command.now) x can in
     (λ h. cc, λ e. some_idle goes e)
 
@@ -65,7 +65,7 @@ returns-in-Err-clause-idle g c =
     let inside = rw (← c.self.view_is) at x.stands in
     let same = same_replica c.self.inside.nodes.items c.in-Some.at c.index.result.now x.replica c.index.ensures inside in
     let status : c.status-status.result ≡ status_of x.replica = c.status-status.ensures ∙ ap status_of same in
-    let can = proposal_taken x.replica c.status-status.result c.is_active.result c.args.command.now status c.is_active.ensures c.if-not-is_active.false c.if-status-ge-MOST_PLACES.false in
+    let can = proposal_taken x.replica c.status-status.result c.is_active.result c.args.command.now status c.is_active.ensures c.if-not-is_active.false c.if-status-ge-MAX_PLACES.false in
     let goes = takes_turn rules c.args.self.now.moment.world c.args.node c.in-Some.at (Proposes c.args.command.now) x can in
     (λ h. cc, λ e. some_idle goes e)
 
@@ -92,7 +92,7 @@ returns-in-Ok-clause-quiet g c =
     let inside = rw (← c.self.view_is) at x.stands in
     let same = same_replica c.self.inside.nodes.items c.in-Some.at c.index.result.now x.replica c.index.ensures inside in
     let status : c.status-status.result ≡ status_of x.replica = c.status-status.ensures ∙ ap status_of same in
-    let can = proposal_taken x.replica c.status-status.result c.is_active.result c.args.command.now status c.is_active.ensures c.if-not-is_active.false c.if-status-ge-MOST_PLACES.false in
+    let can = proposal_taken x.replica c.status-status.result c.is_active.result c.args.command.now status c.is_active.ensures c.if-not-is_active.false c.if-status-ge-MAX_PLACES.false in
     let goes = takes_turn rules c.args.self.now.moment.world c.args.node c.in-Some.at (Proposes c.args.command.now) x can in
     node_needs rules c.args.self.now.moment (Propose c.args.node c.args.command.now) _ goes (λ n f. cc) (λ f. proposal_does rules x.replica c.args.command.now can f)
 
@@ -103,6 +103,6 @@ returns-in-Err-clause-quiet g c =
     let inside = rw (← c.self.view_is) at x.stands in
     let same = same_replica c.self.inside.nodes.items c.in-Some.at c.index.result.now x.replica c.index.ensures inside in
     let status : c.status-status.result ≡ status_of x.replica = c.status-status.ensures ∙ ap status_of same in
-    let can = proposal_taken x.replica c.status-status.result c.is_active.result c.args.command.now status c.is_active.ensures c.if-not-is_active.false c.if-status-ge-MOST_PLACES.false in
+    let can = proposal_taken x.replica c.status-status.result c.is_active.result c.args.command.now status c.is_active.ensures c.if-not-is_active.false c.if-status-ge-MAX_PLACES.false in
     let goes = takes_turn rules c.args.self.now.moment.world c.args.node c.in-Some.at (Proposes c.args.command.now) x can in
     node_needs rules c.args.self.now.moment (Propose c.args.node c.args.command.now) _ goes (λ n f. cc) (λ f. proposal_does rules x.replica c.args.command.now can f)
