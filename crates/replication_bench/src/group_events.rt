@@ -25,7 +25,7 @@ fn event_at(number: u64) -> Event<TallyCommand> {
     let command = number / 7;
     match number % 7 {
         0 => proposal(command),
-        behind => Event::Deliver(command.saturating_mul(6).saturating_add(behind - 1)),
+        message => Event::Deliver(command.saturating_mul(6).saturating_add(message - 1)),
     }
 }
 

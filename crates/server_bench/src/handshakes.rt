@@ -70,11 +70,11 @@ fn answer_all(bytes: &[u8], out: &mut Vec<u8>) -> Result<(u64, usize)> {
     let mut done = 0u64;
     let mut rest = bytes;
     for _ in 0..u64::MAX {
-        let Some((packet, behind)) = cut(rest) else {
+        let Some((packet, after)) = cut(rest) else {
             break;
         };
         done = done.saturating_add(answer(packet, out)?);
-        rest = behind;
+        rest = after;
     }
     Ok((done, bytes.len().saturating_sub(rest.len())))
 }

@@ -3,11 +3,11 @@
 //! broker's.
 #![tactic(auto)]
 
+mod list_reading;
 mod making;
 mod matching;
 mod seen;
 mod sessions;
-mod told;
 mod watching;
 
 pub use broker_spec::{packet, session_base, topics};

@@ -1,8 +1,8 @@
 // What was seen of one client.
 
+use crate::list_reading::ListReading;
 use crate::making::made_by;
 use crate::sessions::Entry;
-use crate::told::Told;
 use crate::watching::Broken;
 use broker_spec::packet::{ClientId, QoS};
 use client::{Accepted, ClientCore};
@@ -67,7 +67,7 @@ impl Seen {
         &mut self,
         client: &ClientId,
         core: &ClientCore,
-        told: &Told,
+        reading: &ListReading,
         strays: &[bool],
     ) -> Option<Result<(), Broken>> {
         self.is_confirmed = self.is_confirmed || core.connected();
@@ -76,12 +76,12 @@ impl Seen {
         }
         let accepted = core.accepted();
         for one in accepted.iter().skip(self.looked) {
-            let taken = self.accepts(client, one, accepted, told, strays)?;
+            let taken = self.accepts(client, one, accepted, reading, strays)?;
             if taken.is_err() {
                 return Some(taken);
             }
         }
-        if self.is_expelled || self.missing(told) <= core.kept() {
+        if self.is_expelled || self.missing(reading) <= core.kept() {
             Some(Ok(()))
         } else {
             Some(Err(Broken::Lost))
@@ -94,7 +94,7 @@ impl Seen {
         client: &ClientId,
         one: &Accepted,
         accepted: &[Accepted],
-        told: &Told,
+        reading: &ListReading,
         strays: &[bool],
     ) -> Option<Result<(), Broken>> {
         if one.session != self.number {
@@ -107,7 +107,7 @@ impl Seen {
         if one.qos != QoS::ExactlyOnce {
             return Some(Ok(()));
         }
-        if !self.is_next(client, one, accepted, told) {
+        if !self.is_next(client, one, accepted, reading) {
             return Some(Err(Broken::Accepted));
         }
         let is_checked = !one.retain && !is_stray(one, strays);
@@ -124,15 +124,15 @@ impl Seen {
         client: &ClientId,
         one: &Accepted,
         accepted: &[Accepted],
-        told: &Told,
+        reading: &ListReading,
     ) -> bool {
-        let here = told.entries(client, self.session).get(self.at_two);
+        let here = reading.entries(client, self.session).get(self.at_two);
         self.at_two = self.at_two.saturating_add(1);
         if here.is_some_and(|entry| is_entry(one, entry)) {
             return true;
         }
-        for session in self.session.saturating_add(1)..told.count(client) {
-            if self.begins(accepted, told.entries(client, session)) {
+        for session in self.session.saturating_add(1)..reading.count(client) {
+            if self.begins(accepted, reading.entries(client, session)) {
                 self.session = session;
                 return true;
             }
@@ -165,10 +165,10 @@ impl Seen {
     }
 
     // Returns how many of its publications are in no place of the agreed list.
-    fn missing(&self, told: &Told) -> usize {
+    fn missing(&self, reading: &ListReading) -> usize {
         self.published
             .iter()
-            .filter(|serial| !told.is_taken(**serial))
+            .filter(|serial| !reading.is_taken(**serial))
             .count()
     }
 }

@@ -1,7 +1,7 @@
 // Whether what was promised holds after each event, by looking.
 
+use crate::list_reading::ListReading;
 use crate::seen::Seen;
-use crate::told::Told;
 use broker_spec::Command;
 use broker_spec::packet::ClientId;
 use client::ClientCore;
@@ -46,7 +46,7 @@ impl fmt::Display for Broken {
 #[derive(Drop)]
 pub struct Watch {
     alloc: Global,
-    told: Told,
+    reading: ListReading,
     length: u64,
     seen: Vec<Seen>,
 }
@@ -60,7 +60,7 @@ impl Watch {
         }
         Some(Watch {
             alloc,
-            told: Told::new(alloc),
+            reading: ListReading::new(alloc),
             length: 0,
             seen,
         })
@@ -98,7 +98,7 @@ impl Watch {
             return Some(Err(Broken::Agreed));
         }
         self.length = length;
-        self.told.reads(first, second)?;
+        self.reading.reads(first, second)?;
         Some(if losses == 0 {
             Ok(())
         } else {
@@ -115,7 +115,7 @@ impl Watch {
     ) -> Option<Result<(), Broken>> {
         let strays = self.strays()?;
         let seen = self.seen.get_mut(place)?;
-        seen.looks(name, core, &self.told, strays.as_slice())
+        seen.looks(name, core, &self.reading, strays.as_slice())
     }
 
     // Returns which clients may be out of step.
@@ -129,9 +129,9 @@ impl Watch {
 
     /// Reads the whole agreed list once more, and returns whether it says what it said before.
     pub fn ends(&self, first: &[Command], second: &[Command]) -> Option<Result<(), Broken>> {
-        let mut again = Told::new(self.alloc);
+        let mut again = ListReading::new(self.alloc);
         again.reads(first, second)?;
-        let is_same = again.says_what(&self.told);
+        let is_same = again.says_what(&self.reading);
         Some(if is_same { Ok(()) } else { Err(Broken::Agreed) })
     }
 }

@@ -137,9 +137,9 @@ impl Got {
                 break;
             }
             let length = usize::from(*rest.get(1)?).checked_add(2)?;
-            let (packet, behind) = rest.split_at_checked(length)?;
+            let (packet, after) = rest.split_at_checked(length)?;
             self.take(packet)?;
-            rest = behind;
+            rest = after;
         }
         Some(())
     }

@@ -77,7 +77,7 @@ fn are(bytes: &[u8], packets: &[&[u8]]) -> bool {
     let mut rest = bytes;
     for packet in packets {
         match rest.strip_prefix(*packet) {
-            Some(behind) => rest = behind,
+            Some(after) => rest = after,
             None => return false,
         }
     }
@@ -89,7 +89,7 @@ fn begin(bytes: &[u8], packets: &[&[u8]]) -> bool {
     let mut rest = bytes;
     for packet in packets {
         match rest.strip_prefix(*packet) {
-            Some(behind) => rest = behind,
+            Some(after) => rest = after,
             None => return packet.starts_with(rest),
         }
     }

@@ -19,7 +19,7 @@ struct Kept {
 /// What was read of the agreed list. A call that returns an `Option` returns None if it ran out of
 /// memory.
 #[derive(Drop)]
-pub struct Told {
+pub struct ListReading {
     alloc: Global,
     sessions: Vec<Session>,
     /// Those that ended, the oldest first.
@@ -32,10 +32,10 @@ pub struct Told {
     read: usize,
 }
 
-impl Told {
+impl ListReading {
     /// Begins with no command.
-    pub fn new(alloc: Global) -> Told {
-        Told {
+    pub fn new(alloc: Global) -> ListReading {
+        ListReading {
             alloc,
             sessions: Vec::new(alloc),
             ended: Vec::new(alloc),
@@ -71,7 +71,7 @@ impl Told {
     }
 
     /// Says whether another reading found the same sessions with the same entries.
-    pub fn says_what(&self, other: &Told) -> bool {
+    pub fn says_what(&self, other: &ListReading) -> bool {
         are_alike(self.ended.as_slice(), other.ended.as_slice())
             && are_alike(self.sessions.as_slice(), other.sessions.as_slice())
     }
@@ -90,7 +90,7 @@ impl Told {
                 client,
                 *clean,
             ),
-            Command::Packet(connection, packet) => match self.place_of(*connection) {
+            Command::Packet(connection, packet) => match self.session_index(*connection) {
                 Some(at) => self.takes(at, packet.packet()),
                 None => Some(()),
             },
@@ -100,8 +100,8 @@ impl Told {
         }
     }
 
-    // Returns the place of the session whose current connection this is.
-    fn place_of(&self, connection: ConnectionId) -> Option<usize> {
+    // Returns the index of the session whose current connection this is.
+    fn session_index(&self, connection: ConnectionId) -> Option<usize> {
         self.sessions
             .iter()
             .position(|it| it.connection == Some(connection))
@@ -142,7 +142,7 @@ impl Told {
     // A second CONNECT on a connection is a violation; otherwise it becomes the client's current
     // one.
     fn connects(&mut self, connection: ConnectionId, client: &ClientId, clean: bool) -> Option<()> {
-        if self.place_of(connection).is_some() {
+        if self.session_index(connection).is_some() {
             return self.ends(Some(connection));
         }
         for session in self.sessions.iter_mut() {
