@@ -3,7 +3,7 @@ use Rattle.std.proofs.Common.{◌≡◌, inl, inr, ◌<◌, ◌-◌, ℕ, zero, 
 use Rattle.escaping_nodes.specs.world_nodes.Running.{node_of}
 use Rattle.escaping_nodes.specs.world_nodes.Steps.{forgetful}
 use Rattle.world.specs.declared.connection_slot.ConnectionSlot.{ConnectionSlot}
-use Rattle.world.specs.Found.{place_numbered, port_of, with_down, with_piped}
+use Rattle.world.specs.Found.{slot_numbered, port_of, with_down, with_piped}
 use Rattle.world.specs.Gathering.{AskedWhere, Gathers, GathersAmong, IsAsked, MayBeAsked, is_open_at, put_out}
 use Rattle.world.specs.Inside.Steps.{GoesOn}
 use Rattle.world.specs.Inside.Handing.{HandsOn, MayHandOn, marked}
@@ -20,7 +20,7 @@ is_asked number place is_open old mid new at positive h is =
     let down : WorldState = record (with_piped place.client h.client
     (with_down place.at h.way (h.way.down ++ put_out (port_of number) (node_of old.nodes.nodes place.node)) h.client.piped) old) { nodes = h.between } in
     record {
-      c = record { place = place; numbered = numbered_at number old.connections (Some place) positive at; client = h.client; owned = h.owned; way = h.way; stands = h.stands };
+      c = record { slot = place; numbered = numbered_at number old.connections (Some place) positive at; client = h.client; owned = h.owned; way = h.way; stands = h.stands };
       node = node_of old.nodes.nodes place.node;
       is_node = refl;
       between = h.between;
@@ -50,7 +50,7 @@ pub record IsGathering (node count number : ℕ) (initial now : WorldState) : Ty
   pub rest : (later : WorldState) → GathersAmong false number node now later → GathersAmong false count node initial later
 
 pub gathering_on : (node count number next : ℕ) (initial now new : WorldState) → 0 < number → next ≡ number - 1 → IsGathering node count number initial now → GoesOn now new
-    → AskedWhere false (is_open_at node (place_numbered number now.connections)) number now new → IsGathering node count next initial new
+    → AskedWhere false (is_open_at node (slot_numbered number now.connections)) number now new → IsGathering node count next initial new
 gathering_on node count zero next initial now new positive less g goes asks = absurd (omega (arith, positive))
 gathering_on node count (suc before) next initial now new positive less g goes asks =
     subst (λ (k : ℕ). IsGathering node count k initial new) (let e : before ≡ next = omega (arith, less) in e)

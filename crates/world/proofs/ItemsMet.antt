@@ -21,7 +21,7 @@ use Rattle.world_events.specs.declared.event.Event.{Event}
 use Rattle.world_events.specs.declared.event.Event.TheVariants as events
 use Rattle.world.specs.declared.connection_slot.ConnectionSlot.{ConnectionSlot}
 use Rattle.world.specs.declared.world.WorldClient.{WorldClient}
-use Rattle.world.specs.Found.{Connected, is_named, place_numbered, port_of, with_less, with_piped}
+use Rattle.world.specs.Found.{Connected, is_named, slot_numbered, port_of, with_less, with_piped}
 use Rattle.world.specs.Gathering.{Gathers, TakesItem}
 use Rattle.world.specs.Cannot.{CannotHappen, IsClosed, IsNoPart, down_of, is_held, is_held_by, up_of}
 use Rattle.world.specs.Doing.{Does, LosesAtClient, receiver_of}
@@ -128,20 +128,20 @@ may_expel name node w (Some i) none at is e proposes (inr full) = proposes full
 
 -- it sees the end of a connection
 pub noticed : (number : ℕ) (old : WorldState) (c : Connected number old) (between : NodesState) (new : WorldState) → (CannotHappen (events.Notice number) old → ⊥)
-    → TakesIn c.place.node (Ended (port_of number)) old.nodes between → Gathers false c.place.node (with_nodes between old) new → new.losses ≡ old.losses → IsDone (events.Notice number) old new
+    → TakesIn c.slot.node (Ended (port_of number)) old.nodes between → Gathers false c.slot.node (with_nodes between old) new → new.losses ≡ old.losses → IsDone (events.Notice number) old new
 noticed number old c between new can takes gathers still =
-    let item : TakesItem false c.place.node (Ended (port_of number)) old new = (between, takes, gathers) in
-    record { can = can; does = inr (c, item); exact = λ none. (c, takes_exactly c.place.node (Ended (port_of number)) old new item none); uncounted = still }
+    let item : TakesItem false c.slot.node (Ended (port_of number)) old new = (between, takes, gathers) in
+    record { can = can; does = inr (c, item); exact = λ none. (c, takes_exactly c.slot.node (Ended (port_of number)) old new item none); uncounted = still }
 
-pub closed_none : (number : ℕ) (w : WorldState) → place_numbered number w.connections ≡ None → IsClosed (place_numbered number w.connections) w.nodes.nodes
+pub closed_none : (number : ℕ) (w : WorldState) → slot_numbered number w.connections ≡ None → IsClosed (slot_numbered number w.connections) w.nodes.nodes
 closed_none number w none = subst (λ (o : Option ConnectionSlot). IsClosed o w.nodes.nodes) (sym none) tt
 
-pub closed_some : (number : ℕ) (w : WorldState) (place : ConnectionSlot) → place_numbered number w.connections ≡ Some place → (place.is_open ≡ false) ⊎ (running w.nodes.nodes place.node ≡ None)
-    → IsClosed (place_numbered number w.connections) w.nodes.nodes
+pub closed_some : (number : ℕ) (w : WorldState) (place : ConnectionSlot) → slot_numbered number w.connections ≡ Some place → (place.is_open ≡ false) ⊎ (running w.nodes.nodes place.node ≡ None)
+    → IsClosed (slot_numbered number w.connections) w.nodes.nodes
 closed_some number w place is why = subst (λ (o : Option ConnectionSlot). IsClosed o w.nodes.nodes) (sym is) why
 
 pub not_closed : (number : ℕ) (w : WorldState) (place : ConnectionSlot) → slice_get w.connections (number - 1) ≡ Some place → 0 < number → place.is_open ≡ true → (running w.nodes.nodes place.node ≡ None → ⊥)
-    → IsClosed (place_numbered number w.connections) w.nodes.nodes → ⊥
+    → IsClosed (slot_numbered number w.connections) w.nodes.nodes → ⊥
 not_closed number w place at positive up runs closed =
     by (subst (λ (o : Option ConnectionSlot). IsClosed o w.nodes.nodes) (numbered_at number w.connections (Some place) positive at) closed)
   where
@@ -162,7 +162,7 @@ carries_up number place count old mid new at positive up t gathers still =
   where
     c : Connected number old
     c = record {
-      place = place;
+      slot = place;
       numbered = numbered_at number old.connections (Some place) positive at;
       client = t.client;
       owned = t.owned;
@@ -197,7 +197,7 @@ lost_up number place count old mid new at positive up (same, client, owned, t) f
   where
     c : Connected number old
     c = record {
-      place = place;
+      slot = place;
       numbered = numbered_at number old.connections (Some place) positive at;
       client = client;
       owned = owned;
@@ -222,8 +222,8 @@ carries_nothing number place count old housed at positive cannot = by (cannot c.
 
 -- ---- bytes come down
 
-held_there : (number : ℕ) (w : WorldState) (c : Connected number w) → is_held (place_numbered number w.connections) w.clients ≡ (is_holding c.client.piped && (suc c.place.at == length c.client.piped.ways))
-held_there number w c = ap (λ (o : Option ConnectionSlot). is_held o w.clients) c.numbered ∙ ap (λ (o : Option WorldClient). is_held_by o c.place.at) c.owned
+held_there : (number : ℕ) (w : WorldState) (c : Connected number w) → is_held (slot_numbered number w.connections) w.clients ≡ (is_holding c.client.piped && (suc c.slot.at == length c.client.piped.ways))
+held_there number w c = ap (λ (o : Option ConnectionSlot). is_held o w.clients) c.numbered ∙ ap (λ (o : Option WorldClient). is_held_by o c.slot.at) c.owned
 
 pub carries_down : (number : ℕ) (place : ConnectionSlot) (count : ℕ) (had : Bool) (old : WorldState) (client : WorldClient) (piped : Piped) → AreHoused (leads_of old.clients) old.connections
     → slice_get old.connections (number - 1) ≡ Some place → 0 < number → slice_get old.clients place.client ≡ Some client → HearsOn had place.at count client.piped piped
@@ -241,7 +241,7 @@ carries_down number place count had old client piped housed at positive owned he
         with_client k there =
             let same : found.client ≡ k = same_Some found.client k (sym found.owned ∙ there) in
             record {
-              place = place;
+              slot = place;
               numbered = found.numbered;
               client = k;
               owned = there;
@@ -261,7 +261,7 @@ hears_nothing number place count old client housed at positive owned cannot =
     c : Connected number old
     c = connected old number place housed at positive
 
-    by : ((is_holding c.client.piped && (suc c.place.at == length c.client.piped.ways)) ≡ false) ⊎ IsNoPart count c.way.down → CannotHappen (events.CarryDown number count) old
+    by : ((is_holding c.client.piped && (suc c.slot.at == length c.client.piped.ways)) ≡ false) ⊎ IsNoPart count c.way.down → CannotHappen (events.CarryDown number count) old
     by (inl other) = inl (held_there number old c ∙ other)
     by (inr few) = inr (subst (λ (o : Option Way). IsNoPart count (down_of o)) (sym (way_found number old c)) few)
 
@@ -286,7 +286,7 @@ heard_meets number place count false old client piped new housed at positive own
     let d = carries_down number place count false old client piped housed at positive owned hears in
     inr (record { can = d.0; needs = λ none low. none; done = with_piped place.client client piped old; does = inr d.1; lost = inr (inl (d.2 refl)); counted = is })
 
-pub never_opened : (number count : ℕ) (w : WorldState) → place_numbered number w.connections ≡ None → CannotHappen (events.CarryDown number count) w
+pub never_opened : (number count : ℕ) (w : WorldState) → slot_numbered number w.connections ≡ None → CannotHappen (events.CarryDown number count) w
 never_opened number count w none = inl (ap (λ (o : Option ConnectionSlot). is_held o w.clients) none)
 
 -- ---- whole steps

@@ -21,7 +21,7 @@ use Rattle.world.specs.declared.connection_slot.ConnectionSlot.{ConnectionSlot}
 use Rattle.world.specs.declared.world.WorldClient.{WorldClient}
 use Rattle.world.specs.Cannot.{IsClosed, IsNoPart, down_of, is_held, is_held_by, up_of}
 use Rattle.world.specs.Doing.{Does}
-use Rattle.world.specs.Found.{Connected, place_numbered, port_of, way_at, way_in, way_of, with_less, with_piped}
+use Rattle.world.specs.Found.{Connected, slot_numbered, port_of, way_at, way_in, way_of, with_less, with_piped}
 use Rattle.world.specs.Gathering.{Gathers, TakesItem}
 use Rattle.world.specs.SlotsAreValid.{AreHoused, leads_of}
 use Rattle.world.specs.World.{WorldState}
@@ -52,7 +52,7 @@ abbrev pub its_place : ℕ → ℕ → ℕ → Bool → ConnectionSlot
 its_place i at node is_open = record { client = i; at = at; node = node; is_open = is_open }
 
 module _ (i at number node : ℕ) (core : Core) (up down : List ℕ) (b : Bool) (w : WorldState) (s : IsNewest i at number node core up down b w) (positive : 0 < number) where
-  pub place_found : place_numbered number w.connections ≡ Some (its_place i at node b)
+  pub place_found : slot_numbered number w.connections ≡ Some (its_place i at node b)
   place_found = numbered_at number w.connections (Some (its_place i at node b)) positive s.place
 
   pub newest_way : way_of number w ≡ Some s.way
@@ -61,8 +61,8 @@ module _ (i at number node : ℕ) (core : Core) (up down : List ℕ) (b : Bool) 
       ∙ ap (λ (o : Option WorldClient). way_in o at) s.found
       ∙ s.stands
 
-  pub place_is : (c : Connected number w) → c.place ≡ its_place i at node b
-  place_is c = same_Some c.place (its_place i at node b) (sym c.numbered ∙ place_found)
+  pub place_is : (c : Connected number w) → c.slot ≡ its_place i at node b
+  place_is c = same_Some c.slot (its_place i at node b) (sym c.numbered ∙ place_found)
 
   pub client_is : (c : Connected number w) → c.client ≡ s.client
   client_is c = same_Some c.client s.client (sym c.owned ∙ ap (λ (p : ConnectionSlot). slice_get w.clients p.client) (place_is c) ∙ s.found)
@@ -76,7 +76,7 @@ module _ (i at number node : ℕ) (core : Core) (up down : List ℕ) (b : Bool) 
       ∙ s.stands)
 
   -- its client holds it while it is open there
-  pub is_held_on : is_open core.state.stage ≡ true → is_held (place_numbered number w.connections) w.clients ≡ true
+  pub is_held_on : is_open core.state.stage ≡ true → is_held (slot_numbered number w.connections) w.clients ≡ true
   is_held_on holding =
       ap (λ (o : Option ConnectionSlot). is_held o w.clients) place_found
       ∙ ap (λ (o : Option WorldClient). is_held_by o at) s.found
@@ -86,8 +86,8 @@ module _ (i at number node : ℕ) (core : Core) (up down : List ℕ) (b : Bool) 
 
   -- so some bytes of those in transit down can come
   pub can_come_down : (count : ℕ) → is_open core.state.stage ≡ true → 0 < count → count ≤ length down →
-      (is_held (place_numbered number w.connections) w.clients ≡ false) ⊎ IsNoPart count (down_of (way_of number w)) → ⊥
-  can_come_down count holding some part (inl not_held) = both_ways (is_held (place_numbered number w.connections) w.clients) not_held (is_held_on holding)
+      (is_held (slot_numbered number w.connections) w.clients ≡ false) ⊎ IsNoPart count (down_of (way_of number w)) → ⊥
+  can_come_down count holding some part (inl not_held) = both_ways (is_held (slot_numbered number w.connections) w.clients) not_held (is_held_on holding)
   can_come_down count holding some part (inr none) = by (subst (λ (o : Option Way). IsNoPart count (down_of o)) newest_way none)
     where
       by : (count ≡ 0) ⊎ (length s.way.down < count) → ⊥
@@ -107,7 +107,7 @@ module _ (i at number place : ℕ) (core : Core) (up : List ℕ) (w : WorldState
   abbrev way : Way
   way = record s.way { up = drop count s.way.up }
 
-  pub can_come_up : node.core.replica.state.stopped ≡ false → 0 < count → IsClosed (place_numbered number w.connections) w.nodes.nodes ⊎ IsNoPart count (up_of (way_of number w)) → ⊥
+  pub can_come_up : node.core.replica.state.stopped ≡ false → 0 < count → IsClosed (slot_numbered number w.connections) w.nodes.nodes ⊎ IsNoPart count (up_of (way_of number w)) → ⊥
   can_come_up runs some (inl closed) = by (subst (λ (o : Option ConnectionSlot). IsClosed o w.nodes.nodes) (place_found i at number (suc place) core up [] true w s positive) closed)
     where
       by : (true ≡ false) ⊎ (running w.nodes.nodes (suc place) ≡ None) → ⊥

@@ -18,7 +18,7 @@ use Rattle.world_events.specs.world_pipes.declared.way.Way.{Way}
 use Rattle.world_events.specs.world_pipes.Piped.{Piped}
 use Rattle.world.specs.declared.connection_slot.ConnectionSlot.{ConnectionSlot}
 use Rattle.world.specs.declared.world.WorldClient.{WorldClient}
-use Rattle.world.specs.Found.{place_numbered, port_of, with_down}
+use Rattle.world.specs.Found.{slot_numbered, port_of, with_down}
 use Rattle.world.specs.Gathering.{AskedWhere, Gathers, GathersAmong, Gives, IsAsked, is_open_at, is_told_open, put_out}
 use Rattle.world.specs.Goes.{NodesGo}
 use Rattle.world.specs.SlotsAreValid.{AreHoused, leads_of}
@@ -100,14 +100,14 @@ handed (Some core) node port before old between is given =
 
 -- ---- one connection
 
-pub at_number : (number : ℕ) (connections : List ConnectionSlot) (place : ConnectionSlot) → 0 < number → place_numbered number connections ≡ Some place → slice_get connections (number - 1) ≡ Some place
+pub at_number : (number : ℕ) (connections : List ConnectionSlot) (place : ConnectionSlot) → 0 < number → slot_numbered number connections ≡ Some place → slice_get connections (number - 1) ≡ Some place
 at_number zero connections place positive e = absurd (omega (arith, positive))
 at_number (suc n) connections place positive e =
     sym (ap (λ (b : Bool). if b then None else slice_get connections (suc n - 1)) (ne_eqb (suc n) 0 (λ z. cc))) ∙ e
 
 module _ (number : ℕ) (old new : WorldState) (a : IsAsked number old new) (housed : AreHoused (leads_of old.clients) old.connections) (positive : 0 < number) where
   abbrev place : ConnectionSlot
-  place = a.c.place
+  place = a.c.slot
 
   abbrev port : Port
   port = port_of number
@@ -161,7 +161,7 @@ where_passes false number old new is housed positive = subst (Passes [] old) (sy
 pub among_passes : (count node : ℕ) (old new : WorldState) → GathersAmong true count node old new → AreHoused (leads_of old.clients) old.connections → Passes [] old new
 among_passes zero node old new is housed = subst (Passes [] old) (sym is) (passes_rest old housed)
 among_passes (suc before) node old new g housed =
-    let one = where_passes (is_open_at node (place_numbered (suc before) old.connections)) (suc before) old g.0 g.1 housed (omega arith) in
+    let one = where_passes (is_open_at node (slot_numbered (suc before) old.connections)) (suc before) old g.0 g.1 housed (omega arith) in
     passes_join [] [] old g.0 new one (among_passes before node g.0 new g.2 one.housed)
 
 pub gathers_passes : (node : ℕ) (old new : WorldState) → Gathers true node old new → AreHoused (leads_of old.clients) old.connections → Passes [] old new

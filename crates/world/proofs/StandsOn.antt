@@ -13,7 +13,7 @@ use Rattle.escaping_nodes.specs.world_nodes.Running.{node_of}
 use Rattle.world_events.specs.world_pipes.declared.way.Way.{Way}
 use Rattle.world.specs.declared.connection_slot.ConnectionSlot.{ConnectionSlot}
 use Rattle.world.specs.declared.world.WorldClient.{WorldClient}
-use Rattle.world.specs.Found.{place_numbered, port_of, with_down}
+use Rattle.world.specs.Found.{slot_numbered, port_of, with_down}
 use Rattle.world.specs.Gathering.{AskedWhere, Gathers, GathersAmong, IsAsked, is_open_at, is_told_open, put_out}
 use Rattle.world.specs.SlotsAreValid.{AreHoused, leads_of}
 use Rattle.world.specs.World.{WorldState}
@@ -50,29 +50,29 @@ module _ (i at number node : ℕ) (core : Core) (up down : List ℕ) (is_open : 
         core_is = ap (λ (c : WorldClient). c.piped.core) same_client ∙ s.core_is;
         way = below;
         stands = ap (λ (j : ℕ). slice_get (set a.c.client.piped.ways j below) at) at_is ∙ get_set a.c.client.piped.ways at a.c.way below there;
-        many = length-set a.c.client.piped.ways a.c.place.at below ∙ ap (λ (c : WorldClient). length c.piped.ways) same_client ∙ s.many;
+        many = length-set a.c.client.piped.ways a.c.slot.at below ∙ ap (λ (c : WorldClient). length c.piped.ways) same_client ∙ s.many;
         up_is = ap (λ (w : Way). w.up) same_way ∙ s.up_is;
         down_is = ap (λ (w : Way). w.down ++ put_out (port_of number) a.node) same_way
             ∙ ap (λ (l : List ℕ). l ++ put_out (port_of number) a.node) s.down_is
             ∙ ap (λ (o : Option CountedCore). down ++ put_out (port_of number) o) node_is;
         place = ap (λ (w : WorldState). slice_get w.connections (number - 1)) a.is
-            ∙ get_set old.connections (number - 1) a.c.place (record a.c.place { is_open = is_told_open (port_of number) a.node }) found
+            ∙ get_set old.connections (number - 1) a.c.slot (record a.c.slot { is_open = is_told_open (port_of number) a.node }) found
             ∙ ap (λ (p : ConnectionSlot). Some (let q : ConnectionSlot = record p { is_open = is_told_open (port_of number) a.node } in q)) place_is
             ∙ ap (λ (o : Option CountedCore). Some (newest_place i at node (is_told_open (port_of number) o))) node_is;
         last = ap (λ (w : WorldState). length w.connections) a.is
-            ∙ length-set old.connections (number - 1) (record a.c.place { is_open = is_told_open (port_of number) a.node }) ∙ s.last;
+            ∙ length-set old.connections (number - 1) (record a.c.slot { is_open = is_told_open (port_of number) a.node }) ∙ s.last;
       }
     where
-      found : slice_get old.connections (number - 1) ≡ Some a.c.place
-      found = at_number number old.connections a.c.place positive a.c.numbered
+      found : slice_get old.connections (number - 1) ≡ Some a.c.slot
+      found = at_number number old.connections a.c.slot positive a.c.numbered
 
-      place_is : a.c.place ≡ newest_place i at node is_open
-      place_is = same_Some a.c.place (newest_place i at node is_open) (sym found ∙ s.place)
+      place_is : a.c.slot ≡ newest_place i at node is_open
+      place_is = same_Some a.c.slot (newest_place i at node is_open) (sym found ∙ s.place)
 
-      client_is : a.c.place.client ≡ i
+      client_is : a.c.slot.client ≡ i
       client_is = ap (λ (p : ConnectionSlot). p.client) place_is
 
-      at_is : a.c.place.at ≡ at
+      at_is : a.c.slot.at ≡ at
       at_is = ap (λ (p : ConnectionSlot). p.at) place_is
 
       node_is : a.node ≡ node_of old.nodes.nodes node
@@ -94,39 +94,39 @@ module _ (i at number node : ℕ) (core : Core) (up down : List ℕ) (is_open : 
       below = record a.c.way { down = a.c.way.down ++ put_out (port_of number) a.node }
 
       later : WorldClient
-      later = record a.c.client { piped = with_down a.c.place.at a.c.way (a.c.way.down ++ put_out (port_of number) a.node) a.c.client.piped }
+      later = record a.c.client { piped = with_down a.c.slot.at a.c.way (a.c.way.down ++ put_out (port_of number) a.node) a.c.client.piped }
 
   -- ---- another is asked
 
   pub asked_another : (other : ℕ) → 0 < number → 0 < other → (other ≡ number → ⊥) → AreHoused (leads_of old.clients) old.connections → IsAsked other old new →
       IsNewest i at number node core up down is_open new
-  asked_another other positive some apart housed a = by (same_or_other i a.c.place.client)
+  asked_another other positive some apart housed a = by (same_or_other i a.c.slot.client)
     where
-      found : slice_get old.connections (other - 1) ≡ Some a.c.place
-      found = at_number other old.connections a.c.place some a.c.numbered
+      found : slice_get old.connections (other - 1) ≡ Some a.c.slot
+      found = at_number other old.connections a.c.slot some a.c.numbered
 
       elsewhere : number - 1 ≡ other - 1 → ⊥
       elsewhere same = apart (omega (arith, same, positive, some))
 
       place : slice_get new.connections (number - 1) ≡ Some (newest_place i at node is_open)
       place = ap (λ (w : WorldState). slice_get w.connections (number - 1)) a.is
-          ∙ get_set_other old.connections (other - 1) (number - 1) (record a.c.place { is_open = is_told_open (port_of other) a.node }) elsewhere ∙ s.place
+          ∙ get_set_other old.connections (other - 1) (number - 1) (record a.c.slot { is_open = is_told_open (port_of other) a.node }) elsewhere ∙ s.place
 
       last : length new.connections ≡ number
       last = ap (λ (w : WorldState). length w.connections) a.is
-          ∙ length-set old.connections (other - 1) (record a.c.place { is_open = is_told_open (port_of other) a.node }) ∙ s.last
+          ∙ length-set old.connections (other - 1) (record a.c.slot { is_open = is_told_open (port_of other) a.node }) ∙ s.last
 
       bytes : List ℕ
       bytes = a.c.way.down ++ put_out (port_of other) a.node
 
       later : WorldClient
-      later = record a.c.client { piped = with_down a.c.place.at a.c.way bytes a.c.client.piped }
+      later = record a.c.client { piped = with_down a.c.slot.at a.c.way bytes a.c.client.piped }
 
-      by : (i ≡ a.c.place.client) ⊎ (i ≡ a.c.place.client → ⊥) → IsNewest i at number node core up down is_open new
+      by : (i ≡ a.c.slot.client) ⊎ (i ≡ a.c.slot.client → ⊥) → IsNewest i at number node core up down is_open new
       by (inr different) =
           record {
             client = s.client;
-            found = ap (λ (w : WorldState). slice_get w.clients i) a.is ∙ get_set_other old.clients a.c.place.client i later different ∙ s.found;
+            found = ap (λ (w : WorldState). slice_get w.clients i) a.is ∙ get_set_other old.clients a.c.slot.client i later different ∙ s.found;
             core_is = s.core_is;
             way = s.way;
             stands = s.stands;
@@ -143,9 +143,9 @@ module _ (i at number node : ℕ) (core : Core) (up down : List ℕ) (is_open : 
                 ∙ ap (λ (j : ℕ). slice_get (set old.clients j later) i) (sym same) ∙ get_set old.clients i a.c.client later owned;
             core_is = ap (λ (c : WorldClient). c.piped.core) same_client ∙ s.core_is;
             way = s.way;
-            stands = get_set_other a.c.client.piped.ways a.c.place.at at (record a.c.way { down = bytes }) not_here
+            stands = get_set_other a.c.client.piped.ways a.c.slot.at at (record a.c.way { down = bytes }) not_here
                 ∙ ap (λ (c : WorldClient). slice_get c.piped.ways at) same_client ∙ s.stands;
-            many = length-set a.c.client.piped.ways a.c.place.at (record a.c.way { down = bytes }) ∙ ap (λ (c : WorldClient). length c.piped.ways) same_client ∙ s.many;
+            many = length-set a.c.client.piped.ways a.c.slot.at (record a.c.way { down = bytes }) ∙ ap (λ (c : WorldClient). length c.piped.ways) same_client ∙ s.many;
             up_is = s.up_is;
             down_is = s.down_is;
             place = place;
@@ -163,10 +163,10 @@ module _ (i at number node : ℕ) (core : Core) (up down : List ℕ) (is_open : 
           mine = led old.clients number (newest_place i at node is_open) s.client
               (led_there (leads_of old.clients) old.connections number (newest_place i at node is_open) housed s.place positive) s.found
 
-          its : IsLed a.c.client.piped.ways other a.c.place
-          its = led old.clients other a.c.place a.c.client (led_there (leads_of old.clients) old.connections other a.c.place housed found some) a.c.owned
+          its : IsLed a.c.client.piped.ways other a.c.slot
+          its = led old.clients other a.c.slot a.c.client (led_there (leads_of old.clients) old.connections other a.c.slot housed found some) a.c.owned
 
-          not_here : at ≡ a.c.place.at → ⊥
+          not_here : at ≡ a.c.slot.at → ⊥
           not_here here =
               let one : mine.way ≡ its.way = same_Some mine.way its.way
               (sym mine.found ∙ ap (λ (c : WorldClient). slice_get c.piped.ways at) (sym same_client) ∙ ap (slice_get a.c.client.piped.ways) here ∙ its.found) in
@@ -181,15 +181,15 @@ module _ (i at number node : ℕ) (core : Core) (up : List ℕ) (positive : 0 < 
   older_asked zero to down is_open old new is low housed s = subst (IsNewest i at number node core up down is_open) (sym is) s
   older_asked (suc before) to down is_open old new g low housed s =
       older_asked before to down is_open g.0 new g.2 (omega (arith, low))
-      (where_passes (is_open_at to (place_numbered (suc before) old.connections)) (suc before) old g.0 g.1 housed (omega arith)).housed
-      (one (is_open_at to (place_numbered (suc before) old.connections)) g.1)
+      (where_passes (is_open_at to (slot_numbered (suc before) old.connections)) (suc before) old g.0 g.1 housed (omega arith)).housed
+      (one (is_open_at to (slot_numbered (suc before) old.connections)) g.1)
     where
       one : (b : Bool) → AskedWhere true b (suc before) old g.0 → IsNewest i at number node core up down is_open g.0
       one true a = asked_another i at number node core up down is_open old g.0 s (suc before) positive (omega arith) (λ same. omega (arith, same, low)) housed a
       one false is = subst (IsNewest i at number node core up down is_open) (sym is) s
 
   asks : (to : ℕ) (is_open b : Bool) (down : List ℕ) (old : WorldState) → IsNewest i at number node core up down is_open old → ((node == to) && is_open) ≡ b →
-      is_open_at to (place_numbered number old.connections) ≡ b
+      is_open_at to (slot_numbered number old.connections) ≡ b
   asks to is_open b down old s e = ap (is_open_at to) (numbered_at number old.connections (Some (newest_place i at node is_open)) positive s.place) ∙ e
 
   -- all of another node
@@ -204,8 +204,8 @@ module _ (i at number node : ℕ) (core : Core) (up : List ℕ) (positive : 0 < 
       by : (k : ℕ) → k ≡ number → GathersAmong true k (suc to) old new → IsNewest i at number node core up down is_open new
       by zero e h = absurd (omega (arith, e, positive))
       by (suc k) e h =
-          let shut : is_open_at (suc to) (place_numbered (suc k) old.connections) ≡ false =
-          ap (λ (j : ℕ). is_open_at (suc to) (place_numbered j old.connections)) e
+          let shut : is_open_at (suc to) (slot_numbered (suc k) old.connections) ≡ false =
+          ap (λ (j : ℕ). is_open_at (suc to) (slot_numbered j old.connections)) e
           ∙ asks (suc to) is_open false down old s (ap (λ (b : Bool). b && is_open) (ne_eqb node (suc to) apart)) in
           let still : h.0 ≡ old = subst (λ (b : Bool). AskedWhere true b (suc k) old h.0) shut h.1 in
           older_asked k (suc to) down is_open h.0 new h.2 (omega (arith, e)) (subst (λ (w : WorldState). AreHoused (leads_of w.clients) w.connections) (sym still) housed)
@@ -225,10 +225,10 @@ module _ (i at number node : ℕ) (core : Core) (up : List ℕ) (positive : 0 < 
           IsNewest i at number node core up (down ++ put_out (port_of number) (node_of old.nodes.nodes node)) (is_told_open (port_of number) (node_of old.nodes.nodes node)) new
       by zero e h = absurd (omega (arith, e, positive))
       by (suc k) e h =
-          let up_there : is_open_at node (place_numbered (suc k) old.connections) ≡ true =
-          ap (λ (j : ℕ). is_open_at node (place_numbered j old.connections)) e
+          let up_there : is_open_at node (slot_numbered (suc k) old.connections) ≡ true =
+          ap (λ (j : ℕ). is_open_at node (slot_numbered j old.connections)) e
           ∙ asks node true true down old s (ap (λ (b : Bool). b && true) (eq-eqb node node refl)) in
           let a : IsAsked number old h.0 = subst (λ (j : ℕ). IsAsked j old h.0) e (subst (λ (b : Bool). AskedWhere true b (suc k) old h.0) up_there h.1) in
           older_asked k node (down ++ put_out (port_of number) (node_of old.nodes.nodes node)) (is_told_open (port_of number) (node_of old.nodes.nodes node)) h.0 new h.2 (omega (arith, e))
-          (where_passes (is_open_at node (place_numbered (suc k) old.connections)) (suc k) old h.0 h.1 housed (omega arith)).housed
+          (where_passes (is_open_at node (slot_numbered (suc k) old.connections)) (suc k) old h.0 h.1 housed (omega arith)).housed
           (asked_itself i at number node core up down true old h.0 s positive a)

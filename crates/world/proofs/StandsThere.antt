@@ -7,7 +7,7 @@ use Rattle.std.proofs.lemmas.List.{length-map}
 use Rattle.std.proofs.lemmas.Option.{slice_get_within}
 use Rattle.world.specs.declared.connection_slot.ConnectionSlot.{ConnectionSlot}
 use Rattle.world.specs.declared.world.WorldClient.{WorldClient}
-use Rattle.world.specs.Found.{Connected, core_at, core_named, core_of, is_named, place_numbered, way_at, way_in, way_of}
+use Rattle.world.specs.Found.{Connected, core_at, core_named, core_of, is_named, slot_numbered, way_at, way_in, way_of}
 use Rattle.world.specs.SlotsAreValid.{AreHoused, leads, leads_of}
 use Rattle.world.specs.World.{WorldState}
 use Rattle.world.proofs.LeadsKept.{led, led_there}
@@ -15,7 +15,7 @@ use Rattle.world.proofs.Turned.{mapped_from}
 
 -- ---- a connection
 
-pub numbered_at : (number : ℕ) (connections : List ConnectionSlot) (o : Option ConnectionSlot) → 0 < number → slice_get connections (number - 1) ≡ o → place_numbered number connections ≡ o
+pub numbered_at : (number : ℕ) (connections : List ConnectionSlot) (o : Option ConnectionSlot) → 0 < number → slice_get connections (number - 1) ≡ o → slot_numbered number connections ≡ o
 numbered_at zero connections o positive e = absurd (omega (arith, positive))
 numbered_at (suc n) connections o positive e = ap (λ (b : Bool). if b then None else slice_get connections (suc n - 1)) (ne_eqb (suc n) 0 (λ z. cc)) ∙ e
 
@@ -25,7 +25,7 @@ connected w number place housed at positive =
     let client = mapped_from (λ (c : WorldClient). leads c.piped.ways) w.clients place.client there.ways there.client in
     let way = led w.clients number place client.x there client.found in
     record {
-      place = place;
+      slot = place;
       numbered = numbered_at number w.connections (Some place) positive at;
       client = client.x;
       owned = client.found;
@@ -34,7 +34,7 @@ connected w number place housed at positive =
     }
 
 pub way_found : (number : ℕ) (w : WorldState) (c : Connected number w) → way_of number w ≡ Some c.way
-way_found number w c = ap (λ (o : Option ConnectionSlot). way_at o w.clients) c.numbered ∙ ap (λ (o : Option WorldClient). way_in o c.place.at) c.owned ∙ c.stands
+way_found number w c = ap (λ (o : Option ConnectionSlot). way_at o w.clients) c.numbered ∙ ap (λ (o : Option WorldClient). way_in o c.slot.at) c.owned ∙ c.stands
 
 -- its places are within the lists
 pub client_within : (clients : List WorldClient) (connections : List ConnectionSlot) (number : ℕ) (place : ConnectionSlot) → AreHoused (leads_of clients) connections → slice_get connections (number - 1) ≡ Some place

@@ -14,7 +14,7 @@ use Rattle.world_events.specs.declared.event.Event.{Event}
 use Rattle.world_events.specs.declared.event.Event.TheVariants as events
 use Rattle.world.specs.declared.connection_slot.ConnectionSlot.{ConnectionSlot}
 use Rattle.world.specs.declared.world.WorldClient.{WorldClient}
-use Rattle.world.specs.Found.{core_named, is_named, place_numbered, way_of}
+use Rattle.world.specs.Found.{core_named, is_named, slot_numbered, way_of}
 use Rattle.world.specs.World.{WorldState}
 
 -- there is no such client, or it holds no connection
@@ -40,7 +40,7 @@ is_serving (Some node) = serves node.core
 -- the connection was never opened, its end at the node is closed, or the node has stopped
 abbrev pub IsClosed : Option ConnectionSlot → List CountedCore → Type 0
 IsClosed None nodes = Unit {0}
-IsClosed (Some place) nodes = (place.is_open ≡ false) ⊎ (running nodes place.node ≡ None)
+IsClosed (Some slot) nodes = (slot.is_open ≡ false) ⊎ (running nodes slot.node ≡ None)
 
 -- whether a client holds this connection: its newest one
 abbrev pub is_held_by : Option WorldClient → ℕ → Bool
@@ -50,7 +50,7 @@ is_held_by (Some client) at = is_holding client.piped && (suc at == length clien
 -- whether the client of this slot holds the connection
 abbrev pub is_held : Option ConnectionSlot → List WorldClient → Bool
 is_held None clients = false
-is_held (Some place) clients = is_held_by (slice_get clients place.client) place.at
+is_held (Some slot) clients = is_held_by (slice_get clients slot.client) slot.at
 
 -- no bytes, or more than wait
 abbrev pub IsNoPart : ℕ → List ℕ → Type 0
@@ -78,14 +78,14 @@ CannotHappen (events.Crash node) w = running w.nodes.nodes node ≡ None
 CannotHappen (events.Open name node) w =
     IsTaken (core_named name w.clients) ⊎ (is_serving (node_of w.nodes.nodes node) ≡ false)
 CannotHappen (events.CarryUp number count) w =
-    IsClosed (place_numbered number w.connections) w.nodes.nodes
+    IsClosed (slot_numbered number w.connections) w.nodes.nodes
     ⊎ IsNoPart count (up_of (way_of number w))
 CannotHappen (events.CarryDown number count) w =
-    (is_held (place_numbered number w.connections) w.clients ≡ false)
+    (is_held (slot_numbered number w.connections) w.clients ≡ false)
     ⊎ IsNoPart count (down_of (way_of number w))
 CannotHappen (events.Abandon name) w = HoldsNone (core_named name w.clients)
 CannotHappen (events.Disconnect name) w = HoldsNone (core_named name w.clients)
-CannotHappen (events.Notice number) w = IsClosed (place_numbered number w.connections) w.nodes.nodes
+CannotHappen (events.Notice number) w = IsClosed (slot_numbered number w.connections) w.nodes.nodes
 CannotHappen (events.Publish name publication) w =
     Refuses (Call.Publishes publication) (core_named name w.clients)
 CannotHappen (events.Subscribe name filter qos) w =

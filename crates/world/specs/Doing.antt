@@ -63,15 +63,15 @@ Does whole (events.Crash node) old new = TakesItem whole node items.Crash old ne
 Does whole (events.Open name node) old new = OpensWhere whole name node old new
 Does whole (events.CarryUp number count) old new =
     (c : Connected number old)
-    × TakesItem whole c.place.node (items.Bytes (port_of number) (take count c.way.up) 0)
-    (with_piped c.place.client c.client (with_less c.place.at count c.way c.client.piped) old) new
+    × TakesItem whole c.slot.node (items.Bytes (port_of number) (take count c.way.up) 0)
+    (with_piped c.slot.client c.client (with_less c.slot.at count c.way c.client.piped) old) new
 Does whole (events.CarryDown number count) old new =
     (c : Connected number old) × (piped : Piped) × HearsThem whole count c.client.piped piped
-    × (new ≡ with_piped c.place.client c.client piped old)
+    × (new ≡ with_piped c.slot.client c.client piped old)
 Does whole (events.Abandon name) old new = ClientDoes name Loses old new
 Does whole (events.Disconnect name) old new = ClientDoes name (Leaves whole) old new
 Does whole (events.Notice number) old new =
-    (c : Connected number old) × TakesItem whole c.place.node (items.Ended (port_of number)) old new
+    (c : Connected number old) × TakesItem whole c.slot.node (items.Ended (port_of number)) old new
 Does whole (events.Publish name publication) old new =
     ClientDoes name (Asks (Call.Publishes publication) whole) old new
 Does whole (events.Subscribe name filter qos) old new =
@@ -86,7 +86,7 @@ LosesAtClient (events.Open name node) old new = OpensNone name node old new
 LosesAtClient (events.CarryDown number count) old new =
     (c : Connected number old) × (piped : Piped)
     × Hears count c.client.piped (Err errors.Memory) piped
-    × (new ≡ with_piped c.place.client c.client piped old)
+    × (new ≡ with_piped c.slot.client c.client piped old)
 LosesAtClient (events.Disconnect name) old new = ClientDoes name LosesLeaving old new
 LosesAtClient (events.Publish name publication) old new =
     ClientDoes name (LosesAsking (Call.Publishes publication)) old new

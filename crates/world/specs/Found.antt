@@ -44,8 +44,8 @@ with_piped at client piped w =
 -- ---- a connection
 
 -- connections are numbered from 1
-abbrev pub place_numbered : ℕ → List ConnectionSlot → Option ConnectionSlot
-place_numbered number connections = if number == 0 then None else slice_get connections (number - 1)
+abbrev pub slot_numbered : ℕ → List ConnectionSlot → Option ConnectionSlot
+slot_numbered number connections = if number == 0 then None else slice_get connections (number - 1)
 
 -- a client's connection at an index, with the bytes in transit
 abbrev pub way_in : Option WorldClient → ℕ → Option Way
@@ -55,11 +55,11 @@ way_in (Some client) at = slice_get client.piped.ways at
 -- the connection of a slot, with the bytes in transit
 abbrev pub way_at : Option ConnectionSlot → List WorldClient → Option Way
 way_at None clients = None
-way_at (Some place) clients = way_in (slice_get clients place.client) place.at
+way_at (Some slot) clients = way_in (slice_get clients slot.client) slot.at
 
 -- the connection of this number, if it was opened
 abbrev pub way_of : ℕ → WorldState → Option Way
-way_of number w = way_at (place_numbered number w.connections) w.clients
+way_of number w = way_at (slot_numbered number w.connections) w.clients
 
 -- the port by which its node knows it
 abbrev pub port_of : ℕ → Port
@@ -67,12 +67,12 @@ port_of number = record { 0 = number }
 
 -- A connection is found: its state, its client, and what is in transit on it.
 pub record Connected (number : ℕ) (w : WorldState) : Type 0 where
-  pub place : ConnectionSlot
-  pub numbered : place_numbered number w.connections ≡ Some place
+  pub slot : ConnectionSlot
+  pub numbered : slot_numbered number w.connections ≡ Some slot
   pub client : WorldClient
-  pub owned : slice_get w.clients place.client ≡ Some client
+  pub owned : slice_get w.clients slot.client ≡ Some client
   pub way : Way
-  pub stands : slice_get client.piped.ways place.at ≡ Some way
+  pub stands : slice_get client.piped.ways slot.at ≡ Some way
 
 -- these bytes are in transit down on the client's connection at this index
 abbrev pub with_down : ℕ → Way → List ℕ → Piped → Piped

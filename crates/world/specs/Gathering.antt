@@ -13,7 +13,7 @@ use Rattle.escaping_nodes.specs.world_nodes.Running.{node_of}
 use Rattle.escaping_nodes.specs.world_nodes.Nodes.{NodesState}
 use Rattle.escaping_nodes.specs.world_nodes.Steps.{TakesIn, forgetful}
 use Rattle.world.specs.declared.connection_slot.ConnectionSlot.{ConnectionSlot}
-use Rattle.world.specs.Found.{Connected, place_numbered, port_of, with_down, with_piped}
+use Rattle.world.specs.Found.{Connected, slot_numbered, port_of, with_down, with_piped}
 use Rattle.world.specs.World.{WorldState}
 
 -- ---- what a node says about a port, if the node exists
@@ -45,20 +45,20 @@ Gives (Some core) node port old new = new ≡ after_node_call (node - 1) core (g
 pub record IsAsked (number : ℕ) (old new : WorldState) : Type 0 where
   pub c : Connected number old
   pub node : Option CountedCore
-  pub is_node : node ≡ node_of old.nodes.nodes c.place.node
+  pub is_node : node ≡ node_of old.nodes.nodes c.slot.node
   pub between : NodesState
-  pub gives : Gives node c.place.node (port_of number) old.nodes between
-  pub is : new ≡ record (with_piped c.place.client c.client
-      (with_down c.place.at c.way (c.way.down ++ put_out (port_of number) node) c.client.piped) old) {
+  pub gives : Gives node c.slot.node (port_of number) old.nodes between
+  pub is : new ≡ record (with_piped c.slot.client c.client
+      (with_down c.slot.at c.way (c.way.down ++ put_out (port_of number) node) c.client.piped) old) {
         nodes = between;
         connections = set old.connections (number - 1)
-            (record c.place { is_open = is_told_open (port_of number) node });
+            (record c.slot { is_open = is_told_open (port_of number) node });
       }
 
 -- whether it leads to this node, and its end there is open
 abbrev pub is_open_at : ℕ → Option ConnectionSlot → Bool
 is_open_at node None = false
-is_open_at node (Some place) = (place.node == node) && place.is_open
+is_open_at node (Some slot) = (slot.node == node) && slot.is_open
 
 -- if losses are allowed: or its node ran out of memory, so nothing went down, its end stays as it
 -- was, and that is counted
@@ -79,7 +79,7 @@ abbrev pub GathersAmong : Bool → ℕ → ℕ → WorldState → WorldState →
 GathersAmong whole zero node old new = new ≡ old
 GathersAmong whole (suc before) node old new =
     (between : WorldState)
-    × AskedWhere whole (is_open_at node (place_numbered (suc before) old.connections))
+    × AskedWhere whole (is_open_at node (slot_numbered (suc before) old.connections))
     (suc before) old between
     × GathersAmong whole before node between new
 

@@ -13,7 +13,7 @@ use Rattle.world_events.specs.declared.event.Event.{Event}
 use Rattle.world_events.specs.declared.event.Event.TheVariants as events
 use Rattle.world.specs.declared.connection_slot.ConnectionSlot.{ConnectionSlot}
 use Rattle.world.specs.Opening.{is_full}
-use Rattle.world.specs.Found.{place_numbered, port_of}
+use Rattle.world.specs.Found.{slot_numbered, port_of}
 use Rattle.world.specs.World.{WorldState}
 
 -- a node has nothing to hand over
@@ -34,7 +34,7 @@ ComesQuietly (Some (suc at, message)) n = IsQuietAt (suc at) (items.Peer message
 -- the same for the end of a connection
 abbrev pub EndsQuietly : ℕ → Option ConnectionSlot → NodesState → Type 0
 EndsQuietly number None n = ⊥
-EndsQuietly number (Some place) n = IsQuietAt place.node (items.Ended (port_of number)) n
+EndsQuietly number (Some slot) n = IsQuietAt slot.node (items.Ended (port_of number)) n
 
 -- An event takes no memory if a client only loses its connection, if an Open finds no name left, if
 -- a message reaches the master that it ignores, and if a message, a tick, the end of a connection
@@ -45,7 +45,7 @@ TakesNoMemory (events.Deliver number) w = ComesQuietly (slice_get w.nodes.sent n
 TakesNoMemory (events.Tick node) w = IsQuietAt node (items.Tick 0) w.nodes
 TakesNoMemory (events.Crash node) w = IsQuietAt node items.Crash w.nodes
 TakesNoMemory (events.Notice number) w =
-    EndsQuietly number (place_numbered number w.connections) w.nodes
+    EndsQuietly number (slot_numbered number w.connections) w.nodes
 TakesNoMemory (events.Open name node) w = is_full (node_of w.nodes.nodes node) ≡ true
 TakesNoMemory (events.Abandon name) w = Unit {0}
 TakesNoMemory event w = ⊥

@@ -16,19 +16,19 @@ leads_of clients = map (λ (client : WorldClient). leads client.piped.ways) clie
 -- The connection of this number is at a client's index, and leads to its node, by the port of its
 -- number.
 pub record LeadsThere (all : List (List (ℕ × Port))) (number : ℕ)
-    (place : ConnectionSlot) : Type 0 where
+    (slot : ConnectionSlot) : Type 0 where
   pub ways : List (ℕ × Port)
   pub node : ℕ
-  pub client : slice_get all place.client ≡ Some ways
-  pub way : slice_get ways place.at ≡ Some (node, record { 0 = number })
-  pub numbered : suc node ≡ place.node
+  pub client : slice_get all slot.client ≡ Some ways
+  pub way : slice_get ways slot.at ≡ Some (node, record { 0 = number })
+  pub numbered : suc node ≡ slot.node
 
 -- each slot leads to its client's connection, and each port that was used has a slot
 pub record AreHoused (all : List (List (ℕ × Port)))
     (connections : List ConnectionSlot) : Type 0 where
   -- connection n + 1 is at index n
-  pub known : (n : ℕ) (place : ConnectionSlot) → slice_get connections n ≡ Some place →
-      LeadsThere all (suc n) place
+  pub known : (n : ℕ) (slot : ConnectionSlot) → slice_get connections n ≡ Some slot →
+      LeadsThere all (suc n) slot
   -- no port above the number of connections was used
   pub used : (i at node : ℕ) (port : Port) (ways : List (ℕ × Port)) → slice_get all i ≡ Some ways →
       slice_get ways at ≡ Some (node, port)
@@ -40,5 +40,5 @@ pub record AreHoused (all : List (List (ℕ × Port)))
 -- these connections has this number
 abbrev pub open_from : ℕ → List ConnectionSlot → List ℕ
 open_from number [] = []
-open_from number (place ∷ places) =
-    if place.is_open then number ∷ open_from (suc number) places else open_from (suc number) places
+open_from number (slot ∷ slots) =
+    if slot.is_open then number ∷ open_from (suc number) slots else open_from (suc number) slots

@@ -35,7 +35,7 @@ impl World {
         ensures once { CountsOnce self.old self.new }
         ensures quiet { TakesNoMemory (Event.Open client.now node) self.old → self.new ≡ self.old }
     {
-        let Some(at) = self.place_of(client) else {
+        let Some(at) = self.index_of_client(client) else {
             return Err(Idle);
         };
         if self.clients[at].piped.is_open() {
@@ -113,7 +113,7 @@ impl World {
         ensures still { self.new.losses ≡ self.old.losses }
         ensures nodes { self.new.nodes ≡ self.old.nodes }
     {
-        let Some(at) = self.place_of(client) else {
+        let Some(at) = self.index_of_client(client) else {
             return Err(Idle);
         };
         if !self.clients[at].piped.is_open() {
@@ -130,7 +130,7 @@ impl World {
             self.old result self.new }
         ensures once { CountsOnce self.old self.new }
     {
-        let Some(at) = self.place_of(client) else {
+        let Some(at) = self.index_of_client(client) else {
             return Err(Idle);
         };
         if !self.clients[at].piped.is_open() {
@@ -152,7 +152,7 @@ impl World {
             self.old result self.new }
         ensures once { CountsOnce self.old self.new }
     {
-        let Some(at) = self.place_of(client) else {
+        let Some(at) = self.index_of_client(client) else {
             return Err(Idle);
         };
         if self.clients[at].piped.core().refuses(publication) {
@@ -174,7 +174,7 @@ impl World {
             self.old result self.new }
         ensures once { CountsOnce self.old self.new }
     {
-        let Some(at) = self.place_of(client) else {
+        let Some(at) = self.index_of_client(client) else {
             return Err(Idle);
         };
         if self.clients[at].piped.core().refuses_requests() {
@@ -191,7 +191,7 @@ impl World {
             self.old result self.new }
         ensures once { CountsOnce self.old self.new }
     {
-        let Some(at) = self.place_of(client) else {
+        let Some(at) = self.index_of_client(client) else {
             return Err(Idle);
         };
         if self.clients[at].piped.core().refuses_requests() {

@@ -25,25 +25,25 @@ impl World {
         ensures meets { Meets (Event.CarryUp number count) self.old result self.new }
         ensures once { CountsOnce self.old self.new }
     {
-        match self.place(number) {
-            Some(place) if place.is_open => self.bring_up(place, number, count),
+        match self.slot(number) {
+            Some(slot) if slot.is_open => self.bring_up(slot, number, count),
             _ => Err(Idle),
         }
     }
 
     // Carries this many bytes from the front of a connection to its node, and what the node then
     // queues goes down. If there is no memory for them, they keep waiting, and that is counted.
-    fn bring_up(&mut self, place: ConnectionSlot, number: u64, count: u64) -> Result<(), Idle>
-        requires stands { slice_get self.old.connections (number - 1) ≡ Some place }
+    fn bring_up(&mut self, slot: ConnectionSlot, number: u64, count: u64) -> Result<(), Idle>
+        requires stands { slice_get self.old.connections (number - 1) ≡ Some slot }
         requires positive { 0 < number }
-        requires up { place.is_open ≡ true }
+        requires up { slot.is_open ≡ true }
         ensures goes { GoesOn self.old self.new }
         ensures meets { Meets (Event.CarryUp number count) self.old result self.new }
         ensures once { CountsOnce self.old self.new }
     {
-        let had = self.take_up(place, number, count)?;
+        let had = self.take_up(slot, number, count)?;
         if had {
-            self.gather(place.node);
+            self.gather(slot.node);
         } else {
             self.lose();
         }
@@ -52,22 +52,22 @@ impl World {
 
     // Carries this many bytes from the front of a connection to its node. Returns whether there was
     // memory for them: if not, they keep waiting.
-    fn take_up(&mut self, place: ConnectionSlot, number: u64, count: u64) -> Result<bool, Idle>
-        requires stands { slice_get self.old.connections (number - 1) ≡ Some place }
+    fn take_up(&mut self, slot: ConnectionSlot, number: u64, count: u64) -> Result<bool, Idle>
+        requires stands { slice_get self.old.connections (number - 1) ≡ Some slot }
         requires positive { 0 < number }
         ensures goes { GoesOn self.old self.new }
         ensures takes { IfOk result
-            (λ had. TakesUpOnWhere had number place count self.old self.new) }
+            (λ had. TakesUpOnWhere had number slot count self.old self.new) }
         ensures still { self.new.losses ≡ self.old.losses }
-        ensures idle { OnErr result (CannotTakeOn place count self.old) }
+        ensures idle { OnErr result (CannotTakeOn slot count self.old) }
         ensures same { OnErr result (self.new ≡ self.old) }
     {
-        let piped = &mut self.clients[place.client].piped;
+        let piped = &mut self.clients[slot.client].piped;
         take_up(
             self.alloc,
             &mut self.nodes,
             piped,
-            place,
+            slot,
             Port(number),
             count,
         )
@@ -80,10 +80,10 @@ impl World {
         ensures meets { Meets (Event.CarryDown number count) self.old result self.new }
         ensures once { CountsOnce self.old self.new }
     {
-        let Some(place) = self.place(number) else {
+        let Some(slot) = self.slot(number) else {
             return Err(Idle);
         };
-        match hear_on(&mut self.clients[place.client].piped, place.at, count) {
+        match hear_on(&mut self.clients[slot.client].piped, slot.at, count) {
             Ok(had) => {
                 self.remember(had);
                 Ok(())
@@ -108,32 +108,32 @@ fn take_up(
     alloc: Global,
     nodes: &mut Nodes,
     piped: &mut PipedClient,
-    place: ConnectionSlot,
+    slot: ConnectionSlot,
     port: Port,
     count: u64,
 ) -> Result<bool, Idle>
-    requires { place.at < length piped.old.ways }
+    requires { slot.at < length piped.old.ways }
     ensures nodes { NodesGoOn nodes.old nodes.new }
     ensures takes { IfOk result (λ had.
-        TakesUpWhere had place port count nodes.old piped.old nodes.new piped.new) }
-    ensures idle { OnErr result (CannotTake place count nodes.old piped.old) }
+        TakesUpWhere had slot port count nodes.old piped.old nodes.new piped.new) }
+    ensures idle { OnErr result (CannotTake slot count nodes.old piped.old) }
     ensures leads { leads piped.new.ways ≡ leads piped.old.ways }
     ensures same { OnErr result (nodes.new ≡ nodes.old) }
     ensures still { OnErr result (piped.new ≡ piped.old) }
 {
-    let waiting = piped.up(place.at);
+    let waiting = piped.up(slot.at);
     if !is_part(count, waiting.len()) {
         return Err(Idle);
     }
-    if !runs(nodes, place.node) {
+    if !runs(nodes, slot.node) {
         return Err(Idle);
     }
     let count = count as usize;
     let Ok(piece) = Piece::from_slice(alloc, &waiting[..count]) else {
         return Ok(false);
     };
-    nodes.take(place.node, port, piece)?;
-    piped.take_up(place.at, count);
+    nodes.take(slot.node, port, piece)?;
+    piped.take_up(slot.at, count);
     Ok(true)
 }
 

@@ -53,12 +53,12 @@ impl World {
         ensures still { self.new.losses ≡ self.old.losses }
         ensures quiet { StaysQuiet node self.old.nodes self.new.nodes }
     {
-        let (number, place) = self.open_at(at);
-        if place.node != node {
+        let (number, slot) = self.open_at(at);
+        if slot.node != node {
             return;
         }
-        if !self.hand_on(place, number) {
-            self.close(at, place, number);
+        if !self.hand_on(slot, number) {
+            self.close(at, slot, number);
         }
     }
 
@@ -75,7 +75,7 @@ impl World {
         requires { at < length (open_from 1 self.now.connections) }
         ensures number { slice_get (open_from 1 self.now.connections) at ≡ Some result.0 }
         ensures positive { 0 < result.0 }
-        ensures place { slice_get self.now.connections (result.0 - 1) ≡ Some result.1 }
+        ensures slot { slice_get self.now.connections (result.0 - 1) ≡ Some result.1 }
         ensures up { result.1.is_open ≡ true }
     {
         let number = self.open_ends[at];
@@ -83,34 +83,34 @@ impl World {
     }
 
     // Closes the end of the connection at this index among those whose end is open.
-    fn close(&mut self, at: usize, place: ConnectionSlot, number: u64)
+    fn close(&mut self, at: usize, slot: ConnectionSlot, number: u64)
         requires number { slice_get (open_from 1 self.old.connections) at ≡ Some number }
-        requires place { slice_get self.old.connections (number - 1) ≡ Some place }
-        ensures { self.new ≡ marked number place false self.old }
+        requires slot { slice_get self.old.connections (number - 1) ≡ Some slot }
+        ensures { self.new ≡ marked number slot false self.old }
     {
-        let mut closed = place;
+        let mut closed = slot;
         closed.is_open = false;
         self.connections[number as usize - 1] = closed;
         self.open_ends.remove(at);
     }
 
     // Carries down what its node queued for a connection. Returns whether its end there is open.
-    fn hand_on(&mut self, place: ConnectionSlot, number: u64) -> bool
-        requires stands { slice_get self.old.connections (number - 1) ≡ Some place }
+    fn hand_on(&mut self, slot: ConnectionSlot, number: u64) -> bool
+        requires stands { slice_get self.old.connections (number - 1) ≡ Some slot }
         requires positive { 0 < number }
         ensures goes { GoesOn self.old self.new }
         ensures connections { self.new.connections ≡ self.old.connections }
-        ensures hands { MayHandOn number place self.old result self.new }
+        ensures hands { MayHandOn number slot self.old result self.new }
         ensures still { self.new.losses ≡ self.old.losses }
-        ensures quiet { StaysQuiet place.node self.old.nodes self.new.nodes }
+        ensures quiet { StaysQuiet slot.node self.old.nodes self.new.nodes }
     {
-        let piped = &mut self.clients[place.client].piped;
+        let piped = &mut self.clients[slot.client].piped;
         hand_down(
             self.alloc,
             &mut self.nodes,
             piped,
-            place.at,
-            place.node,
+            slot.at,
+            slot.node,
             Port(number),
         )
     }

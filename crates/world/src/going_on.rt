@@ -71,7 +71,7 @@ impl World {
         ensures meets { Meets (Event.Expel client.now node) self.old result self.new }
         ensures still { self.new.losses ≡ self.old.losses }
     {
-        if self.place_of(client).is_none() {
+        if self.index_of_client(client).is_none() {
             return Err(Idle);
         }
         self.nodes.expel(node, client)?;
@@ -110,25 +110,25 @@ impl World {
         ensures quiet { TakesNoMemory (Event.Notice number) self.old →
             self.new.nodes.losses ≡ self.old.nodes.losses }
     {
-        match self.place(number) {
-            Some(place) if place.is_open => self.end(place, number),
+        match self.slot(number) {
+            Some(slot) if slot.is_open => self.end(slot, number),
             _ => Err(Idle),
         }
     }
 
     // Lets a node notice the end of a connection.
-    fn end(&mut self, place: ConnectionSlot, number: u64) -> Result<(), Idle>
-        requires stands { slice_get self.old.connections (number - 1) ≡ Some place }
-        requires up { place.is_open ≡ true }
+    fn end(&mut self, slot: ConnectionSlot, number: u64) -> Result<(), Idle>
+        requires stands { slice_get self.old.connections (number - 1) ≡ Some slot }
+        requires up { slot.is_open ≡ true }
         requires positive { 0 < number }
         ensures goes { GoesOn self.old self.new }
         ensures meets { Meets (Event.Notice number) self.old result self.new }
         ensures still { self.new.losses ≡ self.old.losses }
-        ensures quiet { IsQuietAt place.node (Item.Ended (port_of number)) self.old.nodes →
+        ensures quiet { IsQuietAt slot.node (Item.Ended (port_of number)) self.old.nodes →
             self.new.nodes.losses ≡ self.old.nodes.losses }
     {
-        self.nodes.ended(place.node, Port(number))?;
-        self.gather(place.node);
+        self.nodes.ended(slot.node, Port(number))?;
+        self.gather(slot.node);
         Ok(())
     }
 }

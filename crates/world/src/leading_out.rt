@@ -50,7 +50,7 @@ impl World {
         let Some((place, source)) = self.fetched() else {
             return Err(EscapeError::Idle);
         };
-        let Some(at) = self.place_of(client) else {
+        let Some(at) = self.index_of_client(client) else {
             return Err(EscapeError::Idle);
         };
         let name = self.clients[at].piped.core().client();

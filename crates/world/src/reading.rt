@@ -5,7 +5,7 @@ ghost use Rattle.std.specs.List.{position};
 ghost use Rattle.headline.specs.ballot.Config.{Config};
 ghost use Rattle.headline.specs.broker_spec.Place.{Client};
 ghost use Rattle.escaping_nodes.specs.world_nodes.Agreed.{AgreeOn, AgreeOnSoMany};
-ghost use Rattle.world.specs.Found.{core_named, is_named, place_numbered, way_of};
+ghost use Rattle.world.specs.Found.{core_named, is_named, slot_numbered, way_of};
 ghost use Rattle.world.specs.Goes.{AreReached};
 ghost use Rattle.headline.specs.Promise.{Promise};
 ghost use Rattle.headline.specs.byte_world.Published.{published_of, published_on};
@@ -70,7 +70,7 @@ impl World {
             position (is_named client.now) self.now.clients ≡ Some at → IfSome result (λ core.
             Promise (connections_at at reached.world) (published_of at (published_on reached.trail)) reached.exact.agreed core.now.state) }
     {
-        let at = self.place_of(client)?;
+        let at = self.index_of_client(client)?;
         let found = self.clients.get(at)?;
         Some(found.piped.core())
     }
@@ -81,16 +81,16 @@ impl World {
         ensures some { IfSome (way_of connection self.now) (λ way. result.now ≡ way.up) }
         ensures none { way_of connection self.now ≡ None → result.now ≡ [] }
     {
-        let Some(place) = self.place(connection) else {
+        let Some(slot) = self.slot(connection) else {
             return &[];
         };
-        let Some(found) = self.clients.get(place.client) else {
+        let Some(found) = self.clients.get(slot.client) else {
             return &[];
         };
-        if place.at >= found.piped.len() {
+        if slot.at >= found.piped.len() {
             return &[];
         }
-        found.piped.up(place.at)
+        found.piped.up(slot.at)
     }
 
     /// Returns the bytes that wait to be carried down on a connection; none for one that was never
@@ -99,20 +99,20 @@ impl World {
         ensures some { IfSome (way_of connection self.now) (λ way. result.now ≡ way.down) }
         ensures none { way_of connection self.now ≡ None → result.now ≡ [] }
     {
-        let Some(place) = self.place(connection) else {
+        let Some(slot) = self.slot(connection) else {
             return &[];
         };
-        let Some(found) = self.clients.get(place.client) else {
+        let Some(found) = self.clients.get(slot.client) else {
             return &[];
         };
-        if place.at >= found.piped.len() {
+        if slot.at >= found.piped.len() {
             return &[];
         }
-        found.piped.down(place.at)
+        found.piped.down(slot.at)
     }
 
     /// Returns the index of a client; `None` if there is none with this identifier.
-    pub(crate) fn place_of(&self, client: &ClientId) -> Option<usize>
+    pub(crate) fn index_of_client(&self, client: &ClientId) -> Option<usize>
         ensures below { IfSome result (λ at. at < length self.now.clients) }
         ensures exact { result ≡ position (is_named client.now) self.now.clients }
     {
@@ -120,10 +120,10 @@ impl World {
     }
 
     /// Returns the state of a connection; `None` for one that was never opened.
-    pub(crate) fn place(&self, number: u64) -> Option<ConnectionSlot>
-        ensures stands { IfSome result (λ place.
-            (0 < number) × (slice_get self.now.connections (number - 1) ≡ Some place)) }
-        ensures exact { result ≡ place_numbered number self.now.connections }
+    pub(crate) fn slot(&self, number: u64) -> Option<ConnectionSlot>
+        ensures stands { IfSome result (λ slot.
+            (0 < number) × (slice_get self.now.connections (number - 1) ≡ Some slot)) }
+        ensures exact { result ≡ slot_numbered number self.now.connections }
     {
         if number == 0 {
             return None;

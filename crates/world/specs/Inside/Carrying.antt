@@ -21,62 +21,62 @@ use Rattle.world.specs.World.{WorldState}
 
 -- this many bytes in transit up on this connection reach its node, which runs, and are removed from
 -- it
-pub record TakesUp (place : ConnectionSlot) (port : Port) (count : ℕ) (old : NodesState)
+pub record TakesUp (slot : ConnectionSlot) (port : Port) (count : ℕ) (old : NodesState)
     (client : Piped) (new : NodesState) (later : Piped) : Type 0 where
   pub way : Way
-  pub found : slice_get client.ways place.at ≡ Some way
+  pub found : slice_get client.ways slot.at ≡ Some way
   pub some : 0 < count
   pub part : count ≤ length way.up
-  pub runs : running old.nodes place.node ≡ None → ⊥
-  pub step : TakesIn place.node (Bytes port (take count way.up) 0) old new
-  pub acts : Acts (place.node - 1) (takes (Bytes port (take count way.up) 0)) old new
-  pub is : later ≡ with_less place.at count way client
+  pub runs : running old.nodes slot.node ≡ None → ⊥
+  pub step : TakesIn slot.node (Bytes port (take count way.up) 0) old new
+  pub acts : Acts (slot.node - 1) (takes (Bytes port (take count way.up) 0)) old new
+  pub is : later ≡ with_less slot.at count way client
 
 -- that many bytes wait, and the node runs
-pub record CanTake (place : ConnectionSlot) (count : ℕ) (nodes : NodesState)
+pub record CanTake (slot : ConnectionSlot) (count : ℕ) (nodes : NodesState)
     (client : Piped) : Type 0 where
   pub way : Way
-  pub found : slice_get client.ways place.at ≡ Some way
+  pub found : slice_get client.ways slot.at ≡ Some way
   pub some : 0 < count
   pub part : count ≤ length way.up
-  pub runs : running nodes.nodes place.node ≡ None → ⊥
+  pub runs : running nodes.nodes slot.node ≡ None → ⊥
 
 -- if there is no memory for them, nothing happens
 abbrev pub TakesUpWhere : Bool → ConnectionSlot → Port → ℕ → NodesState → Piped → NodesState →
     Piped → Type 0
-TakesUpWhere true place port count old client new later =
-    TakesUp place port count old client new later
-TakesUpWhere false place port count old client new later =
-    (new ≡ old) × (later ≡ client) × CanTake place count old client
+TakesUpWhere true slot port count old client new later =
+    TakesUp slot port count old client new later
+TakesUpWhere false slot port count old client new later =
+    (new ≡ old) × (later ≡ client) × CanTake slot count old client
 
 -- they cannot: too few wait, or the node has stopped
 abbrev pub CannotTake : ConnectionSlot → ℕ → NodesState → Piped → Type 0
-CannotTake place count nodes client =
-    (way : Way) → slice_get client.ways place.at ≡ Some way →
-    (running nodes.nodes place.node ≡ None) ⊎ IsNoPart count way.up
+CannotTake slot count nodes client =
+    (way : Way) → slice_get client.ways slot.at ≡ Some way →
+    (running nodes.nodes slot.node ≡ None) ⊎ IsNoPart count way.up
 
 -- the same in a world
-pub record TakesUpOn (number : ℕ) (place : ConnectionSlot) (count : ℕ)
+pub record TakesUpOn (number : ℕ) (slot : ConnectionSlot) (count : ℕ)
     (old new : WorldState) : Type 0 where
   pub client : WorldClient
-  pub owned : slice_get old.clients place.client ≡ Some client
+  pub owned : slice_get old.clients slot.client ≡ Some client
   pub between : NodesState
   pub piped : Piped
-  pub takes : TakesUp place (port_of number) count old.nodes client.piped between piped
-  pub is : new ≡ record (with_piped place.client client piped old) { nodes = between }
+  pub takes : TakesUp slot (port_of number) count old.nodes client.piped between piped
+  pub is : new ≡ record (with_piped slot.client client piped old) { nodes = between }
 
 -- if there is no memory for them, nothing happens
 abbrev pub TakesUpOnWhere : Bool → ℕ → ConnectionSlot → ℕ → WorldState → WorldState → Type 0
-TakesUpOnWhere true number place count old new = TakesUpOn number place count old new
-TakesUpOnWhere false number place count old new =
-    (new ≡ old) × (client : WorldClient) × (slice_get old.clients place.client ≡ Some client)
-    × CanTake place count old.nodes client.piped
+TakesUpOnWhere true number slot count old new = TakesUpOn number slot count old new
+TakesUpOnWhere false number slot count old new =
+    (new ≡ old) × (client : WorldClient) × (slice_get old.clients slot.client ≡ Some client)
+    × CanTake slot count old.nodes client.piped
 
 -- the same in a world
 abbrev pub CannotTakeOn : ConnectionSlot → ℕ → WorldState → Type 0
-CannotTakeOn place count w =
-    (client : WorldClient) → slice_get w.clients place.client ≡ Some client →
-    CannotTake place count w.nodes client.piped
+CannotTakeOn slot count w =
+    (client : WorldClient) → slice_get w.clients slot.client ≡ Some client →
+    CannotTake slot count w.nodes client.piped
 
 -- ---- bytes reach a client
 

@@ -12,7 +12,7 @@ use Rattle.world_events.specs.world_pipes.declared.way.Way.{Way}
 use Rattle.world_events.specs.world_pipes.Piped.{Piped}
 use Rattle.world.specs.declared.connection_slot.ConnectionSlot.{ConnectionSlot}
 use Rattle.world.specs.declared.world.WorldClient.{WorldClient}
-use Rattle.world.specs.Found.{place_numbered, port_of, with_down, with_piped}
+use Rattle.world.specs.Found.{slot_numbered, port_of, with_down, with_piped}
 use Rattle.world.specs.Gathering.{AskedWhere, Gives, is_more, is_open_at, is_told_open, put_out}
 use Rattle.world.specs.SlotsAreValid.{open_from}
 use Rattle.world.specs.Quiet.{HoldsNothing}
@@ -54,25 +54,25 @@ MayPutDown at node port old client new later =
     × (later ≡ with_down at way bytes client)
 
 -- on the connection of this number, and this is said about its end
-pub record HandsOn (number : ℕ) (place : ConnectionSlot) (old : WorldState) (is_open : Bool)
+pub record HandsOn (number : ℕ) (slot : ConnectionSlot) (old : WorldState) (is_open : Bool)
     (new : WorldState) : Type 0 where
   pub client : WorldClient
-  pub owned : slice_get old.clients place.client ≡ Some client
+  pub owned : slice_get old.clients slot.client ≡ Some client
   pub way : Way
-  pub stands : slice_get client.piped.ways place.at ≡ Some way
+  pub stands : slice_get client.piped.ways slot.at ≡ Some way
   pub between : NodesState
-  pub gives : Gives (node_of old.nodes.nodes place.node) place.node
+  pub gives : Gives (node_of old.nodes.nodes slot.node) slot.node
       (port_of number) old.nodes between
-  pub told : is_open ≡ is_told_open (port_of number) (node_of old.nodes.nodes place.node)
-  pub is : new ≡ record (with_piped place.client client
-      (with_down place.at way
-      (way.down ++ put_out (port_of number) (node_of old.nodes.nodes place.node)) client.piped) old)
+  pub told : is_open ≡ is_told_open (port_of number) (node_of old.nodes.nodes slot.node)
+  pub is : new ≡ record (with_piped slot.client client
+      (with_down slot.at way
+      (way.down ++ put_out (port_of number) (node_of old.nodes.nodes slot.node)) client.piped) old)
       { nodes = between }
 
 -- or its node ran out of memory: nothing changes, its end is open, and that is counted
 abbrev pub MayHandOn : ℕ → ConnectionSlot → WorldState → Bool → WorldState → Type 0
-MayHandOn number place old is_open new =
-    HandsOn number place old is_open new
+MayHandOn number slot old is_open new =
+    HandsOn number slot old is_open new
     ⊎ ((is_open ≡ true) × (new ≡ record old { nodes = nodes_forgetful old.nodes }))
 
 -- a node that has nothing to hand over then has nothing, and counts no loss
@@ -81,8 +81,8 @@ StaysQuiet node old new = HoldsNothing node old → HoldsNothing node new × (ne
 
 -- its end counts as open, or as closed
 abbrev pub marked : ℕ → ConnectionSlot → Bool → WorldState → WorldState
-marked number place is_open w =
-    record w { connections = set w.connections (number - 1) (record place { is_open = is_open }) }
+marked number slot is_open w =
+    record w { connections = set w.connections (number - 1) (record slot { is_open = is_open }) }
 
 -- ---- a walk over the connections whose end is open
 
@@ -92,6 +92,6 @@ pub record AsksAt (node at : ℕ) (old new : WorldState) : Type 0 where
   pub number : ℕ
   pub stands : slice_get (open_from 1 old.connections) at ≡ Some number
   pub asks : AskedWhere false
-      (is_open_at node (place_numbered number old.connections)) number old new
+      (is_open_at node (slot_numbered number old.connections)) number old new
   pub others : take (number - 1) new.connections ≡ take (number - 1) old.connections
   pub many : length new.connections ≡ length old.connections

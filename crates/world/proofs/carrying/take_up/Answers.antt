@@ -19,8 +19,8 @@ returns-clause-nodes c = call_goes c.take.result c.args.nodes.now c.take.new.sel
 
 pub returns-clause-leads : goal.returns-clause-leads
 returns-clause-leads c =
-    let way = there c.args.piped.now.ways c.args.place.at c.requires in
-    less_leads c.args.piped.now c.take_up.new.self c.args.place.at c.args.count way.0 way.1 c.take_up.ensures.taken
+    let way = there c.args.piped.now.ways c.args.slot.at c.requires in
+    less_leads c.args.piped.now c.take_up.new.self c.args.slot.at c.args.count way.0 way.1 c.take_up.ensures.taken
 
 pub returns-then-not-runs-clause-nodes : goal.returns-then-not-runs-clause-nodes
 returns-then-not-runs-clause-nodes c = nodes_rest _ _ refl

@@ -8,13 +8,13 @@ use Rattle.world.proofs.Walked.{asks_none, asks_one}
 use Rattle.world.proofs.QuietEvents.{stays_join, stays_rest}
 use Rattle.world.proofs.world.World.ask_at.Goals as goal
 
-pub returns-then-place-node-clause-goes : goal.returns-then-place-node-clause-goes
-returns-then-place-node-clause-goes c = goes_on_rest _ _ refl
+pub returns-then-slot-node-clause-goes : goal.returns-then-slot-node-clause-goes
+returns-then-slot-node-clause-goes c = goes_on_rest _ _ refl
 
-pub returns-then-place-node-clause-asks : goal.returns-then-place-node-clause-asks
-returns-then-place-node-clause-asks c =
-    asks_none c.args.node c.args.at c.open_at-number.result.0 c.open_at-number.result.1 c.args.self.now c.open_at-number.ensures.number c.open_at-number.ensures.place
-    c.open_at-number.ensures.positive c.if-place-node.true
+pub returns-then-slot-node-clause-asks : goal.returns-then-slot-node-clause-asks
+returns-then-slot-node-clause-asks c =
+    asks_none c.args.node c.args.at c.open_at-number.result.0 c.open_at-number.result.1 c.args.self.now c.open_at-number.ensures.number c.open_at-number.ensures.slot
+    c.open_at-number.ensures.positive c.if-slot-node.true
 
 pub returns-else-not-hand_on-clause-goes : goal.returns-else-not-hand_on-clause-goes
 returns-else-not-hand_on-clause-goes c = c.hand_on.ensures.goes
@@ -22,10 +22,10 @@ returns-else-not-hand_on-clause-goes c = c.hand_on.ensures.goes
 pub returns-else-not-hand_on-clause-asks : goal.returns-else-not-hand_on-clause-asks
 returns-else-not-hand_on-clause-asks c =
     asks_one c.args.node c.args.at c.open_at-number.result.0 c.open_at-number.result.1 true c.args.self.now c.hand_on.new.self c.hand_on.new.self c.open_at-number.ensures.number
-    c.open_at-number.ensures.place c.open_at-number.ensures.positive c.open_at-number.ensures.up c.if-place-node.false c.hand_on.ensures.connections
+    c.open_at-number.ensures.slot c.open_at-number.ensures.positive c.open_at-number.ensures.up c.if-slot-node.false c.hand_on.ensures.connections
     (subst (λ (b : Bool). MayHandOn c.open_at-number.result.0 c.open_at-number.result.1 c.args.self.now b c.hand_on.new.self) c.if-not-hand_on.false c.hand_on.ensures.hands)
     (stays_open c.open_at-number.result.0 c.open_at-number.result.1 c.hand_on.new.self
-    (ap (λ (l : List ConnectionSlot). slice_get l (c.open_at-number.result.0 - 1)) c.hand_on.ensures.connections ∙ c.open_at-number.ensures.place) c.open_at-number.ensures.up)
+    (ap (λ (l : List ConnectionSlot). slice_get l (c.open_at-number.result.0 - 1)) c.hand_on.ensures.connections ∙ c.open_at-number.ensures.slot) c.open_at-number.ensures.up)
 
 pub returns-then-not-hand_on-clause-goes : goal.returns-then-not-hand_on-clause-goes
 returns-then-not-hand_on-clause-goes c =
@@ -35,19 +35,19 @@ returns-then-not-hand_on-clause-goes c =
 pub returns-then-not-hand_on-clause-asks : goal.returns-then-not-hand_on-clause-asks
 returns-then-not-hand_on-clause-asks c =
     asks_one c.args.node c.args.at c.open_at-number.result.0 c.open_at-number.result.1 false c.args.self.now c.hand_on.new.self c.close.new.self c.open_at-number.ensures.number
-    c.open_at-number.ensures.place c.open_at-number.ensures.positive c.open_at-number.ensures.up c.if-place-node.false c.hand_on.ensures.connections
+    c.open_at-number.ensures.slot c.open_at-number.ensures.positive c.open_at-number.ensures.up c.if-slot-node.false c.hand_on.ensures.connections
     (subst (λ (b : Bool). MayHandOn c.open_at-number.result.0 c.open_at-number.result.1 c.args.self.now b c.hand_on.new.self) c.if-not-hand_on.true c.hand_on.ensures.hands)
     c.close.ensures
 
-pub returns-then-place-node-clause-quiet : goal.returns-then-place-node-clause-quiet
-returns-then-place-node-clause-quiet c = stays_rest c.args.node c.args.self.now.nodes c.args.self.now.nodes refl
+pub returns-then-slot-node-clause-quiet : goal.returns-then-slot-node-clause-quiet
+returns-then-slot-node-clause-quiet c = stays_rest c.args.node c.args.self.now.nodes c.args.self.now.nodes refl
 
 pub returns-else-not-hand_on-clause-quiet : goal.returns-else-not-hand_on-clause-quiet
 returns-else-not-hand_on-clause-quiet c =
-    subst (λ (k : ℕ). StaysQuiet k c.args.self.now.nodes c.hand_on.new.self.nodes) c.if-place-node.false c.hand_on.ensures.quiet
+    subst (λ (k : ℕ). StaysQuiet k c.args.self.now.nodes c.hand_on.new.self.nodes) c.if-slot-node.false c.hand_on.ensures.quiet
 
 pub returns-then-not-hand_on-clause-quiet : goal.returns-then-not-hand_on-clause-quiet
 returns-then-not-hand_on-clause-quiet c =
     stays_join c.args.node c.args.self.now.nodes c.hand_on.new.self.nodes c.close.new.self.nodes
-    (subst (λ (k : ℕ). StaysQuiet k c.args.self.now.nodes c.hand_on.new.self.nodes) c.if-place-node.false c.hand_on.ensures.quiet)
+    (subst (λ (k : ℕ). StaysQuiet k c.args.self.now.nodes c.hand_on.new.self.nodes) c.if-slot-node.false c.hand_on.ensures.quiet)
     (stays_rest c.args.node c.hand_on.new.self.nodes c.close.new.self.nodes (ap (λ (w : WorldState). w.nodes) c.close.ensures))

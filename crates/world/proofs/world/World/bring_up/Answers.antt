@@ -10,8 +10,8 @@ returns-then-had-clause-goes c = goes_on_join _ _ _ c.take_up.ensures.goes c.gat
 
 pub returns-then-had-clause-meets : goal.returns-then-had-clause-meets
 returns-then-had-clause-meets c =
-    inl (carries_up c.args.number c.args.place c.args.count c.args.self.now c.take_up.new.self c.gather.new.self c.requires.stands c.requires.positive c.requires.up
-    (subst (λ (had : Bool). TakesUpOnWhere had c.args.number c.args.place c.args.count c.args.self.now c.take_up.new.self) c.if-had.true c.in_ok-had.ensures.takes)
+    inl (carries_up c.args.number c.args.slot c.args.count c.args.self.now c.take_up.new.self c.gather.new.self c.requires.stands c.requires.positive c.requires.up
+    (subst (λ (had : Bool). TakesUpOnWhere had c.args.number c.args.slot c.args.count c.args.self.now c.take_up.new.self) c.if-had.true c.in_ok-had.ensures.takes)
     c.gather.ensures.gathers (c.gather.ensures.still ∙ c.take_up.ensures.still))
 
 pub returns-else-had-clause-goes : goal.returns-else-had-clause-goes
@@ -21,6 +21,6 @@ returns-else-had-clause-goes c =
 
 pub returns-else-had-clause-meets : goal.returns-else-had-clause-meets
 returns-else-had-clause-meets c =
-    inr (lost_up c.args.number c.args.place c.args.count c.args.self.now c.take_up.new.self c.lose.new.self c.requires.stands c.requires.positive c.requires.up
-    (subst (λ (had : Bool). TakesUpOnWhere had c.args.number c.args.place c.args.count c.args.self.now c.take_up.new.self) c.if-had.false c.in_ok-had.ensures.takes)
+    inr (lost_up c.args.number c.args.slot c.args.count c.args.self.now c.take_up.new.self c.lose.new.self c.requires.stands c.requires.positive c.requires.up
+    (subst (λ (had : Bool). TakesUpOnWhere had c.args.number c.args.slot c.args.count c.args.self.now c.take_up.new.self) c.if-had.false c.in_ok-had.ensures.takes)
     c.lose.ensures.lost)

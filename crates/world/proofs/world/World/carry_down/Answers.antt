@@ -15,35 +15,35 @@ returns-in_default-clause-goes c = goes_on_rest _ _ refl
 pub index_mut-requires : goal.index_mut-requires
 index_mut-requires c =
     let stands = rw (← c.self.view_is) at c.in-Some.ensures.stands in
-    let few = client_within c.self.inside.clients.items c.self.inside.connections.items c.args.number c.in-Some.place c.self.invariant.0 stands.1 stands.0 in
+    let few = client_within c.self.inside.clients.items c.self.inside.connections.items c.args.number c.in-Some.slot c.self.invariant.0 stands.1 stands.0 in
     omega (arith, few)
 
 pub hear_on-requires : goal.hear_on-requires
 hear_on-requires c =
     let stands = rw (← c.self.view_is) at c.in-Some.ensures.stands in
-    let few = client_within c.self.inside.clients.items c.self.inside.connections.items c.args.number c.in-Some.place c.self.invariant.0 stands.1 stands.0 in
-    let found = get_there c.self.inside.clients.items c.in-Some.place.client c.index_mut.result.now few c.index_mut.ensures.value in
-    way_within c.self.inside.clients.items c.self.inside.connections.items c.args.number c.in-Some.place c.index_mut.result.now c.self.invariant.0 stands.1 stands.0 found
+    let few = client_within c.self.inside.clients.items c.self.inside.connections.items c.args.number c.in-Some.slot c.self.invariant.0 stands.1 stands.0 in
+    let found = get_there c.self.inside.clients.items c.in-Some.slot.client c.index_mut.result.now few c.index_mut.ensures.value in
+    way_within c.self.inside.clients.items c.self.inside.connections.items c.args.number c.in-Some.slot c.index_mut.result.now c.self.invariant.0 stands.1 stands.0 found
 
 pub returns-in-Err-clause-goes : goal.returns-in-Err-clause-goes
 returns-in-Err-clause-goes c =
     let stands = rw (← c.self.view_is) at c.in-Some.ensures.stands in
-    let few = client_within c.self.inside.clients.items c.self.inside.connections.items c.args.number c.in-Some.place c.self.invariant.0 stands.1 stands.0 in
-    let found = get_there c.self.inside.clients.items c.in-Some.place.client c.index_mut.result.now few c.index_mut.ensures.value in
+    let few = client_within c.self.inside.clients.items c.self.inside.connections.items c.args.number c.in-Some.slot c.self.invariant.0 stands.1 stands.0 in
+    let found = get_there c.self.inside.clients.items c.in-Some.slot.client c.index_mut.result.now few c.index_mut.ensures.value in
     rw (← c.self.view_is) (client_goes_on (let old : WorldState = record {
       nodes = c.self.inside.nodes;
       clients = c.self.inside.clients.items;
       connections = c.self.inside.connections.items;
       losses = c.self.inside.losses;
-    } in old) c.in-Some.place.client c.index_mut.result.now c.hear_on.new.piped found c.hear_on.ensures.goes)
+    } in old) c.in-Some.slot.client c.index_mut.result.now c.hear_on.new.piped found c.hear_on.ensures.goes)
 
 pub returns-in-Err-clause-meets : goal.returns-in-Err-clause-meets
 returns-in-Err-clause-meets c =
     let stands = rw (← c.self.view_is) at c.in-Some.ensures.stands in
-    let few = client_within c.self.inside.clients.items c.self.inside.connections.items c.args.number c.in-Some.place c.self.invariant.0 stands.1 stands.0 in
-    let found = get_there c.self.inside.clients.items c.in-Some.place.client c.index_mut.result.now few c.index_mut.ensures.value in
+    let few = client_within c.self.inside.clients.items c.self.inside.connections.items c.args.number c.in-Some.slot c.self.invariant.0 stands.1 stands.0 in
+    let found = get_there c.self.inside.clients.items c.in-Some.slot.client c.index_mut.result.now few c.index_mut.ensures.value in
     rw (← c.self.view_is) (
-      hears_nothing c.args.number c.in-Some.place c.args.count (let old : WorldState = record {
+      hears_nothing c.args.number c.in-Some.slot c.args.count (let old : WorldState = record {
         nodes = c.self.inside.nodes;
         clients = c.self.inside.clients.items;
         connections = c.self.inside.connections.items;
@@ -54,15 +54,15 @@ returns-in-Err-clause-meets c =
         clients = c.self.inside.clients.items;
         connections = c.self.inside.connections.items;
         losses = c.self.inside.losses;
-      } in old) c.in-Some.place.client c.index_mut.result.now c.hear_on.new.piped found c.in-Err.ensures.same,
+      } in old) c.in-Some.slot.client c.index_mut.result.now c.hear_on.new.piped found c.in-Err.ensures.same,
     )
 
 pub invariant_of-self : goal.invariant_of-self
 invariant_of-self c =
     let stands = rw (← c.self.view_is) at c.in-Some.ensures.stands in
-    let few = client_within c.self.inside.clients.items c.self.inside.connections.items c.args.number c.in-Some.place c.self.invariant.0 stands.1 stands.0 in
-    let found = get_there c.self.inside.clients.items c.in-Some.place.client c.index_mut.result.now few c.index_mut.ensures.value in (
-      housed_still c.self.inside.clients.items c.self.inside.connections.items c.in-Some.place.client c.index_mut.result.now c.hear_on.new.piped found
+    let few = client_within c.self.inside.clients.items c.self.inside.connections.items c.args.number c.in-Some.slot c.self.invariant.0 stands.1 stands.0 in
+    let found = get_there c.self.inside.clients.items c.in-Some.slot.client c.index_mut.result.now few c.index_mut.ensures.value in (
+      housed_still c.self.inside.clients.items c.self.inside.connections.items c.in-Some.slot.client c.index_mut.result.now c.hear_on.new.piped found
           c.hear_on.ensures.leads c.self.invariant.0,
       c.self.invariant.1,
     )
@@ -70,8 +70,8 @@ invariant_of-self c =
 pub returns-in-Ok-clause-goes : goal.returns-in-Ok-clause-goes
 returns-in-Ok-clause-goes c =
     let stands = rw (← c.self.view_is) at c.in-Some.ensures.stands in
-    let few = client_within c.self.inside.clients.items c.self.inside.connections.items c.args.number c.in-Some.place c.self.invariant.0 stands.1 stands.0 in
-    let found = get_there c.self.inside.clients.items c.in-Some.place.client c.index_mut.result.now few c.index_mut.ensures.value in
+    let few = client_within c.self.inside.clients.items c.self.inside.connections.items c.args.number c.in-Some.slot c.self.invariant.0 stands.1 stands.0 in
+    let found = get_there c.self.inside.clients.items c.in-Some.slot.client c.index_mut.result.now few c.index_mut.ensures.value in
     let old : WorldState = (let old : WorldState = record {
       nodes = c.self.inside.nodes;
       clients = c.self.inside.clients.items;
@@ -80,16 +80,16 @@ returns-in-Ok-clause-goes c =
     } in old) in
     let rises : old.losses ≤ (forgetful old).losses = omega arith in
     rw (← c.self.view_is)
-    (hearing_counted old c.in-Some.place.client c.index_mut.result.now c.hear_on.new.piped c.in-Ok.had c.remember.new.self found c.hear_on.ensures.goes rises
+    (hearing_counted old c.in-Some.slot.client c.index_mut.result.now c.hear_on.new.piped c.in-Ok.had c.remember.new.self found c.hear_on.ensures.goes rises
     c.remember.ensures)
 
 pub returns-in-Ok-clause-meets : goal.returns-in-Ok-clause-meets
 returns-in-Ok-clause-meets c =
     let stands = rw (← c.self.view_is) at c.in-Some.ensures.stands in
-    let few = client_within c.self.inside.clients.items c.self.inside.connections.items c.args.number c.in-Some.place c.self.invariant.0 stands.1 stands.0 in
-    let found = get_there c.self.inside.clients.items c.in-Some.place.client c.index_mut.result.now few c.index_mut.ensures.value in
+    let few = client_within c.self.inside.clients.items c.self.inside.connections.items c.args.number c.in-Some.slot c.self.invariant.0 stands.1 stands.0 in
+    let found = get_there c.self.inside.clients.items c.in-Some.slot.client c.index_mut.result.now few c.index_mut.ensures.value in
     rw (← c.self.view_is)
-    (heard_meets c.args.number c.in-Some.place c.args.count c.in-Ok.had (let old : WorldState = record {
+    (heard_meets c.args.number c.in-Some.slot c.args.count c.in-Ok.had (let old : WorldState = record {
       nodes = c.self.inside.nodes;
       clients = c.self.inside.clients.items;
       connections = c.self.inside.connections.items;

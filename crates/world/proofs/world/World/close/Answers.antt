@@ -14,7 +14,7 @@ overflow_sub-number c =
 
 pub index_mut-requires : goal.index_mut-requires
 index_mut-requires c =
-    let few = slice_get_within c.self.inside.connections.items (c.args.number - 1) c.args.place (rw (← c.self.view_is) at c.requires.place) in
+    let few = slice_get_within c.self.inside.connections.items (c.args.number - 1) c.args.slot (rw (← c.self.view_is) at c.requires.slot) in
     omega (arith, few)
 
 pub remove-requires : goal.remove-requires
@@ -26,8 +26,8 @@ remove-requires c =
 pub invariant_of-self : goal.invariant_of-self
 invariant_of-self c =
     let number = rw (← c.self.view_is) at c.requires.number in
-    let stands = rw (← c.self.view_is) at c.requires.place in (
-      housed_mark _ c.self.inside.connections.items (c.args.number - 1) c.args.place false stands c.self.invariant.0,
+    let stands = rw (← c.self.view_is) at c.requires.slot in (
+      housed_mark _ c.self.inside.connections.items (c.args.number - 1) c.args.slot false stands c.self.invariant.0,
       c.remove.ensures.items ∙ ap (λ (l : List ℕ). remove l c.args.at) c.self.invariant.1
-          ∙ closes c.self.inside.connections.items c.args.at c.args.number c.args.place number stands,
+          ∙ closes c.self.inside.connections.items c.args.at c.args.number c.args.slot number stands,
     )

@@ -40,11 +40,11 @@ returns-clause-meets c =
       connections = c.self.inside.connections.items;
       losses = c.self.inside.losses;
     } in
-    rw (← c.self.view_is) (inl (noticed c.args.number old (connected old c.args.number c.args.place c.self.invariant.0 stands c.requires.positive) c.ended.new.self c.gather.new.self
-    (not_closed c.args.number old c.args.place stands c.requires.positive c.requires.up (λ stopped. both_ways false refl (c.in_ok-ended.ensures.idle.1 stopped)))
+    rw (← c.self.view_is) (inl (noticed c.args.number old (connected old c.args.number c.args.slot c.self.invariant.0 stands c.requires.positive) c.ended.new.self c.gather.new.self
+    (not_closed c.args.number old c.args.slot stands c.requires.positive c.requires.up (λ stopped. both_ways false refl (c.in_ok-ended.ensures.idle.1 stopped)))
     c.in_ok-ended.ensures.step c.gather.ensures.gathers c.gather.ensures.still))
 
 pub returns-clause-quiet : goal.returns-clause-quiet
 returns-clause-quiet c =
-    rw (← c.self.view_is) (λ quiet. item_quiet c.args.place.node (Ended (port_of c.args.number)) c.self.inside.nodes c.ended.new.self c.gather.new.self.nodes quiet
+    rw (← c.self.view_is) (λ quiet. item_quiet c.args.slot.node (Ended (port_of c.args.number)) c.self.inside.nodes c.ended.new.self c.gather.new.self.nodes quiet
     c.in_ok-ended.ensures.quiet c.gather.ensures.quiet)

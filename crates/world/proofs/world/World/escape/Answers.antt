@@ -15,10 +15,10 @@ use Rattle.world.proofs.WaysWritten.{can_escape, its_members, short_way, some_me
 use Rattle.world.proofs.world.World.escape.Goals as goal
 
 -- the client that was found
-stands : (c : goal.In_ok-way_out) → slice_get c.args.self.now.clients c.in-Some-place_of.at ≡ Some c.index.result.now
+stands : (c : goal.In_ok-way_out) → slice_get c.args.self.now.clients c.in-Some-index_of_client.at ≡ Some c.index.result.now
 stands c =
-    let few : c.in-Some-place_of.at < length c.self.inside.clients.items = rw (← c.self.view_is) at c.in-Some-place_of.ensures.below in
-    rw (← c.self.view_is) (get_there c.self.inside.clients.items c.in-Some-place_of.at c.index.result.now few c.index.ensures)
+    let few : c.in-Some-index_of_client.at < length c.self.inside.clients.items = rw (← c.self.view_is) at c.in-Some-index_of_client.ensures.below in
+    rw (← c.self.view_is) (get_there c.self.inside.clients.items c.in-Some-index_of_client.at c.index.result.now few c.index.ensures)
 
 named : (c : goal.In_ok-way_out) → c.client-name.result.now ≡ c.index.result.now.piped.core.state.client
 named c = c.client-name.ensures ∙ ap (λ (k : Core). k.state.client) c.core.ensures
@@ -29,7 +29,7 @@ can c =
     can_escape c.args.members.now c.args.client.now c.args.self.now
     (ap (refusal c.args.self.now.nodes.master) (sym c.in_ok-config.ensures) ∙ (c.can_lead.ensures.0 c.if-not-can_lead.false).0)
     (ap (list_all (is_running c.args.self.now.nodes.nodes)) (sym (its_members c.args.members.now c.in_ok-config.config c.in_ok-config.ensures)) ∙ (c.can_lead.ensures.0 c.if-not-can_lead.false).1)
-    c.in-Some.place c.in-Some.source c.in-Some.ensures.some c.in-Some-place_of.at c.index.result.now (sym c.in-Some-place_of.ensures.exact) (stands c)
+    c.in-Some.place c.in-Some.source c.in-Some.ensures.some c.in-Some-index_of_client.at c.index.result.now (sym c.in-Some-index_of_client.ensures.exact) (stands c)
     (ap (session_of (past_of usual_limits (log_of c.args.self.now.nodes c.in-Some.source))) (sym (named c)) ∙ c.in_ok-has_session.ensures.yes c.if-not-branch.false)
 
 -- the list that was written

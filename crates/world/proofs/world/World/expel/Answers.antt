@@ -11,7 +11,7 @@ returns-then-is_none-clause-goes c = goes_on_rest _ _ refl
 
 pub returns-then-is_none-clause-meets : goal.returns-then-is_none-clause-meets
 returns-then-is_none-clause-meets c =
-    (inl (no_client c.args.client.now _ c.place_of.result c.is_none.result c.place_of.ensures.exact c.is_none.ensures c.if-is_none.true), refl)
+    (inl (no_client c.args.client.now _ c.index_of_client.result c.is_none.result c.index_of_client.ensures.exact c.is_none.ensures c.if-is_none.true), refl)
 
 pub returns-in_err-expel-clause-goes : goal.returns-in_err-expel-clause-goes
 returns-in_err-expel-clause-goes c =
@@ -47,6 +47,6 @@ returns-clause-meets c =
       clients = c.self.inside.clients.items;
       connections = c.self.inside.connections.items;
       losses = c.self.inside.losses;
-    } in old) c.place_of.result c.is_none.result (rw (← c.self.view_is) at c.place_of.ensures.exact) c.is_none.ensures c.if-is_none.false
+    } in old) c.index_of_client.result c.is_none.result (rw (← c.self.view_is) at c.index_of_client.ensures.exact) c.is_none.ensures c.if-is_none.false
     (λ full. both_ways false refl (c.in_ok-expel.ensures.idle.1 full)))
     c.in_ok-expel.ensures.step c.in_ok-expel.ensures.goes c.gather.ensures.gathers c.gather.ensures.still))

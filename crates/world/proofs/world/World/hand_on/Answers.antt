@@ -11,9 +11,9 @@ use Rattle.world.proofs.world.World.hand_on.Goals as goal
 pub invariant_of-self : goal.invariant_of-self
 invariant_of-self c =
     let stands = rw (← c.self.view_is) at c.requires.stands in
-    let few = client_within c.self.inside.clients.items c.self.inside.connections.items c.args.number c.args.place c.self.invariant.0 stands c.requires.positive in
-    let found = get_there c.self.inside.clients.items c.args.place.client c.index_mut.result.now few c.index_mut.ensures.value in (
-      housed_still c.self.inside.clients.items c.self.inside.connections.items c.args.place.client c.index_mut.result.now c.hand_down.new.piped found
+    let few = client_within c.self.inside.clients.items c.self.inside.connections.items c.args.number c.args.slot c.self.invariant.0 stands c.requires.positive in
+    let found = get_there c.self.inside.clients.items c.args.slot.client c.index_mut.result.now few c.index_mut.ensures.value in (
+      housed_still c.self.inside.clients.items c.self.inside.connections.items c.args.slot.client c.index_mut.result.now c.hand_down.new.piped found
           c.hand_down.ensures.leads c.self.invariant.0,
       c.self.invariant.1,
     )
@@ -21,40 +21,40 @@ invariant_of-self c =
 pub returns-clause-goes : goal.returns-clause-goes
 returns-clause-goes c =
     let stands = rw (← c.self.view_is) at c.requires.stands in
-    let few = client_within c.self.inside.clients.items c.self.inside.connections.items c.args.number c.args.place c.self.invariant.0 stands c.requires.positive in
-    let found = get_there c.self.inside.clients.items c.args.place.client c.index_mut.result.now few c.index_mut.ensures.value in
+    let few = client_within c.self.inside.clients.items c.self.inside.connections.items c.args.number c.args.slot c.self.invariant.0 stands c.requires.positive in
+    let found = get_there c.self.inside.clients.items c.args.slot.client c.index_mut.result.now few c.index_mut.ensures.value in
     rw (← c.self.view_is) (hands_on (let old : WorldState = record {
       nodes = c.self.inside.nodes;
       clients = c.self.inside.clients.items;
       connections = c.self.inside.connections.items;
       losses = c.self.inside.losses;
-    } in old) c.args.number c.args.place c.index_mut.result.now c.hand_down.new.nodes c.hand_down.new.piped c.self.invariant.0
+    } in old) c.args.number c.args.slot c.index_mut.result.now c.hand_down.new.nodes c.hand_down.new.piped c.self.invariant.0
     stands c.requires.positive found c.hand_down.ensures.nodes c.hand_down.ensures.may)
 
 pub hand_down-requires : goal.hand_down-requires
 hand_down-requires c =
     let stands = rw (← c.self.view_is) at c.requires.stands in
-    let few = client_within c.self.inside.clients.items c.self.inside.connections.items c.args.number c.args.place c.self.invariant.0 stands c.requires.positive in
-    let found = get_there c.self.inside.clients.items c.args.place.client c.index_mut.result.now few c.index_mut.ensures.value in
-    way_within c.self.inside.clients.items c.self.inside.connections.items c.args.number c.args.place c.index_mut.result.now c.self.invariant.0 stands c.requires.positive found
+    let few = client_within c.self.inside.clients.items c.self.inside.connections.items c.args.number c.args.slot c.self.invariant.0 stands c.requires.positive in
+    let found = get_there c.self.inside.clients.items c.args.slot.client c.index_mut.result.now few c.index_mut.ensures.value in
+    way_within c.self.inside.clients.items c.self.inside.connections.items c.args.number c.args.slot c.index_mut.result.now c.self.invariant.0 stands c.requires.positive found
 
 pub returns-clause-hands : goal.returns-clause-hands
 returns-clause-hands c =
     let stands = rw (← c.self.view_is) at c.requires.stands in
-    let few = client_within c.self.inside.clients.items c.self.inside.connections.items c.args.number c.args.place c.self.invariant.0 stands c.requires.positive in
-    let found = get_there c.self.inside.clients.items c.args.place.client c.index_mut.result.now few c.index_mut.ensures.value in
+    let few = client_within c.self.inside.clients.items c.self.inside.connections.items c.args.number c.args.slot c.self.invariant.0 stands c.requires.positive in
+    let found = get_there c.self.inside.clients.items c.args.slot.client c.index_mut.result.now few c.index_mut.ensures.value in
     let old : WorldState = record {
       nodes = c.self.inside.nodes;
       clients = c.self.inside.clients.items;
       connections = c.self.inside.connections.items;
       losses = c.self.inside.losses;
     } in
-    let way = led old.clients c.args.number c.args.place c.index_mut.result.now (led_there (leads_of old.clients) old.connections c.args.number c.args.place c.self.invariant.0 stands c.requires.positive) found in
-    rw (← c.self.view_is) (hands old c.args.number c.args.place c.index_mut.result.now way.way c.hand_down.result c.hand_down.new.nodes c.hand_down.new.piped found way.found
+    let way = led old.clients c.args.number c.args.slot c.index_mut.result.now (led_there (leads_of old.clients) old.connections c.args.number c.args.slot c.self.invariant.0 stands c.requires.positive) found in
+    rw (← c.self.view_is) (hands old c.args.number c.args.slot c.index_mut.result.now way.way c.hand_down.result c.hand_down.new.nodes c.hand_down.new.piped found way.found
     c.hand_down.ensures.puts)
 
 pub index_mut-requires : goal.index_mut-requires
 index_mut-requires c =
     let stands = rw (← c.self.view_is) at c.requires.stands in
-    let few = client_within c.self.inside.clients.items c.self.inside.connections.items c.args.number c.args.place c.self.invariant.0 stands c.requires.positive in
+    let few = client_within c.self.inside.clients.items c.self.inside.connections.items c.args.number c.args.slot c.self.invariant.0 stands c.requires.positive in
     omega (arith, few)

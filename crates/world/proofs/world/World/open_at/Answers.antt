@@ -38,8 +38,8 @@ returns-clause-positive c =
     let number = opened c.self.inside.open_ends.items c.self.inside.connections.items c.args.at c.index-number.result.now c.self.invariant.1 few c.index-number.ensures in
     (stands_open c.self.inside.connections.items c.args.at c.index-number.result.now number).positive
 
-pub returns-clause-place : goal.returns-clause-place
-returns-clause-place c =
+pub returns-clause-slot : goal.returns-clause-slot
+returns-clause-slot c =
     let few : c.args.at < length (open_from 1 c.self.inside.connections.items) = rw (← c.self.view_is) at c.requires in
     let number = opened c.self.inside.open_ends.items c.self.inside.connections.items c.args.at c.index-number.result.now c.self.invariant.1 few c.index-number.ensures in
     let s = stands_open c.self.inside.connections.items c.args.at c.index-number.result.now number in

@@ -9,22 +9,22 @@ use Rattle.world.proofs.world.World.take_up.Goals as goal
 pub index_mut-requires : goal.index_mut-requires
 index_mut-requires c =
     let stands = rw (← c.self.view_is) at c.requires.stands in
-    let few = client_within c.self.inside.clients.items c.self.inside.connections.items c.args.number c.args.place c.self.invariant.0 stands c.requires.positive in
+    let few = client_within c.self.inside.clients.items c.self.inside.connections.items c.args.number c.args.slot c.self.invariant.0 stands c.requires.positive in
     omega (arith, few)
 
 pub take_up-requires : goal.take_up-requires
 take_up-requires c =
     let stands = rw (← c.self.view_is) at c.requires.stands in
-    let few = client_within c.self.inside.clients.items c.self.inside.connections.items c.args.number c.args.place c.self.invariant.0 stands c.requires.positive in
-    let found = get_there c.self.inside.clients.items c.args.place.client c.index_mut.result.now few c.index_mut.ensures.value in
-    way_within c.self.inside.clients.items c.self.inside.connections.items c.args.number c.args.place c.index_mut.result.now c.self.invariant.0 stands c.requires.positive found
+    let few = client_within c.self.inside.clients.items c.self.inside.connections.items c.args.number c.args.slot c.self.invariant.0 stands c.requires.positive in
+    let found = get_there c.self.inside.clients.items c.args.slot.client c.index_mut.result.now few c.index_mut.ensures.value in
+    way_within c.self.inside.clients.items c.self.inside.connections.items c.args.number c.args.slot c.index_mut.result.now c.self.invariant.0 stands c.requires.positive found
 
 pub invariant_of-self : goal.invariant_of-self
 invariant_of-self c =
     let stands = rw (← c.self.view_is) at c.requires.stands in
-    let few = client_within c.self.inside.clients.items c.self.inside.connections.items c.args.number c.args.place c.self.invariant.0 stands c.requires.positive in
-    let found = get_there c.self.inside.clients.items c.args.place.client c.index_mut.result.now few c.index_mut.ensures.value in (
-      housed_still c.self.inside.clients.items c.self.inside.connections.items c.args.place.client c.index_mut.result.now c.take_up.new.piped found
+    let few = client_within c.self.inside.clients.items c.self.inside.connections.items c.args.number c.args.slot c.self.invariant.0 stands c.requires.positive in
+    let found = get_there c.self.inside.clients.items c.args.slot.client c.index_mut.result.now few c.index_mut.ensures.value in (
+      housed_still c.self.inside.clients.items c.self.inside.connections.items c.args.slot.client c.index_mut.result.now c.take_up.new.piped found
           c.take_up.ensures.leads c.self.invariant.0,
       c.self.invariant.1,
     )
@@ -32,52 +32,52 @@ invariant_of-self c =
 pub returns-clause-goes : goal.returns-clause-goes
 returns-clause-goes c =
     let stands = rw (← c.self.view_is) at c.requires.stands in
-    let few = client_within c.self.inside.clients.items c.self.inside.connections.items c.args.number c.args.place c.self.invariant.0 stands c.requires.positive in
-    let found = get_there c.self.inside.clients.items c.args.place.client c.index_mut.result.now few c.index_mut.ensures.value in
+    let few = client_within c.self.inside.clients.items c.self.inside.connections.items c.args.number c.args.slot c.self.invariant.0 stands c.requires.positive in
+    let found = get_there c.self.inside.clients.items c.args.slot.client c.index_mut.result.now few c.index_mut.ensures.value in
     let old : WorldState = record {
       nodes = c.self.inside.nodes;
       clients = c.self.inside.clients.items;
       connections = c.self.inside.connections.items;
       losses = c.self.inside.losses;
     } in
-    rw (← c.self.view_is) (takes_on c.take_up.result old c.args.number c.args.count c.args.place c.index_mut.result.now c.take_up.new.nodes c.take_up.new.piped c.self.invariant.0
+    rw (← c.self.view_is) (takes_on c.take_up.result old c.args.number c.args.count c.args.slot c.index_mut.result.now c.take_up.new.nodes c.take_up.new.piped c.self.invariant.0
     stands c.requires.positive found c.take_up.ensures.nodes c.take_up.ensures.takes c.take_up.ensures.same c.take_up.ensures.still)
 
 pub returns-clause-takes : goal.returns-clause-takes
 returns-clause-takes c =
     let stands = rw (← c.self.view_is) at c.requires.stands in
-    let few = client_within c.self.inside.clients.items c.self.inside.connections.items c.args.number c.args.place c.self.invariant.0 stands c.requires.positive in
-    let found = get_there c.self.inside.clients.items c.args.place.client c.index_mut.result.now few c.index_mut.ensures.value in
+    let few = client_within c.self.inside.clients.items c.self.inside.connections.items c.args.number c.args.slot c.self.invariant.0 stands c.requires.positive in
+    let found = get_there c.self.inside.clients.items c.args.slot.client c.index_mut.result.now few c.index_mut.ensures.value in
     let old : WorldState = record {
       nodes = c.self.inside.nodes;
       clients = c.self.inside.clients.items;
       connections = c.self.inside.connections.items;
       losses = c.self.inside.losses;
     } in
-    rw (← c.self.view_is) (takes_up_on c.take_up.result old c.args.number c.args.count c.args.place c.index_mut.result.now c.take_up.new.nodes c.take_up.new.piped found c.take_up.ensures.takes)
+    rw (← c.self.view_is) (takes_up_on c.take_up.result old c.args.number c.args.count c.args.slot c.index_mut.result.now c.take_up.new.nodes c.take_up.new.piped found c.take_up.ensures.takes)
 
 pub returns-clause-idle : goal.returns-clause-idle
 returns-clause-idle c =
     let stands = rw (← c.self.view_is) at c.requires.stands in
-    let few = client_within c.self.inside.clients.items c.self.inside.connections.items c.args.number c.args.place c.self.invariant.0 stands c.requires.positive in
-    let found = get_there c.self.inside.clients.items c.args.place.client c.index_mut.result.now few c.index_mut.ensures.value in
+    let few = client_within c.self.inside.clients.items c.self.inside.connections.items c.args.number c.args.slot c.self.invariant.0 stands c.requires.positive in
+    let found = get_there c.self.inside.clients.items c.args.slot.client c.index_mut.result.now few c.index_mut.ensures.value in
     let old : WorldState = record {
       nodes = c.self.inside.nodes;
       clients = c.self.inside.clients.items;
       connections = c.self.inside.connections.items;
       losses = c.self.inside.losses;
     } in
-    rw (← c.self.view_is) (takes_nothing_on c.take_up.result old c.args.count c.args.place c.index_mut.result.now found c.take_up.ensures.idle)
+    rw (← c.self.view_is) (takes_nothing_on c.take_up.result old c.args.count c.args.slot c.index_mut.result.now found c.take_up.ensures.idle)
 
 pub returns-clause-same : goal.returns-clause-same
 returns-clause-same c =
     let stands = rw (← c.self.view_is) at c.requires.stands in
-    let few = client_within c.self.inside.clients.items c.self.inside.connections.items c.args.number c.args.place c.self.invariant.0 stands c.requires.positive in
-    let found = get_there c.self.inside.clients.items c.args.place.client c.index_mut.result.now few c.index_mut.ensures.value in
+    let few = client_within c.self.inside.clients.items c.self.inside.connections.items c.args.number c.args.slot c.self.invariant.0 stands c.requires.positive in
+    let found = get_there c.self.inside.clients.items c.args.slot.client c.index_mut.result.now few c.index_mut.ensures.value in
     let old : WorldState = record {
       nodes = c.self.inside.nodes;
       clients = c.self.inside.clients.items;
       connections = c.self.inside.connections.items;
       losses = c.self.inside.losses;
     } in
-    rw (← c.self.view_is) (takes_none c.take_up.result old c.args.place c.index_mut.result.now c.take_up.new.nodes c.take_up.new.piped found c.take_up.ensures.same c.take_up.ensures.still)
+    rw (← c.self.view_is) (takes_none c.take_up.result old c.args.slot c.index_mut.result.now c.take_up.new.nodes c.take_up.new.piped found c.take_up.ensures.same c.take_up.ensures.still)
