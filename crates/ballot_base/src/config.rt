@@ -39,7 +39,7 @@ impl Members {
         Ok(Members { numbers })
     }
 
-    /// Returns the numbers.
+    /// Returns the members' numbers, in the order in which they were given.
     pub fn as_slice(&self) -> &[u8]
         ensures { result.now ≡ self.now }
     {

@@ -105,7 +105,7 @@ impl<C: Drop> Log<C> {
         Ok(())
     }
 
-    /// Drops the last command.
+    /// Removes the last command above the base, if there is one.
     pub fn pop(&mut self)
         ensures { self.new ≡ popped self.old }
     {

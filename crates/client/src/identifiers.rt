@@ -75,7 +75,7 @@ fn id_of(request: Request) -> PacketId
     }
 }
 
-/// Forgets an identifier.
+/// Removes an identifier from these, wherever it is among them.
 pub(crate) fn forget(ids: &mut Vec<PacketId>, id: PacketId)
     ensures { ids.new.items ≡ without_id id ids.old.items }
 {

@@ -16,14 +16,14 @@ pub enum Job<'a> {
     Play(Play<'a>),
 }
 
-/// Serves clients.
+/// The words of `serve`.
 #[derive(Debug, Drop)]
 pub struct Serve<'a> {
     /// The file with the table of nodes.
     pub config: &'a str,
 }
 
-/// Publishes once.
+/// The words of `pub`.
 #[derive(Debug, Drop)]
 pub struct Publish<'a> {
     /// The Client Identifier, which is not checked here.
@@ -34,7 +34,7 @@ pub struct Publish<'a> {
     pub qos: QoS,
     /// The payload.
     pub message: &'a str,
-    /// RETAIN.
+    /// Whether a server is to keep it for later subscribers (RETAIN).
     pub retain: bool,
     /// How many connections are opened at most, 1 to 1000.
     pub tries: u32,
@@ -42,7 +42,7 @@ pub struct Publish<'a> {
     pub addresses: Vec<&'a str>,
 }
 
-/// Prints what is published.
+/// The words of `sub`.
 #[derive(Debug, Drop)]
 pub struct Subscribe<'a> {
     /// The Client Identifier, which is not checked here.
@@ -59,7 +59,7 @@ pub struct Subscribe<'a> {
     pub addresses: Vec<&'a str>,
 }
 
-/// Plays a script.
+/// The words of `play`.
 #[derive(Debug, Drop)]
 pub struct Play<'a> {
     /// The file with the script; without one it is standard input.

@@ -6,8 +6,7 @@ use std::sync::Wait;
 use std::time::Clock;
 use world_base::Item;
 
-/// The receiver of a connection's reports: a lane to a node's inbox with its clock, or a node
-/// itself.
+/// The receiver of a connection's reports, as a lane to a node's inbox with its clock.
 pub trait Hearer {
     ghost use Rattle.std.specs.Prelude.{Bool, List};
     ghost use Rattle.world_base.specs.declared.item.Item.{Item};

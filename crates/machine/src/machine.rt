@@ -13,7 +13,7 @@ use std::alloc::Global;
 /// does to a state, its outputs, and the bytes of a state. `IsState` and `IsCommand` hold for every
 /// value in a program: they say which numbers and sizes there are.
 pub trait Machine: Drop {
-    /// What a log holds.
+    /// A command, which the log holds.
     type Command: Drop;
     /// An output of a command.
     type Output: Drop;

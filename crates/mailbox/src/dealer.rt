@@ -42,7 +42,8 @@ impl<T: Drop, J: Naming> Model for Dealer<T, J> {
 }
 
 impl<T: Drop, J: Naming> Dealer<T, J> {
-    /// Makes the next lane.
+    /// Makes the lane of the next number, which has sent nothing. The only error is that memory ran
+    /// out.
     pub(crate) fn deal(&mut self) -> Result<Lane<T, J>, AllocError>
         requires few { self.old.lanes < 64 }
         ensures lane { IfOk result (λ l.

@@ -24,7 +24,7 @@ pub type Queue<T> = RuledArrayQueue<(u8, T), View<T>, DeliveryRule>;
 /// What a pass of that queue knows.
 pub type Knowledge<T> = Pass<(u8, T), View<T>>;
 
-/// A lane's push.
+/// The push by which a lane sends an item.
 pub struct Sends;
 
 impl<T> Outcome<(u8, T), View<T>> for Sends {
@@ -39,7 +39,7 @@ impl<T> Lesson<(u8, T), View<T>> for Sends {
     ghost fact = { Moment };
 }
 
-/// The receiver's pop.
+/// The pop by which the receiver takes an item of any lane.
 pub struct Takes;
 
 impl<T> Outcome<(u8, T), View<T>> for Takes {

@@ -170,7 +170,7 @@ impl Connection {
         }
     }
 
-    /// Returns its status.
+    /// Says whether its CONNECT is awaited, was proposed, or the connection is closed.
     pub fn standing(&self) -> Standing
         ensures { result ≡ standing_of (Some self.now) }
     {

@@ -65,7 +65,7 @@ pub fn push(connections: &mut Vec<Connection>, connection: Connection) -> bool
     connections.push(connection).is_ok()
 }
 
-/// Closes all connections.
+/// Closes all connections. What was queued for them is still handed over.
 pub fn close_each(connections: &mut Vec<Connection>)
     ensures { connections.new.items ≡ map closed connections.old.items }
 {

@@ -83,7 +83,7 @@ impl Delivery {
         }
     }
 
-    /// Writes the identifier.
+    /// Appends the Packet Identifier in two bytes; at QoS 0 there is none (MQTT 3.3.2.2).
     pub(crate) fn put_id(self, out: &mut Vec<u8>)
         requires { vec_len out.old + length (delivery_id self) ≤ vec_capacity out.old }
         ensures items { out.new.items ≡ out.old.items ++ delivery_id self }

@@ -63,7 +63,7 @@ impl<'a> Reader<'a> {
         true
     }
 
-    /// Reads the next byte.
+    /// Removes the next byte and returns it. `Shape` says that none is left.
     pub fn byte(&mut self) -> Result<u8, Stop>
         ensures exact { Reads (λ x. x) result self.new (byte_at self.old) }
         ensures memory { TakesNoMemory result }

@@ -12,7 +12,7 @@ use session_base::packet::{ClientId, Payload, QoS};
 use session_base::topics::{Filter, TopicName};
 use std::alloc::Global;
 
-/// Returns a decimal number.
+/// Reads a decimal number without a sign, below 2^64. `Form` says that the text is none.
 pub(crate) fn number(text: &str) -> Result<u64, LineFault>
     ensures value { IfOk result (λ number. number_of text.now ≡ Some number) }
     ensures form { IsErrOf result LineFault.Form → number_of text.now ≡ None }
@@ -65,7 +65,7 @@ pub(crate) fn qos(text: &str) -> Result<QoS, LineFault>
     }
 }
 
-/// Returns RETAIN.
+/// Reads a RETAIN flag, `0` or `1`. `Form` says that the text is neither.
 #[tactic(auto, unfolding(crate::specs::Fields::retain_of))]
 pub(crate) fn retain(text: &str) -> Result<bool, LineFault>
     ensures value { IfOk result (λ retain. retain_of text.now ≡ Some retain) }
@@ -109,7 +109,7 @@ pub(crate) fn payload(alloc: Global, text: &str) -> Result<Payload, LineFault>
     }
 }
 
-/// Returns a Client Identifier.
+/// Reads a Client Identifier. `Form` says that the text is none, `Memory` that memory ran out.
 pub(crate) fn client(alloc: Global, text: &str) -> Result<ClientId, LineFault>
     ensures value { IfOk result (λ client. client_of text.now ≡ Some client) }
     ensures form { IsErrOf result LineFault.Form → client_of text.now ≡ None }
@@ -131,7 +131,7 @@ pub(crate) fn clients(alloc: Global, text: &str) -> Result<Vec<ClientId>, LineFa
     Ok(clients)
 }
 
-/// Returns a Topic Name.
+/// Reads a Topic Name. `Form` says that the text is none, `Memory` that memory ran out.
 pub(crate) fn topic(alloc: Global, text: &str) -> Result<TopicName, LineFault>
     ensures value { IfOk result (λ topic. topic_of text.now ≡ Some topic) }
     ensures form { IsErrOf result LineFault.Form → topic_of text.now ≡ None }
@@ -139,7 +139,7 @@ pub(crate) fn topic(alloc: Global, text: &str) -> Result<TopicName, LineFault>
     Ok(TopicName::new(alloc, text)?)
 }
 
-/// Returns a Topic Filter.
+/// Reads a Topic Filter. `Form` says that the text is none, `Memory` that memory ran out.
 pub(crate) fn filter(alloc: Global, text: &str) -> Result<Filter, LineFault>
     ensures value { IfOk result (λ filter. filter_of text.now ≡ Some filter) }
     ensures form { IsErrOf result LineFault.Form → filter_of text.now ≡ None }

@@ -57,7 +57,7 @@ impl SessionQueue {
         limit.saturating_sub(self.in_flight.len().saturating_add(self.waiting.len()))
     }
 
-    /// Appends a publication.
+    /// Lets a publication wait, after all others. If memory runs out the error has it back.
     pub(crate) fn enqueue(
         &mut self,
         publication: Publication,

@@ -34,7 +34,7 @@ pub struct Link {
     pub port: Port,
     /// Its index in the table of connections.
     pub index: usize,
-    /// When it was accepted.
+    /// When it was accepted, in the milliseconds of the node's clock.
     pub opened: u64,
     stream: Arc<TcpStream, Global>,
     slot: Mutex<WriteSlot>,

@@ -12,7 +12,7 @@ pub struct Patient<'a> {
 }
 
 impl<'a> Patient<'a> {
-    /// Reads this stream.
+    /// Returns a reader of this stream.
     pub fn new(stream: &'a TcpStream) -> Patient<'a> {
         Patient { stream }
     }

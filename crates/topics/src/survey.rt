@@ -18,7 +18,7 @@ pub(crate) struct Survey {
 }
 
 impl Survey {
-    /// Goes through the text.
+    /// Reads the text once, and returns what is known of it.
     #[tactic(auto, using(crate::proofs::OnePass::shallow_is))]
     pub(crate) fn of(text: &[u8]) -> Survey
         ensures null { result.has_null ≡ has 0 text.now }

@@ -51,14 +51,16 @@ impl Caller {
         }
     }
 
-    /// Opens a connection.
+    /// Writes a CONNECT for a new connection. One that is still open is lost first. The only error
+    /// is that memory ran out.
     pub(crate) fn open(&mut self) -> Result<(), ClientFault>
         ensures trace { OnOk result (Trace self.old [] self.new) }
     {
         Ok(self.core.open()?)
     }
 
-    /// Publishes.
+    /// Publishes: the client keeps a publication at QoS 1 or 2 until it is acknowledged, and writes
+    /// one at QoS 0 at once. The error says why it does not, and then nothing has changed.
     pub(crate) fn publish(
         &mut self,
         topic: TopicName,
@@ -71,7 +73,8 @@ impl Caller {
         Ok(self.core.publish(topic, qos, retain, payload)?)
     }
 
-    /// Subscribes to a filter.
+    /// Asks the server for a filter's publications, at this QoS at most. The error says why it does
+    /// not.
     pub(crate) fn subscribe(&mut self, filter: &Filter, qos: QoS) -> Result<(), ClientFault>
         ensures trace { OnOk result (Trace self.old [] self.new) }
     {

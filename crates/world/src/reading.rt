@@ -28,8 +28,8 @@ impl WorldClient {
 
 impl World {
     /// Returns the list on which the nodes agree, the longest that is chosen in a ballot that was
-    /// active, in two parts: the second continues where the first ends. It takes no longer, however
-    /// much was sent.
+    /// active, in two parts: the second continues where the first ends. The time that it takes does
+    /// not depend on how many messages were sent.
     pub fn agreed(&self) -> (&[Command], &[Command])
         ensures agreed { AgreeOn self.now.nodes (result.0.now ++ result.1.now) }
 
@@ -45,7 +45,8 @@ impl World {
         self.nodes.agreed()
     }
 
-    /// Returns its length. It takes no longer, however much was sent.
+    /// Returns the length of that list. The time that it takes does not depend on how many messages
+    /// were sent.
     pub fn agreed_len(&self) -> u64
         ensures agreed { AgreeOnSoMany self.now.nodes result }
         ensures reached { (nodes : ℕ) (config : Config)

@@ -311,7 +311,8 @@ impl NodeInStep {
         self.next_name()
     }
 
-    /// Accepts a connection.
+    /// Accepts a connection at this port, with the next name, if the node serves clients and the
+    /// port is free. Nothing changes otherwise, nor if memory runs out.
     pub fn open(&mut self, port: Port)
         ensures does { Does self.old self.new (opens port self.old.core) }
         ensures run { (self.new.core ≡ opens port self.old.core)

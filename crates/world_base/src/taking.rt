@@ -61,7 +61,7 @@ impl NodeInStep {
         self.lose_failed(effects);
     }
 
-    // Takes an item.
+    // Does what the item says, without the losses that follow from it.
     fn take_in(&mut self, item: Item, effects: &mut Vec<Effect<Command, Output>>)
         ensures turns { Turns self.old self.new effects.old.items effects.new.items
             (takes_in item self.old.core) }

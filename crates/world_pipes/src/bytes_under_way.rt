@@ -55,7 +55,7 @@ impl BytesUnderWay {
         }
     }
 
-    /// Exchanges the bytes.
+    /// Puts these bytes in transit, in place of those that were, which it returns in `bytes`.
     pub fn swap(&mut self, bytes: &mut Vec<u8>)
         ensures left { self.new ≡ bytes.old.items }
         ensures given { bytes.new.items ≡ self.old }

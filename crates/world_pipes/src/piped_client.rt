@@ -53,7 +53,7 @@ impl PipedClient {
         }
     }
 
-    /// Returns the client.
+    /// Returns what the client keeps and has accepted.
     pub fn core(&self) -> &ClientCore
         ensures { result.now ≡ self.now.core }
     {
