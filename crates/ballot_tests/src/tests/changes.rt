@@ -2,24 +2,29 @@
 
 use super::pairs::*;
 use super::replicas::{shows, takes};
-use super::stories::{Change, go};
+use super::stories::{Change, first_false, first_fault_of_two};
 use master::ballot::machine::TallyCommand;
 use master::ballot::{Body, Role};
 use std::alloc::Global;
 
-/// Says whether node 2, given ballot 2, fetches and installs the log.
-pub fn goes_over(pair: &mut Pair, alloc: Global) -> bool {
-    is_assigned(pair, alloc, &[1])
-        && shows(&pair.two, 2, Role::Fetching, 0, 0)
-        && hands_on(pair, &["Join", "State"])
-        && shows(&pair.two, 2, Role::Installing, 0, 0)
-        && hands_on(pair, &["Install", "Installed", "Activate"])
+/// Finds the first step that goes otherwise: node 2, given ballot 2, fetches and installs the log.
+pub fn goes_over(pair: &mut Pair, alloc: Global) -> Option<usize> {
+    first_false(&[
+        is_assigned(pair, alloc, &[1]),
+        shows(&pair.two, 2, Role::Fetching, 0, 0),
+        hands_on(pair, &["Join", "State"]),
+        shows(&pair.two, 2, Role::Installing, 0, 0),
+        hands_on(pair, &["Install", "Installed", "Activate"]),
+    ])
 }
 
 // Ballot 2 goes from the sole member 1 to the members 1 and 2: the log goes over.
 #[test]
 fn the_log_goes_over(rt: HostRuntime) {
-    assert!(rt; go(rt.alloc(), &[1], Change::GoesOver));
+    assert_eq!(rt;
+        first_fault_of_two(rt.alloc(), &[1], Change::GoesOver),
+        None
+    );
 }
 
 // Says whether ballot 2 is given. Five messages are handed on.
@@ -31,52 +36,64 @@ fn went_over(pair: &mut Pair, alloc: Global) -> bool {
     is_assigned
 }
 
-/// Says whether the start of ballot 2 is added and committed.
-pub fn begins(pair: &mut Pair, alloc: Global) -> bool {
-    went_over(pair, alloc)
-        && master_says(pair, Body::Activated(2))
-        && shows(&pair.two, 2, Role::Active, 1, 0)
-        && hands_on(pair, &["Append", "Held", "Commit"])
-        && shows(&pair.one, 2, Role::Backup, 1, 1)
-        && shows(&pair.two, 2, Role::Active, 1, 1)
-        && pair.two.losses() == 0
+/// Finds the first step that goes otherwise: the start of ballot 2 is added and committed.
+pub fn begins(pair: &mut Pair, alloc: Global) -> Option<usize> {
+    first_false(&[
+        went_over(pair, alloc),
+        master_says(pair, Body::Activated(2)),
+        shows(&pair.two, 2, Role::Active, 1, 0),
+        hands_on(pair, &["Append", "Held", "Commit"]),
+        shows(&pair.one, 2, Role::Backup, 1, 1),
+        shows(&pair.two, 2, Role::Active, 1, 1),
+        pair.two.losses() == 0,
+    ])
 }
 
 // And then the ballot begins with its start, which is committed.
 #[test]
 fn configuration_changes(rt: HostRuntime) {
-    assert!(rt; go(rt.alloc(), &[1], Change::Begins));
+    assert_eq!(rt; first_fault_of_two(rt.alloc(), &[1], Change::Begins), None);
 }
 
-/// Says whether node 2 is a backup after Superseded, and stays one.
-pub fn is_put_out(pair: &mut Pair, alloc: Global) -> bool {
-    went_over(pair, alloc)
-        && master_says(pair, Body::Superseded(2))
-        && master_says(pair, Body::Activated(2))
-        && hands_on(pair, &["nothing"])
-        && shows(&pair.two, 2, Role::Backup, 0, 0)
+/// Finds the first step that goes otherwise: node 2 is a backup after Superseded, and stays one.
+pub fn is_put_out(pair: &mut Pair, alloc: Global) -> Option<usize> {
+    first_false(&[
+        went_over(pair, alloc),
+        master_says(pair, Body::Superseded(2)),
+        master_says(pair, Body::Activated(2)),
+        hands_on(pair, &["nothing"]),
+        shows(&pair.two, 2, Role::Backup, 0, 0),
+    ])
 }
 
 // A ballot that was superseded leaves its primary a backup, and does not begin any more.
 #[test]
 fn ballot_is_put_out(rt: HostRuntime) {
-    assert!(rt; go(rt.alloc(), &[1], Change::IsPutOut));
+    assert_eq!(rt;
+        first_fault_of_two(rt.alloc(), &[1], Change::IsPutOut),
+        None
+    );
 }
 
-/// Says whether the log of node 1, which appended a command that never came to node 2, is replaced
-/// by that of ballot 2.
-pub fn is_replaced(pair: &mut Pair, alloc: Global) -> bool {
-    takes(&mut pair.one, TallyCommand::Add(2), &mut pair.out)
-        && shows(&pair.one, 1, Role::Active, 1, 0)
-        && is_assigned(pair, alloc, &[1, 2])
-        && hands_on(pair, &["Join", "State", "Install"])
-        && shows(&pair.one, 2, Role::Backup, 0, 0)
+/// Finds the first step that goes otherwise: the log of node 1, which appended a command that never
+/// came to node 2, is replaced by that of ballot 2.
+pub fn is_replaced(pair: &mut Pair, alloc: Global) -> Option<usize> {
+    first_false(&[
+        takes(&mut pair.one, TallyCommand::Add(2), &mut pair.out),
+        shows(&pair.one, 1, Role::Active, 1, 0),
+        is_assigned(pair, alloc, &[1, 2]),
+        hands_on(pair, &["Join", "State", "Install"]),
+        shows(&pair.one, 2, Role::Backup, 0, 0),
+    ])
 }
 
 // The log of the old primary is longer; the log of the new ballot replaces it.
 #[test]
 fn stale_primary(rt: HostRuntime) {
-    assert!(rt; go(rt.alloc(), &[1, 2], Change::IsReplaced));
+    assert_eq!(rt;
+        first_fault_of_two(rt.alloc(), &[1, 2], Change::IsReplaced),
+        None
+    );
 }
 
 // Says whether a tick of node 2 says again what it waits for, which is handed on as these kinds.
@@ -86,15 +103,21 @@ fn asks_again(pair: &mut Pair, kinds: &[&str]) -> bool {
     hands_on(pair, kinds)
 }
 
-/// Says whether it does so while it fetches the log, and while it installs it.
-pub fn asks_twice(pair: &mut Pair, alloc: Global) -> bool {
-    is_assigned(pair, alloc, &[1])
-        && asks_again(pair, &["Join", "State"])
-        && asks_again(pair, &["Install"])
+/// Finds the first step that goes otherwise: it does so while it fetches the log, and while it
+/// installs it.
+pub fn asks_twice(pair: &mut Pair, alloc: Global) -> Option<usize> {
+    first_false(&[
+        is_assigned(pair, alloc, &[1]),
+        asks_again(pair, &["Join", "State"]),
+        asks_again(pair, &["Install"]),
+    ])
 }
 
 // A tick of a new primary says again what it waits for.
 #[test]
 fn a_new_primary_asks_again(rt: HostRuntime) {
-    assert!(rt; go(rt.alloc(), &[1], Change::AsksAgain));
+    assert_eq!(rt;
+        first_fault_of_two(rt.alloc(), &[1], Change::AsksAgain),
+        None
+    );
 }

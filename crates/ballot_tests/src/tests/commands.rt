@@ -1,7 +1,7 @@
 // Commands inside ballot 1, as worked examples with one, two and three members.
 
 use super::replicas::*;
-use super::stories::{Story, goes};
+use super::stories::{Story, first_false, first_fault};
 use master::ballot::machine::{Tally, TallyCommand};
 use master::ballot::{Body, Effect, ProposeError, Replica, Role};
 
@@ -25,24 +25,29 @@ const THREE: &[TallyCommand] = &[
     TallyCommand::Add(3),
 ];
 
-/// Says whether a sole member answers these commands at once.
+/// Finds the first step at which a sole member does not answer these commands at once.
 pub fn answers_at_once(
     replica: &mut Replica<Tally>,
     out: &mut Vec<Effect<TallyCommand, u64>>,
-) -> bool {
-    take(replica, THREE, out)
-        && out.len() == 2
-        && gives(out, 0, 0, 2)
-        && gives(out, 1, 2, 5)
-        && shows(replica, 1, Role::Active, 3, 3)
-        && logs(replica, THREE)
-        && replica.losses() == 0
+) -> Option<usize> {
+    first_false(&[
+        take(replica, THREE, out),
+        out.len() == 2,
+        gives(out, 0, 0, 2),
+        gives(out, 1, 2, 5),
+        shows(replica, 1, Role::Active, 3, 3),
+        logs(replica, THREE),
+        replica.losses() == 0,
+    ])
 }
 
 // A sole member gives 2, nothing at the start of a ballot, and 5.
 #[test]
 fn a_sole_member_answers_at_once(rt: HostRuntime) {
-    assert!(rt; goes(rt.alloc(), 1, &[1], 1, Story::AnswersAtOnce));
+    assert_eq!(rt;
+        first_fault(rt.alloc(), 1, &[1], 1, Story::AnswersAtOnce),
+        None
+    );
 }
 
 // Says whether the output leaves once node 2 holds the place, and whether node 2 is sent a Commit.
@@ -54,22 +59,27 @@ fn leaves(primary: &mut Replica<Tally>, out: &mut Vec<Effect<TallyCommand, u64>>
         && commits(out, 1, (1, 2), 1)
 }
 
-/// Says whether node 1 of two members appends a command that adds 2, and the output leaves once
-/// both hold it.
+/// Finds the first step that goes otherwise: node 1 of two members appends a command that adds 2,
+/// and the output leaves once both hold it.
 pub fn leaves_once_held(
     primary: &mut Replica<Tally>,
     out: &mut Vec<Effect<TallyCommand, u64>>,
-) -> bool {
-    takes(primary, TallyCommand::Add(2), out)
-        && out.len() == 1
-        && appends(out, 0, (1, 2), 0, 2)
-        && leaves(primary, out)
+) -> Option<usize> {
+    first_false(&[
+        takes(primary, TallyCommand::Add(2), out),
+        out.len() == 1,
+        appends(out, 0, (1, 2), 0, 2),
+        leaves(primary, out),
+    ])
 }
 
 // What is proposed to one of two members leaves once the other holds it.
 #[test]
 fn append_held_commit(rt: HostRuntime) {
-    assert!(rt; goes(rt.alloc(), 1, &[1, 2], 1, Story::LeavesOnceHeld));
+    assert_eq!(rt;
+        first_fault(rt.alloc(), 1, &[1, 2], 1, Story::LeavesOnceHeld),
+        None
+    );
 }
 
 // Says whether a Held that comes again does nothing, and a tick says what is committed.
@@ -83,20 +93,26 @@ fn hears_nothing_new(
     is_silent && out.len() == 1 && commits(out, 0, (1, 2), 1) && primary.losses() == 0
 }
 
-/// Says whether node 1 of two members, which appended a command that adds 2, receives Held twice.
+/// Finds the first step that goes otherwise: node 1 of two members, which appended a command that
+/// adds 2, receives Held twice.
 pub fn hears_it_again(
     primary: &mut Replica<Tally>,
     out: &mut Vec<Effect<TallyCommand, u64>>,
-) -> bool {
-    takes(primary, TallyCommand::Add(2), out)
-        && hears(primary, 2, Body::Held(1, 1), out)
-        && hears_nothing_new(primary, out)
+) -> Option<usize> {
+    first_false(&[
+        takes(primary, TallyCommand::Add(2), out),
+        hears(primary, 2, Body::Held(1, 1), out),
+        hears_nothing_new(primary, out),
+    ])
 }
 
 // A message that comes twice changes nothing more; a tick says again what is committed.
 #[test]
 fn held_comes_twice(rt: HostRuntime) {
-    assert!(rt; goes(rt.alloc(), 1, &[1, 2], 1, Story::HearsItAgain));
+    assert_eq!(rt;
+        first_fault(rt.alloc(), 1, &[1, 2], 1, Story::HearsItAgain),
+        None
+    );
 }
 
 // Says whether node 1 appends a number at a place, and the backup continues.
@@ -110,23 +126,28 @@ fn is_appended(
     hears(backup, 1, body, out)
 }
 
-/// Says whether place 1 waits for place 0.
+/// Finds the first step that goes otherwise: place 1 waits for place 0.
 pub fn waits_for_the_first(
     backup: &mut Replica<Tally>,
     out: &mut Vec<Effect<TallyCommand, u64>>,
-) -> bool {
-    shows(backup, 1, Role::Backup, 0, 0)
-        && is_appended(backup, 1, 3, out)
-        && out.is_empty()
-        && shows(backup, 1, Role::Backup, 0, 0)
-        && is_appended(backup, 0, 2, out)
-        && out.len() == 1
-        && holds(out, 0, (2, 1))
+) -> Option<usize> {
+    first_false(&[
+        shows(backup, 1, Role::Backup, 0, 0),
+        is_appended(backup, 1, 3, out),
+        out.is_empty(),
+        shows(backup, 1, Role::Backup, 0, 0),
+        is_appended(backup, 0, 2, out),
+        out.len() == 1,
+        holds(out, 0, (2, 1)),
+    ])
 }
 
 #[test]
 fn a_backup_takes_places_in_order(rt: HostRuntime) {
-    assert!(rt; goes(rt.alloc(), 2, &[1, 2], 1, Story::WaitsForTheFirst));
+    assert_eq!(rt;
+        first_fault(rt.alloc(), 2, &[1, 2], 1, Story::WaitsForTheFirst),
+        None
+    );
 }
 
 // Says whether a replica takes no command, because it is no active primary.
@@ -145,18 +166,27 @@ fn says_nothing(backup: &mut Replica<Tally>, out: &mut Vec<Effect<TallyCommand, 
     goes_on && out.is_empty() && shows(backup, 1, Role::Backup, 1, 1)
 }
 
-/// Says whether a backup that is sent a place is silent, and takes no proposal.
-pub fn is_silent(backup: &mut Replica<Tally>, out: &mut Vec<Effect<TallyCommand, u64>>) -> bool {
-    is_appended(backup, 0, 2, out)
-        && says_nothing(backup, out)
-        && is_not_active(backup, out)
-        && backup.losses() == 0
+/// Finds the first step that goes otherwise: a backup that is sent a place is silent, and takes no
+/// proposal.
+pub fn is_silent(
+    backup: &mut Replica<Tally>,
+    out: &mut Vec<Effect<TallyCommand, u64>>,
+) -> Option<usize> {
+    first_false(&[
+        is_appended(backup, 0, 2, out),
+        says_nothing(backup, out),
+        is_not_active(backup, out),
+        backup.losses() == 0,
+    ])
 }
 
 // A backup that gets a Commit sends nothing, also at a tick, and takes no proposal.
 #[test]
 fn a_backup_is_silent(rt: HostRuntime) {
-    assert!(rt; goes(rt.alloc(), 2, &[1, 2], 1, Story::IsSilent));
+    assert_eq!(rt;
+        first_fault(rt.alloc(), 2, &[1, 2], 1, Story::IsSilent),
+        None
+    );
 }
 
 const TWO_NUMBERS: &[TallyCommand] = &[TallyCommand::Add(2), TallyCommand::Add(3)];
@@ -175,21 +205,26 @@ fn says_four_things(
         && commits(out, 3, (2, 3), 0)
 }
 
-/// Says whether node 2 of three members, which appended commands that add 2 and 3, sends at a tick
-/// what node 1 lacks, which holds the first one.
+/// Finds the first step that goes otherwise: node 2 of three members, which appended commands that
+/// add 2 and 3, sends at a tick what node 1 lacks, which holds the first one.
 pub fn says_what_is_lacking(
     primary: &mut Replica<Tally>,
     out: &mut Vec<Effect<TallyCommand, u64>>,
-) -> bool {
-    take(primary, TWO_NUMBERS, out)
-        && hears(primary, 1, Body::Held(1, 1), out)
-        && out.len() == 4
-        && says_four_things(primary, out)
+) -> Option<usize> {
+    first_false(&[
+        take(primary, TWO_NUMBERS, out),
+        hears(primary, 1, Body::Held(1, 1), out),
+        out.len() == 4,
+        says_four_things(primary, out),
+    ])
 }
 
 // A tick sends the place at a progress, to each member that lacks one, and what is committed to
 // each.
 #[test]
 fn a_tick_sends_what_is_lacking(rt: HostRuntime) {
-    assert!(rt; goes(rt.alloc(), 2, &[1, 2, 3], 2, Story::SaysWhatIsLacking));
+    assert_eq!(rt;
+        first_fault(rt.alloc(), 2, &[1, 2, 3], 2, Story::SaysWhatIsLacking),
+        None
+    );
 }

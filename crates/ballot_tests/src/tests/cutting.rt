@@ -2,7 +2,7 @@
 
 use super::pairs::*;
 use super::replicas::*;
-use super::stories::{Change, Story, go, goes};
+use super::stories::{Change, Story, first_false, first_fault, first_fault_of_two};
 use master::ballot::machine::{Tally, TallyCommand};
 use master::ballot::{Body, Effect, Log, Replica, Role};
 use std::alloc::Global;
@@ -16,17 +16,23 @@ fn is_cut_at(replica: &Replica<Tally>, base: u64, bytes: &[u8]) -> bool {
     at == base && snapshot == bytes
 }
 
-/// Says whether a sole member that has added 2 and 3 cuts its log once, and then continues.
-pub fn is_cut_once(replica: &mut Replica<Tally>, out: &mut Vec<Effect<TallyCommand, u64>>) -> bool {
-    !replica.cut()
-        && is_cut_at(replica, 0, &[])
-        && takes(replica, TallyCommand::Add(2), out)
-        && takes(replica, TallyCommand::Add(3), out)
-        && replica.cut()
-        && !replica.cut()
-        && is_cut_at(replica, 2, FIVE)
-        && logs(replica, &[])
-        && goes_on(replica, out)
+/// Finds the first step that goes otherwise: a sole member that has added 2 and 3 cuts its log
+/// once, and then continues.
+pub fn is_cut_once(
+    replica: &mut Replica<Tally>,
+    out: &mut Vec<Effect<TallyCommand, u64>>,
+) -> Option<usize> {
+    first_false(&[
+        !replica.cut(),
+        is_cut_at(replica, 0, &[]),
+        takes(replica, TallyCommand::Add(2), out),
+        takes(replica, TallyCommand::Add(3), out),
+        replica.cut(),
+        !replica.cut(),
+        is_cut_at(replica, 2, FIVE),
+        logs(replica, &[]),
+        goes_on(replica, out),
+    ])
 }
 
 // Says whether a member that was cut at place 2 counts its places from 0 as before.
@@ -41,24 +47,26 @@ fn goes_on(replica: &mut Replica<Tally>, out: &mut Vec<Effect<TallyCommand, u64>
 
 #[test]
 fn a_log_is_cut(rt: HostRuntime) {
-    assert!(rt; goes(rt.alloc(), 1, &[1], 1, Story::IsCut));
+    assert_eq!(rt; first_fault(rt.alloc(), 1, &[1], 1, Story::IsCut), None);
 }
 
-/// Says whether a node that is no member takes a log that it can read, and counts one whose
-/// snapshot is no total as lost, which changes nothing.
+/// Finds the first step that goes otherwise: a node that is no member takes a log that it can read,
+/// and counts one whose snapshot is no total as lost, which changes nothing.
 pub fn reads_snapshots(
     replica: &mut Replica<Tally>,
     out: &mut Vec<Effect<TallyCommand, u64>>,
     alloc: Global,
-) -> bool {
-    installs(replica, out, alloc, &FIVE[..3])
-        && shows(replica, 0, Role::Backup, 0, 0)
-        && replica.losses() == 1
-        && out.is_empty()
-        && installs(replica, out, alloc, FIVE)
-        && shows(replica, 2, Role::Backup, 3, 2)
-        && is_cut_at(replica, 2, FIVE)
-        && out.len() == 1
+) -> Option<usize> {
+    first_false(&[
+        installs(replica, out, alloc, &FIVE[..3]),
+        shows(replica, 0, Role::Backup, 0, 0),
+        replica.losses() == 1,
+        out.is_empty(),
+        installs(replica, out, alloc, FIVE),
+        shows(replica, 2, Role::Backup, 3, 2),
+        is_cut_at(replica, 2, FIVE),
+        out.len() == 1,
+    ])
 }
 
 // Gives a replica the Install of ballot 2 with a log that has this snapshot, base 2 and one
@@ -82,27 +90,35 @@ fn installs(
 
 #[test]
 fn a_snapshot_is_read_or_lost(rt: HostRuntime) {
-    assert!(rt; goes(rt.alloc(), 2, &[1], 1, Story::ReadsSnapshots));
+    assert_eq!(rt;
+        first_fault(rt.alloc(), 2, &[1], 1, Story::ReadsSnapshots),
+        None
+    );
 }
 
-/// Says whether the snapshot of node 1, which has added 2 and 3 and cut its log, goes over to node
-/// 2, which adds 4.
-pub fn snapshot_goes_over(pair: &mut Pair, alloc: Global) -> bool {
-    takes(&mut pair.one, TallyCommand::Add(2), &mut pair.out)
-        && takes(&mut pair.one, TallyCommand::Add(3), &mut pair.out)
-        && pair.one.cut()
-        && is_assigned(pair, alloc, &[1])
-        && hands_on(pair, &["Join", "State"])
-        && shows(&pair.two, 2, Role::Installing, 2, 2)
-        && is_cut_at(&pair.two, 2, FIVE)
-        && hands_on(pair, &["Install", "Installed", "Activate"])
-        && master_says(pair, Body::Activated(2))
-        && hands_on(pair, &["Append", "Held", "Commit"])
-        && shows(&pair.one, 2, Role::Backup, 3, 3)
-        && shows(&pair.two, 2, Role::Active, 3, 3)
+/// Finds the first step that goes otherwise: the snapshot of node 1, which has added 2 and 3 and
+/// cut its log, goes over to node 2, which adds 4.
+pub fn snapshot_goes_over(pair: &mut Pair, alloc: Global) -> Option<usize> {
+    first_false(&[
+        takes(&mut pair.one, TallyCommand::Add(2), &mut pair.out),
+        takes(&mut pair.one, TallyCommand::Add(3), &mut pair.out),
+        pair.one.cut(),
+        is_assigned(pair, alloc, &[1]),
+        hands_on(pair, &["Join", "State"]),
+        shows(&pair.two, 2, Role::Installing, 2, 2),
+        is_cut_at(&pair.two, 2, FIVE),
+        hands_on(pair, &["Install", "Installed", "Activate"]),
+        master_says(pair, Body::Activated(2)),
+        hands_on(pair, &["Append", "Held", "Commit"]),
+        shows(&pair.one, 2, Role::Backup, 3, 3),
+        shows(&pair.two, 2, Role::Active, 3, 3),
+    ])
 }
 
 #[test]
 fn a_snapshot_goes_over(rt: HostRuntime) {
-    assert!(rt; go(rt.alloc(), &[1], Change::SnapshotGoesOver));
+    assert_eq!(rt;
+        first_fault_of_two(rt.alloc(), &[1], Change::SnapshotGoesOver),
+        None
+    );
 }

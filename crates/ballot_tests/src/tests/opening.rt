@@ -1,5 +1,5 @@
 use super::replicas::{made, shows};
-use super::stories::{Story, goes};
+use super::stories::{Story, first_false, first_fault};
 use master::ballot::machine::Tally;
 use master::ballot::{OpeningError, Replica, Role};
 use std::alloc::Global;
@@ -38,14 +38,17 @@ fn bad_members_are_refused(rt: HostRuntime) {
     assert_eq!(rt; first_opened(rt.alloc(), BAD), None);
 }
 
-/// Says whether a replica is the backup that one of no ballot is.
-pub fn is_no_member(replica: &Replica<Tally>) -> bool {
-    shows(replica, 0, Role::Backup, 0, 0)
+/// Finds whether a replica is not the backup that one of no ballot is: then this is step 0.
+pub fn is_no_member(replica: &Replica<Tally>) -> Option<usize> {
+    first_false(&[shows(replica, 0, Role::Backup, 0, 0)])
 }
 
 // Node 7 is not one of the seven members.
 #[test]
 fn no_member_is_a_backup(rt: HostRuntime) {
     let members = [1, 2, 3, 4, 5, 6, 15];
-    assert!(rt; goes(rt.alloc(), 7, &members, 15, Story::IsNoMember));
+    assert_eq!(rt;
+        first_fault(rt.alloc(), 7, &members, 15, Story::IsNoMember),
+        None
+    );
 }

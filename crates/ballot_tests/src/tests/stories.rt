@@ -21,13 +21,23 @@ pub enum Story {
     ReadsSnapshots,
 }
 
-// Says whether a replica does what a story says.
-fn is_told(
+/// Finds the first of these that is not so.
+pub fn first_false(steps: &[bool]) -> Option<usize> {
+    for (step, is_so) in steps.iter().enumerate() {
+        if !*is_so {
+            return Some(step);
+        }
+    }
+    None
+}
+
+// Finds the first step at which a replica does not what a story says.
+fn fault_of(
     replica: &mut Replica<Tally>,
     out: &mut Vec<Effect<TallyCommand, u64>>,
     alloc: Global,
     story: Story,
-) -> bool {
+) -> Option<usize> {
     match story {
         Story::AnswersAtOnce => commands::answers_at_once(replica, out),
         Story::LeavesOnceHeld => commands::leaves_once_held(replica, out),
@@ -41,12 +51,19 @@ fn is_told(
     }
 }
 
-/// Says whether a node that opens with these members and this primary goes through a story.
-pub fn goes(alloc: Global, node: u8, members: &[u8], primary: u8, story: Story) -> bool {
+/// Finds the first step at which a node that opens with these members and this primary goes through
+/// a story in another way; step 0 if it does not open.
+pub fn first_fault(
+    alloc: Global,
+    node: u8,
+    members: &[u8],
+    primary: u8,
+    story: Story,
+) -> Option<usize> {
     let mut out = Vec::new(alloc);
     match made(alloc, node, members, primary) {
-        Ok(mut replica) => is_told(&mut replica, &mut out, alloc, story),
-        Err(_) => false,
+        Ok(mut replica) => fault_of(&mut replica, &mut out, alloc, story),
+        Err(_) => Some(0),
     }
 }
 
@@ -61,8 +78,8 @@ pub enum Change {
     SnapshotGoesOver,
 }
 
-// Says whether two nodes do what a change says.
-fn is_changed(alloc: Global, pair: &mut Pair, change: Change) -> bool {
+// Finds the first step at which two nodes do not what a change says.
+fn fault_of_two(alloc: Global, pair: &mut Pair, change: Change) -> Option<usize> {
     match change {
         Change::GoesOver => changes::goes_over(pair, alloc),
         Change::Begins => changes::begins(pair, alloc),
@@ -73,10 +90,11 @@ fn is_changed(alloc: Global, pair: &mut Pair, change: Change) -> bool {
     }
 }
 
-/// Says whether two nodes that open with these members and node 1 as primary go through a change.
-pub fn go(alloc: Global, members: &[u8], change: Change) -> bool {
+/// Finds the first step at which two nodes that open with these members and node 1 as primary go
+/// through a change in another way; step 0 if they do not open.
+pub fn first_fault_of_two(alloc: Global, members: &[u8], change: Change) -> Option<usize> {
     match open(alloc, members) {
-        Ok(mut pair) => is_changed(alloc, &mut pair, change),
-        Err(_) => false,
+        Ok(mut pair) => fault_of_two(alloc, &mut pair, change),
+        Err(_) => Some(0),
     }
 }

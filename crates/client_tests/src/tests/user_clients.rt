@@ -117,16 +117,33 @@ const DISCONNECT: &[u8] = &[0xE0, 0];
 // SUBSCRIBE to `t/#` at QoS 2.
 const SUBSCRIBE: &[u8] = &[0x82, 8, 0, 1, 0, 3, b't', b'/', b'#', 2];
 
-// Says whether these bytes are the packets, one after another.
-fn is_written(bytes: &[u8], packets: &[&[u8]]) -> bool {
+// What was not as it was to be.
+#[derive(Clone, Copy, Debug, PartialEq, Eq)]
+enum Wrong {
+    // How it ended.
+    End(Result<(), ClientFault>),
+    // How often it waited.
+    Rests(u32),
+    // The first packet that was not written, or, by their number, the bytes after all.
+    Packet(usize),
+    // What was printed, which had this many bytes.
+    Printed(usize),
+}
+
+// Finds the first of these packets that is not written in these bytes, one after another.
+fn first_unwritten(bytes: &[u8], packets: &[&[u8]]) -> Option<Wrong> {
     let mut rest = bytes;
-    for packet in packets {
+    for (number, packet) in packets.iter().enumerate() {
         match rest.strip_prefix(*packet) {
             Some(after) => rest = after,
-            None => return false,
+            None => return Some(Wrong::Packet(number)),
         }
     }
-    rest.is_empty()
+    if rest.is_empty() {
+        None
+    } else {
+        Some(Wrong::Packet(packets.len()))
+    }
 }
 
 fn publish(alloc: Global, qos: QoS, servers: &mut Told<'_>) -> Result<(), ClientFault> {
@@ -134,21 +151,21 @@ fn publish(alloc: Global, qos: QoS, servers: &mut Told<'_>) -> Result<(), Client
     publisher.run(servers, 3)
 }
 
-// Says whether a publication at this QoS over these connections has this result: what is written,
-// how it ends, and how often it waited.
-fn publishes(
+// Finds what is not so of a publication at this QoS over these connections: how it ends, how often
+// it waited, and what is written.
+fn fault_of_publishing(
     alloc: Global,
     qos: QoS,
     connections: &[Pieces],
     written: &[&[u8]],
     ended: Result<(), ClientFault>,
     rests: u32,
-) -> bool {
-    publishes_within(alloc, qos, usize::MAX, connections, written, ended, rests)
+) -> Option<Wrong> {
+    fault_of_publishing_within(alloc, qos, usize::MAX, connections, written, ended, rests)
 }
 
 // The same, if the first connection takes no more than `room` bytes.
-fn publishes_within(
+fn fault_of_publishing_within(
     alloc: Global,
     qos: QoS,
     room: usize,
@@ -156,7 +173,7 @@ fn publishes_within(
     written: &[&[u8]],
     ended: Result<(), ClientFault>,
     rests: u32,
-) -> bool {
+) -> Option<Wrong> {
     let log = RefCell::new(Vec::new(alloc));
     let mut servers = Told {
         connections,
@@ -165,19 +182,30 @@ fn publishes_within(
         rests: 0,
         log: &log,
     };
-    let is_ended = publish(alloc, qos, &mut servers) == ended;
-    let rested = servers.rests == rests;
-    is_ended && rested && is_written(log.into_inner().as_slice(), written)
+    let end = publish(alloc, qos, &mut servers);
+    if end != ended {
+        return Some(Wrong::End(end));
+    }
+    if servers.rests != rests {
+        return Some(Wrong::Rests(servers.rests));
+    }
+    first_unwritten(log.into_inner().as_slice(), written)
 }
 
 #[test]
 fn a_publication_is_answered(rt: HostRuntime) {
     let pieces: &[Pieces] = &[&[CONNACK, PUBREC, PUBCOMP]];
     let written: &[&[u8]] = &[CONNECT, PUBLISH, PUBREL, DISCONNECT];
-    assert!(rt; publishes(rt.alloc(), QoS::ExactlyOnce, pieces, written, Ok(()), 0));
+    assert_eq!(rt;
+        fault_of_publishing(rt.alloc(), QoS::ExactlyOnce, pieces, written, Ok(()), 0),
+        None
+    );
     let pieces: &[Pieces] = &[&[CONNACK]];
     let written: &[&[u8]] = &[CONNECT, PUBLISH_ONCE, DISCONNECT];
-    assert!(rt; publishes(rt.alloc(), QoS::AtMostOnce, pieces, written, Ok(()), 0));
+    assert_eq!(rt;
+        fault_of_publishing(rt.alloc(), QoS::AtMostOnce, pieces, written, Ok(()), 0),
+        None
+    );
 }
 
 // A connection that is lost before PUBREC, and one on which the server continues.
@@ -185,19 +213,31 @@ fn a_publication_is_answered(rt: HostRuntime) {
 fn a_publication_is_sent_again(rt: HostRuntime) {
     let pieces: &[Pieces] = &[&[CONNACK], &[SESSION_PRESENT, PUBREC, PUBCOMP]];
     let written: &[&[u8]] = &[CONNECT, PUBLISH, CONNECT, PUBLISH_AGAIN, PUBREL, DISCONNECT];
-    assert!(rt; publishes(rt.alloc(), QoS::ExactlyOnce, pieces, written, Ok(()), 1));
+    assert_eq!(rt;
+        fault_of_publishing(rt.alloc(), QoS::ExactlyOnce, pieces, written, Ok(()), 1),
+        None
+    );
 }
 
 #[test]
 fn a_publication_is_given_up(rt: HostRuntime) {
     let lost = Err(ClientFault::Lost);
-    assert!(rt; publishes(rt.alloc(), QoS::AtLeastOnce, &[], &[], lost, 2));
+    assert_eq!(rt;
+        fault_of_publishing(rt.alloc(), QoS::AtLeastOnce, &[], &[], lost, 2),
+        None
+    );
     let present = Err(ClientFault::SessionPresent);
     let pieces: &[Pieces] = &[&[SESSION_PRESENT]];
-    assert!(rt; publishes(rt.alloc(), QoS::ExactlyOnce, pieces, &[CONNECT], present, 0));
+    assert_eq!(rt;
+        fault_of_publishing(rt.alloc(), QoS::ExactlyOnce, pieces, &[CONNECT], present, 0),
+        None
+    );
     let pieces: &[Pieces] = &[&[CONNACK], &[CONNACK]];
     let written: &[&[u8]] = &[CONNECT, PUBLISH, CONNECT];
-    assert!(rt; publishes(rt.alloc(), QoS::ExactlyOnce, pieces, written, lost, 1));
+    assert_eq!(rt;
+        fault_of_publishing(rt.alloc(), QoS::ExactlyOnce, pieces, written, lost, 1),
+        None
+    );
 }
 
 // What is acknowledged is done, also if the DISCONNECT cannot be written: nothing is published
@@ -208,11 +248,17 @@ fn an_acknowledged_publication_is_done(rt: HostRuntime) {
     let pieces: &[Pieces] = &[&[CONNACK, PUBREC, PUBCOMP], &[SESSION_PRESENT]];
     let written: &[&[u8]] = &[CONNECT, PUBLISH, PUBREL];
     let room = CONNECT.len() + PUBLISH.len() + PUBREL.len();
-    assert!(rt; publishes_within(alloc, QoS::ExactlyOnce, room, pieces, written, Ok(()), 0));
+    assert_eq!(rt;
+        fault_of_publishing_within(alloc, QoS::ExactlyOnce, room, pieces, written, Ok(()), 0),
+        None
+    );
     let pieces: &[Pieces] = &[&[CONNACK, PUBACK], &[SESSION_PRESENT]];
     let written: &[&[u8]] = &[CONNECT, PUBLISH_ANSWERED];
     let room = CONNECT.len() + PUBLISH_ANSWERED.len();
-    assert!(rt; publishes_within(alloc, QoS::AtLeastOnce, room, pieces, written, Ok(()), 0));
+    assert_eq!(rt;
+        fault_of_publishing_within(alloc, QoS::AtLeastOnce, room, pieces, written, Ok(()), 0),
+        None
+    );
 }
 
 // Bytes that are no packet, in the piece of the last answer.
@@ -220,7 +266,10 @@ fn an_acknowledged_publication_is_done(rt: HostRuntime) {
 fn what_comes_after_the_last_answer_does_not_matter(rt: HostRuntime) {
     let pieces: &[Pieces] = &[&[CONNACK, PUBACK_AND_NONSENSE], &[SESSION_PRESENT]];
     let written: &[&[u8]] = &[CONNECT, PUBLISH_ANSWERED];
-    assert!(rt; publishes(rt.alloc(), QoS::AtLeastOnce, pieces, written, Ok(()), 0));
+    assert_eq!(rt;
+        fault_of_publishing(rt.alloc(), QoS::AtLeastOnce, pieces, written, Ok(()), 0),
+        None
+    );
 }
 
 // At QoS 0 a publication is done once its bytes are written, and not before.
@@ -231,13 +280,22 @@ fn a_publication_at_qos_0_is_written(rt: HostRuntime) {
     let lost = Err(ClientFault::Lost);
     let room = CONNECT.len();
     let written: &[&[u8]] = &[CONNECT, CONNECT];
-    assert!(rt; publishes_within(alloc, QoS::AtMostOnce, room, pieces, written, lost, 1));
+    assert_eq!(rt;
+        fault_of_publishing_within(alloc, QoS::AtMostOnce, room, pieces, written, lost, 1),
+        None
+    );
     let pieces: &[Pieces] = &[&[CONNACK], &[SESSION_PRESENT]];
     let written: &[&[u8]] = &[CONNECT, CONNECT, PUBLISH_ONCE, DISCONNECT];
-    assert!(rt; publishes_within(alloc, QoS::AtMostOnce, room, pieces, written, Ok(()), 1));
+    assert_eq!(rt;
+        fault_of_publishing_within(alloc, QoS::AtMostOnce, room, pieces, written, Ok(()), 1),
+        None
+    );
     let room = CONNECT.len() + PUBLISH_ONCE.len();
     let written: &[&[u8]] = &[CONNECT, PUBLISH_ONCE];
-    assert!(rt; publishes_within(alloc, QoS::AtMostOnce, room, pieces, written, Ok(()), 0));
+    assert_eq!(rt;
+        fault_of_publishing_within(alloc, QoS::AtMostOnce, room, pieces, written, Ok(()), 0),
+        None
+    );
 }
 
 fn subscribe(
@@ -250,27 +308,27 @@ fn subscribe(
     subscriber.run(servers, output, 2)
 }
 
-// Says whether a client that waits for this many publications ends well over these connections, and
-// prints and writes this.
-fn hears(
+// Finds what is not so of a client that waits for this many publications over these connections: it
+// ends well, and prints and writes this.
+fn fault_of_hearing(
     alloc: Global,
     count: u32,
     connections: &[Pieces],
     printed: &[u8],
     written: &[&[u8]],
-) -> bool {
-    hears_within(alloc, count, usize::MAX, connections, printed, written)
+) -> Option<Wrong> {
+    fault_of_hearing_within(alloc, count, usize::MAX, connections, printed, written)
 }
 
 // The same, if the first connection takes no more than `room` bytes.
-fn hears_within(
+fn fault_of_hearing_within(
     alloc: Global,
     count: u32,
     room: usize,
     connections: &[Pieces],
     printed: &[u8],
     written: &[&[u8]],
-) -> bool {
+) -> Option<Wrong> {
     let log = RefCell::new(Vec::new(alloc));
     let mut servers = Told {
         connections,
@@ -281,16 +339,23 @@ fn hears_within(
     };
     let mut output = Vec::new(alloc);
     let ended = subscribe(alloc, count, &mut servers, &mut output);
-    ended == Ok(())
-        && output.as_slice() == printed
-        && is_written(log.into_inner().as_slice(), written)
+    if ended != Ok(()) {
+        return Some(Wrong::End(ended));
+    }
+    if output.as_slice() != printed {
+        return Some(Wrong::Printed(output.len()));
+    }
+    first_unwritten(log.into_inner().as_slice(), written)
 }
 
 #[test]
 fn publications_are_printed(rt: HostRuntime) {
     let pieces: &[Pieces] = &[&[CONNACK, SUBACK, PUBLISH, PUBLISH_ONCE]];
     let written: &[&[u8]] = &[CONNECT, SUBSCRIBE, PUBREC, DISCONNECT];
-    assert!(rt; hears(rt.alloc(), 2, pieces, b"2 0 t/1 x\n0 0 t/1 x\n", written));
+    assert_eq!(rt;
+        fault_of_hearing(rt.alloc(), 2, pieces, b"2 0 t/1 x\n0 0 t/1 x\n", written),
+        None
+    );
 }
 
 // What is printed is done, also if neither the last answer nor the DISCONNECT can be written.
@@ -302,7 +367,10 @@ fn printed_publications_are_done(rt: HostRuntime) {
     ];
     let written: &[&[u8]] = &[CONNECT, SUBSCRIBE];
     let room = CONNECT.len() + SUBSCRIBE.len();
-    assert!(rt; hears_within(rt.alloc(), 1, room, pieces, b"2 0 t/1 x\n", written));
+    assert_eq!(rt;
+        fault_of_hearing_within(rt.alloc(), 1, room, pieces, b"2 0 t/1 x\n", written),
+        None
+    );
 }
 
 // A subscription may be lost with its connection; one that has brought something is there.
@@ -310,10 +378,16 @@ fn printed_publications_are_done(rt: HostRuntime) {
 fn a_subscription_is_asked_for_again(rt: HostRuntime) {
     let pieces: &[Pieces] = &[&[CONNACK], &[SESSION_PRESENT, PUBLISH_ONCE]];
     let written: &[&[u8]] = &[CONNECT, SUBSCRIBE, CONNECT, SUBSCRIBE, DISCONNECT];
-    assert!(rt; hears(rt.alloc(), 1, pieces, b"0 0 t/1 x\n", written));
+    assert_eq!(rt;
+        fault_of_hearing(rt.alloc(), 1, pieces, b"0 0 t/1 x\n", written),
+        None
+    );
     let pieces: &[Pieces] = &[&[CONNACK, PUBLISH_ONCE], &[SESSION_PRESENT, PUBLISH_ONCE]];
     let written: &[&[u8]] = &[CONNECT, SUBSCRIBE, CONNECT, DISCONNECT];
-    assert!(rt; hears(rt.alloc(), 2, pieces, b"0 0 t/1 x\n0 0 t/1 x\n", written));
+    assert_eq!(rt;
+        fault_of_hearing(rt.alloc(), 2, pieces, b"0 0 t/1 x\n0 0 t/1 x\n", written),
+        None
+    );
 }
 
 fn refuses_to_publish(alloc: Global, id: &str, topic: &str, number: u8) -> bool {

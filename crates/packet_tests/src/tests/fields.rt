@@ -36,18 +36,19 @@ fn is_read(length: u32, bytes: &[u8]) -> bool {
     }
 }
 
-fn are_right(alloc: Global) -> bool {
-    for (length, bytes) in LENGTHS {
+// Finds the first row whose bytes are not those of its length, or are not read as it.
+fn first_fault(alloc: Global) -> Option<usize> {
+    for (row, (length, bytes)) in LENGTHS.iter().enumerate() {
         if !is_spelled(alloc, *length, bytes) || !is_read(*length, bytes) {
-            return false;
+            return Some(row);
         }
     }
-    true
+    None
 }
 
 #[test]
 fn lengths_of_the_standard(rt: HostRuntime) {
-    assert!(rt; are_right(rt.alloc()));
+    assert_eq!(rt; first_fault(rt.alloc()), None);
 }
 
 fn are_printed(alloc: Global, code: RefusalCode, id: PacketId, wanted: &str) -> bool {
