@@ -1,6 +1,7 @@
 // What no clause says: which events are idle, what is carried on connections, and what clients take
 // in.
 
+mod courses;
 mod crashes;
 mod cuts;
 mod expelled;

@@ -1,160 +1,11 @@
 // Ways out: after every event of the known courses, for members and a client, the end that is
 // promised, or Idle.
 
-use crate::tests::crashes::CRASHED;
-use crate::tests::expelled::EXPELLED;
-use crate::tests::put_out::PUT_OUT;
-use crate::tests::row::{Action, Row, does, is_right, named, opened};
-use crate::tests::stale::STALE;
-use crate::tests::travelling::TRAVELLED;
+use crate::tests::courses::{COURSES, Course, WAITS, is_kept, last_ballot, may_lead, played};
+use crate::tests::row::{Action, does, is_right, named, opened};
 use std::alloc::Global;
 use world::packet::ClientId;
 use world::{Command, EscapeError, Event, World};
-
-// The primary answers a CONNECT once its backup holds it.
-const WAITS: &[Row] = &[
-    Row::Does(Action::Open("a", 1), 0, 0),
-    Row::Does(Action::Up(1), 1, 0),
-    Row::Does(Action::Deliver(0), 2, 1),
-    Row::Does(Action::Deliver(1), 3, 1),
-    Row::Does(Action::Down(1), 3, 1),
-];
-
-// A sole member is joined by another one, which becomes the primary. No client comes.
-const CHANGED: &[Row] = &[
-    Row::Does(Action::Assign(&[1, 2], 2), 1, 0),
-    Row::Does(Action::Deliver(0), 2, 0),
-    Row::Does(Action::Deliver(1), 3, 0),
-    Row::Does(Action::Deliver(2), 4, 0),
-    Row::Does(Action::Deliver(3), 5, 0),
-    Row::Does(Action::Deliver(4), 6, 0),
-    Row::Does(Action::Deliver(5), 7, 0),
-    Row::Does(Action::Deliver(6), 8, 0),
-    Row::Does(Action::Deliver(7), 9, 1),
-    Row::Does(Action::Deliver(8), 10, 1),
-];
-
-// A client has a session in the log that is fetched, after this many rows and until this many.
-struct Kept {
-    client: &'static str,
-    from: usize,
-    until: usize,
-}
-
-// A course of events in a world of this many nodes, with these members of ballot 1. One of the
-// active configuration always lives.
-struct Course {
-    name: &'static str,
-    nodes: u8,
-    members: &'static [u8],
-    rows: &'static [Row],
-    kept: &'static [Kept],
-}
-
-// A session that stays.
-const NEVER: usize = usize::MAX;
-
-const COURSES: &[Course] = &[
-    Course {
-        name: "waits",
-        nodes: 2,
-        members: &[1, 2],
-        rows: WAITS,
-        kept: &[Kept {
-            client: "a",
-            from: 2,
-            until: NEVER,
-        }],
-    },
-    Course {
-        name: "changed",
-        nodes: 2,
-        members: &[1],
-        rows: CHANGED,
-        kept: &[],
-    },
-    Course {
-        name: "crashed",
-        nodes: 2,
-        members: &[1, 2],
-        rows: CRASHED,
-        kept: &[
-            Kept {
-                client: "b",
-                from: 2,
-                until: NEVER,
-            },
-            Kept {
-                client: "a",
-                from: 11,
-                until: NEVER,
-            },
-        ],
-    },
-    Course {
-        name: "stale",
-        nodes: 2,
-        members: &[1, 2],
-        rows: STALE,
-        kept: &[
-            Kept {
-                client: "b",
-                from: 2,
-                until: NEVER,
-            },
-            Kept {
-                client: "a",
-                from: 11,
-                until: NEVER,
-            },
-        ],
-    },
-    Course {
-        name: "travelled",
-        nodes: 2,
-        members: &[1],
-        rows: TRAVELLED,
-        kept: &[Kept {
-            client: "a",
-            from: 2,
-            until: NEVER,
-        }],
-    },
-    Course {
-        name: "expelled",
-        nodes: 1,
-        members: &[1],
-        rows: EXPELLED,
-        kept: &[
-            Kept {
-                client: "b",
-                from: 2,
-                until: 12,
-            },
-            Kept {
-                client: "b",
-                from: 22,
-                until: NEVER,
-            },
-            Kept {
-                client: "a",
-                from: 7,
-                until: NEVER,
-            },
-        ],
-    },
-    Course {
-        name: "put out",
-        nodes: 3,
-        members: &[1],
-        rows: PUT_OUT,
-        kept: &[Kept {
-            client: "a",
-            from: 24,
-            until: NEVER,
-        }],
-    },
-];
 
 // Lists of members: the rising ones of nodes 1 to 3, and some that no ballot may have.
 const LISTS: &[&[u8]] = &[
@@ -171,65 +22,6 @@ const LISTS: &[&[u8]] = &[
 ];
 
 const CLIENTS: &[&str] = &["a", "b", "z"];
-
-// Returns the world after this many rows of a course.
-fn played(alloc: Global, course: &Course, count: usize) -> Option<World> {
-    let mut world = opened(alloc, course.nodes, course.members)?;
-    for row in course.rows.get(..count)? {
-        if !is_right(alloc, &mut world, row) {
-            return None;
-        }
-    }
-    Some(world)
-}
-
-// Says whether a node has crashed in these rows.
-fn has_crashed(rows: &[Row], node: u8) -> bool {
-    rows.iter().any(|row| is_crash(row, node))
-}
-
-fn is_crash(row: &Row, node: u8) -> bool {
-    match row {
-        Row::Does(Action::Crash(crashed), _, _) => *crashed == node,
-        _ => false,
-    }
-}
-
-// Returns the ballot that is given last in these rows.
-fn last_ballot(rows: &[Row]) -> u64 {
-    let mut ballot: u64 = 1;
-    for row in rows {
-        if is_assign(row) {
-            ballot = ballot.saturating_add(1);
-        }
-    }
-    ballot
-}
-
-fn is_assign(row: &Row) -> bool {
-    match row {
-        Row::Does(Action::Assign(_, _), _, _) => true,
-        _ => false,
-    }
-}
-
-// Says whether members may form the next ballot after these rows: they rise, and are nodes that
-// live.
-fn may_lead(course: &Course, rows: &[Row], members: &[u8]) -> bool {
-    let mut last = 0;
-    for member in members {
-        if *member <= last || *member > course.nodes || has_crashed(rows, *member) {
-            return false;
-        }
-        last = *member;
-    }
-    !members.is_empty()
-}
-
-// Says whether a client has a session after this many rows.
-fn is_kept(course: &Course, count: usize, client: &str) -> bool {
-    course.kept.iter().any(|kept| kept.client == client && kept.from <= count && count < kept.until)
-}
 
 // Says whether a way out of the world after this many rows is returned, if there is one, and leads
 // to its end, and `Idle` is returned otherwise.
@@ -427,7 +219,6 @@ fn nothing_leads_out_where_nobody_lives(rt: HostRuntime) {
 fn ways_out(rt: HostRuntime) {
     for course in COURSES {
         let name = course.name;
-        let fault = fault_in(rt.alloc(), course);
-        assert!(rt; fault.is_none(), "{name}");
+        assert_eq!(rt; fault_in(rt.alloc(), course), None, "{name}");
     }
 }

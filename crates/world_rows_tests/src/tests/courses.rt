@@ -1,0 +1,217 @@
+// The known courses of events, and what is known of a world after some of their rows.
+
+use crate::tests::crashes::CRASHED;
+use crate::tests::expelled::EXPELLED;
+use crate::tests::put_out::PUT_OUT;
+use crate::tests::row::{Action, Row, is_right, opened};
+use crate::tests::stale::STALE;
+use crate::tests::travelling::TRAVELLED;
+use std::alloc::Global;
+use world::World;
+
+/// The primary answers a CONNECT once its backup holds it.
+pub const WAITS: &[Row] = &[
+    Row::Does(Action::Open("a", 1), 0, 0),
+    Row::Does(Action::Up(1), 1, 0),
+    Row::Does(Action::Deliver(0), 2, 1),
+    Row::Does(Action::Deliver(1), 3, 1),
+    Row::Does(Action::Down(1), 3, 1),
+];
+
+// A sole member is joined by another one, which becomes the primary. No client comes.
+const CHANGED: &[Row] = &[
+    Row::Does(Action::Assign(&[1, 2], 2), 1, 0),
+    Row::Does(Action::Deliver(0), 2, 0),
+    Row::Does(Action::Deliver(1), 3, 0),
+    Row::Does(Action::Deliver(2), 4, 0),
+    Row::Does(Action::Deliver(3), 5, 0),
+    Row::Does(Action::Deliver(4), 6, 0),
+    Row::Does(Action::Deliver(5), 7, 0),
+    Row::Does(Action::Deliver(6), 8, 0),
+    Row::Does(Action::Deliver(7), 9, 1),
+    Row::Does(Action::Deliver(8), 10, 1),
+];
+
+/// A client that has a session in the log that is fetched, after this many rows and until this many.
+pub struct Kept {
+    client: &'static str,
+    from: usize,
+    until: usize,
+}
+
+/// A course of events in a world of this many nodes, with these members of ballot 1. One of the
+/// active configuration always lives.
+pub struct Course {
+    /// What it shows.
+    pub name: &'static str,
+    nodes: u8,
+    members: &'static [u8],
+    /// The events, in order.
+    pub rows: &'static [Row],
+    kept: &'static [Kept],
+}
+
+// A session that stays.
+const NEVER: usize = usize::MAX;
+
+/// The known courses.
+pub const COURSES: &[Course] = &[
+    Course {
+        name: "waits",
+        nodes: 2,
+        members: &[1, 2],
+        rows: WAITS,
+        kept: &[Kept {
+            client: "a",
+            from: 2,
+            until: NEVER,
+        }],
+    },
+    Course {
+        name: "changed",
+        nodes: 2,
+        members: &[1],
+        rows: CHANGED,
+        kept: &[],
+    },
+    Course {
+        name: "crashed",
+        nodes: 2,
+        members: &[1, 2],
+        rows: CRASHED,
+        kept: &[
+            Kept {
+                client: "b",
+                from: 2,
+                until: NEVER,
+            },
+            Kept {
+                client: "a",
+                from: 11,
+                until: NEVER,
+            },
+        ],
+    },
+    Course {
+        name: "stale",
+        nodes: 2,
+        members: &[1, 2],
+        rows: STALE,
+        kept: &[
+            Kept {
+                client: "b",
+                from: 2,
+                until: NEVER,
+            },
+            Kept {
+                client: "a",
+                from: 11,
+                until: NEVER,
+            },
+        ],
+    },
+    Course {
+        name: "travelled",
+        nodes: 2,
+        members: &[1],
+        rows: TRAVELLED,
+        kept: &[Kept {
+            client: "a",
+            from: 2,
+            until: NEVER,
+        }],
+    },
+    Course {
+        name: "expelled",
+        nodes: 1,
+        members: &[1],
+        rows: EXPELLED,
+        kept: &[
+            Kept {
+                client: "b",
+                from: 2,
+                until: 12,
+            },
+            Kept {
+                client: "b",
+                from: 22,
+                until: NEVER,
+            },
+            Kept {
+                client: "a",
+                from: 7,
+                until: NEVER,
+            },
+        ],
+    },
+    Course {
+        name: "put out",
+        nodes: 3,
+        members: &[1],
+        rows: PUT_OUT,
+        kept: &[Kept {
+            client: "a",
+            from: 24,
+            until: NEVER,
+        }],
+    },
+];
+
+/// Returns the world after this many rows of a course.
+pub fn played(alloc: Global, course: &Course, count: usize) -> Option<World> {
+    let mut world = opened(alloc, course.nodes, course.members)?;
+    for row in course.rows.get(..count)? {
+        if !is_right(alloc, &mut world, row) {
+            return None;
+        }
+    }
+    Some(world)
+}
+
+// Says whether a node has crashed in these rows.
+fn has_crashed(rows: &[Row], node: u8) -> bool {
+    rows.iter().any(|row| is_crash(row, node))
+}
+
+fn is_crash(row: &Row, node: u8) -> bool {
+    match row {
+        Row::Does(Action::Crash(crashed), _, _) => *crashed == node,
+        _ => false,
+    }
+}
+
+/// Returns the ballot that is given last in these rows.
+pub fn last_ballot(rows: &[Row]) -> u64 {
+    let mut ballot: u64 = 1;
+    for row in rows {
+        if is_assign(row) {
+            ballot = ballot.saturating_add(1);
+        }
+    }
+    ballot
+}
+
+fn is_assign(row: &Row) -> bool {
+    match row {
+        Row::Does(Action::Assign(_, _), _, _) => true,
+        _ => false,
+    }
+}
+
+/// Says whether members may form the next ballot after these rows: they rise, and are nodes that
+/// live.
+pub fn may_lead(course: &Course, rows: &[Row], members: &[u8]) -> bool {
+    let mut last = 0;
+    for member in members {
+        if *member <= last || *member > course.nodes || has_crashed(rows, *member) {
+            return false;
+        }
+        last = *member;
+    }
+    !members.is_empty()
+}
+
+/// Says whether a client has a session after this many rows.
+pub fn is_kept(course: &Course, count: usize, client: &str) -> bool {
+    course.kept.iter().any(|kept| kept.client == client && kept.from <= count && count < kept.until)
+}
