@@ -13,7 +13,7 @@ type Pieces = &'static [&'static [u8]];
 
 // Servers, and all that was written to them.
 #[derive(Drop)]
-struct Told<'a> {
+struct Scripted<'a> {
     connections: &'a [Pieces],
     // How many bytes the first connection takes. Then each write fails.
     room: usize,
@@ -30,7 +30,7 @@ struct Pipe<'a> {
     log: &'a RefCell<Vec<u8>>,
 }
 
-impl<'a> Servers for Told<'a> {
+impl<'a> Servers for Scripted<'a> {
     type Stream = Pipe<'a>;
 
     fn open(&mut self) -> Option<Pipe<'a>> {
@@ -146,7 +146,7 @@ fn first_unwritten(bytes: &[u8], packets: &[&[u8]]) -> Option<Wrong> {
     }
 }
 
-fn publish(alloc: Global, qos: QoS, servers: &mut Told<'_>) -> Result<(), ClientFault> {
+fn publish(alloc: Global, qos: QoS, servers: &mut Scripted<'_>) -> Result<(), ClientFault> {
     let mut publisher = Publisher::new(alloc, "a", "t/1", qos, false, "x")?;
     publisher.run(servers, 3)
 }
@@ -175,7 +175,7 @@ fn fault_of_publishing_within(
     rests: u32,
 ) -> Option<Wrong> {
     let log = RefCell::new(Vec::new(alloc));
-    let mut servers = Told {
+    let mut servers = Scripted {
         connections,
         room,
         opened: 0,
@@ -301,7 +301,7 @@ fn a_publication_at_qos_0_is_written(rt: HostRuntime) {
 fn subscribe(
     alloc: Global,
     count: u32,
-    servers: &mut Told<'_>,
+    servers: &mut Scripted<'_>,
     output: &mut Vec<u8>,
 ) -> Result<(), ClientFault> {
     let mut subscriber = Subscriber::new(alloc, "a", "t/#", QoS::ExactlyOnce, count)?;
@@ -330,7 +330,7 @@ fn fault_of_hearing_within(
     written: &[&[u8]],
 ) -> Option<Wrong> {
     let log = RefCell::new(Vec::new(alloc));
-    let mut servers = Told {
+    let mut servers = Scripted {
         connections,
         room,
         opened: 0,
