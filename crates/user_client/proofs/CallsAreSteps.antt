@@ -8,9 +8,10 @@ use Rattle.client.specs.client_base.State.{ClientState, is_online, kept_count}
 use Rattle.client.specs.client_base.declared.stage.Stage.{Stage}
 use Rattle.client.specs.client_base.declared.stage.Stage.TheVariants as stages
 use Rattle.client.specs.client_base.Steps.{Call, keeper_step, disconnected}
-use Rattle.client.specs.Core.{Core, Leaves, without_accepted}
+use Rattle.client.specs.session_base.declared.publication.Publication.{Publication}
+use Rattle.client.specs.Core.{Core, Does, Leaves, without_accepted}
 use Rattle.client.specs.Reading.{OnBytes}
-use Rattle.user_client.specs.Tracing.{Called, Step, Trace, IsFirst}
+use Rattle.user_client.specs.Tracing.{Called, IsAsked, Step, Trace, IsFirst}
 use Rattle.user_client.proofs.TracesJoin.{one_step, steps_to, stays, taken_as}
 
 -- a client of these parts
@@ -32,6 +33,11 @@ step_to core was new next is same step =
 pub no_step : (core : Core) (was : Bool) {seen : Called} (new : Core) → parts core was ≡ seen → new ≡ core
     → Trace seen [] (parts new was)
 no_step core was new is same = subst (λ (s : Called). Trace s [] (parts new was)) is (stays (parts core was) new same)
+
+-- it took a publication
+pub asked : (p : Publication) (core : Core) (was : Bool) {seen : Called} (new : Core) → parts core was ≡ seen
+    → Does (keeper_step (Call.Publishes p) core.state) core (Ok tt) new → IsAsked p seen (parts new was)
+asked p core was new is does = subst (λ (s : Called). IsAsked p s (parts new was)) is (does, refl)
 
 -- the client disconnected, or did not because memory ran out, or had no connection
 pub left : (core : Core) (was : Bool) {seen : Called} (new : Core) (result : Result (Unit {0}) ClientError)

@@ -1,4 +1,5 @@
 pub mod Acknowledged
 pub mod CallsAreSteps
+pub mod FirstPublication
 pub mod PrintsJoin
 pub mod TracesJoin

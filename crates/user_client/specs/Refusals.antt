@@ -2,7 +2,7 @@
 use Rattle.std.specs.Prelude.{◌≡◌, ◌⊎◌, ℕ, List, Option, Some, None, option_map}
 use Rattle.client.specs.packet.ClientId.{client_fault}
 use Rattle.client.specs.topics.Malformed.{number_of}
-use Rattle.client.specs.topics.Text.{filter_fault}
+use Rattle.client.specs.topics.Text.{filter_fault, topic_fault}
 use Rattle.client.specs.topics.declared.malformed.MalformedKind.{MalformedKind}
 use Rattle.client.specs.topics.declared.malformed.MalformedKind.TheVariants as kinds
 use Rattle.user_client.specs.declared.fault.ClientFault.{ClientFault}
@@ -23,3 +23,11 @@ abbrev pub RefusesListener : List ℕ → List ℕ → ClientFault → Type 0
 RefusesListener id filter it =
     IsRefusedBy (client_fault id) it
     ⊎ ((client_fault id ≡ None) × IsRefusedBy (filter_fault filter) it)
+
+-- a client that publishes is refused for its identifier, only then for its topic, and only then for
+-- anything else
+abbrev pub RefusesPublisher : List ℕ → List ℕ → ClientFault → Type 0
+RefusesPublisher id topic it =
+    IsRefusedBy (client_fault id) it
+    ⊎ (((client_fault id ≡ None) × IsRefusedBy (topic_fault topic) it)
+    ⊎ ((client_fault id ≡ None) × (topic_fault topic ≡ None)))

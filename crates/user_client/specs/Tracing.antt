@@ -2,6 +2,7 @@
 -- servers (MQTT 4.3, 4.4).
 use Rattle.std.specs.Prelude.{◌≡◌, ◌≢◌, ℕ, Bool, false, ◌||◌, List, [], ◌++◌, Result, Ok, Err}
 use Rattle.client.specs.packet.declared.qos.QoS.{QoS}
+use Rattle.client.specs.session_base.declared.publication.Publication.{Publication}
 use Rattle.client.specs.client_base.declared.accepted.Accepted.{Accepted}
 use Rattle.client.specs.client_base.declared.error.ClientError.{ClientError}
 use Rattle.client.specs.client_base.declared.error.ClientError.TheVariants as errors
@@ -31,6 +32,12 @@ after_bytes core called =
 -- before the first accepted connection the server had no session of the client
 abbrev pub IsFirst : Called → Core → Type 0
 IsFirst called core = called.was_accepted ≡ false → core.state.present ≡ false
+
+-- it was asked for this publication and took it, and nothing changed except its keeper
+abbrev pub IsAsked : Publication → Called → Called → Type 0
+IsAsked p old new =
+    Does (keeper_step (Call.Publishes p) old.core.state) old.core (Ok tt) new.core
+    × (new.was_accepted ≡ old.was_accepted)
 
 -- One step. There is no step for bytes of a server that lost the session.
 pub data Step (old : Called) : Called → Type 0 where

@@ -3,7 +3,8 @@
 ghost use Rattle.std.specs.Prelude.{◌≡◌, ◌≢◌, ◌++◌, OnOk, Err, []};
 ghost use Rattle.client.specs.client_base.declared.error.ClientError.TheVariants as errors;
 ghost use Rattle.client.specs.client_base.State.{kept_count};
-ghost use Rattle.user_client.specs.Tracing.{IsFirst, Trace, new_called};
+ghost use Rattle.client.specs.Core.{publication_with};
+ghost use Rattle.user_client.specs.Tracing.{IsAsked, IsFirst, Trace, new_called};
 
 use crate::fault::ClientFault;
 use client::packet::{ClientId, Payload, QoS};
@@ -69,6 +70,8 @@ impl Caller {
         payload: Payload,
     ) -> Result<(), ClientFault>
         ensures trace { OnOk result (Trace self.old [] self.new) }
+        ensures asked { OnOk result
+            (IsAsked (publication_with retain qos topic payload) self.old self.new) }
     {
         Ok(self.core.publish(topic, qos, retain, payload)?)
     }

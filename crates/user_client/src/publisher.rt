@@ -1,11 +1,16 @@
 // Publishing once.
 
-ghost use Rattle.std.specs.Prelude.{◌≡◌, ◌≢◌, None, true, [], OnOk, IfOk};
+ghost use Rattle.std.specs.Prelude.{◌≡◌, ◌≢◌, None, true, [], OnOk, IfErr, IfOk};
+ghost use Rattle.client.specs.Core.{publication_with};
 ghost use Rattle.client.specs.client_base.State.{kept_count};
 ghost use Rattle.client.specs.packet.ClientId.{client_fault};
+ghost use Rattle.client.specs.packet.declared.delivery.Delivery.TheVariants as deliveries;
+ghost use Rattle.client.specs.packet.declared.qos.QoS.TheVariants as levels;
+ghost use Rattle.client.specs.session_base.Publication.{is_answered};
 ghost use Rattle.client.specs.topics.Text.{topic_fault};
 ghost use Rattle.user_client.specs.Tracing.{Trace};
-ghost use Rattle.user_client.specs.Publishing.{IsAcknowledged};
+ghost use Rattle.user_client.specs.Publishing.{HasPublication, IsAcknowledged};
+ghost use Rattle.user_client.specs.Refusals.{RefusesPublisher};
 
 use crate::caller::{Caller, News};
 use crate::checking::{checked_id, checked_topic};
@@ -13,7 +18,7 @@ use crate::fault::ClientFault;
 use crate::servers::Servers;
 use crate::visiting::{disconnect, exchange, next_stream, send};
 use client::ClientError;
-use client::packet::{Delivery, Packet, Payload, Publish, QoS};
+use client::packet::{ClientId, Delivery, Packet, Payload, Publish, QoS};
 use client::topics::TopicName;
 use node_base::{Counted, PIECE_BYTES};
 use std::alloc::Global;
@@ -50,8 +55,10 @@ enum Progress {
 }
 
 impl Publisher {
-    /// Returns a client with this identifier and its publication. They are refused in this order:
-    /// identifier, topic, and a packet that would be too large.
+    /// Returns a client with this identifier and its publication. At QoS 1 and 2 the client keeps
+    /// it, and no other, until its handshake has ended. `Refused` has the number of the first fault
+    /// of identifier, topic, and a packet that would be too large, in this order; `Memory` comes
+    /// only without a fault before it.
     pub fn new(
         alloc: Global,
         id: &str,
@@ -61,23 +68,15 @@ impl Publisher {
         message: &str,
     ) -> Result<Publisher, ClientFault>
         ensures ok { OnOk result ((client_fault id.now ≡ None) × (topic_fault topic.now ≡ None)) }
+        ensures made { IfOk result (HasPublication qos id.now
+            (publication_with retain qos topic.now message.now)) }
+        ensures err { IfErr result (RefusesPublisher id.now topic.now) }
     {
         let id = checked_id(alloc, id)?;
         let topic = checked_topic(alloc, topic)?;
         let payload = Payload::new(alloc, message.as_bytes())?;
-        let mut caller = Caller::new(alloc, id);
-        let once = match qos {
-            QoS::AtMostOnce => Some(unanswered(topic, retain, payload)?),
-            QoS::AtLeastOnce | QoS::ExactlyOnce => {
-                caller.publish(topic, qos, retain, payload)?;
-                None
-            }
-        };
-        Ok(Publisher {
-            alloc,
-            caller,
-            once,
-        })
+        let publisher = publisher_of(alloc, id, topic, qos, retain, payload)?;
+        Ok(publisher)
     }
 
     /// Publishes over the connections of these servers, at most `tries` of them: at QoS 1 and 2
@@ -157,6 +156,68 @@ impl Publisher {
     }
 }
 
+// Returns a publisher of this client and publication.
+fn publisher_of(
+    alloc: Global,
+    id: ClientId,
+    topic: TopicName,
+    qos: QoS,
+    retain: bool,
+    payload: Payload,
+) -> Result<Publisher, ClientFault>
+    ensures { IfOk result
+        (HasPublication qos id (publication_with retain qos topic payload)) }
+{
+    match qos {
+        QoS::AtMostOnce => unkept(alloc, id, topic, qos, retain, payload),
+        QoS::AtLeastOnce | QoS::ExactlyOnce => kept(alloc, id, topic, qos, retain, payload),
+    }
+}
+
+// Returns a publisher at QoS 0: it has its publication itself.
+fn unkept(
+    alloc: Global,
+    id: ClientId,
+    topic: TopicName,
+    qos: QoS,
+    retain: bool,
+    payload: Payload,
+) -> Result<Publisher, ClientFault>
+    requires { qos ≡ levels.AtMostOnce }
+    ensures { IfOk result
+        (HasPublication qos id (publication_with retain qos topic payload)) }
+{
+    let publish = unanswered(topic, retain, payload)?;
+    let caller = Caller::new(alloc, id);
+    Ok(Publisher {
+        alloc,
+        caller,
+        once: Some(publish),
+    })
+}
+
+// Returns a publisher at QoS 1 or 2: its client keeps its publication.
+fn kept(
+    alloc: Global,
+    id: ClientId,
+    topic: TopicName,
+    qos: QoS,
+    retain: bool,
+    payload: Payload,
+) -> Result<Publisher, ClientFault>
+    requires { is_answered qos ≡ true }
+    ensures { IfOk result
+        (HasPublication qos id (publication_with retain qos topic payload)) }
+{
+    let mut caller = Caller::new(alloc, id);
+    caller.publish(topic, qos, retain, payload)?;
+    Ok(Publisher {
+        alloc,
+        caller,
+        once: None,
+    })
+}
+
 // Returns the progress of a publication that the client keeps.
 fn kept_on(news: News, caller: &Caller) -> Progress
     ensures { result ≡ Progress.Done → kept_count caller.now.core.state ≡ 0 }
@@ -204,8 +265,15 @@ fn after(news: News) -> Progress
     }
 }
 
-// Returns a publication at QoS 0.
-fn unanswered(topic: TopicName, retain: bool, payload: Payload) -> Result<Publish, ClientFault> {
+// Returns a publication at QoS 0. It is refused if its packet would be too large.
+fn unanswered(topic: TopicName, retain: bool, payload: Payload) -> Result<Publish, ClientFault>
+    ensures { IfOk result (λ publish. publish ≡ record {
+      topic = topic;
+      delivery = deliveries.AtMostOnce;
+      retain = retain;
+      payload = payload;
+    }) }
+{
     let publish = Publish {
         topic,
         delivery: Delivery::AtMostOnce,
