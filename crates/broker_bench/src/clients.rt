@@ -71,8 +71,8 @@ impl Clients {
         self.subscribe(count, wanted)
     }
 
-    /// Publishes under identifier 1, and lets all clients answer the result of it until nothing is in
-    /// transit.
+    /// Publishes under identifier 1, and lets all clients answer the result of it until nothing is
+    /// in transit.
     pub fn publish(&mut self, count: u64, topic: &TopicName, qos: QoS, retain: bool) -> Result<()> {
         let publish = publication(self.alloc, topic, qos, retain)?;
         self.send(count, Packet::Publish(publish))

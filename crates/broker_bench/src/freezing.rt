@@ -80,7 +80,8 @@ fn measure(rt: &HostRuntime, clients: &Clients, of: Crowd, bytes: &mut Vec<u8>) 
     let thawed = thaw(rt, bytes.as_slice())? / 1_000;
     let len = bytes.len();
     println!(rt;
-        "{} sessions of {} filters {}, {} waiting: {len} bytes, frozen in {frozen} us, thawed in {thawed} us",
+        "{} sessions of {} filters {}, {} waiting: {len} bytes, frozen in {frozen} us, \
+         thawed in {thawed} us",
         of.sessions,
         crowd::FILTERS,
         of.filters.name(),

@@ -50,7 +50,8 @@ fn compare_with(
     let with = measure(rt, connections, traffic, places, true)?;
     let number = qos.number();
     println!(rt;
-        "{connections} connections, QoS {number}, pieces of {packets}: {alone} ns a publication, handed over {with} ns"
+        "{connections} connections, QoS {number}, pieces of {packets}: {alone} ns a publication, \
+         handed over {with} ns"
     )?;
     Ok(())
 }

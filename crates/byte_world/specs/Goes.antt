@@ -58,7 +58,8 @@ pub data WorldStep (w : World) : World → Type 0 where
   comes_up : (i j : ℕ) (c : ClientPipes) (κ : Connection) (p : Pipe) (piece rest : List ℕ) (now : ℕ)
       (d : Does w.group (Some (p.node, takes (Bytes p.port piece now)))) →
       HasPipe w i c j κ p → p.up ≡ piece ++ rest →
-      WorldStep w (with_client i (with_pipe j (record p { up = rest }) c) (record w { group = d.after }))
+      WorldStep w
+      (with_client i (with_pipe j (record p { up = rest }) c) (record w { group = d.after }))
   -- a node hands over what it queued
   goes_down : (i j : ℕ) (c : ClientPipes) (κ : Connection) (p : Pipe)
       (d : Does w.group (Some (p.node, gives p.port))) → HasPipe w i c j κ p →

@@ -19,7 +19,9 @@ use Rattle.byte_world.specs.World.{World}
 
 -- none of these commands is a Connect that asks for a clean session
 abbrev pub NoneIsClean : List Command → Type 0
-NoneIsClean list = (x : ConnectionName) (c : Client) (clean : Bool) → In (commands.Connect x c clean) list → clean ≡ false
+NoneIsClean list =
+    (x : ConnectionName) (c : Client) (clean : Bool) → In (commands.Connect x c clean) list →
+    clean ≡ false
 
 -- the same holds for each list that is agreed at the end of the group's steps on the way to the
 -- world

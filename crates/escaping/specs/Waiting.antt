@@ -33,7 +33,8 @@ abbrev pub MessagesKeepItWaiting : Type 0
 MessagesKeepItWaiting =
     (port : Port) (x : ConnectionName) (core : CoreState) (message : Message Command) →
     AwaitsAnswer port x core → IsCalm core →
-    core.replica.state.stopped ≡ false → outputs (heard_by core message).effects ≡ [] → is_active (heard_by core message).state.role ≡ true →
+    core.replica.state.stopped ≡ false → outputs (heard_by core message).effects ≡ [] →
+    is_active (heard_by core message).state.role ≡ true →
     (heard_by core message).state.stopped ≡ false →
     AwaitsAnswer port x (node_step (Peer message) core).core
 

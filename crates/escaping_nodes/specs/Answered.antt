@@ -47,7 +47,8 @@ begun list start = list ++ commands.Start start ∷ []
 -- and is not clean
 pub record CanAsk (a : Moment State Command Output) (n : NodesState) (ballot place : ℕ)
     (node : CountedCore) (others_of : List ℕ) (port : Port)
-    (x : ConnectionName) (list : List Command) (start : ℕ) (piece : List ℕ) (connect : Connect) : Type 0 where
+    (x : ConnectionName) (list : List Command) (start : ℕ) (piece : List ℕ) (connect : Connect)
+    : Type 0 where
   pub seen : IsSeen a n
   pub calm : AreCalm ballot n
   pub stands : slice_get n.nodes place ≡ Some node

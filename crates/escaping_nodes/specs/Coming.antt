@@ -23,7 +23,8 @@ pub data Come : NodesState → List ℕ → NodesState → Type 0 where
   all_came : {n : NodesState} → Come n [] n
   to_node : {n new : NodesState} {ks : List ℕ} (k at : ℕ) (node : CountedCore)
       (message : Message Command) → slice_get n.sent k ≡ Some (at + 1, message) →
-      slice_get n.nodes at ≡ Some node → node.core.replica.state.stopped ≡ false → Come (after_node_call at node (takes (Peer message)) n) ks new →
+      slice_get n.nodes at ≡ Some node → node.core.replica.state.stopped ≡ false →
+      Come (after_node_call at node (takes (Peer message)) n) ks new →
       Come n (k ∷ ks) new
   to_master : {n new : NodesState} {ks : List ℕ} (k from ballot : ℕ) →
       slice_get n.sent k ≡ Some (0, record { from = from; body = Activate ballot }) →
@@ -42,7 +43,8 @@ pub record IsSeen (a : Moment State Command Output) (n : NodesState) : Type 0 wh
 -- each node is calm, or has not joined the ballot yet
 abbrev pub AreCalm : ℕ → NodesState → Type 0
 AreCalm ballot n =
-    (at : ℕ) (node : CountedCore) → slice_get n.nodes at ≡ Some node → IsCalm node.core ⊎ (node.core.replica.state.joined < ballot)
+    (at : ℕ) (node : CountedCore) → slice_get n.nodes at ≡ Some node →
+    IsCalm node.core ⊎ (node.core.replica.state.joined < ballot)
 
 -- no node has given a name in between
 abbrev pub KeepNames : NodesState → NodesState → Type 0

@@ -31,4 +31,6 @@ NodesAreLedOut =
     (past : List (Moment State Command Output)) → Past rules config (a ∷ past) →
     (new : Config) (place source : ℕ) (log : List Command) →
     CanBeLed (whole_moment a) new place source log → (n end : NodesState) → IsSeen a n →
-    Come (after_giving new n) (way_out (length n.sent) (length n.master.members) place (length new.members - 1)) end → AreLedOut config (a ∷ past) a new place log n end
+    Come (after_giving new n)
+    (way_out (length n.sent) (length n.master.members) place (length new.members - 1)) end →
+    AreLedOut config (a ∷ past) a new place log n end

@@ -65,6 +65,8 @@ ConnectionsOpenFirst =
 -- a client would be answered with session present after these commands exactly if it has a session
 -- that is not clean
 abbrev pub WelcomedAreKept : Type 0
-WelcomedAreKept = (client : Client) (list : List Command) → ((welcomes_back client list ≡ true) → (session_of (past_of usual_limits list) client ≡ Some false))
+WelcomedAreKept =
+    (client : Client) (list : List Command) → ((welcomes_back client list ≡ true) →
+    (session_of (past_of usual_limits list) client ≡ Some false))
     × ((session_of (past_of usual_limits list) client ≡ Some false) →
     (welcomes_back client list ≡ true))

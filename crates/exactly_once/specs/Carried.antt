@@ -44,7 +44,8 @@ more_by _ _ = []
 -- the client's publications that are new in the list, by place
 abbrev pub new_numbers : List Connection → Past → List ℕ
 new_numbers connections (place ∷ past) =
-    new_numbers connections past ++ more_by (is_new place.command place.mark) (carries connections place.command past)
+    new_numbers connections past
+    ++ more_by (is_new place.command place.mark) (carries connections place.command past)
 new_numbers connections [] = []
 
 -- whether it is QoS 2

@@ -106,7 +106,8 @@ pub data Moves {V : Type 0} (h : Handshake V) : Handshake V → Type 0 where
       Moves h (with_items h.items (Link.Behind b) h)
   parts : Moves h (with_items h.items (Link.Behind []) h)
   parts_ahead : Moves h (with_items h.items (Link.Ahead []) h)
-  restarts : (releases : List ℕ) → IsDistinct releases → Each (λ id. has_released id h.items ≡ true) releases →
+  restarts : (releases : List ℕ) → IsDistinct releases →
+      Each (λ id. has_released id h.items ≡ true) releases →
       Moves h (with_items h.items (Link.Joined (resend releases h.items) []) h)
 
 -- one after another

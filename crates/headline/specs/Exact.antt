@@ -68,7 +68,8 @@ pub record IsExact {nodes : ℕ} {config : Config} {cs : List Client} {w : World
   pub of : HasPast config w.group (groups_of (went_of trail)) (all_put (went_of trail))
   pub agreed : List Command
   pub is_agreed : IsAgreed config (moment_of w.group ∷ of.earlier) agreed
-  pub exact : (list : List Command) → IsAgreed config (moment_of w.group ∷ of.earlier) list → IsExactBy list w
+  pub exact : (list : List Command) → IsAgreed config (moment_of w.group ∷ of.earlier) list →
+      IsExactBy list w
   -- and what a client shows, with what it was asked to publish in these steps, is as promised
   pub promises : (list : List Command) → IsAgreed config (moment_of w.group ∷ of.earlier) list →
       (i : ℕ) (c : ClientPipes) (state : ClientState) →
@@ -77,4 +78,6 @@ pub record IsExact {nodes : ℕ} {config : Config} {cs : List Client} {w : World
 
 -- for clients with identifiers of their own, and for all steps
 abbrev pub WorldsAreExact : Type 0
-WorldsAreExact = (nodes : ℕ) (config : Config) (cs : List Client) (w : World) → AreApart cs → (trail : Reached nodes config cs w) → IsExact trail
+WorldsAreExact =
+    (nodes : ℕ) (config : Config) (cs : List Client) (w : World) → AreApart cs →
+    (trail : Reached nodes config cs w) → IsExact trail

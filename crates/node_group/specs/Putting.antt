@@ -58,7 +58,8 @@ commands_put (reads_first now port c connect rest at first is room) =
     commands.Connect c.name connect.client connect.clean ∷ []
 commands_put (reads_later now port c packet rest at later is room) =
     commands.Packet c.name packet ∷ []
-commands_put {core = core} (loses_one port c at asked) = if serves core then commands.Lost c.name ∷ [] else []
+commands_put {core = core} (loses_one port c at asked) = if serves core
+    then commands.Lost c.name ∷ [] else []
 commands_put {core = core} (loses_next c at) = if serves core then commands.Lost c.name ∷ [] else []
 commands_put {core = core} (expels_one client) =
     if serves core then commands.Expel client ∷ [] else []

@@ -35,7 +35,8 @@ pub data IsClosedBy (x : ConnectionName) {core : CoreState} {turn : Turn} (m : M
       d.pending ≡ c.pending → IsClosedBy x m d
   closes_now : (c : Connection) (front : List ℕ) → open_named x core ≡ Some c →
       d.pending ≡ c.pending ++ front →
-      IsPrefixOf front (spelled (refusal_in x m ++ sends_to x (outputs_of (given_in m)))) → IsClosedBy x m d
+      IsPrefixOf front (spelled (refusal_in x m ++ sends_to x (outputs_of (given_in m)))) →
+      IsClosedBy x m d
 
 -- the same holds for each connection that is closed after a move
 abbrev pub NothingOnClosed : Type 0

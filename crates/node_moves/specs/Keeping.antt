@@ -37,7 +37,8 @@ pub record NamesKeepTheirBallot : Type 0 where
   pub opens : (id : ℕ) (config : Config) → AreOfTheBallot (opening_core id config)
   pub moves : (core : CoreState) (turn : Turn) (m : Moves core turn) → IsOrderly core →
       moves_replica m ≡ false → AreOfTheBallot core → AreOfTheBallot turn.core
-  pub hears : (core : CoreState) (input : Input Command) → IsOrderly core → AreOfTheBallot core → AreOfTheBallot (settled (drives input core).core)
+  pub hears : (core : CoreState) (input : Input Command) → IsOrderly core → AreOfTheBallot core →
+      AreOfTheBallot (settled (drives input core).core)
   pub cuts : (core : CoreState) → IsOrderly core → AreOfTheBallot core →
       AreOfTheBallot (settled (with_cut core))
   pub stops : (core : CoreState) → IsOrderly core → AreOfTheBallot (settled (crashed core))

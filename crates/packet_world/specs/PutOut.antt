@@ -68,6 +68,7 @@ GroupsPutOut =
     slice_get b.world.nodes n ≡ Some new →
     (given : List (ℕ × Output)) → given_of n more ≡ given_of n came ++ given →
     (cs : List Client) (w : World) → Reached cs w → IsAgreed config (b ∷ later) w.agreed →
-    (i j : ℕ) (c : ClientEnds) (κ : Connection) (e : End) → HasPipe w i c j κ e → e.is_open ≡ true → e.seen ≡ old.committed →
+    (i j : ℕ) (c : ClientEnds) (κ : Connection) (e : End) → HasPipe w i c j κ e →
+    e.is_open ≡ true → e.seen ≡ old.committed →
     Reached cs (with_client i
     (record c { ends = set c.ends j (end_given κ.name new.committed given e) }) w)

@@ -3,7 +3,7 @@
 use crate::making::made_by;
 use crate::matching::is_match;
 use crate::sessions::{Entry, Session};
-use broker_spec::packet::{ClientId, Delivery, Packet, Payload, Publish, QoS};
+use broker_spec::packet::{ClientId, Delivery, Packet, Payload, Publish, QoS, Subscribe};
 use broker_spec::topics::{Filter, TopicName};
 use broker_spec::{Command, ConnectionId};
 use std::alloc::Global;
@@ -165,12 +165,7 @@ impl ListReading {
                 session.forgets(*id);
                 Some(())
             }
-            Packet::Subscribe(subscribe) => {
-                for asked in subscribe.filters.as_slice() {
-                    self.subscribes(at, &asked.filter, asked.qos)?;
-                }
-                Some(())
-            }
+            Packet::Subscribe(subscribe) => self.subscribes_to_each(at, subscribe),
             Packet::Unsubscribe(unsubscribe) => {
                 for filter in unsubscribe.filters.as_slice() {
                     session.drops(filter);
@@ -185,6 +180,14 @@ impl ListReading {
                 self.ends(connection)
             }
         }
+    }
+
+    // Each filter of a packet is granted, in order.
+    fn subscribes_to_each(&mut self, at: usize, subscribe: &Subscribe) -> Option<()> {
+        for asked in subscribe.filters.as_slice() {
+            self.subscribes(at, &asked.filter, asked.qos)?;
+        }
+        Some(())
     }
 
     // A filter is granted, and brings what is retained.

@@ -32,7 +32,8 @@ fn main(rt: HostRuntime) -> Result<()> {
         };
         if !is_set {
             bail!(
-                "words are --seed, --seeds, --events (1 to 2000), --nodes (1 to 7), --clients (1 to 8), --counts and --scripts (0 or 1), each with a number"
+                "words are --seed, --seeds, --events (1 to 2000), --nodes (1 to 7), \
+                 --clients (1 to 8), --counts and --scripts (0 or 1), each with a number"
             );
         }
     }
@@ -66,7 +67,8 @@ fn tell(rt: &HostRuntime, seed: u64, counts: Counts) -> Result<()> {
     let (happened, agreed, messages) = (counts.happened, counts.agreed, counts.messages);
     let (ballot, accepted) = (counts.ballot, counts.accepted);
     println!(rt;
-        "seed {seed}: {happened} happened, {agreed} agreed, {accepted} accepted, {messages} messages, ballot {ballot}"
+        "seed {seed}: {happened} happened, {agreed} agreed, {accepted} accepted, \
+         {messages} messages, ballot {ballot}"
     )?;
     Ok(())
 }

@@ -57,7 +57,8 @@ pub record CanEscape (members : List ℕ) (name : Client) (w : WorldState) : Typ
   pub room : held_in (node_of w.nodes.nodes source) + 2 ≤ most_places
   pub core : Core
   pub client : core_named name w.clients ≡ Some core
-  pub session : session_of (past_of usual_limits (log_of w.nodes source)) core.state.client ≡ Some false
+  pub session :
+      session_of (past_of usual_limits (log_of w.nodes source)) core.state.client ≡ Some false
 
 -- ---- what it leads to
 

@@ -49,7 +49,8 @@ pub record IsAsked (number : ℕ) (old new : WorldState) : Type 0 where
   pub between : NodesState
   pub gives : Gives node c.slot.node (port_of number) old.nodes between
   pub is : new ≡ record (with_piped c.slot.client c.client
-      (with_down c.slot.at c.way (c.way.down ++ put_out (port_of number) node) c.client.piped) old) {
+      (with_down c.slot.at c.way (c.way.down ++ put_out (port_of number) node) c.client.piped)
+      old) {
         nodes = between;
         connections = set old.connections (number - 1)
             (record c.slot { is_open = is_told_open (port_of number) node });

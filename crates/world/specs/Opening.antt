@@ -30,7 +30,12 @@ abbrev pub with_connection : {name : List ℕ} {w : WorldState} → Named name w
 with_connection {w = w} c piped node =
     record (with_piped c.at c.client piped w) {
       connections = w.connections
-          ++ record { client = c.at; at = length c.client.piped.ways; node = node; is_open = true } ∷ [];
+          ++ record {
+            client = c.at;
+            at = length c.client.piped.ways;
+            node = node;
+            is_open = true;
+          } ∷ [];
     }
 
 -- its node takes the connection, and what the node queued then goes down

@@ -69,7 +69,8 @@ impl World {
         ensures promised { (nodes : ℕ) (config : Config) (clients : List Client)
             (reached : IsReached nodes config clients self.now) (at : ℕ) →
             position (is_named client.now) self.now.clients ≡ Some at → IfSome result (λ core.
-            Promise (connections_at at reached.world) (published_of at (published_on reached.trail)) reached.exact.agreed core.now.state) }
+            Promise (connections_at at reached.world)
+            (published_of at (published_on reached.trail)) reached.exact.agreed core.now.state) }
     {
         let at = self.index_of_client(client)?;
         let found = self.clients.get(at)?;

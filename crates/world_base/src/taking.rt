@@ -216,7 +216,8 @@ impl NodeInStep {
     )
         ensures turns { Turns self.old self.new effects.old.items effects.new.items
             (asks port name connect self.old.core) }
-        ensures run { Ran (Connects port name connect) self.old.core self.new.core effects.old.items effects.new.items }
+        ensures run { Ran (Connects port name connect)
+            self.old.core self.new.core effects.old.items effects.new.items }
     {
         let command = Command::Connect(name, connect.client, connect.clean);
         if !self.propose(command, effects) {
@@ -235,7 +236,8 @@ impl NodeInStep {
         requires sized { IsSized packet }
         ensures turns { Turns self.old self.new effects.old.items effects.new.items
             (says port name packet self.old.core) }
-        ensures run { Ran (Says port name packet) self.old.core self.new.core effects.old.items effects.new.items }
+        ensures run { Ran (Says port name packet)
+            self.old.core self.new.core effects.old.items effects.new.items }
     {
         let Ok(packet) = SizedPacket::new(packet) else {
             unreachable!()
@@ -285,7 +287,8 @@ impl NodeInStep {
     fn lose_failed(&mut self, effects: &mut Vec<Effect<Command, Output>>)
         ensures turns { Turns self.old self.new effects.old.items effects.new.items
             (loses_all_failed self.old.core) }
-        ensures run { Ran LosesAllFailed self.old.core self.new.core effects.old.items effects.new.items }
+        ensures run { Ran LosesAllFailed
+            self.old.core self.new.core effects.old.items effects.new.items }
         ensures none { find has_failed self.old.core.connections ≡ None → self.new ≡ self.old }
     {
         for _connection in 0..self.listed() {
@@ -299,7 +302,8 @@ impl NodeInStep {
     fn lose_one_failed(&mut self, effects: &mut Vec<Effect<Command, Output>>) -> bool
         ensures turns { Turns self.old self.new effects.old.items effects.new.items
             (loses_failed self.old.core) }
-        ensures run { Ran LosesFailed self.old.core self.new.core effects.old.items effects.new.items }
+        ensures run { Ran LosesFailed
+            self.old.core self.new.core effects.old.items effects.new.items }
         ensures none { find has_failed self.old.core.connections ≡ None → self.new ≡ self.old }
         ensures done { result ≡ false → loses_failed self.new.core ≡ quiet self.new.core }
         ensures idle { result ≡ false → LosesFailed self.new.core (quietly self.new.core) }

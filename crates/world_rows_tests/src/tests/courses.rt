@@ -32,7 +32,8 @@ const CHANGED: &[Row] = &[
     Row::Does(Action::Deliver(8), 10, 1),
 ];
 
-/// A client that has a session in the log that is fetched, after this many rows and until this many.
+/// A client that has a session in the log that is fetched, after this many rows and until this
+/// many.
 pub struct Kept {
     client: &'static str,
     from: usize,
