@@ -184,8 +184,7 @@ impl Tables {
 }
 
 impl Tables {
-    // Continues the client's session on this connection, and sends the client what it is to be sent
-    // of it.
+    // Continues the client's session on this connection, and sends what it has for the client.
     fn go_on(
         &mut self,
         connection: ConnectionId,

@@ -226,8 +226,8 @@ fn deliver_to(
     Ok(())
 }
 
-// Keeps a publication with RETAIN 1 (MQTT 3.3.1.3). There is a place for it, since the publication
-// is taken.
+// Keeps a publication with RETAIN 1 (MQTT 3.3.1.3). There is room for it, since the publication is
+// taken.
 fn retain(retained: &mut RetainedStore, publication: Publication) -> Result<(), Halted>
     requires { is_one_topic_over usual_limits retained.old publication ≡ false }
     ensures { OnOk result (retained.new ≡ retains publication retained.old) }
