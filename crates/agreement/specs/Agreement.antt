@@ -1,4 +1,4 @@
--- Agreement.antt: what it means that nodes agree on a list.
+-- What it means that nodes agree on a list.
 use Rattle.std.specs.Prelude.{ℕ, ◌+◌, ◌≡◌, ◌⊎◌, List, take, slice_get, Some}
 use Rattle.whole.specs.machine.Machine.{Rules}
 use Rattle.whole.specs.Replica.{ReplicaState}

@@ -1,5 +1,4 @@
--- Giving.antt: the outputs of one node, in a step and between two moments at which it leads one
--- ballot.
+-- The outputs of one node, in a step and between two moments at which it leads one ballot.
 use Rattle.std.specs.Prelude.{ℕ, true, false, ◌≤◌, ◌≡◌, ◌==◌, List, [], ◌∷◌, ◌++◌}
 use Rattle.std.specs.Prelude.{length, if◌then◌else◌}
 use Rattle.whole.specs.machine.Machine.{Rules}

@@ -1,4 +1,4 @@
--- Inside.antt: what proofs say about groups; no law cites it.
+-- What proofs say about groups; no law cites it.
 pub mod Ballots
 pub mod Begun
 pub mod Chosen

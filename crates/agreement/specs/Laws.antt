@@ -1,4 +1,4 @@
--- Laws.antt: what holds for every past of a group whose master answers each Assign.
+-- What holds for every past of a group whose master answers each Assign.
 use Rattle.std.specs.Prelude.{ℕ, Bool, ◌≤◌, ◌≡◌, List, [], ◌∷◌, ◌++◌, filter, length}
 use Rattle.std.specs.Prelude.{slice_get, Some}
 use Rattle.whole.specs.machine.Machine.{Rules}

@@ -1,4 +1,4 @@
--- Leaving.antt: what left a group, and in which order.
+-- What left a group, and in which order.
 use Rattle.std.specs.Prelude.{ℕ, ◌<◌, ◌≤◌, ◌≡◌, ◌⊎◌, List, length, slice_get, Some}
 use Rattle.std.specs.List.{flat_map}
 use Rattle.whole.specs.machine.Machine.{Rules}

@@ -1,4 +1,4 @@
--- MasterState.antt: what the master keeps, and what it does on Assign and Activate.
+-- What the master keeps, and what it does on Assign and Activate.
 use Rattle.std.specs.Prelude.{ℕ, Bool, true, ◌+◌, ◌==◌, List, Option, Some, None, if◌then◌else◌}
 use Rattle.std.specs.Prelude.{◌^◌, nat_le}
 use Rattle.whole.specs.Config.{Config}

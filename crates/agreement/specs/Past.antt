@@ -1,5 +1,5 @@
--- Past.antt: the moments of a group from its opening on, and what its members have acknowledged
--- (told) in each ballot.
+-- The moments of a group from its opening on, and what its members have acknowledged (told) in each
+-- ballot.
 use Rattle.std.specs.Prelude.{ℕ, true, false, ◌+◌, ◌≤◌, ◌≡◌, ◌⊎◌, List, [], ◌∷◌, length, slice_get}
 use Rattle.std.specs.Prelude.{take, Some}
 use Rattle.whole.specs.lists.Lists.{In, IsPrefixOf}

@@ -1,4 +1,4 @@
--- Primaries.antt: who is the active primary of a ballot.
+-- Who is the active primary of a ballot.
 use Rattle.std.specs.Prelude.{ℕ, true, ◌≡◌, slice_get, Some}
 use Rattle.whole.specs.Replica.{ReplicaState, is_active}
 use Rattle.agreement.specs.World.{World}

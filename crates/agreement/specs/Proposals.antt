@@ -1,5 +1,4 @@
--- Proposals.antt: what was proposed to nodes, in order, what of it they took, and what logs keep of
--- that order.
+-- What was proposed to nodes, in order, what of it they took, and what logs keep of that order.
 use Rattle.std.specs.Prelude.{ℕ, Bool, true, false, ◌≡◌, List, [], ◌∷◌, ◌++◌, length, filter}
 use Rattle.std.specs.Prelude.{slice_get, Some, nat_lt, ◌==◌, if◌then◌else◌}
 use Rattle.whole.specs.machine.Machine.{Rules}

@@ -1,4 +1,4 @@
--- Replays.antt: the machine of a node that runs is the replay of the places that it applied.
+-- The machine of a node that runs is the replay of the places that it applied.
 use Rattle.std.specs.Prelude.{ℕ, false, ◌≡◌, take, slice_get, Some}
 use Rattle.whole.specs.machine.Machine.{Rules, replay}
 use Rattle.whole.specs.Replica.{ReplicaState}

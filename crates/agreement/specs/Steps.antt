@@ -1,5 +1,5 @@
--- Steps.antt: what may happen in a group: a node takes its step, perhaps with losses, or stops; its
--- master answers an Assign, or receives an Activate. Messages of the master may be lost, too.
+-- What may happen in a group: a node takes its step, perhaps with losses, or stops; its master
+-- answers an Assign, or receives an Activate. Messages of the master may be lost, too.
 use Rattle.std.specs.Prelude.{ℕ, ◌+◌, ◌≡◌, false, List, [], slice_get, Some, ◌∷◌, ◌++◌}
 use Rattle.std.specs.Prelude.{Option, None}
 use Rattle.whole.specs.machine.Machine.{Rules}

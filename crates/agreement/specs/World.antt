@@ -1,4 +1,4 @@
--- World.antt: nodes, all messages that they ever sent, the outputs that left, and how they open.
+-- Nodes, all messages that they ever sent, the outputs that left, and how they open.
 use Rattle.std.specs.Prelude.{Option, Some, None, ℕ, zero, suc, Bool, ◌+◌, List, [], ◌∷◌, ◌++◌}
 use Rattle.std.specs.Prelude.{slice_set, ◌&&◌, nat_le}
 use Rattle.std.specs.List.{list_all}

@@ -1,4 +1,4 @@
--- Heeding.antt: when a message or a tick has an effect, by the rows of the protocol.
+-- When a message or a tick has an effect, by the rows of the protocol.
 use Rattle.std.specs.Prelude.{ℕ, Bool, true, false, List, length, ◌==◌, ◌&&◌, ◌||◌, nat_lt, nat_le}
 use Rattle.std.specs.List.{list_any}
 use Rattle.ballot_base.specs.declared.message.Body.{Body}

@@ -1,4 +1,4 @@
--- Inside.antt: what the helpers of a replica ensure about the list of effects.
+-- What the helpers of a replica ensure about the list of effects.
 use Rattle.std.specs.Prelude.{◌≡◌, ◌⊎◌, Bool, true, false, List, ◌++◌, if◌then◌else◌}
 use Rattle.ballot_base.specs.machine.Machine.{Rules}
 use Rattle.ballot_base.specs.declared.message.Effect.{Effect}

@@ -1,5 +1,5 @@
--- Activating.antt: the rows of the protocol from the last Installed to Activated, or to Superseded.
--- A message that a row's condition does not cover changes nothing.
+-- The rows of the protocol from the last Installed to Activated, or to Superseded. A message that a
+-- row's condition does not cover changes nothing.
 use Rattle.std.specs.Prelude.{ℕ, List, [], ◌∷◌, length, ◌==◌, ◌&&◌, nat_lt, nat_le, if◌then◌else◌}
 use Rattle.std.specs.List.{list_any}
 use Rattle.machine.specs.Machine.{Rules}

@@ -1,4 +1,4 @@
--- Applying.antt: applied places of a log, and their outputs.
+-- Applied places of a log, and their outputs.
 use Rattle.std.specs.Prelude.{ℕ, ◌+◌, List, [], ◌∷◌, ◌++◌, map}
 use Rattle.machine.specs.Machine.{Rules, replay_from}
 use Rattle.ballot_base.specs.Logs.{part}

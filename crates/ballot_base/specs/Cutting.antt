@@ -1,4 +1,4 @@
--- Cutting.antt: how a replica cuts its log.
+-- How a replica cuts its log.
 use Rattle.std.specs.Prelude.{◌-◌, Bool, not, drop, ◌&&◌, nat_lt}
 use Rattle.machine.specs.Machine.{Rules}
 use Rattle.ballot_base.specs.Replica.{ReplicaState}

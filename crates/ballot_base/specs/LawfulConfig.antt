@@ -1,4 +1,4 @@
--- LawfulConfig.antt: which members and primary a ballot may have.
+-- Which members and primary a ballot may have.
 use Rattle.std.specs.Prelude.{ℕ, Bool, true, List, [], ◌∷◌, length, ◌&&◌, ◌==◌, nat_lt, nat_le}
 use Rattle.std.specs.List.{list_any}
 

@@ -1,4 +1,4 @@
--- Logs.antt: a log with a snapshot in place of the places below its base.
+-- A log with a snapshot in place of the places below its base.
 use Rattle.std.specs.Prelude.{ℕ, ◌+◌, ◌-◌, List, [], ◌∷◌, ◌++◌, length, take, drop, slice_get}
 use Rattle.std.specs.Prelude.{Option, None, nat_lt, if◌then◌else◌}
 

@@ -1,4 +1,4 @@
--- Replica.antt: what a replica keeps, and how it opens.
+-- What a replica keeps, and how it opens.
 use Rattle.std.specs.Prelude.{ℕ, Bool, true, false, List, [], filter, map, not, ◌==◌, if◌then◌else◌}
 use Rattle.machine.specs.Machine.{Rules}
 use Rattle.ballot_base.specs.Logs.{Log, empty_log, places}

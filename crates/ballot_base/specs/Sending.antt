@@ -1,4 +1,4 @@
--- Sending.antt: the outcome of a step: the replica after it, and its effects.
+-- The outcome of a step: the replica after it, and its effects.
 use Rattle.std.specs.Prelude.{ℕ, List, [], ◌++◌, map}
 use Rattle.ballot_base.specs.declared.message.Body.{Body}
 use Rattle.ballot_base.specs.declared.message.Effect.{Effect}

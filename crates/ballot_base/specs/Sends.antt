@@ -1,4 +1,4 @@
--- Sends.antt: what the calls that send messages ensure about the list of effects.
+-- What the calls that send messages ensure about the list of effects.
 use Rattle.std.specs.Prelude.{◌≡◌, Bool, true, List, [], ◌++◌}
 use Rattle.ballot_base.specs.declared.message.Effect.{Effect}
 use Rattle.ballot_base.specs.Losses.{Thinned}

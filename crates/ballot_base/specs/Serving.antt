@@ -1,5 +1,5 @@
--- Serving.antt: the rows of the protocol inside a ballot: Append, Held, Commit, proposals, ticks.
--- Receivers are in rising order. A message that no row's condition covers changes nothing.
+-- The rows of the protocol inside a ballot: Append, Held, Commit, proposals, ticks. Receivers are
+-- in rising order. A message that no row's condition covers changes nothing.
 use Rattle.std.specs.Prelude.{ℕ, Bool, ◌^◌, List, [], ◌∷◌, ◌++◌, map, min, max, Option, Some, None}
 use Rattle.std.specs.Prelude.{◌==◌, ◌&&◌, nat_lt, nat_le, if◌then◌else◌}
 use Rattle.std.specs.List.{flat_map}

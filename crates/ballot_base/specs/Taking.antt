@@ -1,4 +1,4 @@
--- Taking.antt: how a replica takes a log that it is sent.
+-- How a replica takes a log that it is sent.
 use Rattle.std.specs.Prelude.{◌-◌, max, drop, Option, Some, None, nat_lt, if◌then◌else◌}
 use Rattle.machine.specs.Machine.{Rules}
 use Rattle.ballot_base.specs.Logs.{Log}

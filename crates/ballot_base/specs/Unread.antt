@@ -1,4 +1,4 @@
--- Unread.antt: messages whose snapshot has to be read and does not thaw. They count as lost.
+-- Messages whose snapshot has to be read and does not thaw. They count as lost.
 use Rattle.std.specs.Prelude.{Bool, true, false, Option, Some, None, ◌&&◌, nat_lt}
 use Rattle.machine.specs.Machine.{Rules}
 use Rattle.ballot_base.specs.declared.message.Body.{Body}

@@ -1,4 +1,4 @@
--- Inside.antt: the proofs of the tally's laws.
+-- The proofs of the tally's laws.
 use Rattle.std.proofs.Common.{◌≡◌, ℕ, ◌^◌, ◌<◌, Some, rules}
 use Rattle.std.proofs.lemmas.Nat.{from_be_bytes-to_be_bytes_8}
 use Rattle.machine.specs.declared.tally.TallyCommand.{TallyCommand}

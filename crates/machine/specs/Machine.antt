@@ -1,4 +1,4 @@
--- Machine.antt: a machine given only by its rules, and what a list of commands does to it.
+-- A machine given only by its rules, and what a list of commands does to it.
 use Rattle.std.specs.Prelude.{ℕ, List, [], ◌∷◌, Option}
 use Rattle.machine.specs.declared.error.ThawFault.{ThawFault}
 use Rattle.machine.specs.declared.error.ThawFault.TheVariants.{Shape, Memory}

@@ -1,4 +1,4 @@
--- Agreement.antt: what holds for a group whatever happened to it.
+-- What holds for a group whatever happened to it.
 use Rattle.std.specs.Prelude.{◌≡◌, List, ◌∷◌, ◌++◌}
 use Rattle.ballot.specs.machine.Machine.{Rules}
 use Rattle.ballot.specs.lists.Lists.{IsPrefixOf}

@@ -1,4 +1,4 @@
--- Copying.antt: which messages are copied without memory.
+-- Which messages are copied without memory.
 use Rattle.std.specs.Prelude.{Bool, true, false}
 use Rattle.ballot.specs.Body.{Body}
 use Rattle.ballot.specs.Body.TheVariants.{NewBallot, Join, State, Install, Installed, Activate}

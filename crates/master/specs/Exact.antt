@@ -1,4 +1,4 @@
--- Exact.antt: what an event does to a group if memory suffices.
+-- What an event does to a group if memory suffices.
 use Rattle.std.specs.Prelude.{ℕ, zero, suc, ◌-◌, List, [], ◌∷◌, slice_get, Option, Some, None}
 use Rattle.ballot.specs.machine.Machine.{Rules}
 use Rattle.ballot.specs.Body.{Body}

@@ -1,4 +1,4 @@
--- Group.antt: the model of a group.
+-- The model of a group.
 use Rattle.std.specs.Prelude.{ℕ}
 use Rattle.snapshots.specs.Past.{Moment}
 

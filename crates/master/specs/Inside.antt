@@ -1,4 +1,4 @@
--- Inside.antt: what the helpers of a group ensure about nodes, its moment and counters.
+-- What the helpers of a group ensure about nodes, its moment and counters.
 pub mod Losing
 use Rattle.std.specs.Prelude.{ℕ, false, ◌-◌, ◌<◌, ◌≤◌, ◌≡◌, List, [], ◌∷◌, length, map, min, get_or}
 use Rattle.std.specs.Prelude.{slice_get, Option, Some, None, nat_lt, if◌then◌else◌}

@@ -1,4 +1,4 @@
--- Refusals.antt: the numbers of the refusals, as in the table of refusals.
+-- The numbers of the refusals, as in the table of refusals.
 use Rattle.std.specs.Prelude.{ℕ}
 use Rattle.master.specs.declared.error.AssignError.{AssignError}
 use Rattle.master.specs.declared.error.AssignError.TheVariants.{BadMembers, BallotsSpent}

@@ -1,4 +1,4 @@
--- Steps.antt: steps of a group in which memory may have run out, and how these are counted.
+-- Steps of a group in which memory may have run out, and how these are counted.
 use Rattle.std.specs.Prelude.{◌^◌, ◌-◌, ◌<◌, ◌≡◌, ◌⊎◌, ℕ, List, [], ◌∷◌, Option, Some, None}
 use Rattle.ballot.specs.machine.Machine.{Rules}
 use Rattle.ballot.specs.Effect.{Effect}

@@ -1,5 +1,4 @@
--- ToldLengths.antt: how many places each node acknowledged in a ballot, by the messages that were
--- sent.
+-- How many places each node acknowledged in a ballot, by the messages that were sent.
 use Rattle.std.specs.Prelude.{ℕ, ◌==◌, List, [], ◌∷◌, max, if◌then◌else◌}
 use Rattle.ballot.specs.Body.{Body}
 use Rattle.ballot.specs.Body.TheVariants.{NewBallot, Join, State, Install, Installed, Activate}

@@ -1,4 +1,4 @@
--- Turns.antt: the turn that an event is: of a node, a cut of its log, or the master's.
+-- The turn that an event is: of a node, a cut of its log, or the master's.
 use Rattle.std.specs.Prelude.{ℕ, zero, suc, Bool, true, List, [], slice_get, Option, Some, None}
 use Rattle.std.specs.Prelude.{◌&&◌, nat_lt, if◌then◌else◌}
 use Rattle.ballot.specs.machine.Machine.{Rules}

@@ -1,4 +1,4 @@
--- Agreeing.antt: what nodes that cut their logs agree on, said about their whole logs.
+-- What nodes that cut their logs agree on, said about their whole logs.
 use Rattle.std.specs.Prelude.{ℕ, List, map}
 use Rattle.agreement.specs.machine.Machine.{Rules}
 use Rattle.agreement.specs.Agreement.{Agrees as AgreesWhole, Holds as HoldsWhole}

@@ -1,5 +1,4 @@
--- Giving.antt: the outputs of one node of a group that cuts its logs, in a step and while it leads
--- one ballot.
+-- The outputs of one node of a group that cuts its logs, in a step and while it leads one ballot.
 use Rattle.std.specs.Prelude.{ℕ, ◌==◌, List, [], ◌∷◌, ◌++◌, if◌then◌else◌}
 use Rattle.agreement.specs.machine.Machine.{Rules}
 use Rattle.agreement.specs.MasterState.{MasterState}

@@ -1,5 +1,5 @@
--- Laws.antt: what holds for every past of a group whose nodes cut their logs. What is said about
--- logs is said about whole ones.
+-- What holds for every past of a group whose nodes cut their logs. What is said about logs is said
+-- about whole ones.
 use Rattle.std.specs.Prelude.{ℕ, ◌<◌, ◌≤◌, ◌≡◌, false, List, ◌∷◌, length, map, take, slice_get}
 use Rattle.std.specs.Prelude.{Option, Some, None}
 use Rattle.agreement.specs.machine.Machine.{Rules, replay}

@@ -1,5 +1,5 @@
--- Masters.antt: the messages of the master in a group whose nodes cut their logs. What it keeps is
--- as on whole logs, and no message of it carries a log.
+-- The messages of the master in a group whose nodes cut their logs. What it keeps is as on whole
+-- logs, and no message of it carries a log.
 use Rattle.std.specs.Prelude.{ℕ, ◌+◌, Option, if◌then◌else◌}
 use Rattle.agreement.specs.MasterState.{MasterState, activating, assigning, is_granted}
 use Rattle.agreement.specs.ballot_base.declared.config.Config.{Config}

@@ -1,4 +1,4 @@
--- Matches.antt: when a step of nodes that cut their logs is a step on the whole logs.
+-- When a step of nodes that cut their logs is a step on the whole logs.
 use Rattle.std.specs.Prelude.{◌≤◌, ◌≡◌, List, length}
 use Rattle.agreement.specs.whole.Losses.{Thinned}
 use Rattle.agreement.specs.whole.Sending.{Outcome as WholeOutcome}

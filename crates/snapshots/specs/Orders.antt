@@ -1,5 +1,5 @@
--- Orders.antt: what holds for the order of proposals, and of what nodes give, in every past of a
--- group that cuts its logs. What is said about logs is said about whole ones.
+-- What holds for the order of proposals, and of what nodes give, in every past of a group that cuts
+-- its logs. What is said about logs is said about whole ones.
 use Rattle.std.specs.Prelude.{ℕ, Bool, ◌≤◌, ◌≡◌, List, [], ◌∷◌, ◌++◌, filter, length, map}
 use Rattle.std.specs.Prelude.{slice_get, Some}
 use Rattle.agreement.specs.machine.Machine.{Rules}

@@ -1,4 +1,4 @@
--- Past.antt: the moments of a group whose nodes cut their logs, from its opening on.
+-- The moments of a group whose nodes cut their logs, from its opening on.
 use Rattle.std.specs.Prelude.{ℕ, zero, suc, ◌+◌, ◌≡◌, true, List, [], ◌∷◌, ◌++◌, map}
 use Rattle.agreement.specs.machine.Machine.{Rules}
 use Rattle.agreement.specs.MasterState.{MasterState, opening_master}

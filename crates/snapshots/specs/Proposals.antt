@@ -1,5 +1,5 @@
--- Proposals.antt: what was proposed to the nodes of a group that cuts its logs, in order, and which
--- of it they took.
+-- What was proposed to the nodes of a group that cuts its logs, in order, and which of it they
+-- took.
 use Rattle.std.specs.Prelude.{ℕ, ◌==◌, List, [], ◌∷◌, ◌++◌, nat_lt, if◌then◌else◌}
 use Rattle.agreement.specs.machine.Machine.{Rules}
 use Rattle.agreement.specs.MasterState.{MasterState}

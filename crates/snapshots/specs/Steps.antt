@@ -1,6 +1,6 @@
--- Steps.antt: what may happen in a group whose nodes cut their logs: a node takes its step, stops
--- or cuts its log; its master answers an Assign, or receives an Activate. Messages of the master
--- may be lost, too.
+-- What may happen in a group whose nodes cut their logs: a node takes its step, stops or cuts its
+-- log; its master answers an Assign, or receives an Activate. Messages of the master may be lost,
+-- too.
 use Rattle.std.specs.Prelude.{ℕ, [], ◌∷◌, ◌++◌, Option, Some, None}
 use Rattle.agreement.specs.machine.Machine.{Rules}
 use Rattle.agreement.specs.lists.Lists.{In}

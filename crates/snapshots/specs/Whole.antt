@@ -1,5 +1,5 @@
--- Whole.antt: the replica, the messages and the effects on whole logs that correspond to those with
--- cut logs, by a record of the places below all bases.
+-- The replica, the messages and the effects on whole logs that correspond to those with cut logs,
+-- by a record of the places below all bases.
 use Rattle.std.specs.Prelude.{List, ◌++◌, map, take}
 use Rattle.agreement.specs.whole.Messages.{Body as WholeBody, Effect as WholeEffect}
 use Rattle.agreement.specs.whole.Messages.{Message as WholeMessage}

@@ -1,5 +1,5 @@
--- World.antt: nodes that cut their logs, all messages, the outputs that left, and the record of
--- places; what may happen to a node there.
+-- Nodes that cut their logs, all messages, the outputs that left, and the record of places; what
+-- may happen to a node there.
 use Rattle.std.specs.Prelude.{ℕ, ◌+◌, ◌<◌, ◌≡◌, false, List, [], ◌∷◌, ◌++◌, length, map, take, drop}
 use Rattle.std.specs.Prelude.{slice_get, slice_set, Some}
 use Rattle.agreement.specs.machine.Machine.{Rules}

@@ -1,5 +1,4 @@
--- AnswerLaws.antt: what all members hold is agreed, and the primary that they follow answers
--- commands.
+-- What all members hold is agreed, and the primary that they follow answers commands.
 use Rattle.std.specs.Prelude.{ℕ, ◌+◌, ◌*◌, ◌<◌, ◌≡◌, false, List, [], ◌∷◌, ◌++◌, length, map}
 use Rattle.std.specs.Prelude.{slice_get, Some}
 use Rattle.snapshots.specs.machine.Machine.{Rules, replay}

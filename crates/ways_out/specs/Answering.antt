@@ -1,5 +1,5 @@
--- Answering.antt: the next command at the primary of a led ballot, if nodes cut their logs. What is
--- said about logs is said about whole ones.
+-- The next command at the primary of a led ballot, if nodes cut their logs. What is said about logs
+-- is said about whole ones.
 use Rattle.std.specs.Prelude.{ℕ, ◌+◌, ◌*◌, ◌<◌, ◌≡◌, false, List, [], ◌∷◌, ◌++◌, length, map}
 use Rattle.std.specs.Prelude.{slice_get, Some}
 use Rattle.snapshots.specs.machine.Machine.{Rules, replay}

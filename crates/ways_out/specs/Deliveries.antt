@@ -1,5 +1,5 @@
--- Deliveries.antt: messages that come to their receivers one after another, exactly, each named by
--- its number, and the numbers of those that lead a new ballot to its start.
+-- Messages that come to their receivers one after another, exactly, each named by its number, and
+-- the numbers of those that lead a new ballot to its start.
 use Rattle.snapshots.specs.lists.Lists.{In}
 use Rattle.std.specs.Prelude.{ℕ, zero, suc, ◌+◌, ◌≡◌, false, List, [], ◌∷◌, ◌++◌, slice_get, Some}
 use Rattle.snapshots.specs.machine.Machine.{Rules}

@@ -1,4 +1,4 @@
--- Following.antt: the states of nodes in relation to the ballot that is led to its start.
+-- The states of nodes in relation to the ballot that is led to its start.
 use Rattle.std.specs.Prelude.{ℕ, ◌≡◌, false, List, length}
 use Rattle.snapshots.specs.whole.Role.TheVariants.{Backup, Active}
 use Rattle.snapshots.specs.whole.Replica.{ReplicaState, progress_at}

@@ -1,4 +1,4 @@
--- Inside.antt: what proofs say about nodes during a way out; no law cites it.
+-- What proofs say about nodes during a way out; no law cites it.
 use Rattle.std.specs.Prelude.{ℕ, ◌+◌, ◌≡◌, ◌≤◌, ◌<◌, false, List, [], ◌++◌}
 use Rattle.snapshots.specs.whole.Role.TheVariants.{Fetching, Installing}
 use Rattle.snapshots.specs.whole.Replica.{ReplicaState, progress_at}

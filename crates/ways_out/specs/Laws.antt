@@ -1,5 +1,5 @@
--- Laws.antt: at each moment of a group a new ballot can be led to its start, which all its members
--- then hold: by which messages, in which order, and what is agreed after them.
+-- At each moment of a group a new ballot can be led to its start, which all its members then hold:
+-- by which messages, in which order, and what is agreed after them.
 use Rattle.std.specs.Prelude.{ℕ, ◌+◌, ◌-◌, ◌*◌, ◌<◌, ◌≡◌, List, [], ◌∷◌, ◌++◌, length, None}
 use Rattle.std.specs.Prelude.{slice_get, Some}
 use Rattle.snapshots.specs.machine.Machine.{Rules}

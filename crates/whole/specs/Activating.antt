@@ -1,5 +1,4 @@
--- Activating.antt: the rows of the protocol from the last Installed to Activated, or to Superseded,
--- on whole logs.
+-- The rows of the protocol from the last Installed to Activated, or to Superseded, on whole logs.
 use Rattle.std.specs.Prelude.{ℕ, List, [], ◌∷◌, length, ◌==◌, ◌&&◌, nat_lt, nat_le, if◌then◌else◌}
 use Rattle.std.specs.List.{list_any}
 use Rattle.ballot_base.specs.machine.Machine.{Rules}

@@ -1,4 +1,4 @@
--- Applying.antt: applied places of a log, and their outputs.
+-- Applied places of a log, and their outputs.
 use Rattle.std.specs.Prelude.{ℕ, ◌+◌, List, [], ◌∷◌, ◌++◌, map, take, drop}
 use Rattle.ballot_base.specs.machine.Machine.{Rules, replay, replay_from}
 use Rattle.whole.specs.Messages.{Effect}

@@ -1,5 +1,5 @@
--- Changing.antt: the rows of the protocol between ballots, from NewBallot to Activated, and the
--- ticks of a new primary. A message that a row's condition does not cover changes nothing.
+-- The rows of the protocol between ballots, from NewBallot to Activated, and the ticks of a new
+-- primary. A message that a row's condition does not cover changes nothing.
 use Rattle.std.specs.Prelude.{ℕ, List, [], ◌∷◌, length, ◌==◌, ◌&&◌, ◌||◌, nat_lt}
 use Rattle.std.specs.Prelude.{nat_le, if◌then◌else◌}
 use Rattle.whole.specs.Messages.Body.{Join, State, Install, Installed, Activate}

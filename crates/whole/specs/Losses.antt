@@ -1,4 +1,4 @@
--- Losses.antt: a step in which memory ran out.
+-- A step in which memory ran out.
 use Rattle.std.specs.Prelude.{ℕ, ◌≡◌, ◌⊎◌, true, List, [], ◌∷◌}
 use Rattle.ballot_base.specs.machine.Machine.{Rules}
 use Rattle.whole.specs.Messages.{Message, Effect}

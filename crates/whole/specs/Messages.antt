@@ -1,4 +1,4 @@
--- Messages.antt: the messages of nodes if each holds its whole log, and the effects of a step.
+-- The messages of nodes if each holds its whole log, and the effects of a step.
 use Rattle.std.specs.Prelude.{ℕ, List}
 
 -- what one node says to another, by its kind; the first number of each is the ballot that it speaks

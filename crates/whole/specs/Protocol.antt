@@ -1,4 +1,4 @@
--- Protocol.antt: the step of a replica on a message, a proposal or a tick.
+-- The step of a replica on a message, a proposal or a tick.
 use Rattle.std.specs.Prelude.{ℕ}
 use Rattle.ballot_base.specs.machine.Machine.{Rules}
 use Rattle.whole.specs.Messages.{Message, Body}

@@ -1,4 +1,4 @@
--- Replica.antt: what a replica keeps, and how it opens.
+-- What a replica keeps, and how it opens.
 use Rattle.std.specs.Prelude.{ℕ, Bool, false, List, [], ◌==◌, if◌then◌else◌}
 use Rattle.ballot_base.specs.machine.Machine.{Rules}
 use Rattle.ballot_base.specs.declared.config.Config.{Config}

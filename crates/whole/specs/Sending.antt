@@ -1,4 +1,4 @@
--- Sending.antt: the outcome of a step: the replica after it, and its effects.
+-- The outcome of a step: the replica after it, and its effects.
 use Rattle.std.specs.Prelude.{ℕ, List, [], ◌++◌, map}
 use Rattle.whole.specs.Messages.{Body, Effect}
 use Rattle.whole.specs.Messages.Effect.{To}

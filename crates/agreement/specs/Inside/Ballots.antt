@@ -1,4 +1,4 @@
--- Ballots.antt: what is said about several ballots.
+-- What is said about several ballots.
 use Rattle.std.specs.Prelude.{ℕ, ◌+◌, ◌<◌, ◌≤◌, ◌≡◌, ◌⊎◌, List, [], ◌∷◌, length, take, slice_get}
 use Rattle.std.specs.Prelude.{Option, Some}
 use Rattle.whole.specs.Messages.Body.{Held, Installed}

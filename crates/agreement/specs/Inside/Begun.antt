@@ -1,4 +1,4 @@
--- Begun.antt: where a ballot begins in its list.
+-- Where a ballot begins in its list.
 use Rattle.std.specs.Prelude.{ℕ, ◌<◌, ◌≡◌, ◌⊎◌, length, slice_get, Some}
 use Rattle.whole.specs.Role.TheVariants.{Active}
 use Rattle.whole.specs.Replica.{ReplicaState}

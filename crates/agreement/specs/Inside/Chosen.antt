@@ -1,4 +1,4 @@
--- Chosen.antt: what is chosen and agreed by the history of ballots.
+-- What is chosen and agreed by the history of ballots.
 use Rattle.std.specs.Prelude.{ℕ, ◌≡◌, ◌⊎◌, List, [], take, Some}
 use Rattle.agreement.specs.World.{World}
 use Rattle.whole.specs.lists.Lists.{In, IsPrefixOf}

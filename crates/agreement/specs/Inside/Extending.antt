@@ -1,4 +1,4 @@
--- Extending.antt: what stays when a world goes on; no node acknowledges more than its ballot has.
+-- What stays when a world goes on; no node acknowledges more than its ballot has.
 use Rattle.std.specs.Prelude.{ℕ, ◌+◌, ◌≤◌, ◌≡◌, ◌⊎◌, length, slice_get, Some}
 use Rattle.whole.specs.Messages.{Message}
 use Rattle.whole.specs.Replica.{ReplicaState}

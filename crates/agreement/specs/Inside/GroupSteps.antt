@@ -1,4 +1,4 @@
--- GroupSteps.antt: what may happen in a group, if an Assign is not refused.
+-- What may happen in a group, if an Assign is not refused.
 use Rattle.std.specs.Prelude.{ℕ, ◌≡◌, false, List, [], slice_get, Some}
 use Rattle.whole.specs.machine.Machine.{Rules}
 use Rattle.whole.specs.Config.{Config}

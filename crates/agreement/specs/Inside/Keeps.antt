@@ -1,5 +1,5 @@
--- Keeps.antt: a world continues soundly, and so it does after an outcome of a node, with messages
--- missing or not.
+-- A world continues soundly, and so it does after an outcome of a node, with messages missing or
+-- not.
 use Rattle.agreement.specs.Inside.Moves.{with_lines}
 use Rattle.std.specs.Prelude.{◌⊎◌, ℕ, ◌≡◌, List, [], ◌∷◌, ◌++◌, Some, None}
 use Rattle.whole.specs.machine.Machine.{Rules}

@@ -1,4 +1,4 @@
--- Masters.antt: what the master's fields say about the history of ballots.
+-- What the master's fields say about the history of ballots.
 use Rattle.std.specs.Prelude.{ℕ, ◌+◌, ◌<◌, ◌≤◌, ◌≡◌, List, ◌∷◌, Some}
 use Rattle.whole.specs.Config.{Config}
 use Rattle.agreement.specs.Inside.Ballots.{Given, History}

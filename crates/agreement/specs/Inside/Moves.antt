@@ -1,5 +1,4 @@
--- Moves.antt: what is to be known about a move of one node, so that all that does not name the node
--- is kept.
+-- What is to be known about a move of one node, so that all that does not name the node is kept.
 use Rattle.std.specs.Prelude.{ℕ, ◌+◌, ◌≤◌, ◌≡◌, ◌⊎◌, ◌==◌, List, length, slice_get, Option, Some}
 use Rattle.std.specs.Prelude.{None, if◌then◌else◌}
 use Rattle.whole.specs.Messages.{Effect}

@@ -1,4 +1,4 @@
--- OpeningHistory.antt: the history of a group that opens.
+-- The history of a group that opens.
 use Rattle.std.specs.Prelude.{◌==◌, [], ◌∷◌, Some, None, if◌then◌else◌}
 use Rattle.whole.specs.Config.{Config}
 use Rattle.agreement.specs.Inside.Ballots.{Given, Line, History}

@@ -1,5 +1,4 @@
--- Own.antt: the commands that were proposed in one ballot are in each log in the order of their
--- proposals.
+-- The commands that were proposed in one ballot are in each log in the order of their proposals.
 use Rattle.std.specs.Prelude.{ℕ, Bool, ◌≡◌, List, filter, Some}
 use Rattle.whole.specs.lists.Lists.{In, IsPrefixOf}
 use Rattle.agreement.specs.Proposals.{commands_of, IsOfBallot}

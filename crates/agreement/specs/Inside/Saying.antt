@@ -1,4 +1,4 @@
--- Saying.antt: what a message between nodes says, and when it is true.
+-- What a message between nodes says, and when it is true.
 use Rattle.std.specs.Prelude.{ℕ, ◌+◌, ◌<◌, ◌≤◌, ◌≡◌, ◌⊎◌, List, length, slice_get, Some}
 use Rattle.whole.specs.Messages.{Body}
 use Rattle.whole.specs.Messages.Body.{NewBallot, Join, State, Install, Installed, Activate}

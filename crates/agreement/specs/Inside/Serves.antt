@@ -1,4 +1,4 @@
--- Serves.antt: all that holds for a group at each of its moments, with the history of its ballots.
+-- All that holds for a group at each of its moments, with the history of its ballots.
 use Rattle.std.specs.Prelude.{ℕ, ◌+◌, ◌<◌, ◌≡◌, ◌⊎◌, length, Some}
 use Rattle.whole.specs.machine.Machine.{Rules}
 use Rattle.agreement.specs.Inside.Masters.{IsServing, IsMaster}

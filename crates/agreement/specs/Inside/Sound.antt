@@ -1,4 +1,4 @@
--- Sound.antt: what holds in every world that a group comes to, of its messages, nodes and outputs.
+-- What holds in every world that a group comes to, of its messages, nodes and outputs.
 use Rattle.std.specs.Prelude.{ℕ, ◌+◌, ◌<◌, ◌≤◌, ◌≡◌, ◌⊎◌, List, [], length, take, slice_get}
 use Rattle.std.specs.Prelude.{Some, None}
 use Rattle.std.specs.List.{flat_map}

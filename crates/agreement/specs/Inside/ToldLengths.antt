@@ -1,5 +1,5 @@
--- ToldLengths.antt: how much of a ballot's list each member acknowledged, and the prefix that all
--- of them acknowledged, by the messages that were sent.
+-- How much of a ballot's list each member acknowledged, and the prefix that all of them
+-- acknowledged, by the messages that were sent.
 use Rattle.std.specs.Prelude.{ℕ, ◌==◌, List, [], ◌∷◌, length, if◌then◌else◌}
 use Rattle.std.proofs.Common.{min, max}
 use Rattle.whole.specs.Messages.{Message, Body}

@@ -1,4 +1,4 @@
--- Losing.antt: steps and turns that may lose something when memory runs out, and count it.
+-- Steps and turns that may lose something when memory runs out, and count it.
 use Rattle.std.specs.Prelude.{ℕ, Bool, true, false, ◌-◌, ◌^◌, ◌<◌, ◌≡◌, ◌⊎◌, List, [], ◌++◌, Some}
 use Rattle.ballot.specs.machine.Machine.{Rules}
 use Rattle.ballot.specs.Message.{Message}
