@@ -53,11 +53,14 @@ pub data LeadsOn {S C O : Type 0} {rules : Rules S C O} {config : Config} (n bal
     {a : Moment S C O} {past : List (Moment S C O)} (came : Past rules config (a ∷ past)) :
     (b : Moment S C O) (later : List (Moment S C O)) → Past rules config (b ∷ later) →
     Type 0 where
+  -- it is so at the moment itself
   leads_there : IsPrimary a.world n ballot → LeadsOn n ballot came a past came
+  -- it is so after one more step
   leads_still : {b c : Moment S C O} {later : List (Moment S C O)}
       {more : Past rules config (b ∷ later)} → LeadsOn n ballot came b later more →
       (step : MayHappen rules b.master b.world c.master c.world) → IsPrimary c.world n ballot →
       LeadsOn n ballot came c (b ∷ later) (went_on more step)
+  -- it is so after a node learned something
   leads_beside : {b c : Moment S C O} {later : List (Moment S C O)}
       {more : Past rules config (b ∷ later)} → LeadsOn n ballot came b later more →
       (learns : Learns rules (b ∷ later) b c) → IsPrimary c.world n ballot →

@@ -62,8 +62,8 @@ activated C m ballot from waiting =
 
 -- why the master refuses an Assign
 pub data AssignRefusal : Type 0 where
-  bad_members : AssignRefusal
-  ballots_spent : AssignRefusal
+  bad_members : AssignRefusal  -- no ballot may have them
+  ballots_spent : AssignRefusal  -- no number is left for a ballot
 
 -- the last ballot that can be given
 abbrev pub last_ballot : ℕ

@@ -50,10 +50,13 @@ pub record Learns {S C O : Type 0} (rules : Rules S C O) (past : List (Moment S 
 -- the moments that were, the present one first -- history: no field keeps it
 pub data Past {S C O : Type 0} (rules : Rules S C O) (config : Config) :
     List (Moment S C O) → Type 0 where
+  -- the group opens with a configuration
   began : {a : Moment S C O} (nodes : ℕ) → can_open nodes config ≡ true →
       a ≡ opening_moment rules nodes config → Past rules config (a ∷ [])
+  -- one more step
   went_on : {a b : Moment S C O} {past : List (Moment S C O)} → Past rules config (a ∷ past) →
       MayHappen rules a.master a.world b.master b.world → Past rules config (b ∷ a ∷ past)
+  -- a node learns something without a step of its own
   learned : {a b : Moment S C O} {past : List (Moment S C O)} → Past rules config (a ∷ past) →
       Learns rules (a ∷ past) a b → Past rules config (b ∷ a ∷ past)
 
@@ -61,7 +64,9 @@ pub data Past {S C O : Type 0} (rules : Rules S C O) (config : Config) :
 -- the master let the ballot wait
 pub data HasConfig {S C O : Type 0} (config : Config) (past : List (Moment S C O)) (ballot : ℕ)
     (c : Config) : Type 0 where
+  -- ballot 1 has the first configuration
   opened_with : ballot ≡ 1 → c ≡ config → HasConfig config past ballot c
+  -- the master gave the ballot to this configuration
   was_assigned : (a : Moment S C O) → In a past → a.master.waiting ≡ Some (ballot, c) →
       HasConfig config past ballot c
 
@@ -83,10 +88,12 @@ ToldLength w member ballot held =
 -- was sent
 pub data HasTold {S C O : Type 0} (config : Config) (past : List (Moment S C O)) (ballot n : ℕ)
     (xs : List C) : Type 0 where
+  -- the primary holds the list as its log
   told_as_log : (a : Moment S C O) (r : ReplicaState S C) (c : Config) → In a past →
       slice_get a.world.nodes n ≡ Some r → r.held_in ≡ ballot →
       HasConfig config past ballot c → c.primary ≡ n + 1 → r.log ≡ xs →
       HasTold config past ballot n xs
+  -- a member said how much of its log it holds
   told_by_message : (a : Moment S C O) (r : ReplicaState S C) → In a past →
       slice_get a.world.nodes n ≡ Some r → r.held_in ≡ ballot →
       ToldLength a.world (n + 1) ballot (length xs) → IsPrefixOf xs r.log →

@@ -95,8 +95,11 @@ pub record IsTaken {S C O : Type 0} (w v : World S C O) (n : ℕ) (row : ℕ × 
 
 -- some of a list, in order
 pub data IsPartOf {X : Type 0} : List X → List X → Type 0 where
+  -- both lists are empty
   nothing_left : IsPartOf [] []
+  -- the next one is kept
   with_one : {x : X} {xs ys : List X} → IsPartOf xs ys → IsPartOf (x ∷ xs) (x ∷ ys)
+  -- the next one is left out
   without_one : {y : X} {xs ys : List X} → IsPartOf xs ys → IsPartOf xs (y ∷ ys)
 
 -- the commands of proposals

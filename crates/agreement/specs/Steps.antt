@@ -36,23 +36,28 @@ world_after {S = S} {C = C} m w config None = tells_from_master w (assigned C m 
 -- what may happen in a group whose master answers each Assign
 pub data MayHappen {S C O : Type 0} (rules : Rules S C O) :
     MasterState → World S C O → MasterState → World S C O → Type 0 where
+  -- a node receives a message that was sent to it, takes a proposal, or ticks, perhaps with losses
   node_takes : {m : MasterState} {w : World S C O} (n : ℕ) (r : ReplicaState S C)
       (input : Input C) {new : ReplicaState S C} {given : List (Effect C O)} →
       slice_get w.nodes n ≡ Some r → r.stopped ≡ false → MayTake w n input →
       Loses rules r (replica_step rules r input) new given →
       MayHappen rules m w m (moved w n new given)
+  -- a node stops
   node_stops : {m : MasterState} {w : World S C O} (n : ℕ) (r : ReplicaState S C) →
       slice_get w.nodes n ≡ Some r → MayHappen rules m w m (moved w n (halted rules r) [])
+  -- an Assign: the master refuses it, or sends NewBallot to the primary of the configuration
   master_assigns : {m : MasterState} {w : World S C O} (config : Config) →
       MayHappen rules m w (master_after m config (refusal m config))
       (world_after m w config (refusal m config))
+  -- the master receives an Activate that was sent, and answers it
   master_hears : {m : MasterState} {w : World S C O} (from b : ℕ) →
       In (0, record { from = from; body = Activate b }) w.sent →
       MayHappen rules m w (activated C m b from m.waiting).state
       (tells_from_master w (activated C m b from m.waiting))
-  -- the same if the master's message is lost
+  -- an Assign, if the master's NewBallot is lost
   assignment_lost : {m : MasterState} {w : World S C O} (config : Config) →
       MayHappen rules m w (master_after m config (refusal m config)) w
+  -- an Activate, if the master's answer is lost
   answer_lost : {m : MasterState} {w : World S C O} (from b : ℕ) →
       In (0, record { from = from; body = Activate b }) w.sent →
       MayHappen rules m w (activated C m b from m.waiting).state w

@@ -17,9 +17,9 @@ use Rattle.ballot_base.specs.Replica.{ReplicaState}
 
 -- the input of a replica in one step
 pub data Input (C : Type 0) : Type 0 where
-  Receives : Message C → Input C
-  Proposes : C → Input C
-  Ticks : Input C
+  Receives : Message C → Input C  -- a message comes
+  Proposes : C → Input C  -- a command is proposed
+  Ticks : Input C  -- time passes
 
 -- a message, by its kind
 abbrev pub received : {S C O : Type 0} → Rules S C O → ReplicaState S C → ℕ → Body C → Outcome S C O

@@ -66,9 +66,13 @@ queued = filter (λ p. is_answered p.qos)
 -- made the entry, and those at which it started, was released (PUBREC, only at QoS 2) and finished
 -- (PUBACK or PUBCOMP).
 pub data Entry : Type 0 where
+  -- it was not sent yet
   Waits : (made : ℕ) → (publication : Publication) → Entry
+  -- its PUBLISH was sent
   Started : (made : ℕ) → (publication : Publication) → (id start : ℕ) → Entry
+  -- PUBREC came
   Released : (made : ℕ) → (publication : Publication) → (id start release : ℕ) → Entry
+  -- PUBACK or PUBCOMP came
   Finished : (made : ℕ) → (publication : Publication) → (id start : ℕ) → (release : Option ℕ)
       → (finish : ℕ) → Entry
 

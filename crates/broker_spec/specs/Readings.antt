@@ -7,8 +7,8 @@ use Rattle.broker_spec.specs.Entries.{Entry}
 -- where an entry comes from: a PUBLISH taken at this place, or the retained publications when a
 -- SUBSCRIBE came at it
 pub data Origin : Type 0 where
-  FromPublish : (place : ℕ) → Origin
-  FromRetained : (place : ℕ) → Origin
+  FromPublish : (place : ℕ) → Origin  -- the PUBLISH was taken at this place
+  FromRetained : (place : ℕ) → Origin  -- the SUBSCRIBE came at this place
 
 -- the number of the place that made an entry
 abbrev pub made_of : Entry → ℕ

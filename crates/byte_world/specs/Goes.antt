@@ -85,5 +85,7 @@ pub data WorldStep (w : World) : World → Type 0 where
 
 -- the worlds that are reached with this many nodes, a configuration at first, and these clients
 pub data Reached (nodes : ℕ) (config : Config) (cs : List Client) : World → Type 0 where
+  -- the world opens
   begins : can_open nodes config ≡ true → Reached nodes config cs (opening nodes config cs)
+  -- one more step
   goes_on : {v w : World} → Reached nodes config cs v → WorldStep v w → Reached nodes config cs w

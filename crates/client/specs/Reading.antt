@@ -24,7 +24,9 @@ Reads old packet new =
 
 -- Packets, each whole, and none of them refused, lead from the first client to the second.
 pub data Handles (start : Core) : Core → Type 0 where
+  -- no packet
   none : Handles start start
+  -- one more packet, which is not refused
   more : {s t u : Core} (packet : Packet) → Handles start s → Reads s packet t
       → (turn_of packet t).refusal ≡ None
       → IsDone (turn_of packet t) t u → Handles start u

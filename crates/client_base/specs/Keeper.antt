@@ -9,9 +9,13 @@ use Rattle.client_base.specs.State.{id_of_request}
 -- A publication of the client, with the number of its call and its state. One at QoS 0 is done at
 -- once.
 pub data Own : Type 0 where
+  -- its PUBLISH was not written on a connection that is online
   Unsent : (number : ℕ) → (publication : Publication) → (id : ℕ) → Own
+  -- it was, and no PUBREC or PUBACK came
   Sent : (number : ℕ) → (publication : Publication) → (id : ℕ) → Own
+  -- PUBREC came, and no PUBCOMP
   Released : (number : ℕ) → (publication : Publication) → (id : ℕ) → Own
+  -- nothing more is to come for it
   Done : (number : ℕ) → (publication : Publication) → Own
 
 -- A packet that it wrote, and which publication it belongs to. History: the bytes do not say it.

@@ -53,13 +53,13 @@ disconnected stages.Online state = going_on (lost state) (packets.Disconnect ∷
 
 -- what a client is called for, or meets
 pub data Call : Type 0 where
-  Opens : Call
-  Publishes : (publication : Publication) → Call
-  Subscribes : (filter : List ℕ) → (qos : QoS) → Call
-  Unsubscribes : (filter : List ℕ) → Call
+  Opens : Call  -- a connection is opened, on which it writes CONNECT
+  Publishes : (publication : Publication) → Call  -- it is to publish this
+  Subscribes : (filter : List ℕ) → (qos : QoS) → Call  -- it is to subscribe
+  Unsubscribes : (filter : List ℕ) → Call  -- it is to unsubscribe
   Receives : (packet : Packet) → Call  -- a whole packet of the server
-  Loses : Call
-  Disconnects : Call
+  Loses : Call  -- its connection is lost
+  Disconnects : Call  -- it is to end its connection
 
 -- what a call does, unless it is refused for a cause
 abbrev pub unless_refused : Option ClientError → Turn → ClientState → Turn

@@ -18,7 +18,9 @@ pub record Came : Type 0 where
 
 -- the times of these pieces do not fall, from the opening of the connection on; the last of them
 pub data Rises (opened : ℕ) : List Came → ℕ → Type 0 where
+  -- no piece yet
   opens : Rises opened [] opened
+  -- one more, not before the last
   comes : {pieces : List Came} {last : ℕ} (piece : Came)
       → Rises opened pieces last → last ≤ piece.now → Rises opened (pieces ++ piece ∷ []) piece.now
 

@@ -10,7 +10,9 @@ use Rattle.connection.specs.Writing.{Flows}
 pub data Lives {T : Type 0}
     (hands : T → List ℕ → Handed → T → Type 0) (first : T) (start : Option (List ℕ))
     : T → List ℕ → Option (List ℕ) → List ℕ → Type 0 where
+  -- no call yet
   begins : Lives hands first start first [] start []
+  -- one more call of the tap or the device
   goes_on : {before : T} {handed left : List ℕ} {old : Option (List ℕ)}
       (flow : Flow) (after : T) (new : Option (List ℕ)) (rest : List ℕ)
       → Lives hands first start before handed old left

@@ -13,11 +13,15 @@ OneCut = (bytes : List ℕ) (packets others : List Packet) (rest left : List ℕ
 -- A cutter after some calls, with all bytes that it was fed and all packets that it gave. A call
 -- that changes nothing needs no case.
 pub data Ran : List ℕ → List Packet → Stream → Type 0 where
+  -- no call yet
   begins : Ran [] [] (record { held = []; failed = false })
+  -- it is fed a piece
   feeds : {fed : List ℕ} {given : List Packet} {s : Stream} (piece : List ℕ)
       → Ran fed given s → Ran (fed ++ piece) given (record s { held = s.held ++ piece })
+  -- it gives a packet
   gives : {fed : List ℕ} {given : List Packet} {s t : Stream} (packet : Packet)
       → Ran fed given s → Takes s (Ok (Some packet)) t → Ran fed (given ++ packet ∷ []) t
+  -- it answers that no whole packet is there, or that there is a fault
   answers : {fed : List ℕ} {given : List Packet} {s t : Stream}
       (result : Result (Option Packet) CutError)
       → Ran fed given s → t.held ≡ s.held → Takes s result t → Ran fed given t

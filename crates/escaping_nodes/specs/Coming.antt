@@ -20,15 +20,19 @@ use Rattle.escaping.specs.Delivery.{IsCalm}
 -- the messages of these numbers come, one after another, to nodes that run or to the master; in
 -- between nodes hand over bytes
 pub data Come : NodesState → List ℕ → NodesState → Type 0 where
+  -- no message is left
   all_came : {n : NodesState} → Come n [] n
+  -- the next one comes to a node that runs
   to_node : {n new : NodesState} {ks : List ℕ} (k at : ℕ) (node : CountedCore)
       (message : Message Command) → slice_get n.sent k ≡ Some (at + 1, message) →
       slice_get n.nodes at ≡ Some node → node.core.replica.state.stopped ≡ false →
       Come (after_node_call at node (takes (Peer message)) n) ks new →
       Come n (k ∷ ks) new
+  -- it is an Activate, and comes to the master
   to_master : {n new : NodesState} {ks : List ℕ} (k from ballot : ℕ) →
       slice_get n.sent k ≡ Some (0, record { from = from; body = Activate ballot }) →
       Come (after_answer from ballot n) ks new → Come n (k ∷ ks) new
+  -- a node hands over bytes of a port
   hands : {n new : NodesState} {ks : List ℕ} (at : ℕ) (node : CountedCore) (port : Port) →
       slice_get n.nodes at ≡ Some node →
       Come (after_node_call at node (gives port) n) ks new → Come n ks new

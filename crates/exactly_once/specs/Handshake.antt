@@ -1,25 +1,23 @@
--- The handshake of QoS 2 between two sides, over connections that are lost and opened again (MQTT
--- 4.3.3, 4.4).
+-- The handshake of QoS 2 between two sides, over connections that come and go (MQTT 4.3.3, 4.4).
 use Rattle.std.specs.Prelude.{◌≡◌, ℕ, Bool, true, false, not, ◌&&◌, ◌||◌, ◌==◌, List, [], ◌∷◌, ◌++◌, map, Some}
 use Rattle.client_base.specs.lists.Lists.{has_id, IsDistinct, Each}
 use Rattle.exactly_once.specs.Items.{Item, busy, sent, has_released, releasing, finishing, start_first, first_waiting}
 
 -- a packet from the sender to the receiver
 pub data Forward (V : Type 0) : Type 0 where
-  Publish : (id : ℕ) → (value : V) → Forward V
-  Pubrel : (id : ℕ) → Forward V
+  Publish : (id : ℕ) → (value : V) → Forward V  -- a publication at QoS 2, the first time or again
+  Pubrel : (id : ℕ) → Forward V  -- that PUBLISH does not come again
 
 -- a packet from the receiver to the sender
 pub data Backward : Type 0 where
-  Pubrec : (id : ℕ) → Backward
-  Pubcomp : (id : ℕ) → Backward
+  Pubrec : (id : ℕ) → Backward  -- the PUBLISH came, so it need not come again
+  Pubcomp : (id : ℕ) → Backward  -- the identifier is forgotten, and may be used again
 
--- Both sides are on one connection; or the receiver has left, and the sender may still receive; or
--- the sender has left, and the receiver may still take what was sent.
+-- the connection between the two sides, with what is in transit on it
 pub data Link (V : Type 0) : Type 0 where
-  Joined : (forward : List (Forward V)) → (backward : List Backward) → Link V
-  Behind : (backward : List Backward) → Link V
-  Ahead : (forward : List (Forward V)) → Link V
+  Joined : (forward : List (Forward V)) → (backward : List Backward) → Link V  -- both are on it
+  Behind : (backward : List Backward) → Link V  -- the receiver left; the sender may receive
+  Ahead : (forward : List (Forward V)) → Link V  -- the sender left; the receiver may take
 
 -- the items, what is accepted, which identifiers the receiver knows, and what is in transit
 pub record Handshake (V : Type 0) : Type 0 where
@@ -85,35 +83,37 @@ publishing row = Forward.Publish row.0 row.1
 abbrev pub resend : {V : Type 0} → List ℕ → List (Item V) → List (Forward V)
 resend releases items = map (λ id. Forward.Pubrel id) releases ++ map publishing (sent items)
 
--- what may happen
+-- what may happen; Packet Identifiers are those of the sender
 pub data Moves {V : Type 0} (h : Handshake V) : Handshake V → Type 0 where
-  adds : (v : V) → Moves h (with_items (h.items ++ Item.Waits v ∷ []) h.link h)
+  adds : (v : V) → Moves h (with_items (h.items ++ Item.Waits v ∷ []) h.link h)  -- one more waits
+  -- the first that waits starts with a free identifier: its PUBLISH is sent (MQTT 4.3.3)
   starts : (id : ℕ) (v : V) → has_id id (busy h.items) ≡ false → first_waiting h.items ≡ Some v →
       Moves h (with_items (start_first id h.items) (sending (Forward.Publish id v) h.link) h)
   takes : (m : Forward V) (f : List (Forward V)) (b : List Backward) →
       h.link ≡ Link.Joined (m ∷ f) b →
-      Moves h (taking m h (Link.Joined f (b ++ answer m ∷ [])))
+      Moves h (taking m h (Link.Joined f (b ++ answer m ∷ [])))  -- the receiver takes and answers
   takes_alone : (m : Forward V) (f : List (Forward V)) → h.link ≡ Link.Ahead (m ∷ f) →
-      Moves h (taking m h (Link.Ahead f))
+      Moves h (taking m h (Link.Ahead f))  -- the sender left: the answer goes to nobody
   hears : (m : Backward) (f : List (Forward V)) (b : List Backward) →
-      h.link ≡ Link.Joined f (m ∷ b) →
+      h.link ≡ Link.Joined f (m ∷ b) →  -- the sender gets an answer: a PUBREL follows a PUBREC
       Moves h (with_items (heard m h.items) (Link.Joined (f ++ reply m) b) h)
   hears_alone : (m : Backward) (b : List Backward) → h.link ≡ Link.Behind (m ∷ b) →
-      Moves h (with_items (heard m h.items) (Link.Behind b) h)
+      Moves h (with_items (heard m h.items) (Link.Behind b) h)  -- the receiver left: no PUBREL
   sender_leaves : (f : List (Forward V)) (b : List Backward) → h.link ≡ Link.Joined f b →
-      Moves h (with_items h.items (Link.Ahead f) h)
+      Moves h (with_items h.items (Link.Ahead f) h)  -- the sender leaves: it gets no more answers
   receiver_leaves : (f : List (Forward V)) (b : List Backward) → h.link ≡ Link.Joined f b →
-      Moves h (with_items h.items (Link.Behind b) h)
-  parts : Moves h (with_items h.items (Link.Behind []) h)
-  parts_ahead : Moves h (with_items h.items (Link.Ahead []) h)
+      Moves h (with_items h.items (Link.Behind b) h)  -- the receiver leaves: it takes no more
+  parts : Moves h (with_items h.items (Link.Behind []) h)  -- what is in transit is lost
+  parts_ahead : Moves h (with_items h.items (Link.Ahead []) h)  -- the same, and the sender left
+  -- on a new connection PUBRELs are sent again, and each PUBLISH without PUBREC (MQTT 4.4)
   restarts : (releases : List ℕ) → IsDistinct releases →
       Each (λ id. has_released id h.items ≡ true) releases →
       Moves h (with_items h.items (Link.Joined (resend releases h.items) []) h)
 
 -- one after another
 pub data Run {V : Type 0} (h : Handshake V) : Handshake V → Type 0 where
-  stays : Run h h
-  goes_on : {k l : Handshake V} → Run h k → Moves k l → Run h l
+  stays : Run h h  -- nothing happened
+  goes_on : {k l : Handshake V} → Run h k → Moves k l → Run h l  -- one more move
 
 -- nothing was sent yet, and there is no connection
 abbrev pub opening : (V : Type 0) → Handshake V

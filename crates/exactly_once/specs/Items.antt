@@ -5,10 +5,10 @@ use Rattle.std.specs.Prelude.{ℕ, Bool, false, ◌||◌, ◌==◌, if◌then◌
 
 -- one QoS 2 publication of a sender, with its state
 pub data Item (V : Type 0) : Type 0 where
-  Waits : (value : V) → Item V
-  Sent : (value : V) → (id : ℕ) → Item V
-  Released : (value : V) → (id : ℕ) → Item V
-  Finished : (value : V) → Item V
+  Waits : (value : V) → Item V  -- it was not sent yet
+  Sent : (value : V) → (id : ℕ) → Item V  -- its PUBLISH was sent, and no PUBREC came
+  Released : (value : V) → (id : ℕ) → Item V  -- PUBREC came, and no PUBCOMP
+  Finished : (value : V) → Item V  -- PUBCOMP came
 
 -- the publication of an item
 abbrev pub value_of : {V : Type 0} → Item V → V

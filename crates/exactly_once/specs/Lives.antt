@@ -26,8 +26,10 @@ use Rattle.exactly_once.specs.InStep.{IsInStep, sessions_begun, starts_of, entri
 
 -- what may happen in a story of one session, and an Expel of the client at any time
 pub data Lived (limits : Limits) (c : Client) : Story → Type 0 where
-  opens : Lived limits c (no_story c)
+  opens : Lived limits c (no_story c)  -- nothing happened yet
+  -- a step of one session
   goes_on : {s t : Story} → Lived limits c s → StoryStep limits s t → Lived limits c t
+  -- an Expel of the client comes next in the list
   is_expelled : {s : Story} → Lived limits c s →
       Lived limits c (record s { past = place_of limits s.past (commands.Expel c) ∷ s.past })
 

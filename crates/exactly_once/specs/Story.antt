@@ -44,6 +44,7 @@ with_side s others side =
 -- It allows more than a world does: any connection's next packet may come next in the list, and any
 -- client may be lost at any time.
 pub data StoryStep (limits : Limits) (s : Story) : Story → Type 0 where
+  -- the next packet that the client wrote on one of its connections comes next in the list
   takes : (i : ℕ) (κ : Connection) (w : Written) → slice_get s.connections i ≡ Some κ →
       slice_get κ.written κ.taken ≡ Some w →
       StoryStep limits s (record {
@@ -51,14 +52,17 @@ pub data StoryStep (limits : Limits) (s : Story) : Story → Type 0 where
         connections = counted_at i s.connections;
         keeper = s.keeper;
       })
+  -- a command that does not concern the client comes next, and no packet of its connections
   others_take : (command : Command) → (names_client s.past s.keeper.client command → ⊥) →
       any_named (is_packet_of command) s.connections ≡ false →
       StoryStep limits s (record s { past = place_of limits s.past command ∷ s.past })
+  -- the client handles the next packet that was sent on the connection that it holds
   receives : (κ : Connection) (others : List Connection) (packet : Packet) →
       s.connections ≡ κ ∷ others → s.keeper.is_open ≡ true →
       slice_get (put_to limits s.past κ.name) κ.handled ≡ Some packet →
       StoryStep limits s
       (with_side s others (handled packet (record { keeper = s.keeper; connection = κ })))
+  -- it opens a connection with a name of which nothing is in the list or was sent
   opens_anew : (x : ConnectionName) → any_named (same_connection x) s.connections ≡ false →
       put_to limits s.past x ≡ [] → count_of x s.past ≡ 0 →
       StoryStep limits s (record {
@@ -66,19 +70,23 @@ pub data StoryStep (limits : Limits) (s : Story) : Story → Type 0 where
         connections = new_connection s.keeper.client x ∷ s.connections;
         keeper = record (lost s.keeper) { is_open = true };
       })
+  -- it loses its connection
   loses : StoryStep limits s (record s { keeper = lost s.keeper })
+  -- it ends its connection, with a DISCONNECT if it is online (MQTT 3.14)
   disconnects : StoryStep limits s (record {
     past = s.past;
     connections = if s.keeper.is_online
         then writes_first (plain packets.Disconnect ∷ []) s.connections else s.connections;
     keeper = lost s.keeper;
   })
+  -- it publishes; at QoS 0 only if it is online
   publishes_one : (p : Publication) → (is_answered p.qos ≡ false → s.keeper.is_online ≡ true) →
       StoryStep limits s (record {
         past = s.past;
         connections = writes_first (written_for p s.keeper) s.connections;
         keeper = adds_own p s.keeper;
       })
+  -- it subscribes, by the least identifier that is free (MQTT 3.8)
   subscribes : (p : Subscribe) → s.keeper.is_online ≡ true →
       p.id ≡ least_free (ids_in_use s.keeper) →
       StoryStep limits s (record {
@@ -86,6 +94,7 @@ pub data StoryStep (limits : Limits) (s : Story) : Story → Type 0 where
         connections = writes_first (plain (packets.Subscribe p) ∷ []) s.connections;
         keeper = record s.keeper { requests = s.keeper.requests ++ requests.Subscribes p.id ∷ [] };
       })
+  -- it unsubscribes, by the least identifier that is free (MQTT 3.10)
   unsubscribes : (p : Unsubscribe) → s.keeper.is_online ≡ true →
       p.id ≡ least_free (ids_in_use s.keeper) →
       StoryStep limits s (record {

@@ -23,11 +23,14 @@ unserved c earlier own = record (new_keeper c) { earlier = earlier; own = own }
 -- A story of one session begins with the list, or when the client has no session: then nothing is
 -- left of what it had.
 pub data StoryTrace (limits : Limits) (c : Client) : Story → Type 0 where
+  -- the client did nothing yet, and the list is empty
   begins : StoryTrace limits c (no_story c)
+  -- the list may be any by which the client has no session; what it publishes in this one is unsent
   begins_at : (list : List Command) (earlier own : List Own) →
       session_of (past_of limits list) c ≡ None →
       AreNumbered 0 earlier → AreUnsent (length earlier) own →
       IsDistinct (ids_in_use (unserved c earlier own)) →
       StoryTrace limits c
       (record { past = past_of limits list; connections = []; keeper = unserved c earlier own })
+  -- one more step
   goes_on : {s t : Story} → StoryTrace limits c s → StoryStep limits s t → StoryTrace limits c t

@@ -4,7 +4,9 @@ use Rattle.std.specs.List.{list_any}
 
 -- a member of a list
 pub data In {X : Type 0} (x : X) : List X → Type 0 where
+  -- it is the first
   here : {xs : List X} → In x (x ∷ xs)
+  -- it is in the rest
   there : {y : X} {xs : List X} → In x xs → In x (y ∷ xs)
 
 -- a prefix of a list: the list is the prefix with more at its end

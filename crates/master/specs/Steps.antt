@@ -18,11 +18,14 @@ use Rattle.master.specs.Turns.Turn.{by_node, by_cut, by_master, unheeded}
 -- losses, or that of the master, whose message is lost
 pub data Happens {S C O : Type 0} (rules : Rules S C O) :
     Moment S C O → Event C → Moment S C O → Type 0 where
+  -- nothing is done
   nothing_happens : {a : Moment S C O} {e : Event C} → Happens rules a e a
+  -- the node of the event takes its step, with losses
   node_goes : {a : Moment S C O} {e : Event C} (t : NodeTurn S C O)
       {new : ReplicaState S C} {given : List (Effect C O)} → turn rules a e ≡ Some (by_node t) →
       Loses rules t.before t.outcome new given →
       Happens rules a e (record a { world = moved a.world t.place new given })
+  -- the master goes on, and its message is lost
   master_goes : {a : Moment S C O} {e : Event C} (o : MasterOutcome C) →
       turn rules a e ≡ Some (by_master o) → Happens rules a e (record a { master = o.state })
 
@@ -31,10 +34,14 @@ pub data Happens {S C O : Type 0} (rules : Rules S C O) :
 -- something, such as what a member holds; or the event stops a node
 pub data TakesNoMemory {S C O : Type 0} (rules : Rules S C O) (a : Moment S C O) (e : Event C) :
     Type 0 where
+  -- no node gets it
   comes_to_nobody : turn rules a e ≡ None → TakesNoMemory rules a e
+  -- the master ignores it
   goes_unheeded : turn rules a e ≡ Some unheeded → TakesNoMemory rules a e
+  -- its node sends nothing, keeps its log and applies nothing
   is_quiet : (t : NodeTurn S C O) → turn rules a e ≡ Some (by_node t) →
       IsQuiet t.before t.outcome → TakesNoMemory rules a e
+  -- a node crashes
   stops_a_node : (node : ℕ) → e ≡ Crash node → TakesNoMemory rules a e
 
 -- a group after an event that was done exactly, without a loss
@@ -64,7 +71,9 @@ pub record StepsBy {S C O : Type 0} (rules : Rules S C O) (old : GroupState S C 
 -- another event
 pub data Run {S C O : Type 0} (rules : Rules S C O) :
     GroupState S C O → List (Event C) → GroupState S C O → Type 0 where
+  -- no event
   ends : {first : GroupState S C O} → Run rules first [] first
+  -- one event, exact or with a loss that is counted, and others after it
   goes_on : {first next last : GroupState S C O} {e : Event C} {events : List (Event C)} →
       StepsBy rules first e next → Run rules next events last → Run rules first (e ∷ events) last
 

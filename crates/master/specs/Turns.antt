@@ -31,10 +31,10 @@ pub record NodeTurn (S C O : Type 0) : Type 0 where
 -- what an event does: the turn of a node, a cut of its log, the turn of the master, or a message
 -- that the master ignores
 pub data Turn (S C O : Type 0) : Type 0 where
-  by_node : NodeTurn S C O → Turn S C O
-  by_cut : NodeTurn S C O → Turn S C O
-  by_master : MasterOutcome C → Turn S C O
-  unheeded : Turn S C O
+  by_node : NodeTurn S C O → Turn S C O  -- a node takes its step
+  by_cut : NodeTurn S C O → Turn S C O  -- a node cuts its log
+  by_master : MasterOutcome C → Turn S C O  -- the master answers
+  unheeded : Turn S C O  -- the master ignores a message
 
 -- a proposal needs an active primary whose log has room
 abbrev pub can_take : {S C : Type 0} → ReplicaState S C → Input C → Bool

@@ -13,11 +13,14 @@ use Rattle.world_base.specs.Losses.{Stepped}
 -- A chain from the first state of a node: one step for each item, in order, each with the lane from
 -- which it came; in between, queued bytes may have been handed over.
 pub data Replays (first : CountedCore) : List (ℕ × Item) → CountedCore → Type 0 where
+  -- no item was taken yet
   opens : Replays first [] first
+  -- one more item is taken
   steps : {history : List (ℕ × Item)} {core : CountedCore}
       (taken : ℕ × Item) (next : CountedCore) (before after : List (Effect Command Output))
       → Replays first history core → Stepped core taken.1 next before after
       → Replays first (history ++ taken ∷ []) next
+  -- queued bytes of a port are handed over
   hands : {history : List (ℕ × Item)} {core : CountedCore} (port : Port)
       → Replays first history core
       → Replays first history (record core { core = hands_over port core.core })

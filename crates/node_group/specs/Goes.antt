@@ -56,16 +56,19 @@ pub data GroupStep (g : Group) : Group → Type 0 where
       GroupStep g (with_master
       (told_by_master g (activated Command g.master ballot from g.master.waiting))
       (activated Command g.master ballot from g.master.waiting).state)
-  -- the same if the master's message is lost
+  -- an administrator asks, and the master's NewBallot is lost
   assigns_unheard : (config : Config) →
       GroupStep g (with_master g (master_after g.master config (refusal g.master config)))
+  -- a primary asks, and the master's answer is lost
   answers_unheard : (from ballot : ℕ) →
       In (0, record { from = from; body = Activate ballot }) g.sent →
       GroupStep g (with_master g (activated Command g.master ballot from g.master.waiting).state)
 
 -- all steps of a group of this many nodes, from its opening in a configuration on
 pub data GroupTrace (nodes : ℕ) (config : Config) : Group → Type 0 where
+  -- the group opens
   opened : can_open nodes config ≡ true → GroupTrace nodes config (opening_group nodes config)
+  -- one more step
   then_went : {g h : Group} → GroupTrace nodes config g → GroupStep g h → GroupTrace nodes config h
 
 -- what nodes proposed to their replicas, each command with the ballot that its node had joined, in

@@ -31,8 +31,10 @@ refusal_in x _ = []
 -- it
 pub data IsClosedBy (x : ConnectionName) {core : CoreState} {turn : Turn} (m : Moves core turn)
     (d : Connection) : Type 0 where
+  -- it was closed before
   was_closed : (c : Connection) → listed_named x core ≡ Some c → is_over c.stage ≡ true →
       d.pending ≡ c.pending → IsClosedBy x m d
+  -- it was open before
   closes_now : (c : Connection) (front : List ℕ) → open_named x core ≡ Some c →
       d.pending ≡ c.pending ++ front →
       IsPrefixOf front (spelled (refusal_in x m ++ sends_to x (outputs_of (given_in m)))) →

@@ -43,6 +43,7 @@ halting core =
 
 -- one move of a node, exact or with losses
 pub data LossyMoves (core : CoreState) : Turn → Type 0 where
+  -- a move without losses
   exactly : {turn : Turn} → Moves core turn → LossyMoves core turn
   -- the replica receives a message or a tick, perhaps with losses; some of the messages that it
   -- gives may be lost, and connections closed
@@ -67,12 +68,13 @@ pub data LossyMoves (core : CoreState) : Turn → Type 0 where
   -- .. or an Expel
   expels_losing : (client : List ℕ) (did : Account) → Takes (commands.Expel client) core did →
       LossyMoves core (turn_of did)
-  -- the replica does not take what it receives, and counts that; or it stops
+  -- the replica does not take what it receives, and counts that
   forgets : LossyMoves core (quiet (forgetful core))
+  -- .. or it stops, and counts that
   halts : LossyMoves core (quiet (halting core))
-  -- a connection is closed as lost, and the loss is still to be reported to the broker; or it will
-  -- not be reported
+  -- a connection is closed as lost, and the loss is still to be reported to the broker
   fails : (port : Port) → LossyMoves core (quiet (changes port failing core))
+  -- .. or it will not be reported
   unheard : LossyMoves core (quiet (closes_failed core))
   -- bytes come in on an open connection that is closed, since there is no memory for them
   drops : (port : Port) (piece : List ℕ) → LossyMoves core (quiet (changes port closed core))

@@ -21,7 +21,8 @@ use Rattle.node_moves.specs.Moves.Moves.{cuts_log}
 
 -- moves one after another
 pub data LossyRuns : CoreState → Turn → Type 0 where
-  rests : {core : CoreState} → LossyRuns core (quiet core)
+  rests : {core : CoreState} → LossyRuns core (quiet core)  -- no move
+  -- one move, and others after it
   goes_on : {core : CoreState} {first next : Turn} → LossyMoves core first →
       LossyRuns first.core next → LossyRuns core (and_then first next)
 

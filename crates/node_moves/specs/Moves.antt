@@ -82,14 +82,16 @@ and_then first next = record { core = next.core; messages = first.messages ++ ne
 
 -- moves one after another
 pub data Runs : CoreState → Turn → Type 0 where
+  -- no move
   rests : {core : CoreState} → Runs core (quiet core)
+  -- one move, and others after it
   goes_on : {core : CoreState} {first next : Turn} → Moves core first → Runs first.core next →
       Runs core (and_then first next)
 
 -- a call of a node: it takes an item, or hands over what was queued for a port
 pub data NodeCall : Type 0 where
-  takes : Item → NodeCall
-  gives : Port → NodeCall
+  takes : Item → NodeCall  -- the call `step` of a node
+  gives : Port → NodeCall  -- the call `outgoing`
 
 -- what a call of a node does: it takes an item, or hands over bytes
 abbrev pub done : NodeCall → CoreState → Turn

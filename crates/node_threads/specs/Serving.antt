@@ -21,13 +21,17 @@ port_of lane count = record { 0 = 256 * count + lane }
 -- A lane that had sent these items sent the whole report of one connection, or nothing if that was
 -- closed at once.
 pub data TellsOne (port : Port) (before : List Item) : List Item → Type 0 where
+  -- it was closed at once
   closed_at_once : TellsOne port before before
+  -- it was served
   served : {after : List Item} → SendsWhole port before after → TellsOne port before after
 
 -- A lane that had sent these items sent for this many connections, one after another, the report of
 -- each, and nothing else.
 pub data TellsEach (lane : ℕ) (before : List Item) : ℕ → List Item → Type 0 where
+  -- no connection yet
   begins : TellsEach lane before 0 before
+  -- one more connection
   goes_on : {count : ℕ} {sent : List Item} (after : List Item)
       → TellsEach lane before count sent → TellsOne (port_of lane count) sent after
       → TellsEach lane before (count + 1) after
@@ -46,10 +50,14 @@ pub record OwnSender : Type 0 where
 -- The own lane of a node of this number, which had sent these items, sent the time, cuts of the
 -- log, and what was queued for the node.
 pub data SendsOwn (node : ℕ) (before : List Item) : List Item → Type 0 where
+  -- it sent nothing more
   starts : SendsOwn node before before
+  -- a time
   ticks : {sent : List Item} (now : ℕ)
       → SendsOwn node before sent → SendsOwn node before (sent ++ Tick now ∷ [])
+  -- a cut of the log
   cuts : {sent : List Item} → SendsOwn node before sent → SendsOwn node before (sent ++ Cut ∷ [])
+  -- an item that was queued for the node
   hands : {sent : List Item} (item : Item)
       → SendsOwn node before sent → IsQueued node item
       → SendsOwn node before (sent ++ item ∷ [])

@@ -8,9 +8,12 @@ use Rattle.post.specs.node.State.{Seen, TakesOne, next_turn}
 -- From a state of a node on, one item after another was taken, and these are all effects of the
 -- steps, in order; or no item waited.
 pub data Turns (old : Seen) : Seen → List (Effect Command Output) → Type 0 where
+  -- no item was taken yet
   begins : Turns old old []
+  -- one item is taken
   takes : {seen : Seen} {given : List (Effect Command Output)}
       (next : Seen) (after : List (Effect Command Output))
       → Turns old seen given → TakesOne seen next given after → Turns old next after
+  -- no item waits
   finds_none : {seen : Seen} {given : List (Effect Command Output)}
       → Turns old seen given → Turns old (record seen { turns = next_turn seen.turns }) given

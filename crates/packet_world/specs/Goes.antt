@@ -113,5 +113,7 @@ pub data Goes (w : World) : World → Type 0 where
 
 -- the worlds that are reached with these clients
 pub data Reached (cs : List Client) : World → Type 0 where
+  -- the world opens
   begins : Reached cs (opening cs)
+  -- one more step
   goes_on : {v w : World} → Reached cs v → Goes v w → Reached cs w

@@ -83,7 +83,8 @@ pub record Step (clients : List (List ℕ)) (index : ℕ) (order : Order) (old n
 -- the lines of these orders, from the opening on
 pub data Played (clients : List (List ℕ)) (first : WorldState)
     : List Order → List ℕ → WorldState → Type 0 where
-  opens : Played clients first [] [] first
+  opens : Played clients first [] [] first  -- no order yet
+  -- one more order, with its lines
   goes_on : {orders : List Order} {lines more : List ℕ} {old new : WorldState}
       → Played clients first orders lines old → (order : Order)
       → Step clients (length orders) order old new more

@@ -21,7 +21,9 @@ messages_of (Out place output ∷ effects) = messages_of effects
 -- these messages were carried, one after another, each once, and nothing else
 pub data CarriesAll {X : Type 0} (carries : X → ℕ → Message Command → X → Type 0) (before : X)
     : List Addressed → X → Type 0 where
+  -- no message
   none : CarriesAll carries before [] before
+  -- one more message
   one_more : {messages : List Addressed} {between : X} (addressed : Addressed) (after : X)
       → CarriesAll carries before messages between
       → carries between addressed.receiver addressed.message after

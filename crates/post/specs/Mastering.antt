@@ -43,15 +43,19 @@ message_if None = None
 -- what it answers, and why: an order that it does not refuse, or an Activate that a step of a node
 -- gave for it
 pub data Answers (master : MasterState) : MasterOutcome Command → Type 0 where
+  -- it does not refuse the order
   to_order : (config : Config)
       → refusal master config ≡ None → Answers master (assigned Command master config)
+  -- a step of a node gave the Activate
   to_node : (asked : Message Command) (ballot : ℕ)
       → WasGiven (To 0 asked) → asked.body ≡ Activate ballot
       → Answers master (activated Command master ballot asked.from master.waiting)
 
 -- the states that it reaches, from its opening on, by one answer after another
 pub data IsReachable : MasterState → Type 0 where
+  -- its opening
   opens : (config : Config) → IsReachable (opening_master config)
+  -- one more answer
   answers : {master : MasterState} (outcome : MasterOutcome Command)
       → IsReachable master → Answers master outcome
       → IsReachable outcome.state

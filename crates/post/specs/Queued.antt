@@ -13,14 +13,19 @@ pub use Rattle.post.specs.Mastering.{WasAnswered}
 
 -- what any sender except the master may queue for a node of this number
 pub data IsPosted (receiver : ℕ) : Item → Type 0 where
+  -- a message that a step of a node gave for it
   of_node : (message : Message Command)
       → WasGiven (To receiver message) → IsPosted receiver (Peer message)
+  -- an order to crash
   order : IsPosted receiver Crash
+  -- an order to end the session of a client
   expels : (client : List ℕ) → IsPosted receiver (Expel client)
 
 -- what may be queued for it
 pub data MayQueue (receiver : ℕ) : Item → Type 0 where
+  -- what others than the master queue
   posted : {item : Item} → IsPosted receiver item → MayQueue receiver item
+  -- a message of the master
   of_master : (message : Message Command)
       → WasAnswered receiver message → MayQueue receiver (Peer message)
 

@@ -18,7 +18,9 @@ pub record Put : Type 0 where
 -- A store that began empty, after publications that it took, the last one at the end. A refused one
 -- changes nothing and needs no case.
 pub data After : List Put → RetainedTopics → Type 0 where
+  -- no publication yet
   nothing : After [] []
+  -- one more that is taken
   put : {puts : List Put} {content : RetainedTopics} (p : Put) → After puts content
       → is_refused content p.topic p.payload ≡ false
       → After (puts ++ p ∷ []) (after_put content p.topic p.qos p.payload)

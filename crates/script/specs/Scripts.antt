@@ -40,6 +40,7 @@ are_distinct (client ∷ clients) = not (has clients client) && are_distinct cli
 
 -- the first line of these fields opens this world: `world 2 1,2 1 a,b`
 pub data IsOpening : List Text → Opening → Type 0 where
+  -- its word, and four fields
   world : {n m p c : Text} {opening : Opening}
       → number_of n ≡ Some opening.nodes → numbers_of m ≡ Some opening.config.members
       → number_of p ≡ Some opening.config.primary → clients_of c ≡ Some opening.clients.items

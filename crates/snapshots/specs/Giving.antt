@@ -41,7 +41,9 @@ pub data LeadsOn {S C O : Type 0} {rules : Rules S C O} {config : Config} (n bal
     {a : Moment S C O} {past : List (Moment S C O)} (came : Past rules config (a ∷ past)) :
     (b : Moment S C O) (later : List (Moment S C O)) → Past rules config (b ∷ later) →
     Type 0 where
+  -- it is so at the moment itself
   leads_there : IsPrimary (whole_world a.world) n ballot → LeadsOn n ballot came a past came
+  -- it is so after one more step
   leads_still : {b c : Moment S C O} {later : List (Moment S C O)}
       {more : Past rules config (b ∷ later)} → LeadsOn n ballot came b later more →
       (step : MayHappen rules b.master b.world c.master c.world) →

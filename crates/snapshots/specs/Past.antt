@@ -37,8 +37,10 @@ opening_moment rules nodes config =
 -- the moments that were, the present one first -- history: no field keeps it
 pub data Past {S C O : Type 0} (rules : Rules S C O) (config : Config) :
     List (Moment S C O) → Type 0 where
+  -- the group opens with a configuration
   began : {a : Moment S C O} (nodes : ℕ) → can_open nodes config ≡ true →
       a ≡ opening_moment rules nodes config → Past rules config (a ∷ [])
+  -- one more step
   went_on : {a b : Moment S C O} {past : List (Moment S C O)} → Past rules config (a ∷ past) →
       MayHappen rules a.master a.world b.master b.world → Past rules config (b ∷ a ∷ past)
 

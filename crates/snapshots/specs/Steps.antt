@@ -25,17 +25,21 @@ world_after {C = C} m w config None = tells_from_master w (assigned C m config)
 -- what may happen
 pub data MayHappen {S C O : Type 0} (rules : Rules S C O) :
     MasterState → World S C O → MasterState → World S C O → Type 0 where
+  -- a node takes a step, stops, or cuts its log
   node_goes : {m : MasterState} {w v : World S C O} → NodeGoes rules w v → MayHappen rules m w m v
+  -- an Assign: the master refuses it, or sends NewBallot to the primary of the configuration
   master_assigns : {m : MasterState} {w : World S C O} (config : Config) →
       MayHappen rules m w (master_after m config (refusal m config))
       (world_after m w config (refusal m config))
+  -- the master receives an Activate that was sent, and answers it
   master_hears : {m : MasterState} {w : World S C O} (from b : ℕ) →
       In (0, record { from = from; body = Activate b }) w.sent →
       MayHappen rules m w (activated C m b from m.waiting).state
       (tells_from_master w (activated C m b from m.waiting))
-  -- the same if the master's message is lost
+  -- an Assign, if the master's NewBallot is lost
   assignment_lost : {m : MasterState} {w : World S C O} (config : Config) →
       MayHappen rules m w (master_after m config (refusal m config)) w
+  -- an Activate, if the master's answer is lost
   answer_lost : {m : MasterState} {w : World S C O} (from b : ℕ) →
       In (0, record { from = from; body = Activate b }) w.sent →
       MayHappen rules m w (activated C m b from m.waiting).state w

@@ -72,12 +72,15 @@ MayTake w n Ticks = Unit {0}
 -- what may happen to a node; a machine that is cut comes back from its bytes
 pub data NodeGoes {S C O : Type 0} (rules : Rules S C O) (w : World S C O) : World S C O
     → Type 0 where
+  -- it receives a message that was sent to it, takes a proposal, or ticks, perhaps with losses
   takes : (n : ℕ) (r : ReplicaState S C) (input : Input C) {new : ReplicaState S C}
       {given : List (Effect C O)} →
       slice_get w.nodes n ≡ Some r → r.stopped ≡ false → MayTake w n input →
       Loses rules r (replica_step rules r input) new given → NodeGoes rules w (moved w n new given)
+  -- it stops
   stops : (n : ℕ) (r : ReplicaState S C) → slice_get w.nodes n ≡ Some r →
       NodeGoes rules w (moved w n (halted rules r) [])
+  -- it cuts its log at what it has applied, and the record keeps what it cut
   cuts : (n : ℕ) (r : ReplicaState S C) → slice_get w.nodes n ≡ Some r → r.stopped ≡ false →
       r.log.base < r.committed →
       rules.thawed (rules.frozen r.machine) ≡ Some r.machine →

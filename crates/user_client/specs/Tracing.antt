@@ -41,30 +41,38 @@ IsAsked p old new =
 
 -- One step. There is no step for bytes of a server that lost the session.
 pub data Step (old : Called) : Called → Type 0 where
+  -- it opens a connection and writes CONNECT
   opens : (core : Core) → Opens (keeper_step Call.Opens old.core.state) old.core (Ok tt) core
       → Step old (with_core core old)
+  -- it publishes
   publishes : (retain : Bool) (qos : QoS) (topic payload : List ℕ) (core : Core)
       → Does
       (keeper_step (Call.Publishes (publication_with retain qos topic payload)) old.core.state)
       old.core (Ok tt) core
       → Step old (with_core core old)
+  -- it subscribes
   subscribes : (filter : List ℕ) (qos : QoS) (core : Core)
       → Does (keeper_step (Call.Subscribes filter qos) old.core.state) old.core (Ok tt) core
       → Step old (with_core core old)
   -- what it wrote is handed over
   writes : Step old (with_core (record old.core { out = [] }) old)
+  -- it takes bytes of the server
   hears : (piece : List ℕ) (heard : Result (Unit {0}) ClientError) (core : Core)
       → OnBytes piece old.core.state.stage old.core heard core
       → heard ≢ Err errors.SessionLost → IsFirst old core
       → Step old (after_bytes core old)
+  -- it disconnects
   leaves : (core : Core)
       → Leaves (keeper_step Call.Disconnects old.core.state) old.core (Ok tt) core
       → Step old (with_core core old)
 
 -- Steps one after another, and what was accepted and taken out in them, in order.
 pub data Trace (start : Called) : List Accepted → Called → Type 0 where
+  -- no step
   starts : Trace start [] start
+  -- one more step
   goes : {taken : List Accepted} {old : Called} (new : Called)
       → Trace start taken old → Step old new → Trace start taken new
+  -- what it accepted is taken out
   takes : {taken : List Accepted} {old : Called} → Trace start taken old
       → Trace start (taken ++ old.core.state.accepted) (with_core (without_accepted old.core) old)

@@ -38,13 +38,16 @@ assigned_moment {C = C} config a =
 -- ballot after them, or to the master
 pub data Delivered {S C O : Type 0} (rules : Rules S C O) (ballot : ℕ) :
     Moment S C O → List ℕ → Moment S C O → Type 0 where
+  -- no message is left
   all_came : {a : Moment S C O} → Delivered rules ballot a [] a
+  -- the next one comes to a node
   to_node : {a b : Moment S C O} {ks : List ℕ} (k n : ℕ) (r : ReplicaState S C) (m : Message C) →
       slice_get a.world.sent k ≡ Some (n + 1, m) → slice_get a.world.nodes n ≡ Some r →
       r.stopped ≡ false → outputs (received rules r m.from m.body).effects ≡ [] →
       (received rules r m.from m.body).state.joined ≡ ballot →
       Delivered rules ballot (after_outcome n (received rules r m.from m.body) a) ks b →
       Delivered rules ballot a (k ∷ ks) b
+  -- it is an Activate, and comes to the master
   to_master : {a b : Moment S C O} {ks : List ℕ} (k from asked : ℕ) →
       slice_get a.world.sent k ≡ Some (0, record { from = from; body = Activate asked }) →
       Delivered rules ballot (after_activate from asked a) ks b →

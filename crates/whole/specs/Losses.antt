@@ -8,8 +8,11 @@ use Rattle.whole.specs.Sending.{Outcome}
 
 -- the first list is the second with some messages missing; no output is missing
 pub data Thinned {C O : Type 0} : List (Effect C O) → List (Effect C O) → Type 0 where
+  -- nothing is left
   none : Thinned [] []
+  -- the next effect is kept
   keeps : {e : Effect C O} {xs ys : List (Effect C O)} → Thinned xs ys → Thinned (e ∷ xs) (e ∷ ys)
+  -- the next message is missing
   loses : {receiver : ℕ} {m : Message C} {xs ys : List (Effect C O)} →
       Thinned xs ys → Thinned xs (To receiver m ∷ ys)
 

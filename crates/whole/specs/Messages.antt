@@ -4,17 +4,19 @@ use Rattle.std.specs.Prelude.{ℕ, List}
 -- what one node says to another, by its kind; the first number of each is the ballot that it speaks
 -- of
 pub data Body (C : Type 0) : Type 0 where
+  -- the master gives a ballot: its members, the ballot that was active, and the members of that one
   NewBallot : ℕ → List ℕ → ℕ → List ℕ → Body C
+  -- leave all lower ballots and send your log; the other number is the ballot of the log
   Join : ℕ → ℕ → Body C
-  State : ℕ → List C → Body C
-  Install : ℕ → List C → Body C
-  Installed : ℕ → ℕ → Body C
-  Activate : ℕ → Body C
-  Activated : ℕ → Body C
-  Superseded : ℕ → Body C
-  Append : ℕ → ℕ → C → Body C
-  Held : ℕ → ℕ → Body C
-  Commit : ℕ → ℕ → Body C
+  State : ℕ → List C → Body C  -- the sender's log
+  Install : ℕ → List C → Body C  -- take this log
+  Installed : ℕ → ℕ → Body C  -- the sender took a log of this length
+  Activate : ℕ → Body C  -- all members hold the log: the master may activate the ballot
+  Activated : ℕ → Body C  -- the ballot is active
+  Superseded : ℕ → Body C  -- a later ballot was given
+  Append : ℕ → ℕ → C → Body C  -- the command at a place
+  Held : ℕ → ℕ → Body C  -- the sender holds so many places
+  Commit : ℕ → ℕ → Body C  -- every member holds so many places
 
 -- with its sender; node 0 is the master
 pub record Message (C : Type 0) : Type 0 where
@@ -23,5 +25,5 @@ pub record Message (C : Type 0) : Type 0 where
 
 -- a message to a node, or an output of the command at a place
 pub data Effect (C O : Type 0) : Type 0 where
-  To : ℕ → Message C → Effect C O
-  Out : ℕ → O → Effect C O
+  To : ℕ → Message C → Effect C O  -- a message to the node of this number
+  Out : ℕ → O → Effect C O  -- an output of the command at this place

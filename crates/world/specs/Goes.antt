@@ -17,7 +17,9 @@ use Rattle.world.specs.World.{WorldState}
 
 -- steps of a group, one after another
 pub data Goes (g : Group) : Group → Type 0 where
+  -- no step
   rests : Goes g g
+  -- one more step
   goes_on : {h k : Group} → Goes g h → GroupStep h k → Goes g k
 
 -- a group moves in this way, and then corresponds to these nodes

@@ -30,7 +30,9 @@ pub record StandsFor (m : World) (w : WorldState) : Type 0 where
 
 -- steps of a world, one after another
 pub data Steps (m : World) : World → Type 0 where
+  -- no step
   rests : Steps m m
+  -- one more step
   goes_on : {n o : World} → Steps m n → WorldStep n o → Steps m o
 
 -- what clients publish in these steps, the oldest first

@@ -65,15 +65,19 @@ Serves (outputs.Close name) core new = new ≡ served_by (outputs.Close name) co
 -- if there is no memory for one, lost
 pub data Delivers : List (Effect Command Output) → CoreState → CoreState →
     List (Effect Command Output) → Type 0 where
+  -- no effect is left
   nothing : {core : CoreState} → Delivers [] core core []
+  -- an output is done
   does : {place : ℕ} {output : Output} {core next new : CoreState}
       {given messages : List (Effect Command Output)} →
       Serves output core next → Delivers given next new messages →
       Delivers (Out place output ∷ given) core new messages
+  -- a message is sent
   tells : {receiver : ℕ} {message : Message Command} {core new : CoreState}
       {given messages : List (Effect Command Output)} →
       Delivers given core new messages →
       Delivers (To receiver message ∷ given) core new (To receiver message ∷ messages)
+  -- a message is lost
   loses : {receiver : ℕ} {message : Message Command} {core new : CoreState}
       {given messages : List (Effect Command Output)} →
       Delivers given core new messages → Delivers (To receiver message ∷ given) core new messages

@@ -10,11 +10,14 @@ use Rattle.world_base.specs.Lossy.{Account, quietly, Moves, Takes}
 -- a command that it does not take, because it does not serve clients or its log is full, or because
 -- memory ran out: then it counts a loss, and may stop
 pub data Declines (core : CoreState) (did : Account) : Type 0 where
+  -- it serves no clients, or its log is full: nothing changes
   no_room : has_room core ≡ false → did ≡ quietly core → Declines core did
+  -- memory ran out: it counts a loss
   forgets : has_room core ≡ true →
       did ≡ quietly
       (record core { replica = record core.replica { losses = one_more core.replica.losses } }) →
       Declines core did
+  -- .. and it stops
   stops : has_room core ≡ true →
       did ≡ quietly (record core {
         replica = record {

@@ -23,22 +23,29 @@ use Rattle.world_base.specs.Reading.{changes, open_at, refused}
 -- the connection of a port is closed as lost, and reported to the broker if its Connect was
 -- proposed
 pub data Ends (port : Port) (core : CoreState) (did : Account) : Type 0 where
+  -- no connection is open at the port
   none_open : open_at port core ≡ None → did ≡ quietly core → Ends port core did
+  -- its Connect was not proposed
   untold : (c : Connection) → open_at port core ≡ Some c → is_proposed c.stage ≡ false →
       did ≡ quietly (changes port closed core) → Ends port core did
+  -- its Connect was proposed, so its loss is proposed too
   told : (c : Connection) → open_at port core ≡ Some c → is_proposed c.stage ≡ true →
       Proposes (commands.Lost c.name) (changes port closed core) did → Ends port core did
 
 -- the silent connection with the lowest port ends
 pub data EndsSilent (now : ℕ) (core : CoreState) (did : Account) : Type 0 where
+  -- no connection is silent
   none_silent : lowest_silent now core.connections ≡ None → did ≡ quietly core →
       EndsSilent now core did
+  -- the one at this port ends
   ends_one : (port : Port) → lowest_silent now core.connections ≡ Some port →
       Ends port core did → EndsSilent now core did
 
 -- the first connection that failed is reported to the broker
 pub data LosesFailed (core : CoreState) (did : Account) : Type 0 where
+  -- no connection failed
   none_failed : find has_failed core.connections ≡ None → did ≡ quietly core → LosesFailed core did
+  -- the loss of this one is proposed
   tells_one : (c : Connection) → find has_failed core.connections ≡ Some c →
       Proposes (commands.Lost c.name) (closes_failed core) did → LosesFailed core did
 
@@ -73,17 +80,22 @@ Says port name packet core did = Asks (commands.Packet name packet) (Shuts port)
 -- packet; or the connection ends, because there is no packet, or because there is no memory to read
 -- it.
 pub data ReadsNext (now : ℕ) (port : Port) (core : CoreState) (did : Account) : Type 0 where
+  -- less than a packet is there
   waits : (c : Connection) → open_at port core ≡ Some c →
       verdict c.unread ≡ Err stops.More → did ≡ quietly core → ReadsNext now port core did
+  -- the first packet of the connection is there
   first : (c : Connection) (packet : Packet) (rest : List ℕ) → open_at port core ≡ Some c →
       is_first c.stage ≡ true → verdict c.unread ≡ Ok (packet, rest) →
       Begins port c.name packet (changes port (left_with now rest) core) did →
       ReadsNext now port core did
+  -- a later packet is there
   later : (c : Connection) (packet : Packet) (rest : List ℕ) → open_at port core ≡ Some c →
       is_first c.stage ≡ false → verdict c.unread ≡ Ok (packet, rest) →
       Says port c.name packet (changes port (left_with now rest) core) did →
       ReadsNext now port core did
+  -- its CONNECT is refused with a code
   refuses : (c : Connection) (code : RefusalCode) → open_at port core ≡ Some c →
       is_first c.stage ≡ true → verdict c.unread ≡ Err (stops.Refused code) →
       did ≡ quietly (changes port (refused code) core) → ReadsNext now port core did
+  -- the connection ends
   ends : Ends port core did → ReadsNext now port core did

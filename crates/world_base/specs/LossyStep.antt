@@ -32,10 +32,13 @@ Opens port core did = (did ≡ quietly (opens port core)) ⊎ (did ≡ quietly c
 -- the replica cuts its log, and its frozen bytes thaw to its machine; or, if there is no memory for
 -- that, it counts a loss
 pub data Cuts (core : CoreState) (did : Account) : Type 0 where
+  -- nothing is to be cut
   nothing_to_cut : can_cut core.replica.state ≡ false → did ≡ quietly core → Cuts core did
+  -- the log is cut
   cuts_log : can_cut core.replica.state ≡ true →
       rules.thawed (rules.frozen core.replica.state.machine) ≡ Some core.replica.state.machine →
       did ≡ quietly (with_cut core) → Cuts core did
+  -- memory ran out: a loss is counted
   forgets_cut : can_cut core.replica.state ≡ true →
       did ≡ quietly
       (record core { replica = record core.replica { losses = one_more core.replica.losses } }) →

@@ -15,15 +15,18 @@ use Rattle.byte_world.specs.Published.{from_client, published_by, published_in}
 
 -- a step of a world, as the client that takes it sees it
 pub data ClientStep (c : ClientPipes) : ClientPipes → Type 0 where
+  -- it calls, or loses its connection
   calls : (t : Story) (h : StoryStep usual_limits (story_alone c) t) → is_call h ≡ true →
       CanBeSpelled c.connections t.connections →
       ClientStep c (after_writing t.keeper t.connections c)
+  -- a prefix of the bytes in transit reaches it
   arrives : (j : ℕ) (κ : Connection) (p : Pipe) (piece rest : List ℕ) →
       slice_get c.connections j ≡ Some κ → slice_get c.pipes j ≡ Some p →
       p.down ≡ piece ++ rest →
       ClientStep c
       (with_pipe j
       (record p { down = rest; came = record p.came { held = p.came.held ++ piece } }) c)
+  -- it handles the next packet that came whole on the connection that it holds
   handles : (κ : Connection) (others : List Connection) (p : Pipe) (pipes : List Pipe)
       (packet : Packet) (left : Stream) → c.connections ≡ κ ∷ others →
       c.pipes ≡ p ∷ pipes → c.keeper.is_open ≡ true → Takes p.came (Ok (Some packet)) left →
@@ -35,7 +38,9 @@ pub data ClientStep (c : ClientPipes) : ClientPipes → Type 0 where
 
 -- one after another
 pub data ClientGoes (c : ClientPipes) : ClientPipes → Type 0 where
+  -- no step
   stays : ClientGoes c c
+  -- one more step
   goes_on : {d e : ClientPipes} → ClientGoes c d → ClientStep d e → ClientGoes c e
 
 -- ---- what it publishes

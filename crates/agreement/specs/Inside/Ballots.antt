@@ -25,12 +25,16 @@ pub record History (C : Type 0) : Type 0 where
 
 -- node m has acknowledged the first k places of the ballot's list
 pub data Told {S C O : Type 0} (w : World S C O) (h : History C) (m b k : ℕ) : Type 0 where
+  -- nothing of ballot 1 at its opening
   told_at_opening : (g : Given) → b ≡ 1 → k ≡ 0 → h.given 1 ≡ Some g → In m g.members →
       Told w h m b k
+  -- it sent a Held with at least this length
   told_by_held : (receiver held : ℕ) →
       In (receiver, record { from = m; body = Held b held }) w.sent → k ≤ held → Told w h m b k
+  -- it sent an Installed with at least this length
   told_by_installed : (receiver held : ℕ) →
       In (receiver, record { from = m; body = Installed b held }) w.sent → k ≤ held → Told w h m b k
+  -- it is the primary: all of its list
   told_as_primary : (g : Given) (l : Line C) → h.given b ≡ Some g → g.primary ≡ m →
       h.line b ≡ Some l → k ≤ length l.list → Told w h m b k
 
@@ -110,6 +114,7 @@ pub record IsPlaced {S C O : Type 0} (w : World S C O) (h : History C) (n : ℕ)
 -- what a node applied is chosen in an activated ballot that is not above the one that it joined
 pub data Applied {S C O : Type 0} (w : World S C O) (h : History C)
     (r : ReplicaState S C) : Type 0 where
-  nothing : r.committed ≡ 0 → Applied w h r
+  nothing : r.committed ≡ 0 → Applied w h r  -- it applied nothing
+  -- this ballot is one
   in_ballot : (b k : ℕ) (l : Line C) → In b h.activated → b ≤ r.joined → h.line b ≡ Some l →
       IsChosenIn w h b k → IsPrefixOf (take r.committed r.log) (take k l.list) → Applied w h r

@@ -25,18 +25,22 @@ AddsBy rules r Ticks b c = ⊥
 -- an Assign or receives an Activate
 pub data GroupStep {S C O : Type 0} (rules : Rules S C O) : MasterState → World S C O →
     MasterState → World S C O → Type 0 where
+  -- a node receives a message, takes a proposal, or ticks, perhaps with losses
   takes : {m : MasterState} {w : World S C O} (n : ℕ) (r : ReplicaState S C)
       (input : Input C) {new : ReplicaState S C}
       {given : List (Effect C O)} → slice_get w.nodes n ≡ Some r → r.stopped ≡ false →
       MayTake w n input →
       Loses rules r (replica_step rules r input) new given →
       GroupStep rules m w m (moved w n new given)
+  -- a node stops
   stops : {m : MasterState} {w : World S C O} (n : ℕ) (r : ReplicaState S C) →
       slice_get w.nodes n ≡ Some r →
       GroupStep rules m w m (moved w n (halted rules r) [])
+  -- the master gives a ballot
   assigns : {m : MasterState} {w : World S C O} (config : Config) →
       In config.primary config.members →
       GroupStep rules m w (assigned C m config).state (tells_from_master w (assigned C m config))
+  -- the master answers an Activate
   hears : {m : MasterState} {w : World S C O} (from b : ℕ) →
       In (0, record { from = from; body = Activate b }) w.sent →
       GroupStep rules m w (activated C m b from m.waiting).state (tells_from_master w
@@ -45,6 +49,7 @@ pub data GroupStep {S C O : Type 0} (rules : Rules S C O) : MasterState → Worl
   assigns_unheard : {m : MasterState} {w : World S C O} (config : Config) →
       In config.primary config.members →
       GroupStep rules m w (assigned C m config).state w
+  -- the same for its answer to an Activate
   hears_unanswered : {m : MasterState} {w : World S C O} (from b : ℕ) →
       In (0, record { from = from; body = Activate b }) w.sent →
       GroupStep rules m w (activated C m b from m.waiting).state w

@@ -24,10 +24,13 @@ pub record GoesOn {S C O : Type 0} (rules : Rules S C O) (w : World S C O) (h : 
 -- one command
 pub data LineAdds {C : Type 0} (adds : ℕ → C →
     Type 0) (h : History C) (b : ℕ) (k : Line C) : Type 0 where
+  -- it stays
   as_it_was : h.line b ≡ Some k → LineAdds adds h b k
+  -- it begins as a prefix of the list of the earlier ballot
   begins_after : (g : Given) (p : Line C) → h.given b ≡ Some g → h.line b ≡ None →
       h.line g.previous ≡ Some p →
       IsPrefixOf k.list p.list → LineAdds adds h b k
+  -- it takes one command
   adds_one : (l : Line C) (c : C) → h.line b ≡ Some l → k.list ≡ l.list ++ c ∷ [] → adds b c →
       LineAdds adds h b k
 

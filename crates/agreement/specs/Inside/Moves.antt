@@ -14,10 +14,13 @@ with_lines h line = record h { line = line }
 -- how the list of a ballot may change: it grows in an activated ballot, or it begins as its base
 pub data LineGoesOn {S C O : Type 0} (w : World S C O) (h : History C) (b : ℕ)
     (k : Line C) : Type 0 where
+  -- it stays
   stays : h.line b ≡ Some k → LineGoesOn w h b k
+  -- the ballot is activated, and its list grows
   grows : (l : Line C) → h.line b ≡ Some l → k.base ≡ l.base → IsPrefixOf l.list k.list →
       In b h.activated →
       LineGoesOn w h b k
+  -- the list begins as its base
   begins : (g : Given) → h.line b ≡ None → k.list ≡ k.base → h.given b ≡ Some g →
       Sealed w h g.previous k.base →
       ((p : Line C) × (h.line g.previous ≡ Some p) × IsPrefixOf k.base p.list) → LineGoesOn w h b k
