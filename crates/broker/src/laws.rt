@@ -3,7 +3,7 @@
 ghost use Rattle.broker.specs.Standing.{BeginsEmpty, GoesOnStanding};
 ghost use Rattle.broker.specs.Standing.{GoesOnFromFormOne, UsualIsWide};
 
-/// Shows that after every list of commands the state is the one that the list means with the first
+/// States that after every list of commands the state is the one that the list means with the first
 /// window. So are the answers to each command. The first window is 64 in a fresh broker; one that
 /// is read from form 1 continues with 16.
 pub fn broker_stands_for()

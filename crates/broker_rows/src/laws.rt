@@ -5,34 +5,37 @@ ghost use Rattle.broker_rows.specs.CommandLaws.{OwnerIsFoundByMap};
 ghost use Rattle.broker_rows.specs.PublicationLaws.{GrantedRowsMatch, RoomIsOfGrantedRows};
 ghost use Rattle.broker_rows.specs.PublicationLaws.{AnswersAreOfGrantedRows};
 
-/// A command on a client's current connection writes that client's row or removes it (MQTT 3.1.4).
-/// It touches no other, unless it is a PUBLISH that is taken.
+/// States that a command on a client's current connection writes that client's row or removes it
+/// (MQTT 3.1.4). It touches no other, unless it is a PUBLISH that is taken.
 pub fn one_row_is_written()
     ensures { OneRowIsWritten }
 {}
 
-/// A command on a connection that is no client's current one changes no row, unless it is an
-/// accepted Connect.
+/// States that a command on a connection that is no client's current one changes no row, unless it
+/// is an accepted Connect.
 pub fn nobody_changes_nothing()
     ensures { NobodyChangesNothing }
 {}
 
-/// A map from connections to clients that is kept in step finds the row that owns a connection.
+/// States that a map from connections to clients that is kept in step finds the row that owns a
+/// connection.
 pub fn owner_is_found_by_map()
     ensures { OwnerIsFoundByMap }
 {}
 
-/// An index that holds the sessions' subscriptions grants the sessions that match (MQTT 3.3.5).
+/// States that an index that holds the sessions' subscriptions grants the sessions that match (MQTT
+/// 3.3.5).
 pub fn granted_rows_match()
     ensures { GrantedRowsMatch }
 {}
 
-/// Some session lacks room for a publication exactly if a granted row's session does.
+/// States that some session lacks room for a publication exactly if a granted row's session does.
 pub fn room_is_of_granted_rows()
     ensures { RoomIsOfGrantedRows }
 {}
 
-/// What all clients are sent of a publication is what those of the granted rows are, in order.
+/// States that what all clients are sent of a publication is what those of the granted rows are, in
+/// order.
 pub fn answers_are_of_granted_rows()
     ensures { AnswersAreOfGrantedRows }
 {}

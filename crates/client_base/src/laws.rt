@@ -7,23 +7,24 @@ ghost use Rattle.client_base.specs.Laws.{AcceptsUnlessKept, StaysKept};
 
 use session_base::fill_takes_what_waits;
 
-/// A publication at QoS 2 is accepted once for each identifier kept: an identifier that is kept
-/// accepts nothing more until its PUBREL, or until the session is lost (MQTT 4.3.3).
+/// States that a publication at QoS 2 is accepted once for each identifier kept. An identifier that
+/// is kept accepts nothing more until its PUBREL, or until the session is lost (MQTT 4.3.3).
 pub fn accepted_once_an_identifier()
     ensures accepts { AcceptsUnlessKept }
     ensures stays { StaysKept }
 {}
 
-/// A client that keeps no history does the same as the one with it, call by call and packet by
-/// packet: what it keeps is what the history says is kept, in order, and it writes the same.
+/// States that a client that keeps no history does the same as the one with it, call by call and
+/// packet by packet. What it keeps is what the history says is kept, in order, and it writes the
+/// same.
 pub fn history_is_followed()
     ensures { CallsFollow }
 {
     fill_takes_what_waits();
 }
 
-/// No identifier is in flight twice, and none is a publication's and a request's at once, whatever
-/// a client is asked for and the server sends (MQTT 2.3.1).
+/// States that no identifier is in flight twice, and none is a publication's and a request's at
+/// once, whatever a client is asked for and the server sends (MQTT 2.3.1).
 pub fn identifiers_are_distinct()
     ensures distinct { IdentifiersAreDistinct }
     ensures apart { RequestsAreApart }
@@ -31,8 +32,8 @@ pub fn identifiers_are_distinct()
     fill_takes_what_waits();
 }
 
-/// Publications keep the numbers of their calls, and after each CONNACK 0 those that were not
-/// released are sent in this order (MQTT 4.4, 4.6).
+/// States that publications keep the numbers of their calls, and after each CONNACK 0 those that
+/// were not released are sent in this order (MQTT 4.4, 4.6).
 pub fn publishing_order_is_kept()
     ensures stay { NumbersStay }
     ensures order { GoesOutInOrder }

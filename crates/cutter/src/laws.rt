@@ -5,28 +5,29 @@ ghost use Rattle.cutter.specs.Laws.{OneCut, PacketsOfTheStream};
 
 use packet::no_spelling_begins_another;
 
-/// A stream is cut into packets and a rest in one way only.
+/// States that a stream is cut into packets and a rest in one way only.
 pub fn one_cut()
     ensures { OneCut }
 {
     no_spelling_begins_another();
 }
 
-/// However the calls of a cutter follow each other, what it has given is a prefix of the packets of
-/// all bytes that it was fed.
+/// States that however the calls of a cutter follow each other, what it has given is a prefix of
+/// the packets of all bytes that it was fed.
 pub fn packets_of_the_stream()
     ensures { PacketsOfTheStream }
 {
     no_spelling_begins_another();
 }
 
-/// Every list of bytes is cut into packets and a rest that begins with no whole packet.
+/// States that every list of bytes is cut into packets and a rest that begins with no whole packet.
 pub fn every_stream_is_cut()
     ensures { EveryStreamIsCut }
 {}
 
-/// After an answer that no whole packet is there, a cutter has given all packets of the bytes that
-/// it was fed and holds the rest; so two that were fed the same bytes, cut anywhere, gave the same.
+/// States that after an answer that no whole packet is there, a cutter has given all packets of the
+/// bytes that it was fed and holds the rest. So two that were fed the same bytes, cut anywhere,
+/// gave the same.
 pub fn no_packet_is_left()
     ensures none { NoPacketIsLeft }
     ensures agree { CuttingsAgree }

@@ -2,7 +2,7 @@
 
 ghost use Rattle.escaping_client.specs.Online.{ConnackServes};
 
-/// Says that a client takes bytes that are a CONNACK 0 with session present, on a connection that
+/// States that a client takes bytes that are a CONNACK 0 with session present, on a connection that
 /// it opened and on which nothing came yet, and is online then, unless memory runs out (MQTT 3.2).
 pub fn connack_serves()
     ensures { ConnackServes }

@@ -4,8 +4,8 @@ ghost use Rattle.exactly_once.specs.Unexpelled.{UnexpelledLivesAreInStep};
 ghost use Rattle.exactly_once.specs.Laws.{SteadyLivesAccept, SteadyLivesAreExact, SteadyStoriesAcceptInOrder, SteadyStoriesAreExact, SteadyStoriesPublishOnce, StoriesAcceptInOrder, StoriesEnter, StoriesPublishOnce, UsualLivesAccept, UsualLivesAreExact, UsualStoriesAreExact};
 
 /// States that, whatever happens to its connections and to the nodes, a client's QoS 2 publications
-/// become new in the list of commands in the order of its calls, each at most once, and each that
-/// was answered with PUBREC is there; over all its repeats each enters each session at most once.
+/// become new in the list of commands in the order of its calls, each at most once. Each that was
+/// answered with PUBREC is there, and over all its repeats each enters each session at most once.
 /// One at QoS 1 that was answered with PUBACK is taken (MQTT 4.3.2, 4.3.3).
 pub fn stories_publish_once()
     ensures usual { StoriesPublishOnce }

@@ -2,17 +2,17 @@
 
 ghost use Rattle.lists.specs.Laws.{BeginningsJoin, BeginningsMeet, IdentifiersStayApart};
 
-/// Of two prefixes of one list, one is a prefix of the other.
+/// States that of two prefixes of one list, one is a prefix of the other.
 pub fn beginnings_meet<T>()
     ensures { BeginningsMeet T }
 {}
 
-/// A prefix of a prefix is a prefix.
+/// States that a prefix of a prefix is a prefix.
 pub fn beginnings_join<T>()
     ensures { BeginningsJoin T }
 {}
 
-/// An identifier that is not among distinct ones may be appended to them.
+/// States that an identifier that is not among distinct ones may be appended to them.
 pub fn identifiers_stay_apart()
     ensures { IdentifiersStayApart }
 {}

@@ -8,27 +8,28 @@ ghost use Rattle.packet.specs.Laws.{
   FaultsStay,
 };
 
-/// Each packet within the limit, its numbers in their ranges, has one spelling.
+/// States that each packet within the limit, its numbers in their ranges, has one spelling.
 pub fn one_spelling()
     ensures { HasOneSpelling }
 {}
 
-/// `spelling` gives the bytes of a packet, for all fourteen.
+/// States that `spelling` gives the bytes of a packet, for all fourteen.
 pub fn spelling_spells()
     ensures { SpellingSpells }
 {}
 
-/// No spelling is a prefix of another one, so packets that are joined can be told apart.
+/// States that no spelling is a prefix of another one, so packets that are joined can be told
+/// apart.
 pub fn no_spelling_begins_another()
     ensures { NoneBeginsAnother }
 {}
 
-/// Each proper prefix of a spelling is less than a packet, so it has no fault.
+/// States that each proper prefix of a spelling is less than a packet, so it has no fault.
 pub fn fronts_are_unfinished()
     ensures { FrontsAreUnfinished }
 {}
 
-/// A fault is final: it stays the same whatever bytes follow.
+/// States that a fault is final: it stays the same whatever bytes follow.
 pub fn faults_stay()
     ensures { FaultsStay }
 {}

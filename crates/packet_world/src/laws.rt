@@ -9,10 +9,10 @@ ghost use Rattle.packet_world.specs.Served.{WorldsAreServed};
 use snapshots::machine::Machine;
 
 /// States that, whatever clients, nodes and the network between them do, connections carry packets
-/// in order, the publications of each client that is in step are published once and what it accepts
-/// in each of its sessions is in order, and an ended session gets nothing more, as long as the
-/// nodes agree on one list of commands that only grows, in which each connection's commands are in
-/// order.
+/// in order. The publications of each client that is in step are published once. What it accepts in
+/// each of its sessions is in order, and an ended session gets nothing more. For this the nodes
+/// have to agree on one list of commands that only grows, in which each connection's commands are
+/// in order.
 pub fn worlds_are_exact()
     ensures { WorldsAreExact }
 {}

@@ -2,13 +2,13 @@
 
 ghost use Rattle.retained.specs.Laws.{LastIsRetained, StaysInBounds};
 
-/// What is retained of a topic is its last publication with RETAIN 1, and nothing if that had no
-/// payload (MQTT 3.3.1.3).
+/// States that what is retained of a topic is its last publication with RETAIN 1, and nothing if
+/// that had no payload (MQTT 3.3.1.3).
 pub fn last_is_retained()
     ensures { LastIsRetained }
 {}
 
-/// The topics come in rising order of their bytes, each once, and are 16,384 at most.
+/// States that the topics come in rising order of their bytes, each once, and are 16,384 at most.
 pub fn stays_in_bounds()
     ensures { StaysInBounds }
 {}

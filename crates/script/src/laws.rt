@@ -2,12 +2,12 @@
 
 ghost use Rattle.script.specs.Laws.{NoScriptIsRefused, OneOrderALine};
 
-/// The fields of a line order one thing at most.
+/// States that the fields of a line order one thing at most.
 pub fn one_order_a_line()
     ensures { OneOrderALine }
 {}
 
-/// Lines that are a script are refused only because memory ran out.
+/// States that lines that are a script are refused only because memory ran out.
 pub fn no_script_is_refused()
     ensures { NoScriptIsRefused }
 {}

@@ -10,8 +10,8 @@ ghost use Rattle.session_base.specs.OrderLaws.{KeepsReleasedFirst, ResendsInOrde
 ghost use Rattle.session_base.specs.KeepingLaws.{FiltersStayApart, FiltersKeepTheirOrder};
 ghost use Rattle.session_base.specs.KeepingLaws.{ReceivedStayRising};
 
-/// A fill starts what waits in order, with free identifiers, until nothing waits or the window is
-/// full; and it sends what it starts.
+/// States that a fill starts what waits in order, with free identifiers, until nothing waits or the
+/// window is full; and it sends what it starts.
 pub fn fill_takes_what_waits()
     ensures done { FillIsDone }
     ensures within { FillStaysWithin }
@@ -21,39 +21,41 @@ pub fn fill_takes_what_waits()
     ensures apart { FillKeepsApart }
 {}
 
-/// Two fills, one after another, are one; and so are those after copies that come one by one.
+/// States that two fills, one after another, are one; and so are those after copies that come one
+/// by one.
 pub fn fills_join()
     ensures two { FillsJoin }
     ensures copies { CopiesAreOneFill }
 {}
 
-/// An answer of the client for which no entry waits changes nothing; a second PUBREC changes
-/// nothing either.
+/// States that an answer of the client for which no entry waits changes nothing; a second PUBREC
+/// changes nothing either.
 pub fn other_answers_change_nothing()
     ensures others { OtherAnswersChangeNothing }
     ensures second { SecondPubrecChangesNothing }
 {}
 
-/// An answer of the client leaves the identifiers in flight distinct, and PUBREC leaves as many.
+/// States that an answer of the client leaves the identifiers in flight distinct, and PUBREC leaves
+/// as many.
 pub fn answers_keep_identifiers_apart()
     ensures { AnswersKeepApart }
 {}
 
-/// Released entries come first, in the order of their release, and a client that comes back is sent
-/// the queue in order.
+/// States that released entries come first, in the order of their release, and a client that comes
+/// back is sent the queue in order.
 pub fn resend_keeps_the_order()
     ensures last { ReleasedComesLast }
     ensures first { KeepsReleasedFirst }
     ensures order { ResendsInOrder }
 {}
 
-/// PUBACK finishes an entry of QoS 1 alone, and PUBREC and PUBCOMP one of QoS 2.
+/// States that PUBACK finishes an entry of QoS 1 alone, and PUBREC and PUBCOMP one of QoS 2.
 pub fn answers_fit_the_qos()
     ensures { AnswersFitTheQoS }
 {}
 
-/// Each filter of a session occurs once, in the order of their first granting, and received
-/// identifiers rise. This stays so whatever is granted, given up, received or released.
+/// States that each filter of a session occurs once, in the order of their first granting, and
+/// received identifiers rise. This stays so whatever is granted, given up, received or released.
 pub fn sessions_keep_their_form()
     ensures filters { FiltersStayApart }
     ensures order { FiltersKeepTheirOrder }

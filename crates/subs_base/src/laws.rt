@@ -2,7 +2,8 @@
 
 ghost use Rattle.subs_base.specs.Laws.{GrantsOneList};
 
-/// What is granted is determined by the content: by no order of the calls, and by no index.
+/// States that what is granted is determined by the content: by no order of the calls, and by no
+/// index.
 pub fn grants_one_list()
     ensures { GrantsOneList }
 {}

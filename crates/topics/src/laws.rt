@@ -2,12 +2,12 @@
 
 ghost use Rattle.topics.specs.Laws.{MatchesIsTested, BareMatchesItself};
 
-/// The test `is_match` of the definitions is true exactly if a filter matches a topic.
+/// States that the test `is_match` of the definitions is true exactly if a filter matches a topic.
 pub fn matches_is_tested()
     ensures { MatchesIsTested }
 {}
 
-/// A filter without wildcards matches the topic of its own text, and no other.
+/// States that a filter without wildcards matches the topic of its own text, and no other.
 pub fn bare_matches_itself()
     ensures { BareMatchesItself }
 {}

@@ -14,9 +14,8 @@ pub fn has_way_out<M: Machine>()
     ensures { HasWayOut M.rules }
 {}
 
-/// States what is agreed once all answered: if all other members of the active ballot have
-/// acknowledged the whole log of its active primary, that log is the agreed list. This is stated of
-/// the last moment only.
+/// States that the whole log of the active primary is the agreed list once all other members of its
+/// ballot have acknowledged it. This is stated of the last moment only.
 pub fn what_all_hold_is_agreed<M: Machine>()
     ensures { WhatAllHoldIsAgreed M.rules }
 {}
