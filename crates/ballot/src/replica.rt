@@ -35,20 +35,34 @@ pub const MAX_PLACES: u64 = 1 << 40;
 /// messages that its calls return. Its calls also return the machine's outputs, with their places.
 #[derive(Drop)]
 pub struct Replica<M: Machine> {
+    // Gives memory for lists and messages.
     alloc: Global,
+    // The number of the node, from 1 to 15.
     id: u8,
+    // The ballot that it joined; 0 before the first.
     joined: u64,
+    // The ballot in which its log was last installed; 0 before the first.
     held_in: u64,
+    // What it does in the ballot that it joined.
     role: Role,
+    // The members of the ballot that it leads.
     members: Members,
+    // The earlier ballot, which that one follows, and its members.
     previous: u64,
     previous_members: Members,
+    // The other members that lack the log that is being installed.
     lacking: Vec<u8>,
+    // What each member is known to hold.
     progress: Vec<Progress>,
+    // Its commands, those below its base as a snapshot.
     log: Log<M::Command>,
+    // How many places are applied.
     committed: u64,
+    // The machine after these places.
     machine: M,
+    // Whether it does nothing any more.
     stopped: bool,
+    // How many of its calls ran out of memory, up to 2^64 - 1.
     losses: u64,
 }
 
