@@ -83,6 +83,7 @@ impl World {
             × (asked_on reached ≡ [])) }
         ensures clients { IfOk result (λ world. identifiers world.clients ≡ clients.now) }
         ensures opens { IfOk result (λ world. Opens nodes config clients.now world) }
+
         // The nodes agree.
         ensures reached { IfOk result (λ world. AreReached nodes config world.nodes) }
         ensures losses { IfOk result (λ world. world.losses ≡ 0) }
@@ -110,16 +111,20 @@ impl World {
         ensures exact { (asked : List (ℕ × Publication))
             × IsAsked event.now self.old result asked self.new
             × WorldGoesBy asked self.old self.new × KeepsReached asked self.old self.new }
+
         // Its nodes move as a group, and agree after the event.
         ensures goes { WorldGoesOn self.old self.new }
         ensures reached { StaysReached self.old.nodes self.new.nodes }
+
         // What was agreed is a prefix of what is agreed after the event.
         ensures grown { AgreedGrows self.old.nodes self.new.nodes }
+
         // What the event asks is done, or it cannot happen. Or a loss is counted, for an event that
         // can happen and takes memory: then nothing is done, or what the event asks, with losses,
         // and nothing else.
         ensures happens { Happens event.now self.old result self.new }
         ensures same { OnErr result (self.new ≡ self.old) }
+
         // The count of losses rises by one, or not at all: an event that takes no memory does not
         // raise it.
         ensures count { CountsOnce self.old self.new }
@@ -141,11 +146,14 @@ impl World {
         ensures exact { (asked : List (ℕ × Publication))
             × RunAsks events.now self.old asked self.new
             × WorldGoesBy asked self.old self.new × KeepsReached asked self.old self.new }
+
         // Its nodes move as a group, and agree after the events.
         ensures goes { WorldGoesOn self.old self.new }
         ensures reached { StaysReached self.old.nodes self.new.nodes }
+
         // What was agreed is a prefix of what is agreed after them.
         ensures grown { AgreedGrows self.old.nodes self.new.nodes }
+
         // Each event has happened, or could not.
         ensures runs { Run events.now self.old self.new }
     {
