@@ -1,5 +1,5 @@
 use super::groups::*;
-use super::stories::{Story, goes};
+use super::stories::{Story, first_fault};
 use master::ballot::{Body, Message};
 use master::machine::{Tally, TallyCommand};
 use master::{Event, Group};
@@ -37,22 +37,26 @@ fn sent_all(group: &Group<Tally>) -> bool {
     is_append(group, 0) && is_held(group, 1) && is_held(group, 2) && is_commit(group, 3)
 }
 
-/// Says whether a command is answered once both members hold it.
-pub fn waits_for_all(group: &mut Group<Tally>) -> bool {
-    adds(group, 1, 2)
-        && counts(group) == (1, 0, 0)
-        && come(group, ANSWERED)
-        && sent_all(group)
-        && gave(group, 0, 0, 2)
-        && agrees(group, &[TallyCommand::Add(2)])
-        && is_active(group, 1)
+/// Finds the first step that goes otherwise: a command is answered once both members hold it.
+pub fn waits_for_all(group: &mut Group<Tally>) -> Option<usize> {
+    first_false(&[
+        adds(group, 1, 2),
+        counts(group) == (1, 0, 0),
+        come(group, ANSWERED),
+        sent_all(group),
+        gave(group, 0, 0, 2),
+        agrees(group, &[TallyCommand::Add(2)]),
+        is_active(group, 1),
+    ])
 }
 
 // A command is appended, held, answered and committed; a message may come twice.
 #[test]
 fn an_answer_waits_for_all_members(rt: HostRuntime) {
-    let told = goes(rt.alloc(), 2, &[1, 2], Story::WaitsForAll);
-    assert!(rt; told == Some(true));
+    assert_eq!(rt;
+        first_fault(rt.alloc(), 2, &[1, 2], Story::WaitsForAll),
+        None
+    );
 }
 
 const ALONE: &[TallyCommand] = &[
@@ -70,23 +74,19 @@ fn run_alone(group: &mut Group<Tally>) {
     ]);
 }
 
-// Says whether these are the outputs and the list in the end.
-fn has_counted(group: &Group<Tally>) -> bool {
-    counts(group) == (0, 2, 3)
-        && gave(group, 0, 0, 2)
-        && gave(group, 1, 2, 5)
-        && agrees(group, ALONE)
-}
-
-/// Says whether a sole member answers at once.
-pub fn counts_alone(group: &mut Group<Tally>) -> bool {
+/// Finds the first of these that is not so: a sole member answers at once.
+pub fn counts_alone(group: &mut Group<Tally>) -> Option<usize> {
     run_alone(group);
-    has_counted(group)
+    first_false(&[
+        counts(group) == (0, 2, 3),
+        gave(group, 0, 0, 2),
+        gave(group, 1, 2, 5),
+        agrees(group, ALONE),
+    ])
 }
 
 // A sole member answers at once: 2, nothing at the start of a ballot, and 5.
 #[test]
 fn tally_counts(rt: HostRuntime) {
-    let told = goes(rt.alloc(), 1, &[1], Story::CountsAlone);
-    assert!(rt; told == Some(true));
+    assert_eq!(rt; first_fault(rt.alloc(), 1, &[1], Story::CountsAlone), None);
 }

@@ -1,5 +1,5 @@
 use super::groups::*;
-use super::stories::{Story, goes};
+use super::stories::{Story, first_fault};
 use master::ballot::{Body, Message};
 use master::machine::{Tally, TallyCommand};
 use master::{Event, Group};
@@ -19,22 +19,23 @@ const CHANGED: &[Row] = &[
     (8, 10, 0, 1),
 ];
 
-/// Says whether the master gives the ballot to members 1 and 2 and primary 2, and its messages come
-/// as these rows say.
-pub fn is_changed(group: &mut Group<Tally>, alloc: Global) -> bool {
-    gives_to(group, alloc, &[1, 2], 2)
-        && counts(group) == (1, 0, 0)
-        && come(group, CHANGED)
-        && is_active(group, 2)
-        && agrees(group, STARTED)
+/// Finds the first step that goes otherwise: the master gives the ballot to members 1 and 2 and
+/// primary 2, and its messages come as these rows say.
+pub fn is_changed(group: &mut Group<Tally>, alloc: Global) -> Option<usize> {
+    first_false(&[
+        gives_to(group, alloc, &[1, 2], 2),
+        counts(group) == (1, 0, 0),
+        come(group, CHANGED),
+        is_active(group, 2),
+        agrees(group, STARTED),
+    ])
 }
 
 // The counts of a change of configuration: [1] to [1, 2] with primary 2. The messages are
 // NewBallot, Join, State, Install, Installed, Activate, Activated, Append, Held, Commit.
 #[test]
 fn configuration_changes(rt: HostRuntime) {
-    let told = goes(rt.alloc(), 2, &[1], Story::Changes);
-    assert!(rt; told == Some(true));
+    assert_eq!(rt; first_fault(rt.alloc(), 2, &[1], Story::Changes), None);
 }
 
 const WAITING: &[Row] = &[
@@ -69,24 +70,25 @@ fn is_refused(group: &Group<Tally>) -> bool {
     asks && refuses
 }
 
-/// Says whether the ballot of members 1 and 2 is superseded by that of member 3, and messages come
-/// as these rows say.
-pub fn is_put_out(group: &mut Group<Tally>, alloc: Global) -> bool {
-    gives_to(group, alloc, &[1, 2], 2)
-        && come(group, WAITING)
-        && gives_to(group, alloc, &[3], 3)
-        && come(group, PUT_OUT)
-        && is_refused(group)
-        && is_active(group, 3)
-        && agrees(group, &[TallyCommand::Start(3)])
+/// Finds the first step that goes otherwise: the ballot of members 1 and 2 is superseded by that of
+/// member 3, and messages come as these rows say.
+pub fn is_put_out(group: &mut Group<Tally>, alloc: Global) -> Option<usize> {
+    first_false(&[
+        gives_to(group, alloc, &[1, 2], 2),
+        come(group, WAITING),
+        gives_to(group, alloc, &[3], 3),
+        come(group, PUT_OUT),
+        is_refused(group),
+        is_active(group, 3),
+        agrees(group, &[TallyCommand::Start(3)]),
+    ])
 }
 
 // The counts of a ballot that is superseded while it waits: message 5 is Activate(2), and message 7
 // Superseded(2).
 #[test]
 fn a_ballot_is_put_out(rt: HostRuntime) {
-    let told = goes(rt.alloc(), 3, &[1], Story::IsPutOut);
-    assert!(rt; told == Some(true));
+    assert_eq!(rt; first_fault(rt.alloc(), 3, &[1], Story::IsPutOut), None);
 }
 
 // Says whether a node takes a number to add. All messages come.
@@ -109,28 +111,25 @@ const TAKEN_OVER: &[TallyCommand] = &[
     TallyCommand::Add(3),
 ];
 
-// Says whether these are the outputs and the list in the end.
-fn has_gone_on(group: &Group<Tally>) -> bool {
-    gave(group, 0, 0, 2)
-        && gave(group, 1, 2, 5)
-        && group.left().len() == 2
-        && agrees(group, TAKEN_OVER)
-}
-
-/// Says whether node 1 answers a command and stops, and node 2 answers the next one.
-pub fn takes_over(group: &mut Group<Tally>, alloc: Global) -> bool {
-    adds_and_settles(group, 1, 2)
-        && goes_over(group, alloc)
-        && adds_and_settles(group, 2, 3)
-        && has_gone_on(group)
+/// Finds the first step that goes otherwise: node 1 answers a command and stops, and node 2 answers
+/// the next one.
+pub fn takes_over(group: &mut Group<Tally>, alloc: Global) -> Option<usize> {
+    first_false(&[
+        adds_and_settles(group, 1, 2),
+        goes_over(group, alloc),
+        adds_and_settles(group, 2, 3),
+        gave(group, 0, 0, 2),
+        gave(group, 1, 2, 5),
+        group.left().len() == 2,
+        agrees(group, TAKEN_OVER),
+    ])
 }
 
 // Node 1 answers a command and stops. Node 2 is given the next ballot, has what was agreed, and
 // answers the next command from there on.
 #[test]
 fn a_new_primary_takes_over(rt: HostRuntime) {
-    let told = goes(rt.alloc(), 3, &[1, 2], Story::TakesOver);
-    assert!(rt; told == Some(true));
+    assert_eq!(rt; first_fault(rt.alloc(), 3, &[1, 2], Story::TakesOver), None);
 }
 
 const LEFT_BEHIND: &[Row] = &[
@@ -147,20 +146,25 @@ const LEFT_BEHIND: &[Row] = &[
     (12, 13, 0, 1),
 ];
 
-/// Says whether the longer log of node 1 is replaced after the change to primary 2.
-pub fn is_replaced(group: &mut Group<Tally>, alloc: Global) -> bool {
-    adds(group, 1, 2)
-        && adds(group, 1, 3)
-        && gives_to(group, alloc, &[1, 2], 2)
-        && come(group, LEFT_BEHIND)
-        && is_active(group, 2)
-        && agrees(group, STARTED)
+/// Finds the first step that goes otherwise: the longer log of node 1 is replaced after the change
+/// to primary 2.
+pub fn is_replaced(group: &mut Group<Tally>, alloc: Global) -> Option<usize> {
+    first_false(&[
+        adds(group, 1, 2),
+        adds(group, 1, 3),
+        gives_to(group, alloc, &[1, 2], 2),
+        come(group, LEFT_BEHIND),
+        is_active(group, 2),
+        agrees(group, STARTED),
+    ])
 }
 
 // Node 1 has two commands that node 2 never got. The log of ballot 2 replaces its longer one, and
 // the result of them later changes nothing.
 #[test]
 fn a_stale_primary_has_a_longer_log(rt: HostRuntime) {
-    let told = goes(rt.alloc(), 2, &[1, 2], Story::IsReplaced);
-    assert!(rt; told == Some(true));
+    assert_eq!(rt;
+        first_fault(rt.alloc(), 2, &[1, 2], Story::IsReplaced),
+        None
+    );
 }

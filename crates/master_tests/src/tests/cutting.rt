@@ -1,7 +1,7 @@
 // Logs that are cut.
 
 use super::groups::*;
-use super::stories::{Story, goes};
+use super::stories::{Story, first_fault};
 use master::machine::{Tally, TallyCommand};
 use master::{Event, Group};
 use std::alloc::Global;
@@ -14,24 +14,25 @@ fn cuts(group: &mut Group<Tally>, node: u8) -> bool {
         && counts(group) == before
 }
 
-/// Says whether two members cut what they applied, and no more: node 2 applies it only with the
-/// Commit.
-pub fn cuts_what_is_applied(group: &mut Group<Tally>) -> bool {
-    adds(group, 1, 2)
-        && !happens(group, &Event::Cut(1))
-        && come(group, &[(0, 2, 0, 1), (1, 3, 1, 1)])
-        && cuts(group, 1)
-        && !happens(group, &Event::Cut(2))
-        && come(group, &[(2, 3, 1, 1)])
-        && cuts(group, 2)
-        && agrees(group, &[TallyCommand::Add(2)])
+/// Finds the first step that goes otherwise: two members cut what they applied, and no more; node 2
+/// applies it only with the Commit.
+pub fn cuts_what_is_applied(group: &mut Group<Tally>) -> Option<usize> {
+    first_false(&[
+        adds(group, 1, 2),
+        !happens(group, &Event::Cut(1)),
+        come(group, &[(0, 2, 0, 1), (1, 3, 1, 1)]),
+        cuts(group, 1),
+        !happens(group, &Event::Cut(2)),
+        come(group, &[(2, 3, 1, 1)]),
+        cuts(group, 2),
+        agrees(group, &[TallyCommand::Add(2)]),
+    ])
 }
 
 // Cutting changes nothing that is seen of a group.
 #[test]
 fn a_cut_changes_nothing_that_is_seen(rt: HostRuntime) {
-    let told = goes(rt.alloc(), 2, &[1, 2], Story::Cuts);
-    assert!(rt; told == Some(true));
+    assert_eq!(rt; first_fault(rt.alloc(), 2, &[1, 2], Story::Cuts), None);
 }
 
 // The messages 0 to 9 of the change: NewBallot, Join, State, Install, Installed, Activate,
@@ -48,27 +49,32 @@ const CHANGE: &[Row] = &[
     (8, 10, 1, 2),
 ];
 
-/// Says whether node 1 cuts its log and node 2 takes over from its snapshot: it counts on from 2.
-pub fn takes_over_from_a_snapshot(group: &mut Group<Tally>, alloc: Global) -> bool {
+/// Finds the first step that goes otherwise: node 1 cuts its log, and node 2 takes over from its
+/// snapshot and counts on from 2.
+pub fn takes_over_from_a_snapshot(group: &mut Group<Tally>, alloc: Global) -> Option<usize> {
     let list = [
         TallyCommand::Add(2),
         TallyCommand::Start(2),
         TallyCommand::Add(3),
     ];
-    adds(group, 1, 2)
-        && cuts(group, 1)
-        && gives_to(group, alloc, &[1, 2], 2)
-        && come(group, CHANGE)
-        && adds(group, 2, 3)
-        && come(group, &[(10, 12, 1, 3), (11, 13, 2, 3)])
-        && gave(group, 1, 2, 5)
-        && agrees(group, &list)
-        && is_active(group, 2)
+    first_false(&[
+        adds(group, 1, 2),
+        cuts(group, 1),
+        gives_to(group, alloc, &[1, 2], 2),
+        come(group, CHANGE),
+        adds(group, 2, 3),
+        come(group, &[(10, 12, 1, 3), (11, 13, 2, 3)]),
+        gave(group, 1, 2, 5),
+        agrees(group, &list),
+        is_active(group, 2),
+    ])
 }
 
 // A sole member cuts its log, and node 2 becomes the primary of both.
 #[test]
 fn a_snapshot_goes_over_to_a_new_primary(rt: HostRuntime) {
-    let told = goes(rt.alloc(), 2, &[1], Story::TakesASnapshot);
-    assert!(rt; told == Some(true));
+    assert_eq!(rt;
+        first_fault(rt.alloc(), 2, &[1], Story::TakesASnapshot),
+        None
+    );
 }

@@ -1,5 +1,5 @@
 use super::groups::*;
-use super::stories::{Story, goes};
+use super::stories::{Story, first_fault};
 use master::ballot::{Config, OpeningError};
 use master::machine::{Tally, TallyCommand};
 use master::{Event, Group, Idle};
@@ -34,21 +34,24 @@ fn runs_on(group: &mut Group<Tally>) -> bool {
     counts(group) == (3, 0, 0) && is_active(group, 1)
 }
 
-/// Says whether what cannot happen at first, and once node 2 has stopped, is idle.
-pub fn is_idle_where_nothing_can_happen(group: &mut Group<Tally>) -> bool {
-    idles_at_first(group)
-        && adds(group, 1, 2)
-        && happens(group, &Event::Crash(2))
-        && idles_stopped(group)
-        && runs_on(group)
+/// Finds the first step that goes otherwise: what cannot happen at first, and once node 2 has
+/// stopped, is idle.
+pub fn is_idle_where_nothing_can_happen(group: &mut Group<Tally>) -> Option<usize> {
+    first_false(&[
+        idles_at_first(group),
+        adds(group, 1, 2),
+        happens(group, &Event::Crash(2)),
+        idles_stopped(group),
+        runs_on(group),
+    ])
 }
 
 // No node 0 or 3, no message, a backup that is proposed to, a node that has stopped. A run
 // continues after them.
 #[test]
 fn what_cannot_happen_is_idle(rt: HostRuntime) {
-    let told = goes(rt.alloc(), 2, &[1, 2], Story::IsIdle);
-    assert!(rt; told == Some(true) && Idle.number() == 24);
+    assert_eq!(rt; first_fault(rt.alloc(), 2, &[1, 2], Story::IsIdle), None);
+    assert_eq!(rt; Idle.number(), 24);
 }
 
 // Says whether a group is refused for its members; none if there was no memory for the question.

@@ -2,7 +2,7 @@
 // step is counted, what was half done is undone, and the group continues to serve.
 
 use super::groups::*;
-use super::stories::{Story, goes};
+use super::stories::{Story, first_fault_if_opened};
 use master::ballot::Effect;
 use master::machine::{Tally, TallyCommand};
 use master::{Event, Group};
@@ -51,19 +51,23 @@ fn is_taken_over(group: &mut Group<Tally>, alloc: Global) -> bool {
     group.left().len() == left.saturating_add(1)
 }
 
-/// Says whether a command is answered or counted, and two nodes take over; at the second try if
-/// memory ran out at the first.
-pub fn serves_on(group: &mut Group<Tally>, alloc: Global) -> bool {
+/// Finds the first step that goes otherwise: a command is answered or counted, and two nodes take
+/// over; at the second try if memory ran out at the first.
+pub fn serves_on(group: &mut Group<Tally>, alloc: Global) -> Option<usize> {
     answers(group, 1, 2);
-    is_whole_or_counted(group)
-        && (is_taken_over(group, alloc) || is_taken_over(group, alloc))
-        && group.losses() <= 1
+    first_false(&[
+        is_whole_or_counted(group),
+        is_taken_over(group, alloc) || is_taken_over(group, alloc),
+        group.losses() <= 1,
+    ])
 }
 
 #[test]
 fn a_refused_growth_is_counted(rt: HostRuntime) {
-    let told = goes(rt.alloc(), 3, &[1, 2, 3], Story::ServesOn);
-    assert!(rt; told != Some(false));
+    assert_eq!(rt;
+        first_fault_if_opened(rt.alloc(), 3, &[1, 2, 3], Story::ServesOn),
+        None
+    );
 }
 
 // Returns the number that a command adds.
@@ -121,13 +125,11 @@ fn takes_over(group: &mut Group<Tally>, alloc: Global) -> bool {
     true
 }
 
-/// Says whether a log is cut and its snapshot goes over, or one loss is counted; what left is right
-/// in any case.
-pub fn cuts_on(group: &mut Group<Tally>, alloc: Global) -> bool {
+/// Finds the first step that goes otherwise: a log is cut and its snapshot goes over, or one loss
+/// is counted; what left is right in any case.
+pub fn cuts_on(group: &mut Group<Tally>, alloc: Global) -> Option<usize> {
     adds_and_cuts(group);
-    if !takes_over(group, alloc) && !takes_over(group, alloc) {
-        return false;
-    }
+    let is_given = takes_over(group, alloc) || takes_over(group, alloc);
     answers(group, 2, 3);
     let list = [
         TallyCommand::Add(2),
@@ -135,12 +137,14 @@ pub fn cuts_on(group: &mut Group<Tally>, alloc: Global) -> bool {
         TallyCommand::Add(3),
     ];
     let as_ever = agrees(group, &list) && gave(group, 1, 2, 5) && is_active(group, 2);
-    are_answers(group) && (as_ever || group.losses() == 1)
+    first_false(&[is_given, are_answers(group), as_ever || group.losses() == 1])
 }
 
 // With one growth refused while a log is cut, or while its snapshot goes over.
 #[test]
 fn a_refused_cut_is_counted(rt: HostRuntime) {
-    let told = goes(rt.alloc(), 2, &[1], Story::CutsOn);
-    assert!(rt; told != Some(false));
+    assert_eq!(rt;
+        first_fault_if_opened(rt.alloc(), 2, &[1], Story::CutsOn),
+        None
+    );
 }

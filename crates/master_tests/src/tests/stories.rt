@@ -24,8 +24,8 @@ pub enum Story {
     LeavesLate,
 }
 
-// Says whether a group does what a story says.
-fn is_told(alloc: Global, group: &mut Group<Tally>, story: Story) -> bool {
+// Finds the first step at which a group does not what a story says.
+fn fault_of(alloc: Global, group: &mut Group<Tally>, story: Story) -> Option<usize> {
     match story {
         Story::WaitsForAll => answers::waits_for_all(group),
         Story::CountsAlone => answers::counts_alone(group),
@@ -43,11 +43,32 @@ fn is_told(alloc: Global, group: &mut Group<Tally>, story: Story) -> bool {
     }
 }
 
-/// Says whether this many nodes, these of them members and node 1 the primary, do what a story
-/// says; none if there was no memory for them.
-pub fn goes(alloc: Global, nodes: u8, members: &[u8], story: Story) -> Option<bool> {
+// The same from the opening of a group on; `unopened` if it does not open.
+fn fault_from_the_opening(
+    alloc: Global,
+    nodes: u8,
+    members: &[u8],
+    story: Story,
+    unopened: Option<usize>,
+) -> Option<usize> {
     match group(alloc, nodes, members) {
-        Ok(mut group) => Some(is_told(alloc, &mut group, story)),
-        Err(_) => None,
+        Ok(mut group) => fault_of(alloc, &mut group, story),
+        Err(_) => unopened,
     }
+}
+
+/// Finds the first step at which this many nodes, these of them members and node 1 the primary, go
+/// through a story in another way; step 0 if they do not open.
+pub fn first_fault(alloc: Global, nodes: u8, members: &[u8], story: Story) -> Option<usize> {
+    fault_from_the_opening(alloc, nodes, members, story, Some(0))
+}
+
+/// Finds the same if they open; none if memory runs out for them.
+pub fn first_fault_if_opened(
+    alloc: Global,
+    nodes: u8,
+    members: &[u8],
+    story: Story,
+) -> Option<usize> {
+    fault_from_the_opening(alloc, nodes, members, story, None)
 }

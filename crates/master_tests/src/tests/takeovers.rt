@@ -1,5 +1,5 @@
 use super::groups::*;
-use super::stories::{Story, goes};
+use super::stories::{Story, first_fault};
 use master::ballot::Effect;
 use master::machine::{Tally, TallyCommand};
 use master::{Event, Group};
@@ -89,8 +89,9 @@ fn serves_next(group: &mut Group<Tally>, course: &mut Course, alloc: Global, lea
     is_taken && is_active(group, u64::from(leader)) && course.agreed.saturating_sub(before) > 100
 }
 
-/// Says whether twelve configurations do so, one after another, and what is agreed only grows.
-pub fn serves_in_turn(group: &mut Group<Tally>, alloc: Global) -> bool {
+/// Finds the first primary from 2 on that does not; 0 if all twelve do, one after another, but what
+/// is agreed does not only grow.
+pub fn serves_in_turn(group: &mut Group<Tally>, alloc: Global) -> Option<usize> {
     let mut course = Course {
         next: 0,
         agreed: 0,
@@ -99,10 +100,10 @@ pub fn serves_in_turn(group: &mut Group<Tally>, alloc: Global) -> bool {
     serve(group, &mut course, 1, 1);
     for leader in 2..14 {
         if !serves_next(group, &mut course, alloc, leader) {
-            return false;
+            return Some(leader as usize);
         }
     }
-    course.only_grows
+    first_false(&[course.only_grows])
 }
 
 // More than 20,000 events, in which twelve times another configuration takes over: each second time
@@ -110,8 +111,10 @@ pub fn serves_in_turn(group: &mut Group<Tally>, alloc: Global) -> bool {
 // agreed, asked after each event, only grows, and each primary agrees on commands with its members.
 #[test]
 fn takeovers_lose_nothing(rt: HostRuntime) {
-    let told = goes(rt.alloc(), 15, &[1, 2, 3], Story::ServesInTurn);
-    assert!(rt; told == Some(true));
+    assert_eq!(rt;
+        first_fault(rt.alloc(), 15, &[1, 2, 3], Story::ServesInTurn),
+        None
+    );
 }
 
 // Returns the place of the output at a place among those that left.
@@ -144,26 +147,27 @@ fn goes_over(group: &mut Group<Tally>, alloc: Global) -> bool {
         && is_active(group, 2)
 }
 
-// Says whether the output of place 2 leaves, and then that of place 0.
-fn leaves_after(group: &mut Group<Tally>) -> bool {
-    adds(group, 2, 3)
-        && all_come(group, &[13, 14])
-        && left_at(group, 0) == Some(2)
-        && comes(group, 1)
-        && left_at(group, 1) == Some(0)
-        && gave(group, 0, 2, 5)
-        && gave(group, 1, 0, 2)
-}
-
-/// Says whether both do so in turn.
-pub fn leaves_late(group: &mut Group<Tally>, alloc: Global) -> bool {
-    goes_over(group, alloc) && leaves_after(group)
+/// Finds the first step after this that goes otherwise: the output of place 2 leaves, and then that
+/// of place 0.
+pub fn leaves_late(group: &mut Group<Tally>, alloc: Global) -> Option<usize> {
+    first_false(&[
+        goes_over(group, alloc),
+        adds(group, 2, 3),
+        all_come(group, &[13, 14]),
+        left_at(group, 0) == Some(2),
+        comes(group, 1),
+        left_at(group, 1) == Some(0),
+        gave(group, 0, 2, 5),
+        gave(group, 1, 0, 2),
+    ])
 }
 
 // A primary whose ballot has ended receives late that place 0 is held: message 1. The next primary
 // has returned the output of place 2 by then.
 #[test]
 fn a_late_answer_leaves_after_later_ones(rt: HostRuntime) {
-    let told = goes(rt.alloc(), 3, &[1, 2], Story::LeavesLate);
-    assert!(rt; told == Some(true));
+    assert_eq!(rt;
+        first_fault(rt.alloc(), 3, &[1, 2], Story::LeavesLate),
+        None
+    );
 }

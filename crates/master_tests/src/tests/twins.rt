@@ -1,6 +1,6 @@
 // Two groups with the same events, except that one of them cuts its logs: nothing else differs.
 
-use super::groups::{agrees, config, counts, group};
+use super::groups::{agrees, config, counts, first_false, group};
 use master::ballot::{Body, Effect};
 use master::machine::{Tally, TallyCommand};
 use master::{Event, Group};
@@ -23,6 +23,15 @@ struct Twins {
     next: u64,
     drawn: u64,
     cuts: u64,
+}
+
+// What was not as it was to be: the groups did not open, an event had other results in the two, or
+// this of the results of both was not alike at the end.
+#[derive(Clone, Copy, Debug, PartialEq, Eq)]
+enum Fault {
+    Opening,
+    Event(u64),
+    End(usize),
 }
 
 // Returns a number below 256.
@@ -118,26 +127,41 @@ impl Twins {
         counts(&self.cutting) == counts(&self.keeping)
     }
 
-    // Says whether all events have the same result in both.
-    fn go(&mut self, alloc: Global) -> bool {
+    // Finds the first event that has not the same result in both.
+    fn go(&mut self, alloc: Global) -> Option<Fault> {
         for at in 0..EVENTS {
             let Some(event) = self.draw_event(alloc, at) else {
-                return false;
+                return Some(Fault::Event(at));
             };
             if !self.happens(&event) || !self.cuts_now_and_then() {
-                return false;
+                return Some(Fault::Event(at));
             }
         }
-        true
+        None
     }
 
-    // Says whether nothing is lost, and both have the same agreed list and the same outputs.
-    fn are_alike(&self) -> bool {
+    // Finds the first of these that is not so at the end: both have the same agreed list and the
+    // same outputs, and nothing is lost.
+    fn fault_at_the_end(&self) -> Option<Fault> {
         let (recorded, kept) = self.keeping.agreed();
-        let same = recorded.is_empty() && agrees(&self.cutting, kept);
-        same && gave_the_same(self.cutting.left(), self.keeping.left())
-            && self.cutting.losses() == 0
-            && self.keeping.losses() == 0
+        let fault = first_false(&[
+            recorded.is_empty() && agrees(&self.cutting, kept),
+            gave_the_same(self.cutting.left(), self.keeping.left()),
+            self.cutting.losses() == 0,
+            self.keeping.losses() == 0,
+        ]);
+        match fault {
+            Some(number) => Some(Fault::End(number)),
+            None => None,
+        }
+    }
+
+    // Lets all events happen, and finds the first fault.
+    fn first_fault(&mut self, alloc: Global) -> Option<Fault> {
+        match self.go(alloc) {
+            Some(fault) => Some(fault),
+            None => self.fault_at_the_end(),
+        }
     }
 
     // Returns the results: cuts, the active ballot, agreed places, messages, snapshots among them,
@@ -193,10 +217,12 @@ fn made(alloc: Global) -> Option<Twins> {
 // same result in both.
 #[test]
 fn cuts_tell_no_group_apart(rt: HostRuntime) {
-    let mut told = None;
+    let mut fault = Some(Fault::Opening);
+    let mut figures = [0; 6];
     if let Some(mut pair) = made(rt.alloc()) {
-        let alike = pair.go(rt.alloc()) && pair.are_alike();
-        told = Some((alike, pair.figures()));
+        fault = pair.first_fault(rt.alloc());
+        figures = pair.figures();
     }
-    assert!(rt; told == Some((true, FIGURES)));
+    assert_eq!(rt; fault, None);
+    assert_eq!(rt; figures.as_slice(), FIGURES.as_slice());
 }
