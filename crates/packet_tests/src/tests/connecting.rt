@@ -12,7 +12,7 @@ const CONNECT: [u8; 15] = [
     0x10, 0x0D, 0x00, 0x04, 0x4D, 0x51, 0x54, 0x54, 0x04, 0x00, 0x00, 0x3C, 0x00, 0x01, 0x61,
 ];
 
-/// Returns the first front of the bytes that is not less than a packet, by its length.
+// Returns the first front of the bytes that is not less than a packet, by its length.
 fn finished_front(alloc: Global, bytes: &[u8]) -> Option<usize> {
     for len in 0..bytes.len() {
         if answer_to(alloc, &bytes[..len]) != Answer::More {
@@ -30,7 +30,7 @@ fn connect_is_read_and_written(rt: HostRuntime) {
     assert_eq!(rt; finished_front(rt.alloc(), &CONNECT), None);
 }
 
-/// That CONNECT with another byte at a place.
+// That CONNECT with another byte at a place.
 fn changed(at: usize, byte: u8) -> [u8; 15] {
     let mut bytes = CONNECT;
     if let Some(place) = bytes.get_mut(at) {
@@ -42,7 +42,7 @@ fn changed(at: usize, byte: u8) -> [u8; 15] {
 /// A place of that CONNECT, the byte there, and what it is then.
 type Change = (usize, u8, Answer);
 
-/// Returns the first row whose CONNECT is answered otherwise.
+// Returns the first row whose CONNECT is answered otherwise.
 fn other_change(alloc: Global, rows: &[Change]) -> Option<usize> {
     for (row, (at, byte, wanted)) in rows.iter().enumerate() {
         if answer_to(alloc, &changed(*at, *byte)) != *wanted {
@@ -148,7 +148,7 @@ fn connack_is_malformed(rt: HostRuntime) {
     assert_eq!(rt; other_answer(rt.alloc(), NO_CONNACKS), None);
 }
 
-/// Returns the kind with which a text is refused as a Client Identifier.
+// Returns the kind with which a text is refused as a Client Identifier.
 fn client_fault(alloc: Global, text: &str) -> Option<MalformedKind> {
     ClientId::new(alloc, text).err()
 }
@@ -167,7 +167,7 @@ fn is_client_copied(client: &ClientId) -> bool {
     }
 }
 
-/// Says whether a later client has an equal copy and comes after this one, which is another.
+// Says whether a later client has an equal copy and comes after this one, which is another.
 fn is_client_before(alloc: Global, client: &ClientId, later: &str) -> bool {
     match ClientId::new(alloc, later) {
         Ok(later) => *client < later && *client != later && is_client_copied(&later),
@@ -175,7 +175,7 @@ fn is_client_before(alloc: Global, client: &ClientId, later: &str) -> bool {
     }
 }
 
-/// Says whether a text is a Client Identifier, is printed as it is, and comes before another.
+// Says whether a text is a Client Identifier, is printed as it is, and comes before another.
 fn is_client(alloc: Global, text: &str, later: &str) -> bool {
     match ClientId::new(alloc, text) {
         Ok(client) => {
@@ -202,7 +202,7 @@ const NO_CLIENTS: &[(&str, MalformedKind)] = &[
     ("a\0", MalformedKind::Text),
 ];
 
-/// Returns the first row whose text is not refused with its kind.
+// Returns the first row whose text is not refused with its kind.
 fn other_fault(alloc: Global) -> Option<usize> {
     for (row, (text, kind)) in NO_CLIENTS.iter().enumerate() {
         if client_fault(alloc, text) != Some(*kind) {

@@ -37,7 +37,7 @@ fn lists_in_both_directions(rt: HostRuntime) {
     assert_eq!(rt; other_spelling(rt.alloc(), LISTS), None);
 }
 
-/// Returns how many codes a list of these gives; none if there is no memory.
+// Returns how many codes a list of these gives; none if there is no memory.
 fn listed(alloc: Global, codes: &[SubackCode]) -> Option<usize> {
     match Vec::from_slice(alloc, codes) {
         Ok(codes) => Some(PacketList::new(codes).as_slice().len()),

@@ -14,7 +14,7 @@ const SUBSCRIBE: [u8; 10] = [0x82, 0x08, 0x00, 0x0A, 0x00, 0x03, 0x61, 0x2F, 0x6
 /// PUBLISH of `hi` on topic `t`.
 const PUBLISH: [u8; 7] = [0x30, 0x05, 0x00, 0x01, 0x74, 0x68, 0x69];
 
-/// Copies a packet and writes the copy; the number with which one of these is refused.
+// Copies a packet and writes the copy; the number with which one of these is refused.
 fn write_copy(packet: &Packet, out: &mut Vec<u8>) -> Option<u8> {
     match &packet.copy() {
         Ok(copy) => write(copy, out),
@@ -22,7 +22,7 @@ fn write_copy(packet: &Packet, out: &mut Vec<u8>) -> Option<u8> {
     }
 }
 
-/// Reads a packet, copies it and writes the copy; the number with which one of these is refused.
+// Reads a packet, copies it and writes the copy; the number with which one of these is refused.
 fn round(alloc: Global, bytes: &[u8], out: &mut Vec<u8>) -> Option<u8> {
     match &decode(alloc, bytes) {
         Ok(Step::Whole(packet, _)) => write_copy(packet, out),
@@ -31,7 +31,7 @@ fn round(alloc: Global, bytes: &[u8], out: &mut Vec<u8>) -> Option<u8> {
     }
 }
 
-/// Says whether these bytes come back, or it ran out of memory and none came.
+// Says whether these bytes come back, or it ran out of memory and none came.
 fn is_free_or_same(alloc: Global, bytes: &[u8]) -> bool {
     let mut out = Vec::new(alloc);
     match round(alloc, bytes, &mut out) {
@@ -46,7 +46,7 @@ fn memory_is_the_one_free_answer(rt: HostRuntime) {
     assert!(rt; is_free_or_same(rt.alloc(), &PUBLISH));
 }
 
-/// Feeds a piece, again if it ran out of memory, which leaves the cutter as it was.
+// Feeds a piece, again if it ran out of memory, which leaves the cutter as it was.
 fn feed(cutter: &mut Cutter, piece: &[u8]) -> bool {
     match cutter.feed(piece) {
         Ok(()) => true,
@@ -55,7 +55,7 @@ fn feed(cutter: &mut Cutter, piece: &[u8]) -> bool {
     }
 }
 
-/// Takes the next packet, again if it ran out of memory.
+// Takes the next packet, again if it ran out of memory.
 fn take(cutter: &mut Cutter) -> Option<Packet> {
     match cutter.next() {
         Ok(packet) => packet,
@@ -67,13 +67,13 @@ fn take(cutter: &mut Cutter) -> Option<Packet> {
     }
 }
 
-/// Spells a packet, again if it ran out of memory, which leaves the bytes as they were.
+// Spells a packet, again if it ran out of memory, which leaves the bytes as they were.
 fn spell(packet: &Packet, out: &mut Vec<u8>) -> bool {
     let before = out.len();
     write(packet, out).is_none() || (out.len() == before && write(packet, out).is_none())
 }
 
-/// Takes the next packet and spells it.
+// Takes the next packet and spells it.
 fn is_next(cutter: &mut Cutter, out: &mut Vec<u8>) -> bool {
     match &take(cutter) {
         Some(packet) => spell(packet, out),
@@ -81,7 +81,7 @@ fn is_next(cutter: &mut Cutter, out: &mut Vec<u8>) -> bool {
     }
 }
 
-/// Says whether a stream in two pieces is cut into its three packets.
+// Says whether a stream in two pieces is cut into its three packets.
 fn is_cut(cutter: &mut Cutter, out: &mut Vec<u8>) -> bool {
     feed(cutter, &STREAM[..20])
         && is_next(cutter, out)

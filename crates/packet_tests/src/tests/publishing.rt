@@ -76,7 +76,7 @@ struct Large<'a> {
     front: &'a [u8],
 }
 
-/// Says whether the bytes after the first two are read as a packet.
+// Says whether the bytes after the first two are read as a packet.
 fn is_read_after(alloc: Global, packet: &Packet, bytes: &[u8]) -> bool {
     match bytes {
         [_, _, after @ ..] => is_read(alloc, packet, after),
@@ -84,7 +84,7 @@ fn is_read_after(alloc: Global, packet: &Packet, bytes: &[u8]) -> bool {
     }
 }
 
-/// Says whether a packet is written as expected, and what is not refused is read again.
+// Says whether a packet is written as expected, and what is not refused is read again.
 fn is_written_so(alloc: Global, packet: &Packet, out: &mut Vec<u8>, wanted: Large<'_>) -> bool {
     out.extend_from_slice(&[1, 2]).is_ok()
         && write(packet, out) == wanted.refusal
