@@ -6,15 +6,15 @@ use std::test::*;
 use user_client::client::ClientError;
 use user_client::topics::MalformedKind;
 
-/// Returns a PUBLISH, and after it these bytes.
+// Returns a PUBLISH, and after it these bytes.
 fn after_publish(alloc: Global, bytes: &[u8]) -> Result<Vec<u8>, AllocError> {
     let mut piece = Vec::from_slice(alloc, PUBLISH)?;
     piece.extend_from_slice(bytes)?;
     Ok(piece)
 }
 
-/// Says whether this piece, a PUBLISH and more, ends the connection, and the PUBLISH stays
-/// accepted.
+// Says whether this piece, a PUBLISH and more, ends the connection, and the PUBLISH stays
+// accepted.
 fn is_the_end(alloc: Global, piece: &[u8], cause: ClientError) -> bool {
     let rows: [Row<'_>; 4] = [
         (Act::Open, None, CONNECT, 0, 0),
@@ -34,7 +34,7 @@ fn is_the_end(alloc: Global, piece: &[u8], cause: ClientError) -> bool {
     }
 }
 
-/// Says whether these bytes after a PUBLISH end the connection, and the PUBLISH stays accepted.
+// Says whether these bytes after a PUBLISH end the connection, and the PUBLISH stays accepted.
 fn ends(alloc: Global, bytes: &[u8], cause: ClientError) -> bool {
     match after_publish(alloc, bytes) {
         Ok(piece) => is_the_end(alloc, &piece, cause),

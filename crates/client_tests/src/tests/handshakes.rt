@@ -129,7 +129,7 @@ const SENT: &[Row<'static>] = &[
 /// What an accepted publication shows besides its session: QoS, RETAIN, topic and payload.
 type Shown<'a> = (QoS, bool, &'a str, &'a [u8]);
 
-/// Says whether a publication of the first session shows these fields.
+// Says whether a publication of the first session shows these fields.
 fn shows(one: &Accepted, shown: Shown<'_>) -> bool {
     let (qos, retain, topic, payload) = shown;
     one.session == 1
@@ -139,7 +139,7 @@ fn shows(one: &Accepted, shown: Shown<'_>) -> bool {
         && one.payload.as_slice() == payload
 }
 
-/// Says whether just these were accepted, in this order.
+// Says whether just these were accepted, in this order.
 fn all_show(accepted: &[Accepted], wanted: &[Shown<'_>]) -> bool {
     let mut all = accepted.len() == wanted.len();
     for (one, shown) in accepted.iter().zip(wanted) {

@@ -18,12 +18,12 @@ fn shown_by(client: &ClientCore) -> Shown {
     (kept, accepted, client.connected(), client.present())
 }
 
-/// The same, with the connection lost.
+// The same, with the connection lost.
 fn offline(shown: Shown) -> Shown {
     (shown.0, shown.1, false, shown.3)
 }
 
-/// Client `a`; memory runs out at most once.
+// Client `a`; memory runs out at most once.
 fn client_at_last(alloc: Global) -> Option<ClientCore> {
     match new_client(alloc) {
         Some(client) => Some(client),
@@ -31,22 +31,22 @@ fn client_at_last(alloc: Global) -> Option<ClientCore> {
     }
 }
 
-/// Opens a lost connection again, and drops what is written then: whether memory was found.
+// Opens a lost connection again, and drops what is written then: whether memory was found.
 fn is_back(client: &mut ClientCore, alloc: Global, was_accepted: bool) -> bool {
     let opened = open(client).is_none();
     let accepted = !was_accepted || give(client, PRESENT).is_none();
     opened && accepted && take_written(client, alloc).is_some()
 }
 
-/// Says whether a client shows itself as after `lost`, and comes back.
+// Says whether a client shows itself as after `lost`, and comes back.
 fn is_lost(client: &mut ClientCore, alloc: Global, before: Shown) -> bool {
     shown_by(client) == offline(before)
         && give(client, NOTHING) == Some(ClientError::NotActive)
         && is_back(client, alloc, before.2)
 }
 
-/// After running out of memory in this act: nothing is written, and nothing has changed, or the
-/// client is as after `lost` if bytes were read.
+// After running out of memory in this act: nothing is written, and nothing has changed, or the
+// client is as after `lost` if bytes were read.
 fn is_left(client: &mut ClientCore, alloc: Global, done: Act<'_>, before: Shown) -> bool {
     if !wrote(client, alloc, NOTHING) {
         return false;
@@ -57,8 +57,8 @@ fn is_left(client: &mut ClientCore, alloc: Global, done: Act<'_>, before: Shown)
     }
 }
 
-/// Does this, and again if memory ran out. Returns what it is refused with then, or `TooLarge` if
-/// the first try left something changed.
+// Does this, and again if memory ran out. Returns what it is refused with then, or `TooLarge` if
+// the first try left something changed.
 fn act_again(client: &mut ClientCore, alloc: Global, done: Act<'_>) -> Option<ClientError> {
     let before = shown_by(client);
     let refusal = attempt(client, alloc, done, None);
@@ -72,7 +72,7 @@ fn act_again(client: &mut ClientCore, alloc: Global, done: Act<'_>) -> Option<Cl
     }
 }
 
-/// Says whether a row comes out as it says, done again if memory ran out.
+// Says whether a row comes out as it says, done again if memory ran out.
 fn comes_out_again(client: &mut ClientCore, alloc: Global, row: &Row<'_>) -> bool {
     let (done, refusal, written, kept, accepted) = *row;
     act_again(client, alloc, done) == refusal
@@ -80,7 +80,7 @@ fn comes_out_again(client: &mut ClientCore, alloc: Global, row: &Row<'_>) -> boo
         && counts(client) == (kept, accepted)
 }
 
-/// The first row that comes out otherwise.
+// The first row that comes out otherwise.
 fn first_fault_again(client: &mut ClientCore, alloc: Global, rows: &[Row<'_>]) -> Option<usize> {
     for (at, row) in rows.iter().enumerate() {
         if !comes_out_again(client, alloc, row) {
@@ -131,17 +131,17 @@ fn a_call_without_memory_is_done_again(rt: HostRuntime) {
     assert_eq!(rt; taken(&mut client), (3, 0));
 }
 
-/// Opens, again if memory ran out.
+// Opens, again if memory ran out.
 fn is_open(client: &mut ClientCore) -> bool {
     open(client).is_none() || open(client).is_none()
 }
 
-/// Takes the CONNACK in, again on a new connection if memory ran out.
+// Takes the CONNACK in, again on a new connection if memory ran out.
 fn is_accepted(client: &mut ClientCore) -> bool {
     give(client, ACCEPTED).is_none() || (open(client).is_none() && give(client, ACCEPTED).is_none())
 }
 
-/// Returns a client that the server accepted; memory runs out at most once.
+// Returns a client that the server accepted; memory runs out at most once.
 fn online_at_last(alloc: Global) -> Option<ClientCore> {
     let mut client = client_at_last(alloc)?;
     if !is_open(&mut client) || !is_accepted(&mut client) {
@@ -158,7 +158,7 @@ const PUBLISHES: &[u8] = &[
 
 const PUBRECS: &[u8] = &[0x50, 0x02, 0x00, 0x01, 0x50, 0x02, 0x00, 0x02];
 
-/// Says whether the client wrote PUBRECs for this many publications.
+// Says whether the client wrote PUBRECs for this many publications.
 fn answers(client: &mut ClientCore, alloc: Global, count: usize) -> bool {
     match take_written(client, alloc) {
         Some(out) => PUBRECS.starts_with(&out) && out.len() / 4 == count,
@@ -166,7 +166,7 @@ fn answers(client: &mut ClientCore, alloc: Global, count: usize) -> bool {
     }
 }
 
-/// Says whether a client that found no memory is lost, and answers both when they come again.
+// Says whether a client that found no memory is lost, and answers both when they come again.
 fn answers_again(client: &mut ClientCore, alloc: Global) -> bool {
     !client.connected()
         && is_back(client, alloc, true)
@@ -174,7 +174,7 @@ fn answers_again(client: &mut ClientCore, alloc: Global) -> bool {
         && wrote(client, alloc, PUBRECS)
 }
 
-/// Says whether both are accepted and answered, those before running out of memory at once.
+// Says whether both are accepted and answered, those before running out of memory at once.
 fn is_taken_in(client: &mut ClientCore, alloc: Global) -> bool {
     let refusal = give(client, PUBLISHES);
     let count = client.accepted().len();

@@ -49,7 +49,7 @@ fn kept_publications_go_out_again(rt: HostRuntime) {
     assert_eq!(rt; present, Ok(true));
 }
 
-/// Says whether this many publications at QoS 2 are kept.
+// Says whether this many publications at QoS 2 are kept.
 fn keeps_all(client: &mut ClientCore, alloc: Global, count: usize) -> bool {
     for kept in 0..count {
         let one = publish(client, alloc, QoS::ExactlyOnce, b"x");
@@ -106,7 +106,7 @@ const FORGETS: &[Row<'static>] = &[
     (Act::Bytes(NOTHING), None, PUBREC, 0, 2),
 ];
 
-/// Says whether a client is online, and the number of the session that accepted last.
+// Says whether a client is online, and the number of the session that accepted last.
 fn last_session(client: &ClientCore) -> (bool, Option<u64>) {
     match client.accepted() {
         [.., last] => (client.connected(), Some(last.session)),
@@ -125,7 +125,7 @@ fn a_lost_session_forgets(rt: HostRuntime) {
     assert_eq!(rt; last, Ok((true, Some(2))));
 }
 
-/// Returns a client that the server accepted.
+// Returns a client that the server accepted.
 fn online(alloc: Global) -> Option<ClientCore> {
     let rows: [Row<'static>; 2] = [
         (Act::Open, None, CONNECT, 0, 0),
@@ -134,7 +134,7 @@ fn online(alloc: Global) -> Option<ClientCore> {
     play_cut(alloc, &rows, None).ok()
 }
 
-/// Publishes this many bytes on `t/1`.
+// Publishes this many bytes on `t/1`.
 fn publish_bytes(
     client: &mut ClientCore,
     alloc: Global,
@@ -147,7 +147,7 @@ fn publish_bytes(
     }
 }
 
-/// Returns how many bytes a client wrote.
+// Returns how many bytes a client wrote.
 fn written_len(client: &mut ClientCore, alloc: Global) -> Option<usize> {
     match take_written(client, alloc) {
         Some(out) => Some(out.len()),
@@ -157,8 +157,8 @@ fn written_len(client: &mut ClientCore, alloc: Global) -> Option<usize> {
 
 const ONE: &Row<'static> = &(Act::Publish(QoS::ExactlyOnce, b'x'), None, PUBLISH, 1, 0);
 
-/// Says whether a payload of one length is refused and nothing changes, and one of another length
-/// is sent in a packet of 1,048,576 bytes.
+// Says whether a payload of one length is refused and nothing changes, and one of another length
+// is sent in a packet of 1,048,576 bytes.
 fn is_limited(alloc: Global, qos: QoS, refused: usize, largest: usize) -> bool {
     let Some(mut client) = online(alloc) else {
         return false;
@@ -188,7 +188,7 @@ fn too_large_is_refused_offline(rt: HostRuntime) {
     assert_eq!(rt; client.kept(), 0);
 }
 
-/// Returns how many bytes a client writes that asks for this filter and gives it up.
+// Returns how many bytes a client writes that asks for this filter and gives it up.
 fn asked_len(client: &mut ClientCore, alloc: Global, text: &str) -> Option<usize> {
     let subscribed = subscribe(client, alloc, text);
     let unsubscribed = unsubscribe(client, alloc, text);

@@ -64,8 +64,8 @@ pub fn open(client: &mut ClientCore) -> Option<ClientError> {
     client.open().err()
 }
 
-/// Gives a piece in two parts, of which the first has this many bytes, or all. Returns the first
-/// refusal.
+// Gives a piece in two parts, of which the first has this many bytes, or all. Returns the first
+// refusal.
 fn give_in_two(client: &mut ClientCore, bytes: &[u8], cut: usize) -> Option<ClientError> {
     let Some((front, rest)) = bytes.split_at_checked(cut.min(bytes.len())) else {
         return Some(ClientError::TooLarge);
@@ -75,7 +75,7 @@ fn give_in_two(client: &mut ClientCore, bytes: &[u8], cut: usize) -> Option<Clie
     first.or(second)
 }
 
-/// Gives a piece, whole or cut in two.
+// Gives a piece, whole or cut in two.
 fn give_cut(client: &mut ClientCore, bytes: &[u8], cut: Option<usize>) -> Option<ClientError> {
     match cut {
         Some(cut) => give_in_two(client, bytes, cut),
@@ -103,7 +103,7 @@ pub fn unsubscribe(client: &mut ClientCore, alloc: Global, text: &str) -> Option
     }
 }
 
-/// Returns a topic and a payload; none if there is no memory for them.
+// Returns a topic and a payload; none if there is no memory for them.
 fn content(alloc: Global, bytes: &[u8]) -> Option<(TopicName, Payload)> {
     let topic = TopicName::new(alloc, "t/1").ok()?;
     let payload = Payload::new(alloc, bytes).ok()?;

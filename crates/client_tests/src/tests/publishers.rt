@@ -1,0 +1,186 @@
+// Publishers over servers in memory.
+
+use super::servers::*;
+use std::alloc::Global;
+use std::cell::RefCell;
+use std::test::Fail;
+use user_client::packet::QoS;
+use user_client::{ClientFault, Publisher};
+
+fn publish(alloc: Global, qos: QoS, servers: &mut Scripted<'_>) -> Result<(), ClientFault> {
+    let mut publisher = Publisher::new(alloc, "a", "t/1", qos, false, "x")?;
+    publisher.run(servers, 3)
+}
+
+// Finds what is not so of a publication at this QoS over these connections: how it ends, how often
+// it waited, and what is written.
+fn fault_of_publishing(
+    alloc: Global,
+    qos: QoS,
+    connections: &[Pieces],
+    written: &[&[u8]],
+    ended: Result<(), ClientFault>,
+    rests: u32,
+) -> Option<Wrong> {
+    fault_of_publishing_within(alloc, qos, usize::MAX, connections, written, ended, rests)
+}
+
+// The same, if the first connection takes no more than `room` bytes.
+fn fault_of_publishing_within(
+    alloc: Global,
+    qos: QoS,
+    room: usize,
+    connections: &[Pieces],
+    written: &[&[u8]],
+    ended: Result<(), ClientFault>,
+    rests: u32,
+) -> Option<Wrong> {
+    let log = RefCell::new(Vec::new(alloc));
+    let mut servers = Scripted::new(connections, room, &log);
+    let end = publish(alloc, qos, &mut servers);
+    if end != ended {
+        return Some(Wrong::End(end));
+    }
+    if servers.rests != rests {
+        return Some(Wrong::Rests(servers.rests));
+    }
+    first_unwritten(log.into_inner().as_slice(), written)
+}
+
+#[test]
+fn a_publication_is_answered(rt: HostRuntime) {
+    let pieces: &[Pieces] = &[&[CONNACK, PUBREC, PUBCOMP]];
+    let written: &[&[u8]] = &[CONNECT, PUBLISH, PUBREL, DISCONNECT];
+    assert_eq!(rt;
+        fault_of_publishing(rt.alloc(), QoS::ExactlyOnce, pieces, written, Ok(()), 0),
+        None
+    );
+    let pieces: &[Pieces] = &[&[CONNACK]];
+    let written: &[&[u8]] = &[CONNECT, PUBLISH_ONCE, DISCONNECT];
+    assert_eq!(rt;
+        fault_of_publishing(rt.alloc(), QoS::AtMostOnce, pieces, written, Ok(()), 0),
+        None
+    );
+}
+
+// A connection that is lost before PUBREC, and one on which the server continues.
+#[test]
+fn a_publication_is_sent_again(rt: HostRuntime) {
+    let pieces: &[Pieces] = &[&[CONNACK], &[SESSION_PRESENT, PUBREC, PUBCOMP]];
+    let written: &[&[u8]] = &[CONNECT, PUBLISH, CONNECT, PUBLISH_AGAIN, PUBREL, DISCONNECT];
+    assert_eq!(rt;
+        fault_of_publishing(rt.alloc(), QoS::ExactlyOnce, pieces, written, Ok(()), 1),
+        None
+    );
+}
+
+#[test]
+fn a_publication_is_given_up(rt: HostRuntime) {
+    let lost = Err(ClientFault::Lost);
+    assert_eq!(rt;
+        fault_of_publishing(rt.alloc(), QoS::AtLeastOnce, &[], &[], lost, 2),
+        None
+    );
+    let present = Err(ClientFault::SessionPresent);
+    let pieces: &[Pieces] = &[&[SESSION_PRESENT]];
+    assert_eq!(rt;
+        fault_of_publishing(rt.alloc(), QoS::ExactlyOnce, pieces, &[CONNECT], present, 0),
+        None
+    );
+    let pieces: &[Pieces] = &[&[CONNACK], &[CONNACK]];
+    let written: &[&[u8]] = &[CONNECT, PUBLISH, CONNECT];
+    assert_eq!(rt;
+        fault_of_publishing(rt.alloc(), QoS::ExactlyOnce, pieces, written, lost, 1),
+        None
+    );
+}
+
+// What is acknowledged is done, also if the DISCONNECT cannot be written: nothing is published
+// twice.
+#[test]
+fn an_acknowledged_publication_is_done(rt: HostRuntime) {
+    let alloc = rt.alloc();
+    let pieces: &[Pieces] = &[&[CONNACK, PUBREC, PUBCOMP], &[SESSION_PRESENT]];
+    let written: &[&[u8]] = &[CONNECT, PUBLISH, PUBREL];
+    let room = CONNECT.len() + PUBLISH.len() + PUBREL.len();
+    assert_eq!(rt;
+        fault_of_publishing_within(alloc, QoS::ExactlyOnce, room, pieces, written, Ok(()), 0),
+        None
+    );
+    let pieces: &[Pieces] = &[&[CONNACK, PUBACK], &[SESSION_PRESENT]];
+    let written: &[&[u8]] = &[CONNECT, PUBLISH_ANSWERED];
+    let room = CONNECT.len() + PUBLISH_ANSWERED.len();
+    assert_eq!(rt;
+        fault_of_publishing_within(alloc, QoS::AtLeastOnce, room, pieces, written, Ok(()), 0),
+        None
+    );
+}
+
+// Bytes that are no packet, in the piece of the last answer.
+#[test]
+fn what_comes_after_the_last_answer_does_not_matter(rt: HostRuntime) {
+    let pieces: &[Pieces] = &[&[CONNACK, PUBACK_AND_NONSENSE], &[SESSION_PRESENT]];
+    let written: &[&[u8]] = &[CONNECT, PUBLISH_ANSWERED];
+    assert_eq!(rt;
+        fault_of_publishing(rt.alloc(), QoS::AtLeastOnce, pieces, written, Ok(()), 0),
+        None
+    );
+}
+
+// At QoS 0 a publication is done once its bytes are written, and not before.
+#[test]
+fn a_publication_at_qos_0_is_written(rt: HostRuntime) {
+    let alloc = rt.alloc();
+    let pieces: &[Pieces] = &[&[CONNACK], &[CONNACK]];
+    let lost = Err(ClientFault::Lost);
+    let room = CONNECT.len();
+    let written: &[&[u8]] = &[CONNECT, CONNECT];
+    assert_eq!(rt;
+        fault_of_publishing_within(alloc, QoS::AtMostOnce, room, pieces, written, lost, 1),
+        None
+    );
+    let pieces: &[Pieces] = &[&[CONNACK], &[SESSION_PRESENT]];
+    let written: &[&[u8]] = &[CONNECT, CONNECT, PUBLISH_ONCE, DISCONNECT];
+    assert_eq!(rt;
+        fault_of_publishing_within(alloc, QoS::AtMostOnce, room, pieces, written, Ok(()), 1),
+        None
+    );
+    let room = CONNECT.len() + PUBLISH_ONCE.len();
+    let written: &[&[u8]] = &[CONNECT, PUBLISH_ONCE];
+    assert_eq!(rt;
+        fault_of_publishing_within(alloc, QoS::AtMostOnce, room, pieces, written, Ok(()), 0),
+        None
+    );
+}
+
+fn refuses_to_publish(alloc: Global, id: &str, topic: &str, number: u8) -> bool {
+    let refused = Publisher::new(alloc, id, topic, QoS::AtMostOnce, false, "x").err();
+    refused == Some(ClientFault::Refused(number))
+}
+
+// An empty identifier; an empty topic, and one with a wildcard.
+#[test]
+fn words_of_a_publisher_are_refused(rt: HostRuntime) {
+    for (id, topic, number) in [("", "t", 6), ("a", "", 8), ("a", "#", 8), ("", "#", 6)] {
+        assert!(rt;
+            refuses_to_publish(rt.alloc(), id, topic, number),
+            "{id}, {topic}"
+        );
+    }
+}
+
+fn is_too_long(alloc: Global, message: &str, qos: QoS) -> bool {
+    let refused = Publisher::new(alloc, "a", "t", qos, false, message).err();
+    refused == Some(ClientFault::Refused(4))
+}
+
+// Two bytes of length, the topic's one byte, and one byte too many.
+#[test]
+fn a_long_message_is_refused(rt: HostRuntime) -> Result<(), Fail> {
+    let bytes = Vec::from_elem(rt.alloc(), b'x', 1_048_570)?;
+    let message = std::str::from_utf8(bytes.as_slice()).map_err(|_| Fail::from("no text"))?;
+    for qos in [QoS::AtMostOnce, QoS::AtLeastOnce] {
+        assert!(rt; is_too_long(rt.alloc(), message, qos));
+    }
+    Ok(())
+}

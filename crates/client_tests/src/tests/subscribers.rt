@@ -1,0 +1,118 @@
+// Subscribers over servers in memory.
+
+use super::servers::*;
+use std::alloc::Global;
+use std::cell::RefCell;
+use std::test::Fail;
+use user_client::packet::QoS;
+use user_client::{ClientFault, Subscriber, print_text};
+
+fn subscribe(
+    alloc: Global,
+    count: u32,
+    servers: &mut Scripted<'_>,
+    output: &mut Vec<u8>,
+) -> Result<(), ClientFault> {
+    let mut subscriber = Subscriber::new(alloc, "a", "t/#", QoS::ExactlyOnce, count)?;
+    subscriber.run(servers, output, 2)
+}
+
+// Finds what is not so of a client that waits for this many publications over these connections: it
+// ends well, and prints and writes this.
+fn fault_of_hearing(
+    alloc: Global,
+    count: u32,
+    connections: &[Pieces],
+    printed: &[u8],
+    written: &[&[u8]],
+) -> Option<Wrong> {
+    fault_of_hearing_within(alloc, count, usize::MAX, connections, printed, written)
+}
+
+// The same, if the first connection takes no more than `room` bytes.
+fn fault_of_hearing_within(
+    alloc: Global,
+    count: u32,
+    room: usize,
+    connections: &[Pieces],
+    printed: &[u8],
+    written: &[&[u8]],
+) -> Option<Wrong> {
+    let log = RefCell::new(Vec::new(alloc));
+    let mut servers = Scripted::new(connections, room, &log);
+    let mut output = Vec::new(alloc);
+    let ended = subscribe(alloc, count, &mut servers, &mut output);
+    if ended != Ok(()) {
+        return Some(Wrong::End(ended));
+    }
+    if output.as_slice() != printed {
+        return Some(Wrong::Printed(output.len()));
+    }
+    first_unwritten(log.into_inner().as_slice(), written)
+}
+
+#[test]
+fn publications_are_printed(rt: HostRuntime) {
+    let pieces: &[Pieces] = &[&[CONNACK, SUBACK, PUBLISH, PUBLISH_ONCE]];
+    let written: &[&[u8]] = &[CONNECT, SUBSCRIBE, PUBREC, DISCONNECT];
+    assert_eq!(rt;
+        fault_of_hearing(rt.alloc(), 2, pieces, b"2 0 t/1 x\n0 0 t/1 x\n", written),
+        None
+    );
+}
+
+// What is printed is done, also if neither the last answer nor the DISCONNECT can be written.
+#[test]
+fn printed_publications_are_done(rt: HostRuntime) {
+    let pieces: &[Pieces] = &[
+        &[CONNACK, SUBACK, PUBLISH],
+        &[SESSION_PRESENT, PUBLISH_AGAIN],
+    ];
+    let written: &[&[u8]] = &[CONNECT, SUBSCRIBE];
+    let room = CONNECT.len() + SUBSCRIBE.len();
+    assert_eq!(rt;
+        fault_of_hearing_within(rt.alloc(), 1, room, pieces, b"2 0 t/1 x\n", written),
+        None
+    );
+}
+
+// A subscription may be lost with its connection; one that has brought something is there.
+#[test]
+fn a_subscription_is_asked_for_again(rt: HostRuntime) {
+    let pieces: &[Pieces] = &[&[CONNACK], &[SESSION_PRESENT, PUBLISH_ONCE]];
+    let written: &[&[u8]] = &[CONNECT, SUBSCRIBE, CONNECT, SUBSCRIBE, DISCONNECT];
+    assert_eq!(rt;
+        fault_of_hearing(rt.alloc(), 1, pieces, b"0 0 t/1 x\n", written),
+        None
+    );
+    let pieces: &[Pieces] = &[&[CONNACK, PUBLISH_ONCE], &[SESSION_PRESENT, PUBLISH_ONCE]];
+    let written: &[&[u8]] = &[CONNECT, SUBSCRIBE, CONNECT, DISCONNECT];
+    assert_eq!(rt;
+        fault_of_hearing(rt.alloc(), 2, pieces, b"0 0 t/1 x\n0 0 t/1 x\n", written),
+        None
+    );
+}
+
+fn refuses_to_subscribe(alloc: Global, id: &str, filter: &str, number: u8) -> bool {
+    let refused = Subscriber::new(alloc, id, filter, QoS::AtMostOnce, 1).err();
+    refused == Some(ClientFault::Refused(number))
+}
+
+// An empty identifier; an empty filter, and one in which `#` is not the last level.
+#[test]
+fn words_of_a_subscriber_are_refused(rt: HostRuntime) {
+    for (id, filter, number) in [("", "t", 6), ("a", "", 9), ("a", "#/t", 9)] {
+        assert!(rt;
+            refuses_to_subscribe(rt.alloc(), id, filter, number),
+            "{id}, {filter}"
+        );
+    }
+}
+
+#[test]
+fn other_bytes_are_printed_by_their_digits(rt: HostRuntime) -> Result<(), Fail> {
+    let mut line = Vec::new(rt.alloc());
+    print_text(&[0x20, 0x21, b'\\', 0x7E, 0x7F, 0xAF, 0], &mut line)?;
+    assert_eq!(rt; line.as_slice(), b"\\x20!\\x5c~\\x7f\\xaf\\x00".as_slice());
+    Ok(())
+}
