@@ -10,7 +10,7 @@ use crate::{Effect, Log};
 use machine::{Halted, Machine};
 use std::alloc::Global;
 
-/// Appends the outputs of one place. On an error some of them may have been appended to `out`.
+// Appends the outputs of one place. On an error some of them may have been appended to `out`.
 fn put_out<C: Drop, O: Drop>(
     place: u64,
     given: Vec<O>,

@@ -15,7 +15,7 @@ pub fn copy_log<M: Machine>(alloc: Global, log: &Log<M::Command>) -> Result<Log<
     Ok(Log::from_parts(log.base(), snapshot, rest))
 }
 
-/// Returns a copy of some commands. The only error is that memory ran out.
+// Returns a copy of some commands. The only error is that memory ran out.
 fn copy_commands<M: Machine>(
     alloc: Global,
     commands: &[M::Command],

@@ -58,7 +58,7 @@ pub fn raise(member: u8, held: u64, progress: &mut [Progress])
     }
 }
 
-/// Returns the progress of any member, raised if it is that of the one that now holds more.
+// Returns the progress of any member, raised if it is that of the one that now holds more.
 fn raised_progress(member: u8, held: u64, reached: Progress) -> Progress
     ensures { result ≡ raised_progress member held reached }
 {

@@ -140,7 +140,7 @@ impl<C: Drop> Log<C> {
     }
 }
 
-/// Drops the first items. Nothing is moved if all are dropped, which is the usual case.
+// Drops the first items. Nothing is moved if all are dropped, which is the usual case.
 fn drop_front<C: Drop>(items: &mut Vec<C>, count: usize)
     requires { count ≤ length items.old.items }
     ensures { items.new.items ≡ drop count items.old.items }

@@ -25,8 +25,8 @@ pub fn send<C: Drop, O: Drop>(
     out.push(Effect::To(receiver, message)).is_ok()
 }
 
-/// Sends a message whose body was made, if there was memory for that. Returns whether there was,
-/// and for the message too.
+// Sends a message whose body was made, if there was memory for that. Returns whether there was,
+// and for the message too.
 fn send_made<C: Drop, O: Drop>(
     out: &mut Vec<Effect<C, O>>,
     from: u8,
@@ -42,7 +42,7 @@ fn send_made<C: Drop, O: Drop>(
     }
 }
 
-/// Sends a copy of the command at a place to a node.
+// Sends a copy of the command at a place to a node.
 fn send_append<M: Machine>(
     alloc: Global,
     from: u8,
@@ -59,7 +59,7 @@ fn send_append<M: Machine>(
     send_made(out, from, receiver, made)
 }
 
-/// Returns an Append with a copy of the command at a place.
+// Returns an Append with a copy of the command at a place.
 fn append_of<M: Machine>(
     alloc: Global,
     ballot: u64,
@@ -113,7 +113,7 @@ pub fn send_after<M: Machine>(
     whole
 }
 
-/// Sends the place at a progress, if the log keeps it.
+// Sends the place at a progress, if the log keeps it.
 fn send_at_reached<M: Machine>(
     alloc: Global,
     from: u8,
@@ -200,7 +200,7 @@ pub fn send_state<M: Machine>(
     send_made(out, from, receiver, made)
 }
 
-/// Returns a State with a copy of a log, for the primary that asked for it.
+// Returns a State with a copy of a log, for the primary that asked for it.
 fn state_of<M: Machine>(
     alloc: Global,
     ballot: u64,
@@ -211,7 +211,7 @@ fn state_of<M: Machine>(
     Ok(Body::State(ballot, copy_log::<M>(alloc, log)?))
 }
 
-/// Returns an Install with a copy of a log, for a member.
+// Returns an Install with a copy of a log, for a member.
 fn install_of<M: Machine>(
     alloc: Global,
     ballot: u64,

@@ -41,7 +41,7 @@ fn fill(rt: &HostRuntime, index: &mut ListIndex, clients: u32) -> Result<u128> {
     nanos_each(rt, start, 1)
 }
 
-/// Each client has one filter that matches the topic, and 63 that do not.
+// Each client has one filter that matches the topic, and 63 that do not.
 fn set_filters(alloc: Global, index: &mut ListIndex, number: u32) -> Result<()> {
     let client = client_of(alloc, number)?;
     set_all(alloc, index, &client)

@@ -76,6 +76,7 @@ pub(crate) fn read_row(
     Ok((client, row))
 }
 
+// Reads a Client Identifier.
 #[tactic(auto, unfolding(broker_form::specs::Form::client_at))]
 fn read_client(alloc: Global, reader: &mut Reader) -> Result<ClientId, Stop>
     ensures { Reads (λ x. x) result reader.new (client_at reader.old) }
@@ -173,6 +174,7 @@ fn retainable(publication: Publication) -> Result<(TopicName, RetainedPublicatio
     Ok((publication.topic, kept))
 }
 
+// Returns a copy of bytes as a payload; memory is its only fault.
 fn payload_of(alloc: Global, bytes: &[u8]) -> Result<Payload, Stop>
     ensures { Gives (λ x. x) result (Ok bytes.now) }
 {

@@ -42,6 +42,7 @@ impl Rows {
         read_rows(alloc, window, count, reader)
     }
 
+    // Returns no rows.
     fn new(alloc: Global) -> Rows
         ensures empty { result.sessions.entries ≡ [] }
         ensures owned { AreOwned result }

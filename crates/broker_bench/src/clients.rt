@@ -136,7 +136,7 @@ fn publication(alloc: Global, topic: &TopicName, qos: QoS, retain: bool) -> Resu
     })
 }
 
-/// Returns the name of a connection of ballot 1.
+// Returns the name of a connection of ballot 1.
 fn name_of(count: u64) -> Result<ConnectionId> {
     ConnectionId::new(1, count).ok_or_else(|| anyhow!("no connection has the number {count}"))
 }

@@ -66,8 +66,8 @@ fn put_rounds(
 /// How many publications of a session a broker sends before it waits for an answer.
 const WINDOW: u8 = 64;
 
-/// Returns what a subscriber answers to a PUBLISH in turn, and what its publisher says after its
-/// own: the first bytes (MQTT 4.3).
+// Returns what a subscriber answers to a PUBLISH in turn, and what its publisher says after its
+// own: the first bytes (MQTT 4.3).
 fn answers(qos: QoS) -> (&'static [u8], &'static [u8]) {
     match qos {
         QoS::AtMostOnce => (&[], &[]),

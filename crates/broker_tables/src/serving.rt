@@ -71,7 +71,7 @@ impl Tables {
         }
     }
 
-    /// Returns the client that is served on a connection, if one is.
+    // Returns the client that is served on a connection, if one is.
     fn served(&self, connection: ConnectionId) -> Result<Option<ClientId>, AllocError>
         requires { IsTied self.now }
         ensures { IfOk result (λ client. client ≡ owners_in self.now.sessions.entries connection) }

@@ -41,6 +41,7 @@ pub(crate) fn job_of<'a>(alloc: Global, matches: &ArgMatches<'a>) -> Result<Job<
     Err(LineFault::Incomplete)
 }
 
+// Returns the job `serve` of its words.
 fn serve<'a>(found: &ArgMatches<'a>) -> Result<Serve<'a>, LineFault>
     ensures job { IfOk result (IsServe (rows_of (found_of found.now))) }
     ensures refused { IfErr result (IsRefusal []) }
@@ -51,6 +52,7 @@ fn serve<'a>(found: &ArgMatches<'a>) -> Result<Serve<'a>, LineFault>
     Ok(Serve { config })
 }
 
+// Returns the job `pub` of its words.
 fn publish<'a>(alloc: Global, found: &ArgMatches<'a>) -> Result<Publish<'a>, LineFault>
     ensures job { IfOk result (IsPublish (rows_of (found_of found.now))) }
     ensures refused { IfErr result (IsRefusal []) }
@@ -74,6 +76,7 @@ fn publish<'a>(alloc: Global, found: &ArgMatches<'a>) -> Result<Publish<'a>, Lin
     })
 }
 
+// Returns the job `sub` of its words.
 fn subscribe<'a>(alloc: Global, found: &ArgMatches<'a>) -> Result<Subscribe<'a>, LineFault>
     ensures job { IfOk result (IsSubscribe (rows_of (found_of found.now))) }
     ensures refused { IfErr result (IsRefusal []) }
@@ -96,6 +99,7 @@ fn subscribe<'a>(alloc: Global, found: &ArgMatches<'a>) -> Result<Subscribe<'a>,
     })
 }
 
+// Returns the job `play` of its words.
 fn play<'a>(found: &ArgMatches<'a>) -> Result<Play<'a>, LineFault>
     ensures job { IfOk result (IsPlay (rows_of (found_of found.now))) }
     ensures refused { IfErr result (IsRefusal []) }

@@ -181,6 +181,7 @@ where
     }
 }
 
+// Prints that an order is refused, with the number of the refusal.
 fn refuse<O: Write>(output: &mut O, number: u8) {
     let _ = writeln!(output, "refused {number}");
 }
@@ -200,6 +201,7 @@ where
     }
 }
 
+// Prints the status of one node.
 fn tell<O: Write>(number: u8, status: &Status, output: &mut O) {
     let ballot = status.ballot;
     let role = role_of(status);
@@ -211,6 +213,7 @@ fn tell<O: Write>(number: u8, status: &Status, output: &mut O) {
     );
 }
 
+// Returns the word for what a node does.
 fn role_of(status: &Status) -> &'static str {
     if status.stopped {
         return "crashed";

@@ -116,6 +116,7 @@ where
     Ok(listeners)
 }
 
+// Opens the listener of a node; a fault names its address.
 fn listen<R>(rt: &R, node: &ListeningNode) -> Result<TcpListener, Fault>
 where
     R: AllocGlobal + Net<Listener = TcpListener, Stream = TcpStream>,

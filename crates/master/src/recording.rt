@@ -29,7 +29,7 @@ pub fn record<M: Machine>(
     append_copies::<M>(alloc, archive, &rest[from..to])
 }
 
-/// Appends copies of commands to a list. If memory runs out, some of them may have been appended.
+// Appends copies of commands to a list. If memory runs out, some of them may have been appended.
 fn append_copies<M: Machine>(
     alloc: Global,
     list: &mut Vec<M::Command>,

@@ -44,14 +44,14 @@ pub fn take_in<M: Machine>(
     replica.losses() == before && before < u64::MAX
 }
 
-/// Says whether an effect is a message.
+// Says whether an effect is a message.
 fn is_message<C, O>(effect: &Effect<C, O>) -> bool
     ensures { result ≡ is_message effect.now }
 {
     matches!(effect, Effect::To(_, _))
 }
 
-/// Appends a message to those that were sent. Returns whether there was memory for it.
+// Appends a message to those that were sent. Returns whether there was memory for it.
 fn keep<C: Drop, O: Drop>(effect: Effect<C, O>, sent: &mut Vec<(u8, Message<C>)>) -> bool
     ensures kept { OnTrue result (sent.new.items ≡ sent.old.items ++ messages (effect ∷ [])) }
     ensures lost { OnFalse result (sent.new.items ≡ sent.old.items) }

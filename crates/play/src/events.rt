@@ -67,6 +67,7 @@ fn call(order: &Order) -> Result<Event, PlayError>
     }
 }
 
+// Returns the Assign of these members and this primary, if each is a number of a node.
 fn assign(alloc: Global, members: &Numbers, primary: u64) -> Result<Option<Event>, PlayError>
     ensures event { IfOk result (λ event. event ≡ assign_of members.now primary) }
     ensures memory { OnErr result (IsErrOf result PlayError.Memory) }
@@ -99,24 +100,28 @@ fn small_members(alloc: Global, numbers: &[u64]) -> Result<Members, PlayError>
     Ok(Members::from_slice(alloc, small.as_slice())?)
 }
 
+// Returns the tick of a node.
 fn tick(node: u64) -> Option<Event>
     ensures { result ≡ option_map events.Tick (node_of node) }
 {
     Some(Event::Tick(node_of(node)?))
 }
 
+// Returns the cut of a node's log.
 fn cut(node: u64) -> Option<Event>
     ensures { result ≡ option_map events.Cut (node_of node) }
 {
     Some(Event::Cut(node_of(node)?))
 }
 
+// Returns the crash of a node.
 fn crash(node: u64) -> Option<Event>
     ensures { result ≡ option_map events.Crash (node_of node) }
 {
     Some(Event::Crash(node_of(node)?))
 }
 
+// Returns the end of a client's session, ordered at a node.
 fn expel(client: &ClientId, node: u64) -> Result<Option<Event>, PlayError>
     ensures event { IfOk result (λ event.
         event ≡ option_map (events.Expel client.now) (node_of node)) }
@@ -128,6 +133,7 @@ fn expel(client: &ClientId, node: u64) -> Result<Option<Event>, PlayError>
     Ok(Some(Event::Expel(client.clone()?, node)))
 }
 
+// Returns the opening of a client's connection to a node.
 fn open(client: &ClientId, node: u64) -> Result<Option<Event>, PlayError>
     ensures event { IfOk result (λ event.
         event ≡ option_map (events.Open client.now) (node_of node)) }

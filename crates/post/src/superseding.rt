@@ -18,6 +18,7 @@ pub(crate) fn supersedes(item: &Item, older: &Item) -> bool
     }
 }
 
+// Says whether a message of a node makes an earlier one of it needless.
 fn covers(newer: &Body<Command>, older: &Body<Command>) -> bool
     ensures { result ≡ covers newer.now older.now }
 {
@@ -28,6 +29,7 @@ fn covers(newer: &Body<Command>, older: &Body<Command>) -> bool
     }
 }
 
+// Says whether a body is a Held of the same ballot for no more places.
 fn is_held_within(ballot: u64, held: u64, body: &Body<Command>) -> bool
     ensures { result ≡ is_held_within ballot held body.now }
 {
@@ -37,6 +39,7 @@ fn is_held_within(ballot: u64, held: u64, body: &Body<Command>) -> bool
     }
 }
 
+// Says whether a body is a Commit of the same ballot for no more places.
 fn is_commit_within(ballot: u64, held: u64, body: &Body<Command>) -> bool
     ensures { result ≡ is_commit_within ballot held body.now }
 {

@@ -59,7 +59,7 @@ fn measure_in(
     print_world(rt, world)
 }
 
-/// Does this many events.
+// Does this many events.
 fn time(
     rt: &HostRuntime,
     world: &mut World,
@@ -90,7 +90,7 @@ fn time(
     Ok(times)
 }
 
-/// Another node takes over, if that is measured.
+// Another node takes over, if that is measured.
 fn next(
     rt: &HostRuntime,
     world: &mut World,
@@ -124,8 +124,8 @@ fn print(rt: &HostRuntime, course: &Course, times: Times) -> Result<()> {
     Ok(())
 }
 
-/// How long the list is and how many messages there are, and the memory of the process, as Linux
-/// reports it.
+// How long the list is and how many messages there are, and the memory of the process, as Linux
+// reports it.
 fn print_world(rt: &HostRuntime, world: &World) -> Result<()> {
     let agreed = world.agreed_len();
     let messages = world.messages();

@@ -19,8 +19,8 @@ pub fn run(rt: &HostRuntime) -> Result<()> {
     Ok(())
 }
 
-/// Returns the event of a number: a command is proposed, and its six messages come in the order of
-/// sending, which are an Append, a Held and a Commit for each of two backups.
+// Returns the event of a number: a command is proposed, and its six messages come in the order of
+// sending, which are an Append, a Held and a Commit for each of two backups.
 fn event_at(number: u64) -> Event<TallyCommand> {
     let command = number / 7;
     match number % 7 {
@@ -50,8 +50,8 @@ fn print(rt: &HostRuntime, events: u64, nanos: u128, agreed: u64, asked: u64) ->
     Ok(())
 }
 
-/// Does this many events. Returns the sum of what was answered after each, so that no call can be
-/// optimized away.
+// Does this many events. Returns the sum of what was answered after each, so that no call can be
+// optimized away.
 fn let_happen(group: &mut Group<Tally>, events: u64, asks: bool) -> Result<u64> {
     let mut asked = 0u64;
     for number in 0..events {

@@ -41,7 +41,7 @@ fn print(rt: &HostRuntime, whole: u128, longest: u128, agreed: u64) -> Result<()
     Ok(())
 }
 
-/// Lets the sole member of a group hold this many places.
+// Lets the sole member of a group hold this many places.
 fn serve(group: &mut Group<Tally>, places: u64) -> Result<()> {
     for number in 0..places {
         ensure!(
@@ -52,7 +52,7 @@ fn serve(group: &mut Group<Tally>, places: u64) -> Result<()> {
     Ok(())
 }
 
-/// Members 2 and 3 take over. The time of the longest event is the result.
+// Members 2 and 3 take over. The time of the longest event is the result.
 fn take_over(rt: &HostRuntime, group: &mut Group<Tally>) -> Result<Duration> {
     change(rt, group)?;
     let mut longest = Duration::ZERO;

@@ -82,8 +82,8 @@ pub fn both_publish(
     shake_hands(world, course, 2, 3)
 }
 
-/// PUBLISH, PUBREC, PUBREL and PUBCOMP between a publisher and the primary, and between this and a
-/// subscriber.
+// PUBLISH, PUBREC, PUBREL and PUBCOMP between a publisher and the primary, and between this and a
+// subscriber.
 fn shake_hands(
     world: &mut World,
     course: &mut Course,

@@ -54,7 +54,7 @@ fn publish(world: &mut World, course: &mut Course, publications: &Publications) 
     Ok(())
 }
 
-/// Returns how many publications a client took in.
+// Returns how many publications a client took in.
 fn taken_in(alloc: Global, world: &World, client: usize) -> Result<usize> {
     let name = named(alloc, client)?;
     match world.client(&name) {

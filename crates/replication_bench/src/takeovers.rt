@@ -31,7 +31,7 @@ fn assigns(alloc: Global, world: &mut World, course: &mut Course, primary: u8) -
     happens(world, course, &event)
 }
 
-/// A client loses its connection and connects to the new primary.
+// A client loses its connection and connects to the new primary.
 fn goes_over(
     alloc: Global,
     world: &mut World,

@@ -46,7 +46,7 @@ pub(crate) fn append_matching(
     }
 }
 
-/// Appends the topic, if it is there.
+// Appends the topic, if it is there.
 fn append_topic(
     topics: &BTreeMap<TopicName, RetainedPublication>,
     topic: TopicName,
@@ -66,7 +66,7 @@ fn append_topic(
     Ok(())
 }
 
-/// Appends the matching topics. It looks only at those that begin as the filter does.
+// Appends the matching topics. It looks only at those that begin as the filter does.
 fn append_in_range(
     topics: &BTreeMap<TopicName, RetainedPublication>,
     filter: &Filter,
@@ -87,7 +87,7 @@ fn append_in_range(
     Ok(())
 }
 
-/// Returns the bounds of the topics that the filter may match; there are none if memory runs out.
+// Returns the bounds of the topics that the filter may match; there are none if memory runs out.
 #[tactic(auto, using(crate::proofs::InRange::holds_within, crate::proofs::InRange::forward))]
 fn bounds_of(alloc: Global, filter: &str) -> (Bound<TopicName>, Bound<TopicName>)
     ensures forward { IsForward (IsLeBy (slice_cmp nat_cmp)) (IsLtBy (slice_cmp nat_cmp))
@@ -100,8 +100,8 @@ fn bounds_of(alloc: Global, filter: &str) -> (Bound<TopicName>, Bound<TopicName>
     }
 }
 
-/// Returns the topic of the levels in front of the first wildcard, and the one after all that begin
-/// with them and a `/`.
+// Returns the topic of the levels in front of the first wildcard, and the one after all that begin
+// with them and a `/`.
 fn ends_of(alloc: Global, filter: &str) -> Option<(TopicName, TopicName)>
     ensures { IfSome result (λ ends. IsAround filter.now ends.0 ends.1) }
 {
@@ -114,7 +114,7 @@ fn ends_of(alloc: Global, filter: &str) -> Option<(TopicName, TopicName)>
     Some((first, end))
 }
 
-/// Returns the levels in front of the first wildcard, if there are any.
+// Returns the levels in front of the first wildcard, if there are any.
 fn literal_front(filter: &str) -> Option<&str>
     ensures { IfSome result (λ front. StandsBefore front.now filter.now) }
 {
@@ -125,8 +125,8 @@ fn literal_front(filter: &str) -> Option<&str>
     Some(front)
 }
 
-/// Returns what is in front of a level that begins with a wildcard, the first `+` or else the first
-/// `#`.
+// Returns what is in front of a level that begins with a wildcard, the first `+` or else the first
+// `#`.
 fn front_part(filter: &str) -> Option<&str>
     ensures { IfSome result (λ front. IsFront front.now filter.now) }
 {
@@ -137,6 +137,7 @@ fn front_part(filter: &str) -> Option<&str>
     Some(front)
 }
 
+// Says whether neither wildcard is in a text.
 fn has_no_wildcard(text: &str) -> bool
     ensures { result ≡ has_no_wildcard text.now }
 {

@@ -44,6 +44,7 @@ impl Subscriptions {
         self.write_each(bytes)
     }
 
+    // Appends each filter with its QoS.
     fn write_each(&self, bytes: &mut Vec<u8>) -> Result<(), AllocError>
         ensures { OnOk result (bytes.new.items ≡ bytes.old.items ++ flat_map held_bytes self.now) }
     {
@@ -65,6 +66,7 @@ impl Received {
         self.write_each(bytes)
     }
 
+    // Appends each identifier.
     fn write_each(&self, bytes: &mut Vec<u8>) -> Result<(), AllocError>
         ensures { OnOk result (bytes.new.items ≡ bytes.old.items ++ flat_map number self.now) }
     {
@@ -94,6 +96,7 @@ impl SessionQueue {
         self.write_waiting(bytes)
     }
 
+    // Appends what is in flight, without its count.
     fn write_flights(&self, bytes: &mut Vec<u8>) -> Result<(), AllocError>
         requires { AllByRecursion AreWritable self.now.in_flight }
         ensures { OnOk result
@@ -105,6 +108,7 @@ impl SessionQueue {
         Ok(())
     }
 
+    // Appends what waits, without its count.
     fn write_waiting(&self, bytes: &mut Vec<u8>) -> Result<(), AllocError>
         requires { AllByRecursion HasLength self.now.waiting }
         ensures { OnOk result

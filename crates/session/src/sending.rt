@@ -41,7 +41,7 @@ pub(crate) fn awaits_of(publication: Publication) -> Awaits
     }
 }
 
-/// Returns the PUBLISH that carries a publication.
+// Returns the PUBLISH that carries a publication.
 fn publish_packet(publication: &Publication, dup: bool, id: PacketId) -> Result<Packet, AllocError>
     ensures { IfOk result (λ packet. packet ≡ packets.Publish (publish_of dup id publication.now)) }
 {
@@ -81,6 +81,7 @@ pub(crate) fn packet_anew(id: PacketId, awaits: &Awaits) -> Result<Packet, Alloc
     }
 }
 
+// Returns how a PUBLISH at this QoS is delivered.
 fn delivery(qos: QoS, dup: bool, id: PacketId) -> Delivery
     ensures { result ≡ delivery_at qos dup id }
 {

@@ -54,6 +54,7 @@ impl Subscriptions {
     }
 }
 
+// Reads so many filters, each of which is new, with their QoS.
 fn read_filters(alloc: Global, count: u8, reader: &mut Reader) -> Result<Subscriptions, Stop>
     ensures { Reads (λ x. x) result reader.new
         (items_after is_new_filter held_at count [] reader.old) }
@@ -103,6 +104,7 @@ impl Received {
     }
 }
 
+// Reads so many received identifiers, which rise.
 fn read_ids(alloc: Global, count: u16, reader: &mut Reader) -> Result<Received, Stop>
     ensures { Reads (λ x. x) result reader.new (items_after is_above id_at count [] reader.old) }
 {
@@ -150,6 +152,7 @@ fn read_in_flight(
     read_counted_flights(alloc, window, reader)
 }
 
+// Reads what is in flight after its count, which the window bounds.
 #[tactic(auto, unfolding(session_base::specs::Counted::counted_at))]
 fn read_counted_flights(
     alloc: Global,
@@ -164,6 +167,7 @@ fn read_counted_flights(
     read_flights(alloc, count, reader)
 }
 
+// Reads so many entries in flight, with distinct identifiers.
 fn read_flights(
     alloc: Global,
     count: u16,
@@ -235,6 +239,7 @@ fn read_all_waiting(
     read_publications(alloc, count, reader)
 }
 
+// Reads so many publications that wait.
 fn read_publications(
     alloc: Global,
     count: u16,

@@ -56,6 +56,7 @@ pub fn read_qos(reader: &mut Reader) -> Result<QoS, Stop>
     qos_of(reader.byte()?)
 }
 
+// Returns the QoS of a number.
 fn qos_of(number: u8) -> Result<QoS, Stop>
     ensures { Gives (λ x. x) result (qos_of number) }
 {
@@ -87,6 +88,7 @@ pub fn read_publication(alloc: Global, reader: &mut Reader) -> Result<Publicatio
     Ok(publication)
 }
 
+// Returns a copy of bytes as a payload; memory is its only fault.
 fn payload_of(alloc: Global, bytes: &[u8]) -> Result<Payload, Stop>
     ensures { Gives (λ x. x) result (Ok bytes.now) }
 {
@@ -138,6 +140,7 @@ pub fn read_flight(alloc: Global, reader: &mut Reader) -> Result<(PacketId, Awai
     Ok((id, awaits))
 }
 
+// Reads for which answer an entry in flight waits, with what it keeps until then.
 #[tactic(auto, unfolding(crate::specs::Form::awaits_at))]
 fn read_awaits(alloc: Global, reader: &mut Reader) -> Result<Awaits, Stop>
     ensures { Reads (λ x. x) result reader.new (awaits_at reader.old) }
@@ -150,6 +153,7 @@ fn read_awaits(alloc: Global, reader: &mut Reader) -> Result<Awaits, Stop>
     read_sent(alloc, state == 0, reader)
 }
 
+// Reads a publication that waits for PUBACK at QoS 1, or for PUBREC at QoS 2.
 #[tactic(auto, unfolding(crate::specs::Form::sent_at))]
 fn read_sent(alloc: Global, acknowledged: bool, reader: &mut Reader) -> Result<Awaits, Stop>
     ensures { Reads (λ x. x) result reader.new (sent_at acknowledged reader.old) }

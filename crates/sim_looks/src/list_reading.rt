@@ -226,6 +226,7 @@ impl ListReading {
         }
     }
 
+    // Notes that the publication with this payload is taken.
     fn is_taken_now(&mut self, payload: &Payload) -> Option<()> {
         let (_, serial) = made_by(payload)?;
         for _ in self.taken.len() as u64..=serial {

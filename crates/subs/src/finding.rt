@@ -86,7 +86,7 @@ impl Nodes {
     }
 }
 
-/// Raises each of the clients to its QoS there.
+// Raises each of the clients to its QoS there.
 fn raise_all(rows: &Rows, found: &mut Found) -> Result<(), AllocError>
     ensures ok { OnOk result (Raises found.old found.new (row_at rows.now)) }
     ensures some { OnErr result (GivesSome (row_at rows.now)) }
@@ -98,7 +98,7 @@ fn raise_all(rows: &Rows, found: &mut Found) -> Result<(), AllocError>
     }
 }
 
-/// Raises each of the clients of a map to its QoS there.
+// Raises each of the clients of a map to its QoS there.
 fn raise_each(clients: &BTreeMap<ClientId, QoS>, found: &mut Found) -> Result<(), AllocError>
     ensures ok { OnOk result (Raises found.old found.new (get (slice_cmp nat_cmp) clients.now)) }
     ensures some { OnErr result (GivesSome (get (slice_cmp nat_cmp) clients.now)) }
@@ -109,7 +109,7 @@ fn raise_each(clients: &BTreeMap<ClientId, QoS>, found: &mut Found) -> Result<()
     Ok(())
 }
 
-/// Sets the client's QoS to this one, if it is greater than what is there.
+// Sets the client's QoS to this one, if it is greater than what is there.
 fn raise(client: &ClientId, qos: QoS, found: &mut Found) -> Result<(), AllocError>
     ensures { OnOk result (Updates (slice_cmp nat_cmp) found.old found.new client.now
         (greatest (get (slice_cmp nat_cmp) found.old client.now) (Some qos))) }

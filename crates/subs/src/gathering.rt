@@ -37,7 +37,7 @@ pub(crate) fn gather(
     Ok(groups)
 }
 
-/// Puts in a client with its filters.
+// Puts in a client with its filters.
 fn gather_filters(
     alloc: Global,
     groups: &mut Groups,
@@ -55,7 +55,7 @@ fn gather_filters(
     Ok(())
 }
 
-/// Puts in a client at a filter.
+// Puts in a client at a filter.
 fn add_row(
     alloc: Global,
     groups: &mut Groups,

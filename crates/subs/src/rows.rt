@@ -79,7 +79,7 @@ impl Rows {
     }
 }
 
-/// Returns the rows of two clients.
+// Returns the rows of two clients.
 fn both(
     alloc: Global,
     held: &ClientId,
@@ -95,7 +95,7 @@ fn both(
     Ok(Rows::Many(rows))
 }
 
-/// Sets the client's row in a map.
+// Sets the client's row in a map.
 fn set_client(
     clients: &mut BTreeMap<ClientId, QoS>,
     client: &ClientId,
@@ -114,7 +114,7 @@ fn set_client(
     Ok(())
 }
 
-/// Takes the client's row out of a map, and says whether there was one.
+// Takes the client's row out of a map, and says whether there was one.
 fn clear_client(clients: &mut BTreeMap<ClientId, QoS>, client: &ClientId) -> bool
     ensures found { result ≡ is_some (get (slice_cmp nat_cmp) clients.old client.now) }
     ensures after { Updates (slice_cmp nat_cmp) clients.old clients.new client.now None }

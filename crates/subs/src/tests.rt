@@ -12,7 +12,7 @@ const FILTERS: u32 = 100_000;
 /// The root, `a`, 331 groups, in each of which is a `+`, and one for each filter.
 const NODES: usize = 1 + 1 + 331 + 331 + 100_000;
 
-/// Returns a filter of four levels, of which some begin alike and some have a `+`.
+// Returns a filter of four levels, of which some begin alike and some have a `+`.
 fn filter_of(alloc: Global, number: u32) -> Option<Filter> {
     let group = number % 331;
     let text = if number % 2 == 0 {
@@ -23,7 +23,7 @@ fn filter_of(alloc: Global, number: u32) -> Option<Filter> {
     Filter::new(alloc, text.ok()?.as_str()).ok()
 }
 
-/// Sets the filter of a number, and says whether there was memory.
+// Sets the filter of a number, and says whether there was memory.
 fn set_one(alloc: Global, index: &mut TreeIndex, client: &ClientId, number: u32) -> bool {
     match filter_of(alloc, number) {
         Some(filter) => index.set(client, &filter, QoS::AtLeastOnce).is_ok(),
@@ -31,7 +31,7 @@ fn set_one(alloc: Global, index: &mut TreeIndex, client: &ClientId, number: u32)
     }
 }
 
-/// Clears the filter of a number, and says whether it was there.
+// Clears the filter of a number, and says whether it was there.
 fn clear_one(alloc: Global, index: &mut TreeIndex, client: &ClientId, number: u32) -> bool {
     match filter_of(alloc, number) {
         Some(filter) => index.clear(client, &filter),
@@ -39,6 +39,7 @@ fn clear_one(alloc: Global, index: &mut TreeIndex, client: &ClientId, number: u3
     }
 }
 
+// Sets all filters, and says whether there was memory.
 fn set_all(alloc: Global, index: &mut TreeIndex, client: &ClientId) -> bool {
     for number in 0..FILTERS {
         if !set_one(alloc, index, client, number) {
@@ -48,6 +49,7 @@ fn set_all(alloc: Global, index: &mut TreeIndex, client: &ClientId) -> bool {
     true
 }
 
+// Clears all filters, and says whether each was there.
 fn clear_all(alloc: Global, index: &mut TreeIndex, client: &ClientId) -> bool {
     for number in 0..FILTERS {
         if !clear_one(alloc, index, client, number) {
@@ -57,13 +59,13 @@ fn clear_all(alloc: Global, index: &mut TreeIndex, client: &ClientId) -> bool {
     true
 }
 
-/// Returns how many nodes there are, and for how many there is capacity.
+// Returns how many nodes there are, and for how many there is capacity.
 fn counts(index: &TreeIndex) -> (usize, usize) {
     (index.nodes.slab.len(), index.nodes.slab.capacity())
 }
 
-/// Returns how many nodes all filters have, and whether that stays so once they were dropped, set,
-/// cleared and set again. Says too whether only the root was left in between.
+// Returns how many nodes all filters have, and whether that stays so once they were dropped, set,
+// cleared and set again. Says too whether only the root was left in between.
 fn nodes_in_turn(alloc: Global) -> Option<(usize, bool, bool)> {
     let mut index = TreeIndex::new(alloc);
     let client = ClientId::new(alloc, "a").ok()?;
@@ -84,7 +86,7 @@ fn nodes_are_used_again(rt: HostRuntime) {
     assert_eq!(rt; nodes_in_turn(rt.alloc()), Some((NODES, true, true)));
 }
 
-/// Sets the filters of all numbers in a list, and says whether there was memory.
+// Sets the filters of all numbers in a list, and says whether there was memory.
 fn list_all(alloc: Global, list: &mut ListIndex, client: &ClientId) -> bool {
     for number in 0..FILTERS {
         match filter_of(alloc, number) {
@@ -95,7 +97,7 @@ fn list_all(alloc: Global, list: &mut ListIndex, client: &ClientId) -> bool {
     true
 }
 
-/// Returns how many nodes the tree has that is built of the list of all filters.
+// Returns how many nodes the tree has that is built of the list of all filters.
 fn nodes_built(alloc: Global) -> Option<usize> {
     let client = ClientId::new(alloc, "a").ok()?;
     let mut list = ListIndex::new(alloc);

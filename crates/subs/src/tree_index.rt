@@ -105,7 +105,7 @@ impl TreeIndex {
     }
 }
 
-/// Removes the client's subscriptions of these filters.
+// Removes the client's subscriptions of these filters.
 fn clear_all(nodes: &mut Nodes, filters: &BTreeMap<Filter, QoS>, client: &ClientId)
     requires { IsSound nodes.old }
     ensures after { content_in nodes.new
@@ -117,7 +117,7 @@ fn clear_all(nodes: &mut Nodes, filters: &BTreeMap<Filter, QoS>, client: &Client
     }
 }
 
-/// Appends the rows. If memory runs out, some of them may be there.
+// Appends the rows. If memory runs out, some of them may be there.
 fn append_rows(
     found: &BTreeMap<ClientId, QoS>,
     rows: &mut Vec<(ClientId, QoS)>,

@@ -133,7 +133,7 @@ impl ListIndex {
         self.clients.get(client)
     }
 
-    /// Removes the subscription, and leaves the client's map, which may then be empty.
+    // Removes the subscription, and leaves the client's map, which may then be empty.
     fn clear_row(&mut self, client: &ClientId, filter: &Filter) -> bool
         ensures found { IsTrue result ↔ IsSome (content_of self.old client.now filter.now) }
         ensures after { content_of self.new
@@ -145,7 +145,7 @@ impl ListIndex {
         }
     }
 
-    /// Removes the client's map if no filter is in it.
+    // Removes the client's map if no filter is in it.
     fn drop_empty(&mut self, client: &ClientId)
         ensures same { content_of self.new ≡ content_of self.old }
         ensures gone { at client.now self.new ≢ Some [] }
@@ -159,6 +159,7 @@ impl ListIndex {
     }
 }
 
+// Sets the QoS of a filter. On an error nothing is changed.
 fn set_filter(
     filters: &mut BTreeMap<Filter, QoS>,
     filter: &Filter,
@@ -177,6 +178,7 @@ fn set_filter(
     Ok(())
 }
 
+// Removes a filter, and says whether it was there.
 fn clear_filter(filters: &mut BTreeMap<Filter, QoS>, filter: &Filter) -> bool
     ensures found { result ≡ is_some (get (slice_cmp nat_cmp) filters.old filter.now) }
     ensures after { Updates (slice_cmp nat_cmp) filters.old filters.new filter.now None }
@@ -184,7 +186,7 @@ fn clear_filter(filters: &mut BTreeMap<Filter, QoS>, filter: &Filter) -> bool
     filters.remove(filter).is_some()
 }
 
-/// Appends the clients' rows. If memory runs out, some of them may be there.
+// Appends the clients' rows. If memory runs out, some of them may be there.
 fn append_rows(
     clients: &BTreeMap<ClientId, BTreeMap<Filter, QoS>>,
     topic: &TopicName,
@@ -205,6 +207,7 @@ fn append_rows(
     Ok(())
 }
 
+// Returns the greatest QoS of the filters that match a topic, if any does.
 fn greatest(filters: &BTreeMap<Filter, QoS>, topic: &TopicName) -> Option<QoS>
     ensures value { result ≡ greatest_from topic.now None filters.now.entries }
     ensures ordered { IsOrdered (slice_cmp nat_cmp) filters.now }
@@ -218,6 +221,7 @@ fn greatest(filters: &BTreeMap<Filter, QoS>, topic: &TopicName) -> Option<QoS>
     best
 }
 
+// Returns the greater one of a QoS and the best so far.
 fn greater(qos: QoS, best: Option<QoS>) -> QoS
     ensures { result ≡ greater qos best }
 {

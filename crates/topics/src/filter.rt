@@ -76,8 +76,8 @@ impl Filter {
     }
 }
 
-/// Returns the first fault of a text as a Topic Filter. Only a text with wildcards is scanned
-/// again.
+// Returns the first fault of a text as a Topic Filter. Only a text with wildcards is scanned
+// again.
 fn fault_of(text: &[u8]) -> Option<MalformedKind>
     ensures { result ≡ filter_fault text.now }
 {
@@ -94,7 +94,7 @@ fn fault_of(text: &[u8]) -> Option<MalformedKind>
     None
 }
 
-/// Says whether the wildcards are in their places, as they are if there are none.
+// Says whether the wildcards are in their places, as they are if there are none.
 #[tactic(auto, using(crate::proofs::OnePass::bare_is_in_place))]
 fn is_formed(text: &[u8], is_bare: bool) -> bool
     requires { is_bare ≡ has_no_wildcard text.now }
@@ -103,6 +103,7 @@ fn is_formed(text: &[u8], is_bare: bool) -> bool
     is_bare || has_wildcards_in_place(text)
 }
 
+// Says whether each wildcard is a level of its own, and `#` the last one (MQTT 4.7.1).
 fn has_wildcards_in_place(text: &[u8]) -> bool
     ensures { result ≡ has_wildcards_in_place (levels text.now) }
 {
@@ -117,7 +118,7 @@ fn has_wildcards_in_place(text: &[u8]) -> bool
     true
 }
 
-/// Says whether the level has no wildcard, or is one, `#` only as the last level.
+// Says whether the level has no wildcard, or is one, `#` only as the last level.
 fn may_stand(level: &[u8], last: bool) -> bool
     ensures { result ≡ may_stand level.now last }
 {

@@ -22,6 +22,7 @@ pub fn matches(filter: &Filter, topic: &TopicName) -> bool
     is_match(filter.as_str().as_bytes(), topic.as_str().as_bytes())
 }
 
+// Says whether the text of a filter matches that of a topic (MQTT 4.7).
 fn is_match(filter: &[u8], topic: &[u8]) -> bool
     requires { IsPair filter.now topic.now }
     ensures { result ≡ is_match filter.now topic.now }
@@ -29,8 +30,8 @@ fn is_match(filter: &[u8], topic: &[u8]) -> bool
     !is_hidden(filter, topic) && matches_levels(filter, topic)
 }
 
-/// Says whether the texts match level by level: what both begin with is skipped, and so is each `+`
-/// with the level that it matches.
+// Says whether the texts match level by level: what both begin with is skipped, and so is each `+`
+// with the level that it matches.
 #[tactic(auto, using(crate::proofs::LeftInALoop::some_first))]
 fn matches_levels(filter: &[u8], topic: &[u8]) -> bool
     requires { IsPair filter.now topic.now }
@@ -43,7 +44,7 @@ fn matches_levels(filter: &[u8], topic: &[u8]) -> bool
     ends_match(filter_rest, topic_rest)
 }
 
-/// Returns what is left of the texts after the bytes with which both begin.
+// Returns what is left of the texts after the bytes with which both begin.
 #[tactic(auto, using(crate::proofs::LeftInALoop::front_step))]
 fn after_front<'a>(filter: &'a [u8], topic: &'a [u8]) -> (&'a [u8], &'a [u8])
     requires { IsPair filter.now topic.now }
@@ -63,7 +64,7 @@ fn after_front<'a>(filter: &'a [u8], topic: &'a [u8]) -> (&'a [u8], &'a [u8])
     (filter_rest, topic_rest)
 }
 
-/// Returns the text from its first `/` on.
+// Returns the text from its first `/` on.
 #[tactic(auto, using(crate::proofs::PlusGoesBy::after_cut, crate::proofs::PlusGoesBy::after_none))]
 fn after_level(text: &[u8]) -> &[u8]
     ensures { result.now ≡ after_level text.now }
@@ -76,7 +77,7 @@ fn after_level(text: &[u8]) -> &[u8]
     &[]
 }
 
-/// Says whether what is left matches, once the next bytes differ.
+// Says whether what is left matches, once the next bytes differ.
 fn ends_match(filter_rest: &[u8], topic_rest: &[u8]) -> bool
     ensures { result ≡ ends_match filter_rest.now topic_rest.now }
 {
@@ -87,6 +88,7 @@ fn ends_match(filter_rest: &[u8], topic_rest: &[u8]) -> bool
     }
 }
 
+// Says whether a text begins with a byte.
 fn starts_with(byte: u8, text: &[u8]) -> bool
     ensures { result ≡ starts_with byte text.now }
 {
@@ -96,12 +98,15 @@ fn starts_with(byte: u8, text: &[u8]) -> bool
     }
 }
 
+// Says whether a filter begins with a wildcard.
 fn starts_with_wildcard(filter: &[u8]) -> bool
     ensures { result ≡ starts_with_wildcard filter.now }
 {
     starts_with(b'#', filter) || starts_with(b'+', filter)
 }
 
+// Says whether a filter begins with a wildcard and a topic with `$`, which do not match (MQTT
+// 4.7.2).
 fn is_hidden(filter: &[u8], topic: &[u8]) -> bool
     ensures { result ≡ is_hidden filter.now topic.now }
 {

@@ -67,7 +67,7 @@ impl TopicName {
     }
 }
 
-/// Returns the first fault of a text as a Topic Name.
+// Returns the first fault of a text as a Topic Name.
 fn fault_of(text: &[u8]) -> Option<MalformedKind>
     ensures { result ≡ topic_fault text.now }
 {

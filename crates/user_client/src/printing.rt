@@ -30,6 +30,7 @@ pub fn print_text(text: &[u8], line: &mut Vec<u8>) -> Result<(), AllocError>
     Ok(())
 }
 
+// Appends a byte as it is, or its two digits after a backslash and an x.
 fn print_byte(byte: u8, line: &mut Vec<u8>) -> Result<(), AllocError>
     ensures { OnOk result (line.new.items ≡ line.old.items ++ printed_byte byte) }
 {

@@ -18,6 +18,7 @@ use std::thread::Threads;
 use std::time::Clock;
 use std::{env, io};
 
+// Runs the program, and ends with its exit status.
 fn main(rt: HostRuntime) -> ExitCode {
     ExitCode::from(run(&rt))
 }

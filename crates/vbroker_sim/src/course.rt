@@ -102,6 +102,7 @@ impl Course {
         Some(())
     }
 
+    // Draws a node.
     fn node(&mut self) -> u8 {
         ((self.draw.below(u64::from(self.nodes)) % 256) as u8).saturating_add(1)
     }
@@ -204,10 +205,12 @@ impl Course {
         self.runs(node) && members.iter().any(is_left)
     }
 
+    // Says whether a node has not crashed.
     fn runs(&self, node: u8) -> bool {
         !self.crashed.iter().any(|it| *it == node)
     }
 
+    // Draws members among the nodes that run.
     fn members(&mut self) -> Option<Vec<u8>> {
         let mut members = Vec::new(self.alloc);
         for node in 1..=self.nodes {

@@ -29,6 +29,7 @@ pub fn line_of(alloc: Global, event: &Event) -> Result<String, AllocError> {
     }
 }
 
+// Returns the line of a script for an Assign.
 fn assignment(alloc: Global, config: &Config) -> Result<String, AllocError> {
     let mut line = String::from_str(alloc, "assign")?;
     let mut mark = " ";
@@ -41,6 +42,7 @@ fn assignment(alloc: Global, config: &Config) -> Result<String, AllocError> {
     Ok(line)
 }
 
+// Returns the line of a script for a publication.
 fn publication(alloc: Global, client: &ClientId, sent: &Publication) -> Result<String, AllocError> {
     let topic = &sent.topic;
     let qos = sent.qos.number();

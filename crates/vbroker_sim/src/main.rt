@@ -22,6 +22,7 @@ use anyhow::{Result, bail};
 use sim_looks::Broken;
 use std::env;
 
+// Draws the runs that the words ask for, and prints what they came to.
 fn main(rt: HostRuntime) -> Result<()> {
     let words: Vec<String> = env::args(&rt)?.collect(rt.alloc())?;
     let mut options = Options::usual();

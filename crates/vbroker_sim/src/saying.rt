@@ -22,6 +22,7 @@ pub fn unsubscribed(alloc: Global, draw: &mut Draw, name: ClientId) -> Option<Ev
     Some(Event::Unsubscribe(name, filter(alloc, draw)?))
 }
 
+// Draws a filter.
 fn filter(alloc: Global, draw: &mut Draw) -> Option<Filter> {
     let text = FILTERS.get(draw.below(8) as usize)?;
     Filter::new(alloc, text).ok()

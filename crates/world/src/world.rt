@@ -216,6 +216,7 @@ impl World {
         self.nodes.losses() == before && before < u64::MAX
     }
 
+    // Hands an event to the call for its kind.
     fn happen(&mut self, event: &Event) -> Result<(), Idle>
         ensures asked { GoesAsked event.now self.old result self.new }
         ensures meets { Meets event.now self.old result self.new }

@@ -10,7 +10,7 @@ use std::alloc::Global;
 // The total 5, frozen.
 const FIVE: &[u8] = &[0, 0, 0, 0, 0, 0, 0, 5];
 
-/// Says whether this is the base of the log, and these are the bytes there.
+// Says whether this is the base of the log, and these are the bytes there.
 fn is_cut_at(replica: &Replica<Tally>, base: u64, bytes: &[u8]) -> bool {
     let (at, snapshot) = replica.snapshot();
     at == base && snapshot == bytes

@@ -45,7 +45,7 @@ pub fn is_assigned(pair: &mut Pair, alloc: Global, previous: &[u8]) -> bool {
     }
 }
 
-/// Returns what kind a message is.
+// Returns what kind a message is.
 fn kind_of(body: &Body<TallyCommand>) -> &'static str {
     match body {
         Body::NewBallot(_, _, _, _) => "NewBallot",
@@ -62,7 +62,7 @@ fn kind_of(body: &Body<TallyCommand>) -> &'static str {
     }
 }
 
-/// Says whether a node, if it is one of the two, continues with a message.
+// Says whether a node, if it is one of the two, continues with a message.
 fn is_heard(pair: &mut Pair, receiver: u8, message: Message<TallyCommand>) -> bool {
     match receiver {
         1 => hears(&mut pair.one, message.from, message.body, &mut pair.out),

@@ -68,7 +68,7 @@ pub fn gives(out: &[Effect<TallyCommand, u64>], at: usize, place: u64, total: u6
 /// The way of a message: its sender and its receiver.
 pub type Way = (u8, u8);
 
-/// Returns what is said on a way by the effect at a place.
+// Returns what is said on a way by the effect at a place.
 fn said(out: &[Effect<TallyCommand, u64>], at: usize, way: Way) -> Option<&Body<TallyCommand>> {
     match out.get(at) {
         Some(Effect::To(receiver, message)) if (message.from, *receiver) == way => {

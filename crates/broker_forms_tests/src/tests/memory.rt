@@ -22,7 +22,7 @@ enum Outcome {
     Wrong,
 }
 
-/// The client's packet, done after one output; with memory as many are there as expected.
+// The client's packet, done after one output; with memory as many are there as expected.
 fn outcome_of(alloc: Global, broker: &mut BrokerMachine, packet: &[u8], wanted: usize) -> Outcome {
     let mut out = Vec::new(alloc);
     if !is_given(alloc, broker, Event::Bytes(1, &[0xC0, 0]), &mut out) {
@@ -40,7 +40,7 @@ fn made_of(is_done: bool, is_right: bool) -> Outcome {
     }
 }
 
-/// A broker that does two commands and is frozen.
+// A broker that does two commands and is frozen.
 fn outcome_of_two(alloc: Global, broker: &mut BrokerMachine, bytes: &mut Vec<u8>) -> Outcome {
     for (packet, wanted) in [(SUBSCRIBE, 2), (RETAINED, 3)] {
         let outcome = outcome_of(alloc, broker, packet, wanted);
@@ -51,7 +51,7 @@ fn outcome_of_two(alloc: Global, broker: &mut BrokerMachine, bytes: &mut Vec<u8>
     made_of(is_frozen(broker, bytes), true)
 }
 
-/// A broker that is thawed, does two commands, and is frozen.
+// A broker that is thawed, does two commands, and is frozen.
 fn outcome_of_all(alloc: Global, bytes: &mut Vec<u8>) -> Outcome {
     match BrokerMachine::thaw(alloc, ONE_SESSION) {
         Ok(mut broker) => outcome_of_two(alloc, &mut broker, bytes),

@@ -29,7 +29,7 @@ impl Numbers {
 
 const CLIENTS: [&str; 4] = ["a", "b", "c", "d"];
 
-/// The bytes of a packet; what comes after them is not read.
+// The bytes of a packet; what comes after them is not read.
 fn packet_of(numbers: &mut Numbers) -> [u8; 10] {
     let id = (numbers.next() % 4) as u8 + 1;
     let qos = (numbers.next() % 3) as u8;
@@ -49,7 +49,7 @@ fn packet_of(numbers: &mut Numbers) -> [u8; 10] {
     }
 }
 
-/// Says whether two brokers answer an event alike, and with memory.
+// Says whether two brokers answer an event alike, and with memory.
 fn answer_alike(
     alloc: Global,
     one: &mut BrokerMachine,
@@ -63,8 +63,8 @@ fn answer_alike(
         && here.as_slice() == there.as_slice()
 }
 
-/// Replaces a broker by the one that is thawed from the bytes. Says whether there is one, and it is
-/// frozen to the same bytes again.
+// Replaces a broker by the one that is thawed from the bytes. Says whether there is one, and it is
+// frozen to the same bytes again.
 fn is_thawed_from(alloc: Global, broker: &mut BrokerMachine, bytes: &[u8]) -> bool {
     match BrokerMachine::thaw(alloc, bytes) {
         Ok(thawed) => {
@@ -75,14 +75,14 @@ fn is_thawed_from(alloc: Global, broker: &mut BrokerMachine, bytes: &[u8]) -> bo
     }
 }
 
-/// Replaces a broker by the one that its frozen bytes give, and says whether there is one.
+// Replaces a broker by the one that its frozen bytes give, and says whether there is one.
 fn is_thawed_again(alloc: Global, broker: &mut BrokerMachine) -> bool {
     let mut bytes = Vec::new(alloc);
     broker.freeze(&mut bytes).is_ok() && is_thawed_from(alloc, broker, bytes.as_slice())
 }
 
-/// Returns what comes as number `count`: mostly a packet of a client on the connection that it
-/// opened last.
+// Returns what comes as number `count`: mostly a packet of a client on the connection that it
+// opened last.
 fn event_of<'a>(
     numbers: &mut Numbers,
     count: u64,
@@ -101,8 +101,8 @@ fn event_of<'a>(
     }
 }
 
-/// Says whether two brokers answer the next command alike, the second being thawed from its own
-/// bytes if it is frozen then.
+// Says whether two brokers answer the next command alike, the second being thawed from its own
+// bytes if it is frozen then.
 fn is_next_alike(
     alloc: Global,
     whole: &mut BrokerMachine,
@@ -116,7 +116,7 @@ fn is_next_alike(
     answer_alike(alloc, whole, thawed, event) && (count > FROZEN || is_thawed_again(alloc, thawed))
 }
 
-/// The first command that two brokers answer otherwise.
+// The first command that two brokers answer otherwise.
 fn other_answer(
     alloc: Global,
     whole: &mut BrokerMachine,
@@ -132,7 +132,7 @@ fn other_answer(
     None
 }
 
-/// Returns the first command that a broker and one that is frozen and thawed answer otherwise.
+// Returns the first command that a broker and one that is frozen and thawed answer otherwise.
 fn first_difference(alloc: Global) -> Option<usize> {
     match (BrokerMachine::fresh(alloc), BrokerMachine::fresh(alloc)) {
         (Ok(mut whole), Ok(mut thawed)) => other_answer(alloc, &mut whole, &mut thawed),

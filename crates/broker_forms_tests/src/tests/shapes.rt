@@ -47,7 +47,7 @@ fn is_refused(alloc: Global, bytes: &[u8]) -> bool {
     BrokerMachine::thaw(alloc, bytes).err() == Some(ThawFault::Shape)
 }
 
-/// Puts another byte at a place of bytes, and says whether there is such a place.
+// Puts another byte at a place of bytes, and says whether there is such a place.
 fn is_changed(bytes: &mut [u8], place: usize, byte: u8) -> bool {
     match bytes.get_mut(place) {
         Some(changed) => {
@@ -58,7 +58,7 @@ fn is_changed(bytes: &mut [u8], place: usize, byte: u8) -> bool {
     }
 }
 
-/// Says whether the bytes of [`ONE_ENTRY`] with one changed are refused.
+// Says whether the bytes of [`ONE_ENTRY`] with one changed are refused.
 fn is_refused_when_changed(alloc: Global, place: usize, byte: u8) -> bool {
     let mut bytes = Vec::new(alloc);
     bytes.extend_from_slice(ONE_ENTRY).is_ok()
@@ -66,7 +66,7 @@ fn is_refused_when_changed(alloc: Global, place: usize, byte: u8) -> bool {
         && is_refused(alloc, bytes.as_slice())
 }
 
-/// Returns the first change, by its place in the list, with which the bytes are not refused.
+// Returns the first change, by its place in the list, with which the bytes are not refused.
 fn first_change(alloc: Global, changes: &[(usize, u8)]) -> Option<usize> {
     for (row, (place, byte)) in changes.iter().enumerate() {
         if !is_refused_when_changed(alloc, *place, *byte) {
@@ -85,12 +85,12 @@ const OTHER_FORMS: &[&[u8]] = &[
     &[2, 0x20, 0, 0, 0, 0],
 ];
 
-/// Returns the first of these bytes, by its place in the list, that are not refused.
+// Returns the first of these bytes, by its place in the list, that are not refused.
 fn first_form(alloc: Global, forms: &[&[u8]]) -> Option<usize> {
     forms.iter().position(|bytes| !is_refused(alloc, bytes))
 }
 
-/// Returns the first length of a front of these bytes that is not refused.
+// Returns the first length of a front of these bytes that is not refused.
 fn first_front(alloc: Global, bytes: &[u8]) -> Option<usize> {
     for end in 0..bytes.len() {
         if !is_refused(alloc, &bytes[..end]) {
@@ -110,8 +110,8 @@ fn other_bytes_are_refused(rt: HostRuntime) {
 /// The front of a form, how many entries of a session may be in flight, and one more.
 const WINDOWS: [(&[u8], u8, u8); 3] = [(&[1], 16, 17), (&[2, 0x10], 16, 17), (&[2, 0x40], 64, 65)];
 
-/// Appends client `a`, away, with this many released entries in flight, and says whether there was
-/// memory.
+// Appends client `a`, away, with this many released entries in flight, and says whether there was
+// memory.
 fn are_released(bytes: &mut Vec<u8>, count: u8) -> bool {
     let front = [0, 1, 0, 1, 0x61, 0, 0, 0, 0, 0, 0, count];
     let mut is_whole = bytes.extend_from_slice(&front).is_ok();
@@ -121,8 +121,8 @@ fn are_released(bytes: &mut Vec<u8>, count: u8) -> bool {
     bytes.extend_from_slice(&[0, 0, 0, 0]).is_ok() && is_whole
 }
 
-/// Says whether a broker of this form with this many entries of a session in flight is read, if
-/// there is memory.
+// Says whether a broker of this form with this many entries of a session in flight is read, if
+// there is memory.
 fn is_read(alloc: Global, front: &[u8], count: u8) -> Option<bool> {
     let mut bytes = Vec::new(alloc);
     if bytes.extend_from_slice(front).is_err() || !are_released(&mut bytes, count) {

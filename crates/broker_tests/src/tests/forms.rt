@@ -119,7 +119,7 @@ fn is_form(alloc: Global, broker: &BrokerMachine, wanted: Option<&[u8]>) -> bool
     }
 }
 
-/// Returns which step leaves a broker with other answers or bytes, if there is one.
+// Returns which step leaves a broker with other answers or bytes, if there is one.
 fn other_bytes(alloc: Global, broker: &mut BrokerMachine, steps: &[Step<'_>]) -> Option<usize> {
     for (place, (event, wanted, bytes)) in steps.iter().enumerate() {
         if !is_answered(alloc, broker, *event, wanted) || !is_form(alloc, broker, *bytes) {
@@ -142,8 +142,8 @@ pub(crate) fn other_form(
     other_bytes(alloc, broker, steps)
 }
 
-/// Finds what is wrong with the broker that is thawed from these bytes, if it is not frozen to them
-/// again.
+// Finds what is wrong with the broker that is thawed from these bytes, if it is not frozen to them
+// again.
 fn other_again(alloc: Global, bytes: &[u8]) -> Option<usize> {
     first_fault(alloc, Start::Thawed(bytes), Story::HasBytes(bytes))
 }
@@ -154,7 +154,7 @@ const BEFORE: [(&[u8], &[u8], &[u8]); 2] = [
     (ONE_SESSION_BEFORE, ONE_SESSION_NARROW, AWAY),
 ];
 
-/// Finds what is wrong with the broker that is thawed from bytes of form 1.
+// Finds what is wrong with the broker that is thawed from bytes of form 1.
 fn other_before(alloc: Global, before: &[u8], narrow: &[u8], wide: &[u8]) -> Option<usize> {
     let steps = [(Event::Start(2), NOTHING, Some(wide))];
     first_fault(

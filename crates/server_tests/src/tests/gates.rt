@@ -81,7 +81,7 @@ struct Meeting {
 }
 
 impl Meeting {
-    /// For this many nodes, at most three.
+    // For this many nodes, at most three.
     fn new(nodes: usize) -> Meeting {
         Meeting {
             nodes,

@@ -21,7 +21,7 @@ pub(crate) enum Call<'a> {
     Granted(&'a str, &'a [Grant<'a>]),
 }
 
-/// Returns which call of a row an index does not answer as expected, if there is one.
+// Returns which call of a row an index does not answer as expected, if there is one.
 fn other_answer<I: SubIndex>(alloc: Global, index: &mut I, row: &[Call<'_>]) -> Option<usize> {
     for (place, call) in row.iter().enumerate() {
         if !is_answered(alloc, index, *call) {
@@ -37,7 +37,7 @@ pub(crate) fn first_fault<I: SubIndex>(alloc: Global, row: &[Call<'_>]) -> Optio
     other_answer(alloc, &mut index, row)
 }
 
-/// Says whether the index answers as expected, and with memory.
+// Says whether the index answers as expected, and with memory.
 fn is_answered<I: SubIndex>(alloc: Global, index: &mut I, call: Call<'_>) -> bool {
     match call {
         Call::Set(client, filter, qos) => set(alloc, index, client, filter, qos).is_some(),

@@ -54,15 +54,15 @@ fn topic_of(alloc: Global, text: &str) -> Option<TopicName> {
     }
 }
 
-/// Appends what is granted. Says whether a try without memory left the rows unchanged, and the next
-/// try had memory.
+// Appends what is granted. Says whether a try without memory left the rows unchanged, and the next
+// try had memory.
 fn is_appended<I: SubIndex>(index: &I, topic: &TopicName, rows: &mut Vec<(ClientId, QoS)>) -> bool {
     let before = rows.len();
     index.granted(topic, rows).is_ok()
         || (rows.len() == before && index.granted(topic, rows).is_ok())
 }
 
-/// The same for the topic that is spelled so.
+// The same for the topic that is spelled so.
 fn is_shown<I: SubIndex>(
     alloc: Global,
     index: &I,
@@ -75,7 +75,7 @@ fn is_shown<I: SubIndex>(
     }
 }
 
-/// Appends what is granted at the topics, one after another.
+// Appends what is granted at the topics, one after another.
 fn show<I: SubIndex>(alloc: Global, index: &I, rows: &mut Vec<(ClientId, QoS)>) -> bool {
     for text in &TOPICS {
         if !is_shown(alloc, index, text, rows) {
@@ -85,19 +85,19 @@ fn show<I: SubIndex>(alloc: Global, index: &I, rows: &mut Vec<(ClientId, QoS)>) 
     true
 }
 
-/// Says whether these are granted at the topics.
+// Says whether these are granted at the topics.
 fn shows<I: SubIndex>(alloc: Global, index: &I, wanted: &[Grant<'_>]) -> bool {
     let mut rows = Vec::new(alloc);
     show(alloc, index, &mut rows) && are_wanted(rows.as_slice(), wanted)
 }
 
-/// Says whether as much is granted at the topics as before.
+// Says whether as much is granted at the topics as before.
 fn shows_still<I: SubIndex>(alloc: Global, index: &I, before: &[(ClientId, QoS)]) -> bool {
     let mut rows = Vec::new(alloc);
     show(alloc, index, &mut rows) && rows.as_slice() == before
 }
 
-/// Sets it. Whether a try without memory left the index as it was, and the next found it.
+// Sets it. Whether a try without memory left the index as it was, and the next found it.
 fn is_set<I: SubIndex>(
     alloc: Global,
     index: &mut I,
@@ -112,7 +112,7 @@ fn is_set<I: SubIndex>(
                 && index.set(client, filter, qos).is_ok()))
 }
 
-/// The same for the client and the filter that are spelled so.
+// The same for the client and the filter that are spelled so.
 fn is_row_set<I: SubIndex>(
     alloc: Global,
     index: &mut I,
@@ -145,7 +145,7 @@ fn is_dropped<I: SubIndex>(alloc: Global, index: &mut I, text: &str) -> bool {
     }
 }
 
-/// Says whether it grants what it is to when all is set, and nothing when both clients are dropped.
+// Says whether it grants what it is to when all is set, and nothing when both clients are dropped.
 fn goes_through<I: SubIndex>(alloc: Global, index: &mut I) -> bool {
     all_are_set(alloc, index)
         && shows(alloc, index, &GRANTS)

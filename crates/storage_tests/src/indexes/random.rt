@@ -54,7 +54,7 @@ fn set_alike(both: &mut Both, client: &ClientId, filter: &Filter, level: u64) ->
     both.list.set(client, filter, qos).is_ok() && both.tree.set(client, filter, qos).is_ok()
 }
 
-/// Returns how many rows both grant alike; none if they differ.
+// Returns how many rows both grant alike; none if they differ.
 fn granted_alike(alloc: Global, both: &Both, topic: &str) -> Option<usize> {
     let mut list = Vec::new(alloc);
     let mut tree = Vec::new(alloc);
@@ -82,8 +82,8 @@ fn none_granted(is_alike: bool) -> Option<usize> {
     if is_alike { Some(0) } else { None }
 }
 
-/// Makes the call of the next number for this client, filter and topic: how many rows were granted,
-/// none if the answers differ.
+// Makes the call of the next number for this client, filter and topic: how many rows were granted,
+// none if the answers differ.
 fn called_with(
     alloc: Global,
     both: &mut Both,
@@ -103,7 +103,7 @@ fn called_with(
     }
 }
 
-/// Makes the call of the next numbers: how many rows were granted, none if the answers differ.
+// Makes the call of the next numbers: how many rows were granted, none if the answers differ.
 fn called_alike(alloc: Global, both: &mut Both, numbers: &mut Numbers) -> Option<usize> {
     let client = ClientId::new(alloc, CLIENTS[(numbers.next() % 8) as usize]).ok()?;
     let filter = Filter::new(alloc, FILTERS[(numbers.next() % 32) as usize]).ok()?;
@@ -111,7 +111,7 @@ fn called_alike(alloc: Global, both: &mut Both, numbers: &mut Numbers) -> Option
     called_with(alloc, both, numbers, &client, &filter, topic)
 }
 
-/// The first call that both do not answer alike. How many rows were granted is added up.
+// The first call that both do not answer alike. How many rows were granted is added up.
 fn first_difference(alloc: Global, both: &mut Both, rows: &mut usize) -> Option<u32> {
     let mut numbers = Numbers { state: 23 };
     for number in 0..CALLS {
@@ -123,7 +123,7 @@ fn first_difference(alloc: Global, both: &mut Both, rows: &mut usize) -> Option<
     None
 }
 
-/// Returns the first call that the two indexes do not answer alike, and how many rows were granted.
+// Returns the first call that the two indexes do not answer alike, and how many rows were granted.
 fn called_in_turn(alloc: Global) -> (Option<u32>, usize) {
     let mut rows: usize = 0;
     let mut both = Both {

@@ -28,7 +28,7 @@ fn is_text_before(alloc: Global, text: &Text, later: &str) -> bool {
     }
 }
 
-/// Says whether a text has an equal copy, is printed as it is, and comes before another.
+// Says whether a text has an equal copy, is printed as it is, and comes before another.
 fn is_text(alloc: Global, row: Order<'_>) -> bool {
     let (text, later) = row;
     match Text::new(alloc, text) {
@@ -60,7 +60,7 @@ fn is_name_printed(alloc: Global, name: &TopicName, wanted: &str) -> bool {
     }
 }
 
-/// Says whether a later name has an equal copy and comes after this one, which is another.
+// Says whether a later name has an equal copy and comes after this one, which is another.
 fn is_name_before(alloc: Global, name: &TopicName, later: &str) -> bool {
     match TopicName::new(alloc, later) {
         Ok(later) => is_name_copied(&later) && *name < later && *name != later,
@@ -95,8 +95,8 @@ fn is_filter_printed(alloc: Global, filter: &Filter, wanted: &str) -> bool {
     }
 }
 
-/// Says whether a later filter has an equal copy, is printed as it is, and comes after this one,
-/// which is another.
+// Says whether a later filter has an equal copy, is printed as it is, and comes after this one,
+// which is another.
 fn is_filter_before(alloc: Global, filter: &Filter, text: &str) -> bool {
     match Filter::new(alloc, text) {
         Ok(later) => {
@@ -122,7 +122,7 @@ fn filters_in_order(rt: HostRuntime) {
     assert!(rt; are_filters(rt.alloc(), ("#", "+")));
 }
 
-/// Says whether a filter is its own text as a topic, or none.
+// Says whether a filter is its own text as a topic, or none.
 fn is_topic(filter: &Filter, wanted: Option<&str>) -> bool {
     match filter.as_topic() {
         Ok(Some(topic)) => Some(topic.as_str()) == wanted,

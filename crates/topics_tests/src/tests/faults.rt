@@ -16,7 +16,7 @@ const FILTERS: &[&str] = &[
     "a b",
 ];
 
-/// Says whether a text is a Topic Filter, which gives it back.
+// Says whether a text is a Topic Filter, which gives it back.
 fn is_filter(alloc: Global, text: &str) -> bool {
     match Filter::new(alloc, text) {
         Ok(filter) => filter.as_str() == text,
@@ -24,7 +24,7 @@ fn is_filter(alloc: Global, text: &str) -> bool {
     }
 }
 
-/// Returns the first text that is no Topic Filter.
+// Returns the first text that is no Topic Filter.
 fn first_no_filter<'a>(alloc: Global, texts: &[&'a str]) -> Option<&'a str> {
     for text in texts {
         if !is_filter(alloc, text) {
@@ -50,7 +50,7 @@ const NO_FILTERS: &[&str] = &[
     "+a",
 ];
 
-/// Returns the first text that is not refused as a Topic Filter for its shape.
+// Returns the first text that is not refused as a Topic Filter for its shape.
 fn first_filter<'a>(alloc: Global, texts: &[&'a str]) -> Option<&'a str> {
     for text in texts {
         if filter_fault(alloc, text) != Some(MalformedKind::Filter) {
@@ -67,7 +67,7 @@ fn no_filters(rt: HostRuntime) {
 
 const NO_TOPICS: &[&str] = &["", "a/+", "#", "a+b"];
 
-/// Returns the first text that is not refused as a Topic Name for its shape.
+// Returns the first text that is not refused as a Topic Name for its shape.
 fn first_topic<'a>(alloc: Global, texts: &[&'a str]) -> Option<&'a str> {
     for text in texts {
         if topic_fault(alloc, text) != Some(MalformedKind::Topic) {

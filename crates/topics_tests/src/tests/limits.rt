@@ -24,12 +24,12 @@ fn is_topic_fault(alloc: Global, row: Row<'_>) -> bool {
     }
 }
 
-/// Returns the first row that is another fault as a Topic Filter.
+// Returns the first row that is another fault as a Topic Filter.
 fn other_filter(alloc: Global, rows: &[Row<'_>]) -> Option<usize> {
     rows.iter().position(|row| !is_filter_fault(alloc, *row))
 }
 
-/// Returns the first row that is another fault as a Topic Name.
+// Returns the first row that is another fault as a Topic Name.
 fn other_topic(alloc: Global, rows: &[Row<'_>]) -> Option<usize> {
     rows.iter().position(|row| !is_topic_fault(alloc, *row))
 }

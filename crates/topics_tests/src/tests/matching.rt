@@ -7,7 +7,7 @@ use std::test::*;
 /// A filter, a topic, and whether they match.
 type Row<'a> = (&'a str, &'a str, bool);
 
-/// Returns the first row whose answer is another.
+// Returns the first row whose answer is another.
 fn other_answer(alloc: Global, rows: &[Row<'_>]) -> Option<usize> {
     for (at, (filter, topic, wanted)) in rows.iter().enumerate() {
         if answer(alloc, filter, topic) != Some(*wanted) {
