@@ -47,6 +47,7 @@ level_of (Some number) =
     if number == 1 then Some levels.AtLeastOnce else
     if number == 2 then Some levels.ExactlyOnce else None
 
+-- a QoS is written as its number (MQTT 4.3)
 unfoldable pub qos_of : Text → Option QoS
 qos_of text = level_of (number_of text)
 
@@ -56,6 +57,7 @@ bit_of None = None
 bit_of (Some number) =
     if number == 0 then Some false else if number == 1 then Some true else None
 
+-- RETAIN is written as its bit (MQTT 3.3.1.3)
 unfoldable pub retain_of : Text → Option Bool
 retain_of text = bit_of (number_of text)
 
@@ -76,13 +78,15 @@ abbrev pub unless : Option MalformedKind → Text → Option Text
 unless None text = Some text
 unless (Some fault) text = None
 
--- a Client Identifier, a Topic Name and a Topic Filter are written as they are
+-- a Client Identifier is written as it is
 unfoldable pub client_of : Text → Option Text
 client_of text = unless (client_fault text) text
 
+-- so is a Topic Name
 unfoldable pub topic_of : Text → Option Text
 topic_of text = unless (topic_fault text) text
 
+-- so is a Topic Filter
 unfoldable pub filter_of : Text → Option Text
 filter_of text = unless (filter_fault text) text
 
@@ -97,9 +101,10 @@ abbrev pub all_of : {X : Type 0} → (Text → Option X) → List Text → Optio
 all_of reads [] = Some []
 all_of reads (text ∷ texts) = with_first (reads text) (all_of reads texts)
 
--- lists with commas
+-- numbers are written with commas between them
 unfoldable pub numbers_of : Text → Option (List ℕ)
 numbers_of field = all_of number_of (parts_of field)
 
+-- so are Client Identifiers
 unfoldable pub clients_of : Text → Option (List Text)
 clients_of field = all_of client_of (parts_of field)

@@ -18,6 +18,7 @@ left_by port core None = core
 left_by port core (Some c) =
     record core { connections = filter is_listed (changed (is_at port) handed core.connections) }
 
+-- what was queued for a port is handed over
 unfoldable pub hands_over : Port → CoreState → CoreState
 hands_over port core = left_by port core (listed_at port core)
 

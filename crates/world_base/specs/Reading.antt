@@ -38,6 +38,7 @@ abbrev pub loses_open : Port → CoreState → Option Connection → Turn
 loses_open port core None = quiet core
 loses_open port core (Some c) = loses port c core
 
+-- the open connection of a port is closed as lost, if there is one
 unfoldable pub ends : Port → CoreState → Turn
 ends port core = loses_open port core (open_at port core)
 

@@ -51,11 +51,12 @@ settled core =
           (if serves core then core.connections else map closed core.connections);
     }
 
--- the replica cuts its log if there is something to cut
+-- the node after a cut of its log
 abbrev pub with_cut : CoreState → CoreState
 with_cut core =
     record core { replica = record core.replica { state = cut rules core.replica.state } }
 
+-- the replica cuts its log if there is something to cut
 unfoldable pub cuts : CoreState → CoreState
 cuts core = if can_cut core.replica.state then with_cut core else core
 

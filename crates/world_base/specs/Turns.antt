@@ -81,6 +81,7 @@ proposes command core =
 abbrev pub heard : Input Command → ReplicaState State Command → Outcome State Command Output
 heard input r = if r.stopped then nothing_done Output r else replica_step rules r input
 
+-- the replica receives an input, and its effects are done
 unfoldable pub drives : Input Command → CoreState → Turn
 drives input core = moved (heard input core.replica.state) core
 
