@@ -9,7 +9,8 @@ use crate::tests::travelling::TRAVELLED;
 use std::alloc::Global;
 use world::World;
 
-/// The primary answers a CONNECT once its backup holds it.
+/// The primary answers a CONNECT once its backup holds it. The numbers of `Does`, here and in the
+/// next table: messages sent, commands agreed.
 pub const WAITS: &[Row] = &[
     Row::Does(Action::Open("a", 1), 0, 0),
     Row::Does(Action::Up(1), 1, 0),

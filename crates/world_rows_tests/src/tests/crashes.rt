@@ -47,6 +47,7 @@ const AFTER: &[Said] = &[
 /// with all that waits on connections 3 and 4. The primary holds a publication that its backup
 /// holds too, and crashes before it answers. The backup takes over as sole member: the publisher
 /// sends its PUBLISH again, with DUP, and is answered, and the subscriber accepts it once.
+/// The numbers of `Does`, here and in the next table: messages sent, commands agreed.
 pub const CRASHED: &[Row] = &[
     Row::Does(Action::Open("b", 1), 0, 0),
     Row::Does(Action::Up(1), 1, 0),

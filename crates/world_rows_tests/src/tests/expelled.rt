@@ -23,7 +23,8 @@ const AGREED: &[Said] = &[
 
 /// The events of the script `client_is_expelled` of the folder `examples`. The session of b ends
 /// while it is connected, and once more while it has none. What is published then is sent to no
-/// client. When b comes back there is no session, and it subscribes in its second one.
+/// client. When b comes back there is no session, and it subscribes in its second one. The
+/// numbers of `Does`, here and in the next table: messages sent, commands agreed.
 pub const EXPELLED: &[Row] = &[
     Row::Does(Action::Open("b", 1), 0, 0),
     Row::Does(Action::Up(1), 0, 1),

@@ -2,7 +2,8 @@
 
 use crate::tests::row::{Action, Row, Table, fault_in};
 
-// A subscription of `b`, a publication of `a`, and both handshakes to their ends.
+// A subscription of `b`, a publication of `a`, and both handshakes to their ends. The numbers of
+// `Does`: messages sent (none with one node), commands agreed.
 const WHOLE: &[Row] = &[
     Row::Idle(Action::Subscribe("b")),
     Row::Idle(Action::Open("c", 1)),

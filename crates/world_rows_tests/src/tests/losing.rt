@@ -8,6 +8,7 @@ const PUBLISH: &[u8] = b"\x34\x08\x00\x03t/1\x00\x01x";
 
 // A client abandons its connection before it gets the CONNACK. What it published meanwhile is sent
 // on the next connection, where its session is found. Each end is closed once.
+// The numbers of `Does`, in all tables: messages sent (none with one node), commands agreed.
 const ABANDONED: &[Row] = &[
     Row::Idle(Action::Abandon("a")),
     Row::Idle(Action::Up(1)),

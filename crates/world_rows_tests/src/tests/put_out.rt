@@ -12,7 +12,7 @@ const AFTER: &[Said] = &[Said::Start(3), Said::Connect("a")];
 
 /// The events of the script `ballot_is_put_out` of the folder `examples`. The primary of ballot 2
 /// asks for its activation by message 5, and is refused by message 7, since ballot 3 was given
-/// meanwhile. A client finds only the primary of ballot 3.
+/// meanwhile. A client finds only that of ballot 3. In `Does`: messages sent, commands agreed.
 pub const PUT_OUT: &[Row] = &[
     Row::Does(Action::Assign(&[1, 2], 2), 1, 0),
     Row::Does(Action::Deliver(0), 2, 0),

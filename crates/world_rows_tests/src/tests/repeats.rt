@@ -3,7 +3,8 @@
 use crate::tests::row::{Action, Row, Table, fault_in};
 
 // A CONNECT is answered once the backup holds it. Then the Commit comes again, the Held, and the
-// Append, which is held again; an Append that is already there adds nothing.
+// Append, which is held again; an Append that is already there adds nothing. The numbers of `Does`,
+// here and in the next table: messages sent, commands agreed.
 const REPEATED: &[Row] = &[
     Row::Does(Action::Open("a", 1), 0, 0),
     Row::HasUp(1, b"\x10\x0D\x00\x04MQTT\x04\x00\x00\x00\x00\x01a"),

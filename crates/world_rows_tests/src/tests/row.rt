@@ -45,7 +45,7 @@ pub enum Said {
 
 /// What happens in a world, or is seen of it.
 pub enum Row {
-    /// This happens. Then this many messages were sent, and this many commands are agreed.
+    /// This happens. Then this many messages were sent in all, and this many commands are agreed.
     Does(Action, u64, u64),
     /// This cannot happen.
     Idle(Action),

@@ -12,7 +12,8 @@ const AFTER: &[Said] = &[Said::Connect("a"), Said::Start(2), Said::Connect("a")]
 
 /// The events of the script `snapshot_travels` of the folder `examples`. A sole member cuts its
 /// log, and has nothing to cut then. Another member takes over, to which its snapshot comes, and
-/// finds the client's session in it.
+/// finds the client's session in it. The numbers of `Does`, here and in
+/// the next table: messages sent, commands agreed.
 pub const TRAVELLED: &[Row] = &[
     Row::Does(Action::Open("a", 1), 0, 0),
     Row::Does(Action::Up(1), 0, 1),
