@@ -38,30 +38,35 @@ fn hands_over_at_last(alloc: Global, node: &mut NodeCore, row: &Row<'_>) -> bool
     false
 }
 
-// Says whether each row comes out as it says if nothing was lost; at most one step is counted.
-fn is_whole_or_counted(alloc: Global, node: &mut NodeCore, rows: &[Row<'_>]) -> bool {
-    let mut is_whole = true;
-    for row in rows {
+// Finds the first row that comes out otherwise although nothing was lost; the row after the last
+// one if more than one step is counted.
+fn first_fault(alloc: Global, node: &mut NodeCore, rows: &[Row<'_>]) -> Option<usize> {
+    let mut fault = None;
+    for (at, row) in rows.iter().enumerate() {
         comes_at_last(alloc, node, row);
-        is_whole = hands_over_at_last(alloc, node, row) && is_whole;
+        let is_whole = hands_over_at_last(alloc, node, row);
+        if !is_whole && fault.is_none() {
+            fault = Some(at);
+        }
     }
     match node.losses() {
-        0 => is_whole,
-        losses => losses == 1,
+        0 => fault,
+        1 => None,
+        _ => Some(rows.len()),
     }
 }
 
 // If memory runs out for a node nothing is asked of it.
-fn is_well(alloc: Global, rows: &[Row<'_>]) -> bool {
+fn first_fault_if_opened(alloc: Global, rows: &[Row<'_>]) -> Option<usize> {
     match primary(alloc, &[1]) {
-        Some(mut node) => is_whole_or_counted(alloc, &mut node, rows),
-        None => true,
+        Some(mut node) => first_fault(alloc, &mut node, rows),
+        None => None,
     }
 }
 
 #[test]
 fn rows_are_whole_or_one_step_is_counted(rt: HostRuntime) {
     for rows in TABLES {
-        assert!(rt; is_well(rt.alloc(), rows));
+        assert_eq!(rt; first_fault_if_opened(rt.alloc(), rows), None);
     }
 }

@@ -29,36 +29,40 @@ fn changes(alloc: Global, world: &mut World, primary: u8, ballot: u64) -> bool {
     assigned && world.active().0 == ballot && world.agreed_len() == ballot.saturating_sub(1)
 }
 
-// Says whether the primary is node 2, 3, 1 in turn, and each of their ballots is active.
-fn all_change(alloc: Global, world: &mut World) -> bool {
+// Finds the first change that goes otherwise: the primary is node 2, 3, 1 in turn, and each of
+// their ballots is active. The number after the last change says that something was lost.
+fn first_fault(alloc: Global, world: &mut World) -> Option<u64> {
     for change in 0..CHANGES {
         let primary = (change.saturating_add(1) % 3) as u8 + 1;
         if !changes(alloc, world, primary, change.saturating_add(2)) {
-            return false;
+            return Some(change);
         }
     }
-    world.losses() == 0
+    if world.losses() == 0 {
+        None
+    } else {
+        Some(CHANGES)
+    }
 }
 
-// Says whether all of it goes well in a world of three nodes.
-fn go_well(alloc: Global) -> bool {
+// Finds it in a world of three nodes; change 0 if the world does not open.
+fn first_fault_of_three(alloc: Global) -> Option<u64> {
     match opened(alloc, 3, &[1, 2, 3]) {
-        Some(mut world) => all_change(alloc, &mut world),
-        None => false,
+        Some(mut world) => first_fault(alloc, &mut world),
+        None => Some(0),
     }
 }
 
 // Each ballot that is active adds one command to the agreed list, and no event loses anything.
 #[test]
 fn configurations_change_many_times(rt: HostRuntime) {
-    assert!(rt; go_well(rt.alloc()));
+    assert_eq!(rt; first_fault_of_three(rt.alloc()), None);
 }
 
-// Says whether a run of events passes over the idle ones.
-fn passes_over(alloc: Global, world: &mut World) -> bool {
-    let Some(config) = config_of(alloc, &[1, 2], 2) else {
-        return false;
-    };
+// Returns the messages, the losses and the active ballot after a run of events that passes over the
+// idle ones; none if there is no memory for its configuration.
+fn after_idle(alloc: Global, world: &mut World) -> Option<(u64, u64, u64)> {
+    let config = config_of(alloc, &[1, 2], 2)?;
     world.run(&[
         Event::Deliver(0),
         Event::Assign(config),
@@ -67,17 +71,18 @@ fn passes_over(alloc: Global, world: &mut World) -> bool {
         Event::Deliver(7),
         Event::Deliver(1),
     ]);
-    world.messages() == 3 && world.losses() == 0 && world.active().0 == 1
+    Some((world.messages(), world.losses(), world.active().0))
 }
 
-fn passes_over_idle(alloc: Global) -> bool {
+// Returns the same of a world of two nodes.
+fn after_idle_of_two(alloc: Global) -> Option<(u64, u64, u64)> {
     match opened(alloc, 2, &[1]) {
-        Some(mut world) => passes_over(alloc, &mut world),
-        None => false,
+        Some(mut world) => after_idle(alloc, &mut world),
+        None => None,
     }
 }
 
 #[test]
 fn a_run_passes_over_idle_events(rt: HostRuntime) {
-    assert!(rt; passes_over_idle(rt.alloc()));
+    assert_eq!(rt; after_idle_of_two(rt.alloc()), Some((3, 0, 1)));
 }
