@@ -1,4 +1,5 @@
 use super::replicas::config;
+use super::stories::first_false;
 use master::{Activation, AssignError, Master};
 use std::alloc::Global;
 
@@ -54,12 +55,14 @@ fn activates_all(master: &mut Master, rows: &[(u64, (bool, u64))]) -> bool {
     true
 }
 
-// Says whether ballots 2 and 3 are given, and ballot 2 is superseded.
-fn puts_out(master: &mut Master, alloc: Global) -> bool {
-    is_given(master, alloc, &[1, 2], 1, 2)
-        && is_given(master, alloc, &[2], 2, 3)
-        && activates_all(master, ACTIVATED)
-        && master.active().1 == [2].as_slice()
+// Finds the first step that goes otherwise: ballots 2 and 3 are given, and ballot 2 is superseded.
+fn puts_out(master: &mut Master, alloc: Global) -> Option<usize> {
+    first_false(&[
+        is_given(master, alloc, &[1, 2], 1, 2),
+        is_given(master, alloc, &[2], 2, 3),
+        activates_all(master, ACTIVATED),
+        master.active().1 == [2].as_slice(),
+    ])
 }
 
 // What a master is to do.
@@ -69,15 +72,16 @@ enum Task {
     RefusesAll,
 }
 
-// Says whether a master that opens does so.
-fn is_done(alloc: Global, task: Task) -> bool {
+// Finds the first step at which a master that opens does otherwise; step 0 if it does not open.
+fn first_fault(alloc: Global, task: Task) -> Option<usize> {
     match opened(alloc) {
-        Some(mut master) => does(&mut master, alloc, task),
-        None => false,
+        Some(mut master) => fault_of(&mut master, alloc, task),
+        None => Some(0),
     }
 }
 
-fn does(master: &mut Master, alloc: Global, task: Task) -> bool {
+// Finds it for one that is open.
+fn fault_of(master: &mut Master, alloc: Global, task: Task) -> Option<usize> {
     match task {
         Task::PutsOut => puts_out(master, alloc),
         Task::RefusesAll => refuses_bad_members(master, alloc),
@@ -87,31 +91,31 @@ fn does(master: &mut Master, alloc: Global, task: Task) -> bool {
 // Ballots are given, superseded and activated.
 #[test]
 fn a_ballot_put_out_never_comes_back(rt: HostRuntime) {
-    assert!(rt; is_done(rt.alloc(), Task::PutsOut));
+    assert_eq!(rt; first_fault(rt.alloc(), Task::PutsOut), None);
 }
 
 const BAD: &[(&[u8], u8)] = &[(&[2, 1], 1), (&[], 1), (&[1], 2), (&[1, 16], 1)];
 
-// Says whether each of these is refused for its members.
-fn refuses_all(master: &mut Master, alloc: Global, rows: &[(&[u8], u8)]) -> bool {
-    for (members, primary) in rows {
+// Finds the first row that is not refused for its members; the row after the last one if ballot 2
+// is not given after them.
+fn refuses_bad_members(master: &mut Master, alloc: Global) -> Option<usize> {
+    for (row, (members, primary)) in BAD.iter().enumerate() {
         match assigned(master, alloc, members, *primary) {
             Some(Err(AssignError::BadMembers)) => {}
-            _ => return false,
+            _ => return Some(row),
         }
     }
-    true
-}
-
-// Says whether these are refused, and ballot 2 is given after them.
-fn refuses_bad_members(master: &mut Master, alloc: Global) -> bool {
-    refuses_all(master, alloc, BAD) && is_given(master, alloc, &[1, 2], 2, 2)
+    if is_given(master, alloc, &[1, 2], 2, 2) {
+        None
+    } else {
+        Some(BAD.len())
+    }
 }
 
 // Bad members are refused, whatever waits.
 #[test]
 fn bad_members_are_given_no_ballot(rt: HostRuntime) {
-    assert!(rt; is_done(rt.alloc(), Task::RefusesAll));
+    assert_eq!(rt; first_fault(rt.alloc(), Task::RefusesAll), None);
 }
 
 // Says whether no master opens with none of its members as primary.
@@ -126,5 +130,6 @@ fn is_no_primary(alloc: Global) -> bool {
 #[test]
 fn refusals_have_numbers(rt: HostRuntime) {
     assert!(rt; is_no_primary(rt.alloc()));
-    assert!(rt; AssignError::BadMembers.number() == 20 && AssignError::BallotsSpent.number() == 21);
+    assert_eq!(rt; AssignError::BadMembers.number(), 20);
+    assert_eq!(rt; AssignError::BallotsSpent.number(), 21);
 }

@@ -1,6 +1,8 @@
 // Nodes that cut their logs, and a snapshot that goes over to another node, byte by byte.
 
-use super::handling::{ACCEPTED, Effects, PRESENT, bring, give, hands_over, node_of, take, tell};
+use super::handling::{
+    ACCEPTED, Effects, PRESENT, bring, first_false, give, hands_over, node_of, take, tell,
+};
 use std::alloc::Global;
 use world_base::ballot::Log;
 use world_base::{Body, Command, Effect, Item, Members, NodeCore, Port};
@@ -123,33 +125,38 @@ fn comes_back(alloc: Global, one: &mut NodeCore, two: &mut NodeCore) -> bool {
     hands_over(alloc, two, 1, PRESENT, true)
 }
 
-// Says whether a session goes over by a snapshot, and both nodes lose nothing.
-fn session_goes_over(alloc: Global, one: &mut NodeCore, two: &mut NodeCore) -> bool {
-    let served = serves_and_cuts(alloc, one);
-    let taken_over = takes_over(alloc, one, two) == Some(true);
-    let back = comes_back(alloc, one, two);
-    served && taken_over && back && one.losses() == 0 && two.losses() == 0
+// Finds the first step that goes otherwise: a session goes over by a snapshot, and both nodes lose
+// nothing.
+fn fault_of_going_over(alloc: Global, one: &mut NodeCore, two: &mut NodeCore) -> Option<usize> {
+    first_false(&[
+        serves_and_cuts(alloc, one),
+        takes_over(alloc, one, two) == Some(true),
+        comes_back(alloc, one, two),
+        one.losses() == 0,
+        two.losses() == 0,
+    ])
 }
 
-// The same with fresh nodes. Each node has an owner of its own, which has one way on which it drops
-// it.
-fn goes_over_to_fresh(alloc: Global, one: &mut NodeCore) -> bool {
+// Finds it with a fresh second node; step 0 if there is no memory for one. Each node has an owner
+// of its own, which has one way on which it drops it.
+fn fault_with_fresh(alloc: Global, one: &mut NodeCore) -> Option<usize> {
     match node_of(alloc, 2, &[1]) {
-        Some(mut two) => session_goes_over(alloc, one, &mut two),
-        None => false,
+        Some(mut two) => fault_of_going_over(alloc, one, &mut two),
+        None => Some(0),
     }
 }
 
-fn fresh_session_goes_over(alloc: Global) -> bool {
+// Finds it with two fresh nodes.
+fn fault_of_fresh(alloc: Global) -> Option<usize> {
     match node_of(alloc, 1, &[1]) {
-        Some(mut one) => goes_over_to_fresh(alloc, &mut one),
-        None => false,
+        Some(mut one) => fault_with_fresh(alloc, &mut one),
+        None => Some(0),
     }
 }
 
 #[test]
 fn a_session_goes_over_by_a_snapshot(rt: HostRuntime) {
-    assert!(rt; fresh_session_goes_over(rt.alloc()));
+    assert_eq!(rt; fault_of_fresh(rt.alloc()), None);
 }
 
 // Node 1 sends node 2 a log of one place with this snapshot in ballot 2: what node 2 hands out.
@@ -174,6 +181,7 @@ fn form_1_is_read(alloc: Global, two: &mut NodeCore) -> Option<bool> {
     Some(goes_on(alloc, two)? && two.losses() == 0)
 }
 
+// Says it of a fresh node; none if there is no memory for it.
 fn fresh_reads_form_1(alloc: Global) -> Option<bool> {
     match node_of(alloc, 2, &[1]) {
         Some(mut two) => form_1_is_read(alloc, &mut two),
@@ -200,28 +208,43 @@ fn is_lost(alloc: Global, two: &mut NodeCore, bytes: &[u8]) -> bool {
     effects.is_empty() && same && same_places && kept && two.losses() == losses.saturating_add(1)
 }
 
-// Says whether each is lost.
-fn are_lost(alloc: Global, two: &mut NodeCore) -> bool {
-    UNREADABLE.iter().all(|bytes| is_lost(alloc, two, bytes))
+// Finds the first row that is not lost; the row after the last one if the node does not continue
+// from bytes that it can read.
+fn first_not_lost(alloc: Global, two: &mut NodeCore) -> Option<usize> {
+    for (row, bytes) in UNREADABLE.iter().enumerate() {
+        if !is_lost(alloc, two, bytes) {
+            return Some(row);
+        }
+    }
+    if goes_on(alloc, two) == Some(true) && two.losses() == 4 {
+        None
+    } else {
+        Some(UNREADABLE.len())
+    }
 }
 
-// Says whether each is lost, and the node continues from bytes that it can read.
-fn unreadable_are_lost(alloc: Global, two: &mut NodeCore) -> Option<bool> {
-    tell(alloc, two, 0, ballot_2(alloc, &[2])?);
-    let lost = are_lost(alloc, two);
-    Some(goes_on(alloc, two)? && lost && two.losses() == 4)
+// Finds it for a node that is given ballot 2; row 0 if there is no memory for that.
+fn first_not_lost_in_2(alloc: Global, two: &mut NodeCore) -> Option<usize> {
+    match ballot_2(alloc, &[2]) {
+        Some(ballot) => {
+            tell(alloc, two, 0, ballot);
+            first_not_lost(alloc, two)
+        }
+        None => Some(0),
+    }
 }
 
-fn fresh_loses_unreadable(alloc: Global) -> Option<bool> {
+// Finds it for a fresh node.
+fn first_not_lost_of_fresh(alloc: Global) -> Option<usize> {
     match node_of(alloc, 2, &[1]) {
-        Some(mut two) => unreadable_are_lost(alloc, &mut two),
-        None => None,
+        Some(mut two) => first_not_lost_in_2(alloc, &mut two),
+        None => Some(0),
     }
 }
 
 #[test]
 fn bytes_that_are_no_snapshot_count_as_lost(rt: HostRuntime) {
-    assert_eq!(rt; fresh_loses_unreadable(rt.alloc()), Some(true));
+    assert_eq!(rt; first_not_lost_of_fresh(rt.alloc()), None);
 }
 
 // Ballot 2 of nodes 1 and 2 continues until nothing is said any more. What found no memory is said
@@ -299,6 +322,7 @@ fn is_well_with(alloc: Global, one: &mut NodeCore) -> bool {
     }
 }
 
+// The same for the first node.
 fn is_well(alloc: Global) -> bool {
     match node_of(alloc, 1, &[1]) {
         Some(mut one) => is_well_with(alloc, &mut one),

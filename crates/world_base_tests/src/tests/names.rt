@@ -1,7 +1,7 @@
 // Names: the connections of a ballot are numbered from 1.
 
 use super::handling::{
-    CONNECT_A, CONNECT_B, Effects, bring, connecting, give, primary, take, tell,
+    CONNECT_A, CONNECT_B, Effects, bring, connecting, first_false, give, primary, take, tell,
 };
 use std::alloc::Global;
 use world_base::{Body, Command, Item, Members, NodeCore, Port};
@@ -60,22 +60,25 @@ fn is_named(
     }
 }
 
-fn begins_anew(alloc: Global, node: &mut NodeCore) -> bool {
-    serves(alloc, node)
-        && changes(alloc, node)
-        && is_named(alloc, node, 2, CONNECT_A, (2, 1))
-        && is_named(alloc, node, 3, CONNECT_B, (2, 2))
+// Finds the first step that goes otherwise: a connection of ballot 1, and two of ballot 2.
+fn first_fault(alloc: Global, node: &mut NodeCore) -> Option<usize> {
+    first_false(&[
+        serves(alloc, node),
+        changes(alloc, node),
+        is_named(alloc, node, 2, CONNECT_A, (2, 1)),
+        is_named(alloc, node, 3, CONNECT_B, (2, 2)),
+    ])
 }
 
-// The same with a fresh node.
-fn begin_anew(alloc: Global) -> bool {
+// Finds it with a fresh node; step 0 if there is no memory for one.
+fn first_fault_of_fresh(alloc: Global) -> Option<usize> {
     match primary(alloc, &[1]) {
-        Some(mut node) => begins_anew(alloc, &mut node),
-        None => false,
+        Some(mut node) => first_fault(alloc, &mut node),
+        None => Some(0),
     }
 }
 
 #[test]
 fn names_begin_anew_in_a_ballot(rt: HostRuntime) {
-    assert!(rt; begin_anew(rt.alloc()));
+    assert_eq!(rt; first_fault_of_fresh(rt.alloc()), None);
 }
